@@ -1,0 +1,10 @@
+//! Lists as the layers above speak of them: a `Vec` that contracts see as a plain list, and the laws on
+//! members and rising lists that every layer needs.
+#![tactic(auto)]
+
+mod items;
+mod text;
+
+
+pub use items::Items;
+pub use text::Text;

@@ -1,0 +1,5 @@
+pub mod Order
+pub mod Same
+pub mod HexError
+pub mod HexText
+pub mod Insert

@@ -1,0 +1,60 @@
+//! Identifiers of operations, and places in the sequence.
+
+ghost use Rattle.std.specs.Prelude.{◌≡◌, ◌↔◌, IsTrue};
+ghost use Rattle.tp_opid.specs.Order.{Below};
+ghost use Rattle.tp_opid.specs.Same.{id_eq, place_eq};
+
+use crate::actor::Actor;
+use std::cmp::Ordering;
+
+/// The identifier of an operation: the counter that its author had reached, and the author.
+///
+/// Identifiers are ordered by counter and then by the actor's bytes, as Lamport timestamps are. In RGA
+/// (Roh and others 2011) this order decides which of several inserts at one place stands first.
+#[derive(Clone, Copy, Debug, PartialEq, Eq, PartialOrd, Ord, Hash)]
+pub struct OpId {
+    /// From 1 to 2^48 - 1.
+    pub counter: u64,
+    /// Who made the operation.
+    pub actor: Actor,
+}
+
+impl OpId {
+    /// Whether the identifier stands below another.
+    #[tactic(auto, unfolding(crate::specs::Order::id_cmp, crate::specs::Order::Below))]
+    pub fn is_below(&self, other: &OpId) -> bool
+        ensures { IsTrue result ↔ Below self.now other.now }
+    {
+        matches!(self.cmp(other), Ordering::Less)
+    }
+
+    /// Whether the two are one identifier.
+    #[tactic(auto, unfolding(crate::specs::Order::id_cmp, crate::specs::Same::id_eq))]
+    pub fn is(&self, other: &OpId) -> bool
+        ensures { result ≡ id_eq self.now other.now }
+    {
+        matches!(self.cmp(other), Ordering::Equal)
+    }
+}
+
+/// Where an element is inserted: at the start, or directly after another element.
+#[derive(Clone, Copy, Debug, PartialEq, Eq, PartialOrd, Ord, Hash)]
+pub enum Place {
+    /// Before every element. It stands below every identifier.
+    Start,
+    /// After the element with this identifier.
+    After(OpId),
+}
+
+impl Place {
+    /// Whether the two are one place.
+    pub fn is(&self, other: &Place) -> bool
+        ensures { result ≡ place_eq self.now other.now }
+    {
+        match (self, other) {
+            (Place::Start, Place::Start) => true,
+            (Place::After(a), Place::After(b)) => a.is(b),
+            _ => false,
+        }
+    }
+}
