@@ -1,1 +1,2 @@
 pub mod Orders
+mod HexDigits

@@ -1,0 +1,5 @@
+pub mod Operations
+pub mod Spelling
+pub mod Limits
+pub mod ChangeError
+pub mod ChangeHash

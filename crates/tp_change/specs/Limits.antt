@@ -1,0 +1,63 @@
+-- What has a spelling: changes within the limits and the grammar.
+use Rattle.std.specs.Prelude.{◌≡◌, ℕ, ◌+◌, ◌<◌, ◌≤◌, ◌^◌, List, length, slice_index, encode_utf8_all, true}
+use Rattle.std.specs.List.{AllByRecursion}
+use Rattle.std.specs.Str.{all_scalars}
+use Rattle.tp_list.specs.Rising.{IsRising}
+use Rattle.tp_opid.specs.declared.actor.Actor.{Actor}
+use Rattle.tp_opid.specs.declared.hash.Hash.{Hash}
+use Rattle.tp_opid.specs.declared.op_id.OpId.{OpId}
+use Rattle.tp_opid.specs.declared.op_id.Place.{Place}
+use Rattle.tp_opid.specs.declared.op_id.Place.TheVariants.{Start, After}
+use Rattle.tp_opid.specs.Order.{hash_cmp}
+use Rattle.tp_change.specs.declared.record.Record.{Record}
+use Rattle.tp_change.specs.declared.record.Record.TheVariants.{Insert, Delete}
+use Rattle.tp_change.specs.declared.parts.ChangeParts.{ChangeParts}
+use Rattle.tp_change.specs.Operations.{count_of}
+use Rattle.tp_change.specs.Spelling.{spelling}
+
+-- the list is n bytes
+pub record IsBytes (n : ℕ) (bytes : List ℕ) : Type 0 where
+  pub count : length bytes ≡ n
+  pub each : (i : ℕ) → slice_index bytes i < 256
+
+abbrev pub IsActor : Actor → Type 0
+IsActor a = IsBytes 16 a.0
+
+abbrev pub IsHash : Hash → Type 0
+IsHash h = IsBytes 32 h.0
+
+pub record IsId (id : OpId) : Type 0 where
+  pub counter : id.counter < 2 ^ 64
+  pub actor : IsActor id.actor
+
+abbrev pub IsPlace : Place → Type 0
+IsPlace Start = Unit {0}
+IsPlace (After id) = IsId id
+
+-- characters whose UTF-8 has at most so many bytes
+pub record IsText (limit : ℕ) (text : List ℕ) : Type 0 where
+  pub scalars : all_scalars text ≡ true
+  pub bytes : length (encode_utf8_all text) ≤ limit
+
+-- An insert run has a character at least.
+abbrev pub IsRecord : Record → Type 0
+IsRecord (Insert after text) = IsPlace after × IsText 4194304 text × (0 < length text)
+IsRecord (Delete target) = IsId target
+
+-- A change within the limits and the grammar: all that has a spelling.
+pub record IsChange (c : ChangeParts) : Type 0 where
+  pub actor : IsActor c.actor
+  pub seq_from : 1 ≤ c.seq
+  pub seq_to : c.seq < 2 ^ 64
+  pub start_from : 1 ≤ c.start
+  pub time : c.time < 2 ^ 64
+  pub message : IsText 65535 c.message
+  pub deps : AllByRecursion IsHash c.deps
+  pub deps_rise : IsRising hash_cmp c.deps
+  pub deps_count : length c.deps ≤ 65535
+  pub records : AllByRecursion IsRecord c.records
+  pub records_some : 1 ≤ length c.records
+  pub operations : count_of c.records ≤ 65536
+  -- the last counter is at most 2^48 - 1
+  pub counters : c.start + count_of c.records ≤ 2 ^ 48
+  pub size : length (spelling c) ≤ 4194304

@@ -1,0 +1,45 @@
+-- The bytes of a change, version 1: all numbers big-endian.
+use Rattle.std.specs.Prelude.{ℕ, List, [], ◌∷◌, ◌++◌, length, encode_utf8_all}
+use Rattle.std.specs.List.{flat_map}
+use Rattle.std.specs.Int.{w16, w32, w64, to_be_bytes}
+use Rattle.tp_opid.specs.declared.hash.Hash.{Hash}
+use Rattle.tp_opid.specs.declared.op_id.OpId.{OpId}
+use Rattle.tp_opid.specs.declared.op_id.Place.{Place}
+use Rattle.tp_opid.specs.declared.op_id.Place.TheVariants.{Start, After}
+use Rattle.tp_change.specs.declared.record.Record.{Record}
+use Rattle.tp_change.specs.declared.record.Record.TheVariants.{Insert, Delete}
+use Rattle.tp_change.specs.declared.parts.ChangeParts.{ChangeParts}
+
+-- a counter of 8 bytes and an actor of 16
+abbrev pub spelling_of_id : OpId → List ℕ
+spelling_of_id id = to_be_bytes w64 id.counter ++ id.actor.0
+
+-- 00 for the start, or 01 and an identifier
+abbrev pub spelling_of_place : Place → List ℕ
+spelling_of_place Start = 0 ∷ []
+spelling_of_place (After id) = 1 ∷ spelling_of_id id
+
+-- a byte length of 4 bytes, and the UTF-8 of the characters
+abbrev pub spelling_of_run : List ℕ → List ℕ
+spelling_of_run text = to_be_bytes w32 (length (encode_utf8_all text)) ++ encode_utf8_all text
+
+-- a byte length of 2 bytes, and the UTF-8 of the characters
+abbrev pub spelling_of_message : List ℕ → List ℕ
+spelling_of_message text = to_be_bytes w16 (length (encode_utf8_all text)) ++ encode_utf8_all text
+
+-- tag 01 for an insert run, tag 02 for a delete
+abbrev pub spelling_of_record : Record → List ℕ
+spelling_of_record (Insert after text) = 1 ∷ (spelling_of_place after ++ spelling_of_run text)
+spelling_of_record (Delete target) = 2 ∷ spelling_of_id target
+
+-- a count of 2 bytes, and 32 bytes for each hash
+abbrev pub spelling_of_deps : List Hash → List ℕ
+spelling_of_deps deps = to_be_bytes w16 (length deps) ++ flat_map (λ (h : Hash). h.0) deps
+
+-- a count of 4 bytes, and the records
+abbrev pub spelling_of_records : List Record → List ℕ
+spelling_of_records records = to_be_bytes w32 (length records) ++ flat_map spelling_of_record records
+
+-- the bytes of a change
+unfoldable pub spelling : ChangeParts → List ℕ
+spelling c = 1 ∷ (c.actor.0 ++ (to_be_bytes w64 c.seq ++ (to_be_bytes w64 c.start ++ (to_be_bytes w64 c.time ++ (spelling_of_message c.message ++ (spelling_of_deps c.deps ++ spelling_of_records c.records))))))

@@ -1,0 +1,95 @@
+//! A change within the limits, with its hash.
+
+ghost use Rattle.std.specs.Prelude.{◌≡◌};
+ghost use Rattle.std.specs.Str.{chars};
+
+use crate::parts::ChangeParts;
+use crate::record::Record;
+use std::alloc::Global;
+use std::marker::Model;
+use tp_opid::{Actor, Hash};
+
+/// A change: parts that are within the limits and the grammar, with their hash.
+///
+/// Contracts see its parts. It keeps the allocator that it was made with, and its hash, which is taken once.
+#[derive(Drop)]
+pub struct Change {
+    alloc: Global,
+    parts: ChangeParts,
+    hash: Hash,
+}
+
+impl Model for Change {
+    ghost use Rattle.std.specs.Prelude.{◌≡◌};
+    ghost use Rattle.tp_change.specs.declared.parts.ChangeParts.{ChangeParts};
+    ghost use Rattle.tp_change.specs.Limits.{IsChange};
+    ghost use Rattle.tp_change.specs.ChangeHash.{hash_of};
+
+    ghost Value = { ChangeParts };
+
+    ghost view = { λ c. c.parts };
+
+    ghost invariant = { λ c. IsChange c.parts × (c.hash ≡ hash_of c.parts) };
+}
+
+impl Change {
+    ghost use Rattle.tp_change.specs.ChangeHash.{hash_of};
+    ghost use Rattle.tp_change.specs.Limits.{IsChange};
+
+    /// The hash: the SHA-256 of its bytes. It was taken when the change was made.
+    pub fn hash(&self) -> Hash
+        ensures hash { result ≡ hash_of self.now }
+        ensures limits { IsChange self.now }
+    {
+        self.hash
+    }
+
+    /// Who made it.
+    pub fn actor(&self) -> Actor
+        ensures { result ≡ self.now.actor }
+    {
+        self.parts.actor
+    }
+
+    /// Its number among the actor's changes, from 1.
+    pub fn seq(&self) -> u64
+        ensures { result ≡ self.now.seq }
+    {
+        self.parts.seq
+    }
+
+    /// The counter of its first operation, from 1.
+    pub fn start(&self) -> u64
+        ensures { result ≡ self.now.start }
+    {
+        self.parts.start
+    }
+
+    /// When it was made, as the caller counts time.
+    pub fn time(&self) -> u64
+        ensures { result ≡ self.now.time }
+    {
+        self.parts.time
+    }
+
+    /// The message for people.
+    pub fn message(&self) -> &str
+        ensures { chars result.now ≡ self.now.message }
+    {
+        self.parts.message.as_str()
+    }
+
+    /// The hashes of the changes that it depends on, rising.
+    pub fn deps(&self) -> &[Hash]
+        ensures { result.now ≡ self.now.deps }
+    {
+        self.parts.deps.as_slice()
+    }
+
+    /// The records, one at least.
+    pub fn records(&self) -> &[Record]
+        ensures { result.now ≡ self.now.records }
+    {
+        self.parts.records.as_slice()
+    }
+}
