@@ -3,3 +3,4 @@ pub mod Spelling
 pub mod Limits
 pub mod ChangeError
 pub mod ChangeHash
+pub mod Elements

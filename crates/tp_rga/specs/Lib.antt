@@ -1,0 +1,4 @@
+pub mod Tree
+pub mod Order
+pub mod Shown
+pub mod State

@@ -1,0 +1,46 @@
+-- The order of the elements of a text, as RGA has it (Roh and others 2011): among the inserts after one element the
+-- greater identifier stands nearer to it, with all that hangs on it. It is a total order on the elements of a set,
+-- and the same in each larger set, as the strong list specification asks (Attiya and others, PODC 2016).
+use Rattle.std.specs.Prelude.{◌≡◌, ℕ, ◌≤◌, ◌⊎◌, List, [], ◌∷◌, ◌++◌, length, insert}
+use Rattle.tp_list.specs.Members.{In, SameMembers}
+use Rattle.tp_opid.specs.declared.op_id.OpId.{OpId}
+use Rattle.tp_opid.specs.declared.op_id.Place.{Place}
+use Rattle.tp_opid.specs.declared.op_id.Place.TheVariants.{Start, After}
+use Rattle.tp_opid.specs.Insert.{Insert}
+use Rattle.tp_opid.specs.Order.{Below}
+use Rattle.tp_rga.specs.Tree.{Inserts, IsTree}
+
+-- The identifiers lead from the place p to the place q: S inserts each after the one before it, and the first after p.
+abbrev pub Leads : List Insert → Place → List OpId → Place → Type 0
+Leads S p [] q = p ≡ q
+Leads S p (x ∷ xs) q = Inserts S x p × Leads S (After x) xs q
+
+-- The identifiers from the one that stands after the start, along references, to x.
+abbrev pub IsChain : List Insert → OpId → List OpId → Type 0
+IsChain S x c = Leads S Start c (After x)
+
+-- c is a proper beginning of d, or at the first difference c has the greater identifier.
+abbrev pub Precedes : List OpId → List OpId → Type 0
+Precedes c [] = ⊥
+Precedes [] (b ∷ d) = Unit {0}
+Precedes (a ∷ c) (b ∷ d) = Below b a ⊎ ((a ≡ b) × Precedes c d)
+
+-- In the text that S inserts, x stands before y: the chain of x precedes that of y.
+abbrev pub Before : List Insert → OpId → OpId → Type 0
+Before S x y = (c : List OpId) × (d : List OpId) × IsChain S x c × IsChain S y d × Precedes c d
+
+-- In the text that S inserts, each element of L stands before all that follow it in L.
+abbrev pub IsSortedIn : List Insert → List Insert → Type 0
+IsSortedIn S [] = Unit {0}
+IsSortedIn S (a ∷ L) = ((b : Insert) → In b L → Before S a.id b.id) × IsSortedIn S L
+
+-- L has the elements of S and no others, in the order of the text.
+pub record IsInOrder (S L : List Insert) : Type 0 where
+  pub same : SameMembers S L
+  pub sorted : IsSortedIn S L
+
+-- The new list is the old one with x put in somewhere, and where the old one stood in order for a tree, the new one
+-- stands in order for that tree with x.
+pub record IsInserted (old new : List Insert) (x : Insert) : Type 0 where
+  pub put : (i : ℕ) × (i ≤ length old) × (new ≡ insert old i x)
+  pub order : (S : List Insert) → IsTree S → IsInOrder S old → IsInOrder (S ++ x ∷ []) new

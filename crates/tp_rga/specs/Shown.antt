@@ -1,0 +1,24 @@
+-- What the deletes of a text leave of it. A deleted element stays in the list as a tombstone.
+use Rattle.std.specs.Prelude.{ℕ, Bool, not, Option, List, length, take, filter, position}
+use Rattle.std.specs.Option.{option_map}
+use Rattle.std.specs.List.{list_any}
+use Rattle.tp_opid.specs.declared.op_id.OpId.{OpId}
+use Rattle.tp_opid.specs.Insert.{Insert}
+use Rattle.tp_opid.specs.Same.{id_eq}
+use Rattle.tp_rga.specs.declared.element.Element.{Element}
+
+-- Some delete of R names the element x. A delete is its target and the operation that deleted it.
+abbrev pub is_removed : List (OpId × OpId) → OpId → Bool
+is_removed R x = list_any (λ r. id_eq r.0 x) R
+
+-- The elements of L that no delete of R names.
+abbrev pub shown : List (OpId × OpId) → List Insert → List Insert
+shown R L = filter (λ e. not (is_removed R e.id)) L
+
+-- How many shown elements stand before the element x of L, or `None` where L lacks it.
+abbrev pub shown_before : List (OpId × OpId) → List Insert → OpId → Option ℕ
+shown_before R L x = option_map (λ i. length (shown R (take i L))) (position (λ e. id_eq e.id x) L)
+
+-- An insert as a caller sees it.
+abbrev pub element_of : List (OpId × OpId) → Insert → Element
+element_of R e = record { id = e.id; after = e.after; ch = e.ch; deleted = is_removed R e.id }

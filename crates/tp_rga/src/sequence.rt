@@ -1,0 +1,103 @@
+//! What a sequence of elements does, whatever keeps it.
+
+ghost use Rattle.std.specs.Prelude.{◌≡◌, ◌↔◌, ℕ, ◌+◌, ◌<◌, ◌≤◌, List, [], ◌∷◌, ◌++◌, length, IsTrue, IsOk, OnOk, OnErr, slice_get};
+ghost use Rattle.std.specs.Option.{option_map};
+ghost use Rattle.tp_opid.specs.declared.op_id.OpId.{OpId as Id};
+ghost use Rattle.tp_opid.specs.Insert.{Insert};
+ghost use Rattle.tp_rga.specs.Tree.{IsThere, CanInsert};
+ghost use Rattle.tp_rga.specs.Order.{IsInserted};
+ghost use Rattle.tp_rga.specs.Shown.{shown, shown_before, element_of};
+
+use crate::element::Element;
+use std::alloc::{AllocError, Global};
+use tp_opid::{OpId, Place};
+
+/// The elements of a text in their order, and the deletes that came.
+///
+/// Contracts see three things: the elements in order with tombstones among them (`placed`), the deletes in the order
+/// of the calls (`removals`), and how many inserts or deletes take no further memory (`room`). The text is what
+/// `removals` leaves of `placed`. Places in the text count its characters from 0.
+pub trait Sequence: Drop {
+    ghost placed: { Self → List Insert };
+
+    ghost removals: { Self → List (Id × Id) };
+
+    ghost room: { Self → ℕ };
+
+    /// A sequence without elements, which takes no memory.
+    fn new(alloc: Global) -> Self
+        ensures placed { placed result ≡ [] }
+        ensures removals { removals result ≡ [] };
+
+    /// Makes room for `n` further inserts and deletes together, none of which then takes memory. Room never shrinks
+    /// here. Where memory is short it is an `Err`, and nothing changes.
+    fn reserve(&mut self, n: usize) -> Result<(), AllocError>
+        ensures placed { placed self.new ≡ placed self.old }
+        ensures removals { removals self.new ≡ removals self.old }
+        ensures ok { OnOk result (n ≤ room self.new) }
+        ensures room { room self.old ≤ room self.new };
+
+    /// Takes in an insert: the element goes right after its reference, past each element with a greater identifier up
+    /// to the first that has none. Where the elements stood in order, they stand in order with the new one.
+    ///
+    /// The caller sees to it that the identifier is new and the reference there and smaller, by `can_insert`. Where
+    /// memory is short it is an `Err`, and nothing changes.
+    fn insert(&mut self, id: OpId, after: Place, ch: char) -> Result<(), AllocError>
+        requires { CanInsert (placed self.old) id after }
+        ensures ok { OnOk result
+            (IsInserted (placed self.old) (placed self.new) (record { id = id; after = after; ch = ch })) }
+        ensures err { OnErr result (placed self.new ≡ placed self.old) }
+        ensures removals { removals self.new ≡ removals self.old }
+        ensures succeeds { 0 < room self.old → IsOk result }
+        ensures room { room self.old ≤ room self.new + 1 };
+
+    /// Takes in a delete of the element `target` by the operation `by`. The element stays as a tombstone, and an
+    /// element may be deleted again. Where memory is short it is an `Err`, and nothing changes.
+    fn delete(&mut self, target: OpId, by: OpId) -> Result<(), AllocError>
+        requires { IsThere (placed self.old) target }
+        ensures ok { OnOk result (removals self.new ≡ removals self.old ++ (target, by) ∷ []) }
+        ensures err { OnErr result (removals self.new ≡ removals self.old) }
+        ensures placed { placed self.new ≡ placed self.old }
+        ensures succeeds { 0 < room self.old → IsOk result }
+        ensures room { room self.old ≤ room self.new + 1 };
+
+    /// Whether an insert with this identifier after this place may come: the identifier is new, and the place is the
+    /// start or an element that is there and has a smaller identifier.
+    fn can_insert(&self, id: &OpId, after: &Place) -> bool
+        ensures { IsTrue result ↔ CanInsert (placed self.now) id.now after.now };
+
+    /// Whether an element has this identifier, deleted or not.
+    fn contains(&self, id: &OpId) -> bool
+        ensures { IsTrue result ↔ IsThere (placed self.now) id.now };
+
+    /// How many characters the text has.
+    fn len(&self) -> usize
+        ensures { result ≡ length (shown (removals self.now) (placed self.now)) };
+
+    /// The character at a place of the text, or `None` past its end.
+    fn char_at(&self, i: usize) -> Option<char>
+        ensures { result
+            ≡ option_map (λ e. e.ch) (slice_get (shown (removals self.now) (placed self.now)) i) };
+
+    /// The identifier of the element at a place of the text, or `None` past its end.
+    fn id_at(&self, i: usize) -> Option<OpId>
+        ensures { result
+            ≡ option_map (λ e. e.id) (slice_get (shown (removals self.now) (placed self.now)) i) };
+
+    /// How many characters of the text stand before an element, which may be deleted; `None` where no element has
+    /// that identifier.
+    fn position(&self, id: &OpId) -> Option<usize>
+        ensures { result ≡ shown_before (removals self.now) (placed self.now) id.now };
+
+    /// How many elements there are, with the deleted ones.
+    fn all(&self) -> usize
+        ensures { result ≡ length (placed self.now) };
+
+    /// The element at a place of the list of all elements, or `None` past its end.
+    fn element(&self, i: usize) -> Option<Element>
+        ensures { result ≡ option_map (element_of (removals self.now)) (slice_get (placed self.now) i) };
+
+    /// The deletes that came, each as its target and the operation that deleted it, in the order of the calls.
+    fn deletes(&self) -> &[(OpId, OpId)]
+        ensures { result.now ≡ removals self.now };
+}

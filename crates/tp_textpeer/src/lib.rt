@@ -1,0 +1,7 @@
+//! What the program `textpeer` does, as functions over readers and writers.
+#![tactic(auto)]
+
+mod error;
+mod input;
+
+pub use error::{ShowError, ShowFault};
