@@ -1,5 +1,5 @@
 -- The laws of the opaque orders: total, exact, transitive. Nothing above this crate needs to know more of them.
-use Rattle.std.proofs.Common.{◌≡◌, ℕ, Bool, true, false, List, refl, sym, ap, ◌∙◌, ◌⊎◌, inl, inr, rules, arith}
+use Rattle.std.proofs.Common.{◌≡◌, ℕ, ◌<◌, Bool, true, false, List, refl, sym, ap, ◌∙◌, ◌⊎◌, inl, inr, rules, arith}
 use Rattle.std.specs.Ordering.{nat_cmp, ordering_then, is_eq, ordering_reverse}
 use Rattle.std.specs.declared.cmp.Ordering.{Ordering}
 use Rattle.std.specs.declared.cmp.Ordering.TheVariants.{Less, Equal, Greater}
@@ -7,6 +7,7 @@ use Rattle.std.specs.Cmp.{IsTotalOrder}
 use Rattle.std.specs.Cmp.Lexicographic.{slice_cmp}
 use Rattle.std.proofs.lemmas.Cmp.{nat_cmp_total, nat_list_cmp_total, on_total, then_total, tied_itself}
 use Rattle.std.proofs.lemmas.Map.Lookups.{CmpEqualImpliesEq, exact_bytes, exact_unsigned, exact_pairs}
+use Rattle.std.proofs.lemmas.Bool.Decides.{nat_tests}
 use Rattle.tp_opid.specs.declared.actor.Actor.{Actor}
 use Rattle.tp_opid.specs.declared.hash.Hash.{Hash}
 use Rattle.tp_opid.specs.declared.doc_id.DocId.{DocId}
@@ -128,6 +129,9 @@ place_eq-apart = apart_by place_eq place_eq-itself
 
 -- ---- the order of identifiers
 
+nat_cmp_less : (m n : ℕ) → m < n → nat_cmp m n ≡ Less
+nat_cmp_less m n lt = grind (arith, nat_tests)
+
 pub Below-irreflexive : (a : OpId) → Below a a → ⊥
 unfolding Below
 Below-irreflexive a h = let e : id_cmp a a ≡ Equal = tied_itself id_total a in cc
@@ -149,3 +153,10 @@ Below-cases a b =
 
 pub Below-asym : (a b : OpId) → Below a b → Below b a → ⊥
 Below-asym a b h k = Below-irreflexive a (Below-trans a b a h k)
+
+-- a smaller counter stands below, whoever the actors are
+pub Below-counter : (a b : OpId) → a.counter < b.counter → Below a b
+unfolding Below id_cmp
+Below-counter a b lt =
+    let first : nat_cmp a.counter b.counter ≡ Less = nat_cmp_less a.counter b.counter lt in
+    ap (λ o. ordering_then o (slice_cmp nat_cmp a.actor.0 b.actor.0)) first

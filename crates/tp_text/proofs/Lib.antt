@@ -1,0 +1,3 @@
+mod ShownText
+pub mod Applied
+pub mod Numbered

@@ -1,0 +1,74 @@
+-- The characters that a front of the elements shows, and one element more.
+use Rattle.std.proofs.Common.{◌≡◌, ℕ, ◌+◌, ◌<◌, Bool, true, false, not, List, [], ◌∷◌, ◌++◌, length, take, get_or, cond, Option, Some, None, inl, inr, refl, sym, ap, ◌∙◌, append-nil, arith}
+use Rattle.std.specs.Prelude.{encode_utf8, encode_utf8_all, filter, map, slice_get}
+use Rattle.std.specs.Option.{option_map}
+use Rattle.std.proofs.lemmas.List.{take_more, map-append}
+use Rattle.std.proofs.lemmas.List.Elements.{filter-append}
+use Rattle.std.proofs.lemmas.Option.{slice_get_cases}
+use Rattle.std.proofs.lemmas.Str.{encodes-append}
+use Rattle.tp_opid.specs.declared.op_id.OpId.{OpId}
+use Rattle.tp_opid.specs.Insert.{Insert}
+use Rattle.tp_rga.specs.declared.element.Element.{Element}
+use Rattle.tp_rga.specs.Shown.{shown, is_removed, element_of}
+use Rattle.tp_text.specs.Text.{chars_of}
+
+-- the bytes of the characters that the first k elements show
+abbrev pub shown_bytes : List (OpId × OpId) → List Insert → ℕ → List ℕ
+shown_bytes R L k = encode_utf8_all (chars_of (shown R (take k L)))
+
+-- the bytes that one element shows
+abbrev own_bytes : List (OpId × OpId) → Insert → List ℕ
+own_bytes R e = encode_utf8_all (chars_of (shown R (e ∷ [])))
+
+shown_bytes-more : (R : List (OpId × OpId)) (L : List Insert) (k : ℕ) (e : Insert) → k < length L → get_or L k e ≡ e → shown_bytes R L (k + 1) ≡ shown_bytes R L k ++ own_bytes R e
+shown_bytes-more R L k e lt is =
+    let more : take (k + 1) L ≡ take k L ++ e ∷ [] = take_more L k e lt ∙ ap (λ x. take k L ++ x ∷ []) is in
+    ap (λ l. encode_utf8_all (chars_of (shown R l))) more
+    ∙ ap (λ l. encode_utf8_all (chars_of l)) (filter-append (λ (x : Insert). not (is_removed R x.id)) (take k L) (e ∷ []))
+    ∙ ap encode_utf8_all (map-append (λ (x : Insert). x.ch) (shown R (take k L)) (shown R (e ∷ [])))
+    ∙ encodes-append (chars_of (shown R (take k L))) (chars_of (shown R (e ∷ [])))
+
+own_bytes-kept : (R : List (OpId × OpId)) (e : Insert) → is_removed R e.id ≡ false → own_bytes R e ≡ encode_utf8 e.ch
+own_bytes-kept R e h = ap (λ b. encode_utf8_all (chars_of (cond (not b) (e ∷ []) []))) h ∙ append-nil (encode_utf8 e.ch)
+
+own_bytes-gone : (R : List (OpId × OpId)) (e : Insert) → is_removed R e.id ≡ true → own_bytes R e ≡ []
+own_bytes-gone R e h = ap (λ b. encode_utf8_all (chars_of (cond (not b) (e ∷ []) []))) h
+
+-- what is known of the element at a place
+at_place : (R : List (OpId × OpId)) (L : List Insert) (k : ℕ) (x : Element) → Some x ≡ option_map (element_of R) (slice_get L k) → (e : Insert) × (k < length L) × (get_or L k e ≡ e) × (x ≡ element_of R e)
+at_place R L k x h = elim (slice_get_cases L k).1 [
+  | inl found ↦ let e : Some x ≡ option_map (element_of R) (Some found.0) = h ∙ ap (option_map (element_of R)) found.2 in (found.0, found.1, found.3, cc)
+  | inr past ↦ let e : Some x ≡ option_map (element_of R) None = h ∙ ap (option_map (element_of R)) past.1 in cc
+]
+
+not_true : (b : Bool) → not b ≡ true → b ≡ false
+not_true true e = cc
+not_true false e = refl
+
+not_false : (b : Bool) → not b ≡ false → b ≡ true
+not_false true e = refl
+not_false false e = cc
+
+-- an element that no delete names adds its character
+pub shown_bytes-kept : (R : List (OpId × OpId)) (L : List Insert) (k : ℕ) (x : Element) → Some x ≡ option_map (element_of R) (slice_get L k) → not x.deleted ≡ true → shown_bytes R L (k + 1) ≡ shown_bytes R L k ++ encode_utf8 x.ch
+shown_bytes-kept R L k x h passed =
+    let kept : x.deleted ≡ false = not_true x.deleted passed in
+    let p = at_place R L k x h in
+    let still : is_removed R p.0.id ≡ false = sym (ap (λ (y : Element). y.deleted) p.3) ∙ kept in
+    shown_bytes-more R L k p.0 p.1 p.2
+    ∙ ap (λ l. shown_bytes R L k ++ l) (own_bytes-kept R p.0 still ∙ ap (λ (y : Element). encode_utf8 y.ch) (sym p.3))
+
+-- a tombstone adds none
+pub shown_bytes-gone : (R : List (OpId × OpId)) (L : List Insert) (k : ℕ) (x : Element) → Some x ≡ option_map (element_of R) (slice_get L k) → not x.deleted ≡ false → shown_bytes R L (k + 1) ≡ shown_bytes R L k
+shown_bytes-gone R L k x h failed =
+    let gone : x.deleted ≡ true = not_false x.deleted failed in
+    let p = at_place R L k x h in
+    let named : is_removed R p.0.id ≡ true = sym (ap (λ (y : Element). y.deleted) p.3) ∙ gone in
+    shown_bytes-more R L k p.0 p.1 p.2 ∙ ap (λ l. shown_bytes R L k ++ l) (own_bytes-gone R p.0 named) ∙ append-nil (shown_bytes R L k)
+
+-- every place before the end has an element
+pub no_place : (R : List (OpId × OpId)) (L : List Insert) (k : ℕ) → k < length L → None ≡ option_map (element_of R) (slice_get L k) → ⊥
+no_place R L k lt h = elim (slice_get_cases L k).1 [
+  | inl found ↦ let e : None ≡ option_map (element_of R) (Some found.0) = h ∙ ap (option_map (element_of R)) found.2 in cc
+  | inr past ↦ absurd (omega arith)
+]

@@ -1,0 +1,22 @@
+-- What operations do to a sequence of elements.
+use Rattle.std.specs.Prelude.{List, [], ◌∷◌, ◌++◌}
+use Rattle.tp_list.specs.Members.{SameMembers}
+use Rattle.tp_opid.specs.Insert.{Insert}
+use Rattle.tp_change.specs.declared.op.Op.{Op}
+use Rattle.tp_change.specs.declared.op.Op.TheVariants as op_of
+use Rattle.tp_change.specs.Elements.{element, inserts_in}
+use Rattle.tp_rga.specs.Tree.{IsTree, IsThere, CanInsert}
+use Rattle.tp_rga.specs.Order.{IsInOrder}
+
+-- The operations may come one after another where the elements S are there: each insert has a new identifier above
+-- that of its reference, and each reference and target is there by then.
+abbrev pub CanApply : List Insert → List Op → Type 0
+CanApply S [] = Unit {0}
+CanApply S (op_of.Insert id after ch ∷ ops) = CanInsert S id after × CanApply (S ++ element id after ch ∷ []) ops
+CanApply S (op_of.Delete id target ∷ ops) = IsThere S target × CanApply S ops
+
+-- The new list has the elements of the old one and those that the operations insert; and where the old one stood in
+-- order for a tree, the new one stands in order for that tree with these.
+pub record Extends (old new : List Insert) (ops : List Op) : Type 0 where
+  pub members : SameMembers (old ++ inserts_in ops) new
+  pub order : (T : List Insert) → IsTree T → IsInOrder T old → IsTree (T ++ inserts_in ops) × IsInOrder (T ++ inserts_in ops) new

@@ -1,0 +1,7 @@
+//! What the text of a set of changes is, and how a sequence of elements comes to show it.
+#![tactic(auto)]
+
+mod applying;
+mod reading;
+
+pub use reading::text;
