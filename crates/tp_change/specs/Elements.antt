@@ -1,5 +1,5 @@
--- The elements that changes insert and delete, and whether references and targets are among them.
-use Rattle.std.specs.Prelude.{ℕ, List, [], ◌∷◌, ◌++◌, Bool, true, false, ◌||◌, ◌&&◌}
+-- The elements that changes insert and delete, whether references and targets are among them, and the counters.
+use Rattle.std.specs.Prelude.{ℕ, ◌+◌, cond, nat_lt, List, [], ◌∷◌, ◌++◌, Bool, true, false, ◌||◌, ◌&&◌}
 use Rattle.tp_opid.specs.declared.op_id.OpId.{OpId}
 use Rattle.tp_opid.specs.declared.op_id.Place.{Place}
 use Rattle.tp_opid.specs.declared.op_id.Place.TheVariants.{Start, After}
@@ -8,7 +8,7 @@ use Rattle.tp_opid.specs.Same.{id_eq}
 use Rattle.tp_change.specs.declared.op.Op.{Op}
 use Rattle.tp_change.specs.declared.op.Op.TheVariants as op_of
 use Rattle.tp_change.specs.declared.parts.ChangeParts.{ChangeParts}
-use Rattle.tp_change.specs.Operations.{ops_of}
+use Rattle.tp_change.specs.Operations.{ops_of, op_count}
 
 -- the insert as an element of the sequence
 abbrev pub element : OpId → Place → ℕ → Insert
@@ -51,3 +51,12 @@ abbrev pub refers : List Insert → List Op → Bool
 refers S [] = true
 refers S (op_of.Insert id after ch ∷ ops) = is_place S after && refers (element id after ch ∷ S) ops
 refers S (op_of.Delete id target ∷ ops) = is_inserted S target && refers S ops
+
+-- the greater of two numbers
+abbrev pub later : ℕ → ℕ → ℕ
+later a b = cond (nat_lt a b) b a
+
+-- 1 plus the greatest counter of the changes, or 1 where there is none
+abbrev pub next_counter : List ChangeParts → ℕ
+next_counter [] = 1
+next_counter (c ∷ C) = later (c.start + op_count c) (next_counter C)

@@ -1,6 +1,13 @@
-pub mod Operations
-pub mod Spelling
-pub mod Limits
 pub mod ChangeError
 pub mod ChangeHash
 pub mod Elements
+pub mod Faults
+pub mod Gives
+pub mod Judged
+pub mod Limits
+pub mod OpIds
+pub mod Operations
+pub mod OpsLeft
+pub mod Puts
+pub mod Reading
+pub mod Spelling

@@ -61,3 +61,17 @@ pub record IsChange (c : ChangeParts) : Type 0 where
   -- the last counter is at most 2^48 - 1
   pub counters : c.start + count_of c.records ≤ 2 ^ 48
   pub size : length (spelling c) ≤ 4194304
+
+-- What the types of a program say of a record: no limit is known yet.
+abbrev pub IsTypedRecord : Record → Type 0
+IsTypedRecord (Insert after text) = IsPlace after × (all_scalars text ≡ true)
+IsTypedRecord (Delete target) = IsId target
+
+-- what the types of a program say of the parts of a change
+pub record IsTyped (c : ChangeParts) : Type 0 where
+  pub actor : IsActor c.actor
+  pub seq : c.seq < 2 ^ 64
+  pub time : c.time < 2 ^ 64
+  pub message : all_scalars c.message ≡ true
+  pub deps : AllByRecursion IsHash c.deps
+  pub records : AllByRecursion IsTypedRecord c.records

@@ -14,9 +14,9 @@ use tp_opid::{Actor, Hash};
 /// Contracts see its parts. It keeps the allocator that it was made with, and its hash, which is taken once.
 #[derive(Drop)]
 pub struct Change {
-    alloc: Global,
-    parts: ChangeParts,
-    hash: Hash,
+    pub(crate) alloc: Global,
+    pub(crate) parts: ChangeParts,
+    pub(crate) hash: Hash,
 }
 
 impl Model for Change {

@@ -6,13 +6,25 @@
 #![tactic(auto)]
 
 mod change;
+mod copying;
+mod counting;
 mod error;
+mod facts;
+mod judging;
+pub mod laws;
+mod making;
 mod op;
+mod ops;
 mod parts;
+mod reading;
 mod record;
+mod sink;
+mod size;
+mod writing;
 
 pub use change::Change;
 pub use error::ChangeError;
 pub use op::Op;
+pub use ops::Ops;
 pub use parts::ChangeParts;
 pub use record::Record;

@@ -7,7 +7,7 @@ use Rattle.tp_opid.specs.declared.op_id.Place.{Place}
 use Rattle.tp_opid.specs.Insert.{Insert}
 use Rattle.tp_change.specs.declared.op.Op.{Op}
 use Rattle.tp_change.specs.declared.op.Op.TheVariants as op_of
-use Rattle.tp_change.specs.Elements.{element, inserts_in}
+use Rattle.tp_change.specs.Elements.{element, inserts_in, deletes_in}
 use Rattle.tp_rga.specs.Tree.{IsTree, IsThere, CanInsert}
 use Rattle.tp_rga.specs.Order.{IsInOrder, IsInserted}
 use Rattle.tp_rga.proofs.Sets.{In-left, In-right, In-append, In-push, In-last, SameMembers-sym, IsThere-grow, CanInsert-same, IsTree-push}
@@ -86,3 +86,18 @@ Extends-join old mid new xs ys p q =
         let second = q.order (T ++ inserts_in xs) first.0 first.1 in
         subst (λ l. IsTree l × IsInOrder l new) (append_assoc T (inserts_in xs) (inserts_in ys) ∙ ap (λ l. T ++ l) (sym joined)) second;
     }
+
+pub deletes_in-append : (xs ys : List Op) → deletes_in (xs ++ ys) ≡ deletes_in xs ++ deletes_in ys
+deletes_in-append [] ys = refl
+deletes_in-append (op_of.Insert id after ch ∷ xs) ys = deletes_in-append xs ys
+deletes_in-append (op_of.Delete id target ∷ xs) ys = ap (λ l. (target, id) ∷ l) (deletes_in-append xs ys)
+
+-- the first operation of those that may come
+pub CanApply-first : (S : List Insert) (op : Op) (ops : List Op) → CanApply S (op ∷ ops) → CanApply S (op ∷ [])
+CanApply-first S (op_of.Insert id after ch) ops h = (h.0, tt)
+CanApply-first S (op_of.Delete id target) ops h = (h.0, tt)
+
+-- what may come after it, once it is in
+pub CanApply-rest : (S T : List Insert) (op : Op) (ops : List Op) → CanApply S (op ∷ ops) → Extends S T (op ∷ []) → CanApply T ops
+CanApply-rest S T (op_of.Insert id after ch) ops h e = CanApply-same (S ++ element id after ch ∷ []) T e.members ops h.1
+CanApply-rest S T (op_of.Delete id target) ops h e = CanApply-same S T (subst (λ l. SameMembers l T) (append-nil S) e.members) ops h.1

@@ -1,3 +1,4 @@
 mod ShownText
 pub mod Applied
 pub mod Numbered
+pub mod Checked

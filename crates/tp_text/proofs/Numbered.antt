@@ -10,17 +10,17 @@ use Rattle.tp_opid.specs.declared.op_id.Place.TheVariants.{Start, After}
 use Rattle.tp_opid.specs.Insert.{Insert}
 use Rattle.tp_opid.specs.Order.{Below}
 use Rattle.tp_opid.specs.Same.{id_eq}
-use Rattle.tp_opid.proofs.Orders.{id_eq-same, Below-counter, Below-trans, Below-asym, Below-irreflexive}
+use Rattle.tp_opid.proofs.Orders.{id_eq-same, id_eq-itself, Below-counter, Below-trans, Below-asym, Below-irreflexive}
 use Rattle.tp_change.specs.declared.op.Op.{Op}
 use Rattle.tp_change.specs.declared.op.Op.TheVariants as op_of
 use Rattle.tp_change.specs.declared.record.Record.{Record}
 use Rattle.tp_change.specs.declared.record.Record.TheVariants as record_of
 use Rattle.tp_change.specs.declared.parts.ChangeParts.{ChangeParts}
 use Rattle.tp_change.specs.Operations.{id_of, run, ops_in, ops_from, ops_of, op_count, count_in, count_of}
-use Rattle.tp_change.specs.Elements.{element, inserts_in, is_inserted, is_place, refers}
+use Rattle.tp_change.specs.Elements.{element, inserts_in, inserts, deletes_in, deletes, is_inserted, is_place, refers}
 use Rattle.tp_rga.specs.Tree.{IsThere, IsNew, IsPlaceBelow, CanInsert}
 use Rattle.tp_rga.proofs.Sets.{In-push, In-left, In-right, In-append, IsThere-grow, IsThere-member}
-use Rattle.tp_text.specs.Applying.{CanApply}
+use Rattle.tp_text.specs.Applying.{CanApply, AllUnder}
 
 -- The operations have the identifiers of the actor from the counter n on, in turn.
 abbrev pub Numbered : Actor → ℕ → List Op → Type 0
@@ -69,10 +69,6 @@ length-ops_of c = length-ops_from c.actor c.start c.records
 
 -- ---- identifiers below the next one
 
--- Each element has an identifier below x.
-abbrev pub AllUnder : List Insert → OpId → Type 0
-AllUnder S x = (e : Insert) → In e S → Below e.id x
-
 -- No element has an identifier of the actor from the counter n on.
 abbrev pub IsFresh : List Insert → Actor → ℕ → Type 0
 IsFresh S a n = (e : Insert) → In e S → (k : ℕ) → n ≤ k → id_eq e.id (id_of a k) ≡ false
@@ -105,6 +101,30 @@ is_inserted-there (e ∷ S) x h = elim (id_eq e.id x) as (λ b. id_eq e.id x ≡
   | true ↦ λ is _. (e, inl refl, id_eq-same e.id x is)
   | false ↦ λ is more. let rest = is_inserted-there S x more in (rest.0, inr rest.1, rest.2)
 ] refl h
+
+pub is_inserted-member : (S : List Insert) (e : Insert) → In e S → is_inserted S e.id ≡ true
+is_inserted-member [] e there = absurd there
+is_inserted-member (y ∷ S) e (inl same) = ap (λ b. b || is_inserted S e.id) (ap (λ (z : Insert). id_eq z.id e.id) (sym same) ∙ id_eq-itself e.id)
+is_inserted-member (y ∷ S) e (inr old) = ap (λ b. id_eq y.id e.id || b) (is_inserted-member S e old) ∙ or_true (id_eq y.id e.id)
+  where
+    or_true : (b : Bool) → (b || true) ≡ true
+    or_true true = refl
+    or_true false = refl
+
+pub both_ways : (r b : Bool) → (r ≡ true → b ≡ true) → (b ≡ true → r ≡ true) → r ≡ b
+both_ways true b there back = sym (there refl)
+both_ways false true there back = back refl
+both_ways false false there back = refl
+
+-- the test of a sequence is the test of the definitions
+pub is_inserted-test : (S : List Insert) (x : OpId) (r : Bool) → (r ≡ true → IsThere S x) × (IsThere S x → r ≡ true) → r ≡ is_inserted S x
+is_inserted-test S x r h = both_ways r (is_inserted S x)
+    (λ e. let there = h.0 e in is_inserted-member S (record { id = x; after = there.0; ch = there.1.0 }) there.1.1)
+    (λ e. let found = is_inserted-there S x e in h.1 (subst (IsThere S) found.2 (IsThere-member S found.0 found.1)))
+
+pub and_last : (b : Bool) → b ≡ (b && true)
+and_last true = refl
+and_last false = refl
 
 there-of : (P S : List Insert) (x : OpId) → AllIn P S → is_inserted P x ≡ true → IsThere S x
 there-of P S x sub h = let found = is_inserted-there P x h in subst (IsThere S) found.2 (IsThere-member S found.0 (sub found.0 found.1))
@@ -151,12 +171,28 @@ CanApply-refers (op_of.Delete id target ∷ ops) P S a n num sub under fresh h =
       parts.1,
     )
 
--- the inserts of operations stand below the identifier that comes after them
-pub AllUnder-ops : (ops : List Op) (a : Actor) (n : ℕ) → Numbered a n ops → AllUnder (inserts_in ops) (id_of a (n + length ops))
-AllUnder-ops [] a n num e there = absurd there
-AllUnder-ops (op_of.Insert id after ch ∷ ops) a n num e (inl same) =
-    subst (λ x. Below x (id_of a (n + length (op_of.Insert id after ch ∷ ops)))) (sym num.0 ∙ sym (ap (λ (z : Insert). z.id) same)) (Below-next a n _ (omega arith))
-AllUnder-ops (op_of.Insert id after ch ∷ ops) a n num e (inr old) =
-    subst (λ m. Below e.id (id_of a m)) (let s : (n + 1) + length ops ≡ n + length (op_of.Insert id after ch ∷ ops) = omega arith in s) (AllUnder-ops ops a (n + 1) num.1 e old)
-AllUnder-ops (op_of.Delete id target ∷ ops) a n num e there =
-    subst (λ m. Below e.id (id_of a m)) (let s : (n + 1) + length ops ≡ n + length (op_of.Delete id target ∷ ops) = omega arith in s) (AllUnder-ops ops a (n + 1) num.1 e there)
+-- the inserts of operations stand below every identifier with the counter that comes after them
+pub AllUnder-ops : (ops : List Op) (a b : Actor) (n : ℕ) → Numbered a n ops → AllUnder (inserts_in ops) (id_of b (n + length ops))
+AllUnder-ops [] a b n num e there = absurd there
+AllUnder-ops (op_of.Insert id after ch ∷ ops) a b n num e (inl same) =
+    subst (λ x. Below x (id_of b (n + length (op_of.Insert id after ch ∷ ops)))) (sym num.0 ∙ sym (ap (λ (z : Insert). z.id) same)) (Below-counter (id_of a n) (id_of b (n + length (op_of.Insert id after ch ∷ ops))) (omega arith))
+AllUnder-ops (op_of.Insert id after ch ∷ ops) a b n num e (inr old) =
+    subst (λ m. Below e.id (id_of b m)) (let s : (n + 1) + length ops ≡ n + length (op_of.Insert id after ch ∷ ops) = omega arith in s) (AllUnder-ops ops a b (n + 1) num.1 e old)
+AllUnder-ops (op_of.Delete id target ∷ ops) a b n num e there =
+    subst (λ m. Below e.id (id_of b m)) (let s : (n + 1) + length ops ≡ n + length (op_of.Delete id target ∷ ops) = omega arith in s) (AllUnder-ops ops a b (n + 1) num.1 e there)
+
+-- what stands below an identifier stands below each one with a greater counter
+pub AllUnder-up : (S : List Insert) (a : Actor) (m n : ℕ) → m ≤ n → AllUnder S (id_of a m) → AllUnder S (id_of a n)
+AllUnder-up S a m n le under e there = elim (cases_lt m n) [
+  | inl lt ↦ Below-trans e.id (id_of a m) (id_of a n) (under e there) (Below-next a m n lt)
+  | inr ge ↦ subst (λ k. Below e.id (id_of a k)) (let s : m ≡ n = omega arith in s) (under e there)
+]
+
+-- the inserts and deletes of one change more
+pub inserts-push : (C : List ChangeParts) (c : ChangeParts) → inserts (C ++ c ∷ []) ≡ inserts C ++ inserts_in (ops_of c)
+inserts-push [] c = append-nil (inserts_in (ops_of c))
+inserts-push (d ∷ C) c = ap (λ l. inserts_in (ops_of d) ++ l) (inserts-push C c) ∙ sym (append_assoc (inserts_in (ops_of d)) (inserts C) (inserts_in (ops_of c)))
+
+pub deletes-push : (C : List ChangeParts) (c : ChangeParts) → deletes (C ++ c ∷ []) ≡ deletes C ++ deletes_in (ops_of c)
+deletes-push [] c = append-nil (deletes_in (ops_of c))
+deletes-push (d ∷ C) c = ap (λ l. deletes_in (ops_of d) ++ l) (deletes-push C c) ∙ sym (append_assoc (deletes_in (ops_of d)) (deletes C) (deletes_in (ops_of c)))

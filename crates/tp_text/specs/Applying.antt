@@ -1,7 +1,9 @@
 -- What operations do to a sequence of elements.
 use Rattle.std.specs.Prelude.{List, [], ◌∷◌, ◌++◌}
-use Rattle.tp_list.specs.Members.{SameMembers}
+use Rattle.tp_list.specs.Members.{In, SameMembers}
+use Rattle.tp_opid.specs.declared.op_id.OpId.{OpId}
 use Rattle.tp_opid.specs.Insert.{Insert}
+use Rattle.tp_opid.specs.Order.{Below}
 use Rattle.tp_change.specs.declared.op.Op.{Op}
 use Rattle.tp_change.specs.declared.op.Op.TheVariants as op_of
 use Rattle.tp_change.specs.Elements.{element, inserts_in}
@@ -20,3 +22,7 @@ CanApply S (op_of.Delete id target ∷ ops) = IsThere S target × CanApply S ops
 pub record Extends (old new : List Insert) (ops : List Op) : Type 0 where
   pub members : SameMembers (old ++ inserts_in ops) new
   pub order : (T : List Insert) → IsTree T → IsInOrder T old → IsTree (T ++ inserts_in ops) × IsInOrder (T ++ inserts_in ops) new
+
+-- Each element has an identifier below x.
+abbrev pub AllUnder : List Insert → OpId → Type 0
+AllUnder S x = (e : Insert) → In e S → Below e.id x

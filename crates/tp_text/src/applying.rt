@@ -1,10 +1,13 @@
 //! Changes put into a sequence.
 
-ghost use Rattle.std.specs.Prelude.{◌≡◌, ◌+◌, ◌<◌, ◌≤◌, [], ◌∷◌, ◌++◌};
-ghost use Rattle.tp_change.specs.Elements.{deletes_in};
-ghost use Rattle.tp_text.specs.Applying.{CanApply, Extends};
+ghost use Rattle.std.specs.Prelude.{◌≡◌, ◌+◌, ◌<◌, ◌≤◌, [], ◌∷◌, ◌++◌, length, true, IfOk};
+ghost use Rattle.tp_change.specs.Operations.{ops_of, id_of};
+ghost use Rattle.tp_change.specs.Elements.{deletes_in, refers};
+ghost use Rattle.tp_text.specs.Applying.{CanApply, Extends, AllUnder};
 
-use tp_change::Op;
+use std::alloc::AllocError;
+use tp_change::{Change, Op};
+use tp_opid::Place;
 use tp_rga::Sequence;
 
 // Puts one operation into a sequence that has room for it.
@@ -22,5 +25,52 @@ fn apply_op<S: Sequence>(sequence: &mut S, op: Op)
     match done {
         Ok(()) => {}
         Err(_) => unreachable!(),
+    }
+}
+
+/// Puts the operations of a change into a sequence, in order. The caller has made room for them, and knows that they
+/// may be applied. The cost is that of the sequence's own inserts and deletes.
+pub fn apply_change<S: Sequence>(sequence: &mut S, change: &Change)
+    requires fits { CanApply (S.placed sequence.old) (ops_of change.now) }
+    requires room { length (ops_of change.now) ≤ S.room sequence.old }
+    ensures elements { Extends (S.placed sequence.old) (S.placed sequence.new) (ops_of change.now) }
+    ensures removals { S.removals sequence.new
+        ≡ S.removals sequence.old ++ deletes_in (ops_of change.now) }
+    ensures room { S.room sequence.old ≤ S.room sequence.new + length (ops_of change.now) }
+{
+    for op in change.ops() {
+        apply_op(sequence, op);
+    }
+}
+
+/// Puts the operations of a change into a sequence, in order, where each reference and each target is there by then;
+/// answers whether they all were. Where one wasn't, or memory is short, a beginning of the operations is in.
+pub fn apply_checked<S: Sequence>(sequence: &mut S, change: &Change) -> Result<bool, AllocError>
+    requires { AllUnder (S.placed sequence.old) (id_of change.now.actor change.now.start) }
+    ensures refers { IfOk result (λ all. all ≡ refers (S.placed sequence.old) (ops_of change.now)) }
+    ensures elements { IfOk result (λ all. all ≡ true → Extends (S.placed sequence.old) (S.placed sequence.new) (ops_of change.now)) }
+    ensures removals { IfOk result (λ all. all ≡ true → S.removals sequence.new
+        ≡ S.removals sequence.old ++ deletes_in (ops_of change.now)) }
+{
+    for op in change.ops() {
+        if !has_reference(sequence, &op) {
+            return Ok(false);
+        }
+        sequence.reserve(1)?;
+        apply_op(sequence, op);
+    }
+    Ok(true)
+}
+
+// Whether the element that an operation refers to is there.
+fn has_reference<S: Sequence>(sequence: &S, op: &Op) -> bool
+    ensures { result ≡ refers (S.placed sequence.now) (op.now ∷ []) }
+{
+    match op {
+        Op::Insert { after, .. } => match after {
+            Place::Start => true,
+            Place::After(id) => sequence.contains(id),
+        },
+        Op::Delete { target, .. } => sequence.contains(target),
     }
 }

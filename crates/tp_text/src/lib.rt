@@ -4,4 +4,5 @@
 mod applying;
 mod reading;
 
+pub use applying::{apply_change, apply_checked};
 pub use reading::text;

@@ -1,1 +1,3 @@
 pub mod ShowFault
+pub mod Log
+pub mod Chain

@@ -1,6 +1,7 @@
 //! What the program `textpeer` does, as functions over readers and writers.
 #![tactic(auto)]
 
+mod chain;
 mod error;
 mod input;
 

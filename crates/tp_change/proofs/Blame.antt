@@ -1,0 +1,115 @@
+-- The front of the bytes that is to blame for a refusal: the shortest one with a fault other than missing bytes.
+use Rattle.std.proofs.Common.{◌≡◌, ℕ, zero, suc, ◌+◌, ◌<◌, ◌≤◌, Bool, true, false, List, [], ◌∷◌, ◌++◌, length, take, drop, Result, Ok, Err, refl, sym, ap, subst, ◌∙◌, append-nil, arith, ◌⊎◌, inl, inr}
+use Rattle.std.proofs.lemmas.Bool.{cases_eq}
+use Rattle.std.proofs.lemmas.List.{length-append, take-append-drop, take_at, length-take, take_all, append_assoc}
+use Rattle.tp_codec.proofs.Fields.{AreBytes, AreBytes-take}
+use Rattle.tp_change.specs.declared.error.ChangeError.{ChangeError}
+use Rattle.tp_change.specs.declared.error.ChangeError.TheVariants.{Short}
+use Rattle.tp_change.specs.declared.parts.ChangeParts.{ChangeParts}
+use Rattle.tp_change.specs.Spelling.{spelling}
+use Rattle.tp_change.specs.Limits.{IsChange}
+use Rattle.tp_change.specs.Reading.{change_at}
+use Rattle.tp_change.specs.Faults.{IsSpelling, IsToBlame, SomeFrontIsToBlame}
+use Rattle.tp_change.proofs.WholeChange.{change_takes, change_again, change_stays}
+
+-- the least number below n at which a test holds
+record Least (test : ℕ → Bool) (n : ℕ) : Type 0 where
+  at : ℕ
+  below : at < n
+  holds : test at ≡ true
+  before : (k : ℕ) → k < at → test k ≡ false
+
+least : (test : ℕ → Bool) (n : ℕ) → Least test n ⊎ ((k : ℕ) → k < n → test k ≡ false)
+least test zero = inr (λ k lt. absurd (omega arith))
+least test (suc n) =
+    elim (least test n) [
+    | inl found ↦ inl (record { at = found.at; below = omega (arith, found.below); holds = found.holds; before = found.before })
+    | inr none ↦ last (test n) refl none
+    ]
+  where
+    last : (b : Bool) → test n ≡ b → ((k : ℕ) → k < n → test k ≡ false) → Least test (suc n) ⊎ ((k : ℕ) → k < suc n → test k ≡ false)
+    last true h none = inl (record { at = n; below = omega arith; holds = h; before = none })
+    last false h none = inr (λ k lt. elim (cases_eq k n) [ inl same ↦ rw same h | inr other ↦ none k (omega arith) ])
+
+-- a fault other than missing bytes
+abbrev is_other : ChangeError → Bool
+is_other Short = false
+is_other e = true
+
+abbrev is_fault : Result ChangeParts ChangeError → Bool
+is_fault (Ok c) = false
+is_fault (Err e) = is_other e
+
+apart_other : (e : ChangeError) → is_other e ≡ true → e ≡ Short → ⊥
+apart_other e h same = let no : is_other e ≡ false = ap is_other same in cc
+
+other_apart : (e : ChangeError) → (e ≡ Short → ⊥) → is_other e ≡ true
+other_apart Short h = absurd (h refl)
+other_apart e h = refl
+
+short_is : (e : ChangeError) → is_other e ≡ false → e ≡ Short
+short_is Short h = refl
+short_is e h = absurd cc
+
+fault_is : (r : Result ChangeParts ChangeError) → is_fault r ≡ true → (e : ChangeError) × (r ≡ Err e) × (e ≡ Short → ⊥)
+fault_is (Ok c) h = absurd cc
+fault_is (Err e) h = (e, refl, apart_other e h)
+
+no_fault_is : (r : Result ChangeParts ChangeError) → is_fault r ≡ false → ((c : ChangeParts) × (r ≡ Ok c)) ⊎ (r ≡ Err Short)
+no_fault_is (Ok c) h = inl (c, refl)
+no_fault_is (Err e) h = inr (ap (λ (f : ChangeError). Err f) (short_is e h))
+
+fault_of : (r : Result ChangeParts ChangeError) (e : ChangeError) → r ≡ Err e → (e ≡ Short → ⊥) → is_fault r ≡ true
+fault_of r e h apart = rw h (other_apart e apart)
+
+same_fault : (d e : ChangeError) → (let r : Result ChangeParts ChangeError = Err d in r) ≡ Err e → d ≡ e
+same_fault d e h = cc
+
+-- no change's bytes begin with a front that stays faulty
+pub barred_by : (front : List ℕ) (e : ChangeError) → ((more : List ℕ) → length (front ++ more) ≤ 4194304 → change_at (front ++ more) ≡ Err e) → (c : ChangeParts) (more : List ℕ) → IsChange c → spelling c ≡ front ++ more → ⊥
+barred_by front e longer c more is begins =
+    let size : length (front ++ more) ≤ 4194304 = rw (← begins) is.size in
+    let fault : change_at (front ++ more) ≡ Err e = longer more size in
+    let read : change_at (front ++ more) ≡ Ok c = ap change_at (sym begins) ∙ change_again c is in
+    let no : (let r : Result ChangeParts ChangeError = Ok c in r) ≡ Err e = sym read ∙ fault in
+    cc
+
+front_at : (bytes : List ℕ) → AreBytes bytes → length bytes ≤ 4194304 → (e : ChangeError) → change_at bytes ≡ Err e
+    → (n : ℕ) → n ≤ length bytes → is_fault (change_at (take n bytes)) ≡ true → ((k : ℕ) → k < n → is_fault (change_at (take k bytes)) ≡ false) → SomeFrontIsToBlame bytes e
+front_at bytes fits size e bad n within faulty before =
+    let front = take n bytes in
+    let back = drop n bytes in
+    let whole : front ++ back ≡ bytes = take-append-drop n bytes in
+    let f = fault_is (change_at front) faulty in
+    let front_fits : AreBytes front = AreBytes-take n bytes fits in
+    let small : length (front ++ back) ≤ 4194304 = rw whole size in
+    let on : change_at bytes ≡ Err f.0 = ap change_at (sym whole) ∙ change_stays front back f.0 front_fits small f.1 f.2 in
+    let same : f.0 ≡ e = same_fault f.0 e (sym on ∙ bad) in
+    let longer : (more : List ℕ) → length (front ++ more) ≤ 4194304 → change_at (front ++ more) ≡ Err e
+      = λ more few. change_stays front more f.0 front_fits few f.1 f.2 ∙ ap (λ (d : ChangeError). Err d) same in
+    (front, back, sym whole, record {
+      barred = barred_by front e longer;
+      shorter = λ begin more parts some.
+        let len : length front ≡ length begin + length more = ap length parts ∙ length-append begin more in
+        let lt : length begin < n = omega (arith, length-take n bytes) in
+        let all : bytes ≡ begin ++ (more ++ back) = sym whole ∙ ap (λ (b : List ℕ). b ++ back) parts ∙ append_assoc begin more back in
+        let is_front : take (length begin) bytes ≡ begin = ap (take (length begin)) all ∙ take_at begin (more ++ back) (length begin) refl in
+        let begin_fits : AreBytes begin = subst AreBytes is_front (AreBytes-take (length begin) bytes fits) in
+        let none : is_fault (change_at begin) ≡ false = subst (λ (b : List ℕ). is_fault (change_at b) ≡ false) is_front (before (length begin) lt) in
+        elim (no_fault_is (change_at begin) none) [
+        | inl read ↦ let t = change_takes begin read.0 begin_fits read.1 in inl (read.0, t.0, t.1)
+        | inr short ↦ inr short
+        ];
+      longer = longer;
+    })
+
+-- A fault other than missing bytes has a front that is to blame.
+pub some_front : (bytes : List ℕ) → AreBytes bytes → length bytes ≤ 4194304 → (e : ChangeError) → change_at bytes ≡ Err e → (e ≡ Short → ⊥) → SomeFrontIsToBlame bytes e
+some_front bytes fits size e bad apart =
+    elim (least (λ n. is_fault (change_at (take n bytes))) (suc (length bytes))) [
+    | inl l ↦ front_at bytes fits size e bad l.at (omega (arith, l.below)) l.holds l.before
+    | inr none ↦
+      let quiet : is_fault (change_at bytes) ≡ false = subst (λ (b : List ℕ). is_fault (change_at b) ≡ false) (take_all (length bytes) bytes (omega arith)) (none (length bytes) (omega arith)) in
+      let loud : is_fault (change_at bytes) ≡ true = fault_of (change_at bytes) e bad apart in
+      absurd cc
+    ]

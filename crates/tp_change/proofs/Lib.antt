@@ -1,0 +1,13 @@
+pub mod Blame
+pub mod ChangeFields
+pub mod Counts
+pub mod JudgedLaws
+pub mod JudgedSteps
+pub mod Lengths
+pub mod OpsBegin
+pub mod OpsLaws
+pub mod PutsLaws
+pub mod Refusals
+pub mod SpellingLaws
+pub mod Utf8Tests
+pub mod WholeChange

@@ -1,0 +1,135 @@
+-- The operations of a change, by place: how many they are, and their identifiers.
+use Rattle.std.proofs.Common.{◌≡◌, ℕ, cond, eqb, zero, suc, ◌+◌, ◌<◌, ◌≤◌, ◌⊎◌, List, [], ◌∷◌, ◌++◌, length, map, get_or, refl, sym, ap, ◌∙◌, subst, arith, add-zero, add_assoc, inl, inr}
+use Rattle.std.proofs.lemmas.List.{map-append}
+use Rattle.std.proofs.lemmas.Bool.{lt-ltb}
+use Rattle.std.specs.Cmp.Lexicographic.{slice_cmp}
+use Rattle.std.specs.Ordering.{nat_cmp, ordering_then}
+use Rattle.std.specs.declared.cmp.Ordering.TheVariants.{Less, Equal, Greater}
+use Rattle.tp_list.specs.Members.{In}
+use Rattle.tp_list.specs.Rising.{IsBelowAll, IsRising}
+use Rattle.tp_opid.specs.declared.actor.Actor.{Actor}
+use Rattle.tp_opid.specs.declared.op_id.OpId.{OpId}
+use Rattle.tp_opid.specs.declared.op_id.Place.{Place}
+use Rattle.tp_opid.specs.declared.op_id.Place.TheVariants.{After}
+use Rattle.tp_opid.specs.Order.{id_cmp, Below}
+use Rattle.tp_change.specs.declared.op.Op.{Op}
+use Rattle.tp_change.specs.declared.record.Record.{Record}
+use Rattle.tp_change.specs.declared.record.Record.TheVariants as record_of
+use Rattle.tp_change.specs.declared.parts.ChangeParts.{ChangeParts}
+use Rattle.tp_change.specs.Operations.{count_in, count_of, id_of, run, ops_in, ops_from, ops_of, op_count}
+use Rattle.tp_change.specs.OpIds.{op_id, ids_from, IsOwnId}
+use Rattle.tp_change.specs.Limits.{IsChange}
+use Rattle.tp_change.proofs.Counts.{length-le-count_of}
+
+-- ---- the identifiers, as a list
+
+ids_from-append : (a : Actor) (n j k : ℕ) → ids_from a n (j + k) ≡ ids_from a n j ++ ids_from a (n + j) k
+ids_from-append a n zero k =
+    let e : zero + k ≡ k = omega arith in
+    let f : n + zero ≡ n = omega arith in
+    rw (e, f) refl
+ids_from-append a n (suc j) k =
+    let e : suc j + k ≡ suc (j + k) = omega arith in
+    let f : n + suc j ≡ (n + 1) + j = omega arith in
+    rw (e, f) (ap (λ ids. id_of a n ∷ ids) (ids_from-append a (n + 1) j k))
+
+ids-run : (a : Actor) (n : ℕ) (after : Place) (text : List ℕ) → map op_id (run a n after text) ≡ ids_from a n (length text)
+ids-run a n after [] = refl
+ids-run a n after (ch ∷ text) = ap (λ ids. id_of a n ∷ ids) (ids-run a (n + 1) (After (id_of a n)) text)
+
+ids-ops_in : (a : Actor) (n : ℕ) (r : Record) → map op_id (ops_in a n r) ≡ ids_from a n (count_in r)
+ids-ops_in a n (record_of.Insert after text) = ids-run a n after text
+ids-ops_in a n (record_of.Delete target) = refl
+
+ids-ops_from : (a : Actor) (n : ℕ) (rs : List Record) → map op_id (ops_from a n rs) ≡ ids_from a n (count_of rs)
+ids-ops_from a n [] = refl
+ids-ops_from a n (r ∷ rs) =
+    map-append op_id (ops_in a n r) (ops_from a (n + count_in r) rs) ∙ ap (λ ids. ids ++ map op_id (ops_from a (n + count_in r) rs)) (ids-ops_in a n r) ∙ ap (λ ids. ids_from a n (count_in r) ++ ids) (ids-ops_from a (n + count_in r) rs) ∙ sym (ids_from-append a n (count_in r) (count_of rs))
+
+-- the identifiers of a change's operations: its actor's, with counters from its start on
+pub ids-ops_of : (c : ChangeParts) → map op_id (ops_of c) ≡ ids_from c.actor c.start (op_count c)
+unfolding ops_of op_count
+ids-ops_of c = ids-ops_from c.actor c.start c.records
+
+-- ---- how many
+
+length-ids_from : (a : Actor) (n k : ℕ) → length (ids_from a n k) ≡ k
+length-ids_from a n zero = refl
+length-ids_from a n (suc k) = ap suc (length-ids_from a (n + 1) k)
+
+length-ids : (ops : List Op) → length (map op_id ops) ≡ length ops
+length-ids [] = refl
+length-ids (op ∷ ops) = ap suc (length-ids ops)
+
+pub length-ops_of : (c : ChangeParts) → length (ops_of c) ≡ op_count c
+length-ops_of c = sym (length-ids (ops_of c)) ∙ ap length (ids-ops_of c) ∙ length-ids_from c.actor c.start (op_count c)
+
+-- a change has an operation
+pub one-le-op_count : (c : ChangeParts) → IsChange c → 1 ≤ op_count c
+unfolding op_count
+one-le-op_count c h = let few = length-le-count_of c.records h.records in omega (arith, h.records_some)
+
+-- ---- by place
+
+get_or-ids_from : (a : Actor) (n k j : ℕ) (d : OpId) → j < k → get_or (ids_from a n k) j d ≡ id_of a (n + j)
+get_or-ids_from a n zero j d lt = absurd (omega arith)
+get_or-ids_from a n (suc k) zero d lt = let e : n + zero ≡ n = omega arith in rw e refl
+get_or-ids_from a n (suc k) (suc j) d lt =
+    let e : n + suc j ≡ (n + 1) + j = omega arith in
+    rw e (get_or-ids_from a (n + 1) k j d (omega arith))
+
+get_or-ids : (ops : List Op) (j : ℕ) (d : Op) → get_or (map op_id ops) j (op_id d) ≡ op_id (get_or ops j d)
+get_or-ids [] j d = refl
+get_or-ids (op ∷ ops) zero d = refl
+get_or-ids (op ∷ ops) (suc j) d = get_or-ids ops j d
+
+-- operation j, counted from 0, has the change's actor and the counter start + j
+pub op_id-at : (c : ChangeParts) (j : ℕ) (d : Op) → j < op_count c → op_id (get_or (ops_of c) j d) ≡ id_of c.actor (c.start + j)
+op_id-at c j d lt =
+    sym (get_or-ids (ops_of c) j d) ∙ ap (λ ids. get_or ids j (op_id d)) (ids-ops_of c) ∙ get_or-ids_from c.actor c.start (op_count c) j (op_id d) lt
+
+-- two places have different identifiers
+pub op_id-apart : (c : ChangeParts) (i j : ℕ) (d : Op) → i < op_count c → j < op_count c → op_id (get_or (ops_of c) i d) ≡ op_id (get_or (ops_of c) j d) → i ≡ j
+op_id-apart c i j d lt_i lt_j e =
+    let at : id_of c.actor (c.start + i) ≡ id_of c.actor (c.start + j) = sym (op_id-at c i d lt_i) ∙ e ∙ op_id-at c j d lt_j in
+    let counters : c.start + i ≡ c.start + j = ap (λ (id : OpId). id.counter) at in
+    omega arith
+
+-- ---- by membership
+
+own_id : (c : ChangeParts) (n k : ℕ) (id : OpId) → c.start ≤ n → n + k ≤ c.start + op_count c → In id (ids_from c.actor n k) → IsOwnId c id
+own_id c n zero id low high h = absurd h
+own_id c n (suc k) id low high h =
+    elim h as (λ _. IsOwnId c id) [
+      inl e ↦ subst (IsOwnId c) (sym e) (record { actor = refl; from = low; to = omega arith })
+    | inr more ↦ own_id c (n + 1) k id (omega arith) (omega arith) more
+    ]
+
+in_ids : (op : Op) (ops : List Op) → In op ops → In (op_id op) (map op_id ops)
+in_ids op [] h = h
+in_ids op (x ∷ xs) h = elim h as (λ _. In (op_id op) (map op_id (x ∷ xs))) [ inl e ↦ inl (ap op_id e) | inr more ↦ inr (in_ids op xs more) ]
+
+-- each operation's identifier is one of the change's
+pub own_op : (c : ChangeParts) (op : Op) → In op (ops_of c) → IsOwnId c (op_id op)
+own_op c op h =
+    own_id c c.start (op_count c) (op_id op) (omega arith) (omega arith) (subst (In (op_id op)) (ids-ops_of c) (in_ids op (ops_of c) h))
+
+-- ---- in order
+
+id_below : (a : Actor) (n m : ℕ) → n < m → id_cmp (id_of a n) (id_of a m) ≡ Less
+unfolding id_cmp
+id_below a n m lt =
+    let first : nat_cmp n m ≡ Less = ap (λ b. cond b Less (cond (eqb n m) Equal Greater)) (lt-ltb n m lt) in
+    ap (λ o. ordering_then o (slice_cmp nat_cmp a.0 a.0)) first
+
+ids_below : (a : Actor) (n m k : ℕ) → n < m → IsBelowAll id_cmp (id_of a n) (ids_from a m k)
+ids_below a n m zero lt = tt
+ids_below a n m (suc k) lt = (id_below a n m lt, ids_below a n (m + 1) k (omega arith))
+
+ids_rise : (a : Actor) (n k : ℕ) → IsRising id_cmp (ids_from a n k)
+ids_rise a n zero = tt
+ids_rise a n (suc k) = (ids_below a n (n + 1) k (omega arith), ids_rise a (n + 1) k)
+
+-- the identifiers rise: each stands below all that come after it
+pub ops_rise : (c : ChangeParts) → IsRising id_cmp (map op_id (ops_of c))
+ops_rise c = subst (IsRising id_cmp) (sym (ids-ops_of c)) (ids_rise c.actor c.start (op_count c))

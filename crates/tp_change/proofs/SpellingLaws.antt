@@ -1,0 +1,63 @@
+-- Laws of spellings and hashes, for the layers above.
+use Rattle.std.proofs.Common.{◌≡◌, ℕ, zero, suc, ◌+◌, ◌*◌, ◌<◌, ◌≤◌, ◌/◌, ◌%◌, Bool, true, false, leb, List, [], ◌∷◌, ◌++◌, length, get_or, Result, Ok, Err, refl, sym, ap, subst, ◌∙◌, append-nil, arith, le-leb}
+use Rattle.std.specs.Int.{w32, to_be_bytes}
+use Rattle.std.proofs.lemmas.List.{length-append}
+use Rattle.tp_codec.specs.Reading.{Reads}
+use Rattle.tp_codec.proofs.Fields.{AreBytes, AreBytes-cons, AreBytes-append, IsField}
+use Rattle.sha2.specs.Sha256.{sha256, digest_bytes, final_hash, initial_hash_256}
+use Rattle.tp_change.specs.declared.error.ChangeError.{ChangeError}
+use Rattle.tp_change.specs.declared.error.ChangeError.TheVariants.{Short}
+use Rattle.tp_change.specs.declared.parts.ChangeParts.{ChangeParts}
+use Rattle.tp_change.specs.ChangeHash.{hash_of}
+use Rattle.tp_change.specs.Spelling.{spelling}
+use Rattle.tp_change.specs.Limits.{IsChange, IsHash, IsBytes}
+use Rattle.tp_change.specs.Reading.{sized_at, change_at}
+use Rattle.tp_change.proofs.ChangeFields.{FitsParts}
+use Rattle.tp_change.proofs.WholeChange.{sized_field, parts_fit, change_again, length-spelling}
+
+one_result : (c d : ChangeParts) → (let r : Result ChangeParts ChangeError = Ok c in r) ≡ Ok d → c ≡ d
+one_result c d e = cc
+
+-- Changes with one spelling are one.
+pub one_spelling_is : (c d : ChangeParts) → IsChange c → IsChange d → spelling c ≡ spelling d → c ≡ d
+one_spelling_is c d is js e = one_result c d (sym (change_again c is) ∙ ap change_at e ∙ change_again d js)
+
+one_read : (x y : ChangeParts × List ℕ) → (let r : Result (ChangeParts × List ℕ) ChangeError = Ok x in r) ≡ Ok y → x ≡ y
+one_read x y e = cc
+
+-- A spelling begins no other.
+pub no_longer_spelling : (c d : ChangeParts) (more : List ℕ) → IsChange c → IsChange d → spelling d ≡ spelling c ++ more → (c ≡ d) × (more ≡ [])
+no_longer_spelling c d more is js e =
+    let n = length (spelling d) in
+    let small : leb n 4194304 ≡ true = le-leb n 4194304 js.size in
+    let first : sized_at n (spelling c ++ more) ≡ Ok (c, more) = (sized_field n).again c more (small, parts_fit c is) in
+    let second : sized_at n (spelling d ++ []) ≡ Ok (d, []) = (sized_field n).again d [] (small, parts_fit d js) in
+    let same : spelling c ++ more ≡ spelling d ++ [] = sym e ∙ sym (append-nil (spelling d)) in
+    let one = one_read (c, more) (d, []) (sym first ∙ ap (sized_at n) same ∙ second) in
+    (ap (λ (p : ChangeParts × List ℕ). p.0) one, ap (λ (p : ChangeParts × List ℕ). p.1) one)
+
+-- how long the bytes of a change are
+pub spelling_bounds : (c : ChangeParts) → IsChange c → (1 ≤ length (spelling c)) × (length (spelling c) ≤ 4194304)
+spelling_bounds c is = (omega (arith, length-spelling c), is.size)
+
+-- ---- the digest is 32 bytes
+
+word_bytes : (n : ℕ) → AreBytes (to_be_bytes w32 n)
+word_bytes n zero = omega arith
+word_bytes n (suc zero) = omega arith
+word_bytes n (suc (suc zero)) = omega arith
+word_bytes n (suc (suc (suc zero))) = omega arith
+word_bytes n (suc (suc (suc (suc i)))) = omega arith
+
+digest_is : (h : List ℕ) (n : ℕ) → (length (digest_bytes h n) ≡ 4 * n) × AreBytes (digest_bytes h n)
+unfolding digest_bytes
+digest_is h zero = (omega arith, λ i. omega arith)
+digest_is h (suc n) =
+    let before = digest_is h n in
+    let word = to_be_bytes w32 (get_or h n 0) in
+    (omega (arith, before.0, length-append (digest_bytes h n) word), AreBytes-append (digest_bytes h n) word before.1 (word_bytes (get_or h n 0)))
+
+-- A hash is 32 bytes.
+pub hash_of_is : (c : ChangeParts) → IsHash (hash_of c)
+unfolding hash_of sha256
+hash_of_is c = let d = digest_is (final_hash initial_hash_256 (spelling c)) 8 in record { count = d.0; each = d.1 }

@@ -1,0 +1,9 @@
+use Rattle.std.proofs.Common.{◌∙◌}
+use Rattle.tp_change.proofs.JudgedLaws.{on_change, ok_change}
+use Rattle.tp_change.proofs.judging.judge.Goals as goal
+
+pub returns-clause-within : goal.returns-clause-within
+returns-clause-within c = on_change _ _ c.judge_fields.ensures.value c.judge_fields.ensures.typed
+
+pub returns-clause-only : goal.returns-clause-only
+returns-clause-only c = λ h. c.judge_fields.ensures.value ∙ ok_change _ h

@@ -1,0 +1,11 @@
+use Rattle.std.proofs.Common.{ℕ, List, [], ap}
+use Rattle.tp_opid.specs.declared.hash.Hash.{Hash}
+use Rattle.tp_change.specs.ChangeHash.{hash_of}
+use Rattle.tp_change.specs.Spelling.{spelling}
+use Rattle.tp_change.proofs.making.hash_parts.Goals as goal
+
+pub returns-clause-hash : goal.returns-clause-hash
+unfolding hash_of
+returns-clause-hash c =
+    ap (λ (bytes : List ℕ). let h : Hash = record { 0 = bytes } in h)
+    (c.finalize.ensures (spelling c.args.parts.now) (c.in_ok-put_change.ensures.after [] c.new-hasher.ensures))

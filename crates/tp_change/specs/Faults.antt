@@ -1,0 +1,25 @@
+-- Which part of the bytes a refusal is about.
+use Rattle.std.specs.Prelude.{◌≡◌, ℕ, ◌<◌, ◌≤◌, ◌⊎◌, List, ◌++◌, length, slice_index, Err}
+use Rattle.tp_change.specs.declared.error.ChangeError.{ChangeError}
+use Rattle.tp_change.specs.declared.error.ChangeError.TheVariants.{Short}
+use Rattle.tp_change.specs.declared.parts.ChangeParts.{ChangeParts}
+use Rattle.tp_change.specs.Spelling.{spelling}
+use Rattle.tp_change.specs.Limits.{IsChange}
+use Rattle.tp_change.specs.Reading.{change_at}
+
+-- The bytes are a change's.
+abbrev pub IsSpelling : List ℕ → Type 0
+IsSpelling bytes = (c : ChangeParts) × IsChange c × (bytes ≡ spelling c)
+
+-- The front is to blame for the fault.
+pub record IsToBlame (front : List ℕ) (e : ChangeError) : Type 0 where
+  -- no change's bytes begin with it
+  pub barred : (c : ChangeParts) (more : List ℕ) → IsChange c → spelling c ≡ front ++ more → ⊥
+  -- each shorter front is a change, or nothing is wrong with it but that bytes are missing
+  pub shorter : (begin more : List ℕ) → front ≡ begin ++ more → 0 < length more → IsSpelling begin ⊎ (change_at begin ≡ Err Short)
+  -- all bytes within the limit that begin with it have the fault
+  pub longer : (more : List ℕ) → length (front ++ more) ≤ 4194304 → change_at (front ++ more) ≡ Err e
+
+-- Some front of the bytes is to blame for the fault.
+abbrev pub SomeFrontIsToBlame : List ℕ → ChangeError → Type 0
+SomeFrontIsToBlame bytes e = (front : List ℕ) × (back : List ℕ) × (bytes ≡ front ++ back) × IsToBlame front e

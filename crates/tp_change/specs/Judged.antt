@@ -1,0 +1,57 @@
+-- What is wrong with the parts of a change: the whole size first, and then the first fault in the order of the fields.
+use Rattle.std.specs.Prelude.{ℕ, ◌-◌, ◌^◌, ◌==◌, ◌&&◌, nat_le, nat_lt, not, min, Bool, true, false, List, [], ◌∷◌, length, encode_utf8_all, Option, Some, None, Result, Ok, Err, if◌then◌else◌}
+use Rattle.std.specs.Ordering.{is_lt}
+use Rattle.tp_opid.specs.declared.hash.Hash.{Hash}
+use Rattle.tp_opid.specs.Order.{hash_cmp}
+use Rattle.tp_change.specs.declared.error.ChangeError.{ChangeError}
+use Rattle.tp_change.specs.declared.error.ChangeError.TheVariants.{ZeroSeqOrStart, DepsOrder, NoRecords, EmptyRun, Limit, OutOfMemory}
+use Rattle.tp_change.specs.declared.record.Record.{Record}
+use Rattle.tp_change.specs.declared.parts.ChangeParts.{ChangeParts}
+use Rattle.tp_change.specs.Operations.{count_in}
+use Rattle.tp_change.specs.Spelling.{spelling}
+
+-- the fault, unless the test holds
+abbrev pub unless : Bool → ChangeError → Result (Unit {0}) ChangeError
+unless fine e = if fine then Ok tt else Err e
+
+-- the first fault of two judgements
+infixr 10 ◌and_then◌
+abbrev pub ◌and_then◌ : Result (Unit {0}) ChangeError → Result (Unit {0}) ChangeError → Result (Unit {0}) ChangeError
+(Ok _) and_then rest = rest
+(Err e) and_then rest = Err e
+
+-- h stands above the hash before it, if there is one
+abbrev pub is_above : Option Hash → Hash → Bool
+is_above None h = true
+is_above (Some g) h = is_lt (hash_cmp g h)
+
+-- each hash stands above the one before it
+abbrev pub rises_after : Option Hash → List Hash → Bool
+rises_after before [] = true
+rises_after before (h ∷ hs) = is_above before h && rises_after (Some h) hs
+
+abbrev pub judged_deps : List Hash → Result (Unit {0}) ChangeError
+judged_deps hs = unless (nat_le (length hs) 65535) Limit and_then unless (rises_after None hs) DepsOrder
+
+-- where room is how many operations may still come: a run has a character, and the operations have room
+abbrev pub judged_record : ℕ → Record → Result (Unit {0}) ChangeError
+judged_record room r = unless (nat_lt 0 (count_in r)) EmptyRun and_then unless (nat_le (count_in r) room) Limit
+
+-- each record in turn
+abbrev pub judged_records : ℕ → List Record → Result (Unit {0}) ChangeError
+judged_records room [] = Ok tt
+judged_records room (r ∷ rs) = judged_record room r and_then judged_records (room - count_in r) rs
+
+abbrev pub judged_numbers : ℕ → ℕ → Result (Unit {0}) ChangeError
+judged_numbers seq start = unless (nat_lt 0 seq) ZeroSeqOrStart and_then unless (nat_lt 0 start) ZeroSeqOrStart and_then unless (nat_lt start (2 ^ 48)) Limit
+
+abbrev pub judged_list : ℕ → List Record → Result (Unit {0}) ChangeError
+judged_list start rs = unless (nat_lt 0 (length rs)) NoRecords and_then unless (nat_le (length rs) 65536) Limit and_then judged_records (min (2 ^ 48 - start) 65536) rs
+
+unfoldable pub judged : ChangeParts → Result (Unit {0}) ChangeError
+judged c =
+    unless (nat_le (length (spelling c)) 4194304) Limit and_then
+    judged_numbers c.seq c.start and_then
+    unless (nat_le (length (encode_utf8_all c.message)) 65535) Limit and_then
+    judged_deps c.deps and_then
+    judged_list c.start c.records

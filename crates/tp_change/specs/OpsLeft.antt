@@ -1,0 +1,17 @@
+-- The operations that a walk over a change still has to give.
+use Rattle.std.specs.Prelude.{ℕ, ◌+◌, ◌≤◌, ◌^◌, List, ◌++◌, length}
+use Rattle.std.specs.List.{AllByRecursion}
+use Rattle.std.specs.Str.{chars}
+use Rattle.tp_change.specs.declared.op.Op.{Op}
+use Rattle.tp_change.specs.declared.ops.Walk.{Walk}
+use Rattle.tp_change.specs.Operations.{count_of, run, ops_from}
+use Rattle.tp_change.specs.Limits.{IsRecord}
+
+-- those of the run that the walk stands in, and those of the records after it
+abbrev pub ops_left : Walk → List Op
+ops_left w = run w.actor w.counter w.after (chars w.text.now) ++ ops_from w.actor (w.counter + length (chars w.text.now)) w.records.now
+
+-- no counter that is to come passes its limit
+pub record IsWalk (w : Walk) : Type 0 where
+  pub records : AllByRecursion IsRecord w.records.now
+  pub counters : w.counter + length (chars w.text.now) + count_of w.records.now ≤ 2 ^ 48

@@ -1,0 +1,51 @@
+//! Making changes.
+
+ghost use Rattle.std.specs.Prelude.{◌≡◌, IfOk, IsOkUnless};
+ghost use Rattle.tp_change.specs.ChangeHash.{hash_of};
+ghost use Rattle.tp_change.specs.Gives.{Gives};
+ghost use Rattle.tp_change.specs.Judged.{judged};
+ghost use Rattle.tp_change.specs.Limits.{IsChange};
+ghost use Rattle.tp_change.specs.declared.error.ChangeError.TheVariants.{OutOfMemory};
+
+use crate::change::Change;
+use crate::error::ChangeError;
+use crate::judging::judge;
+use crate::parts::ChangeParts;
+use crate::writing::put_change;
+use sha2::{Digest, Sha256};
+use std::alloc::Global;
+use tp_opid::Hash;
+
+/// The hash of the parts, from their bytes as they come: no copy is made.
+fn hash_parts(parts: &ChangeParts) -> Result<Hash, ChangeError>
+    requires { IsChange parts.now }
+    ensures hash { IfOk result (λ hash. hash ≡ hash_of parts.now) }
+    ensures err { IsOkUnless result OutOfMemory }
+{
+    let mut hasher = Sha256::new();
+    put_change(&mut hasher, parts)?;
+    Ok(Hash(hasher.finalize()))
+}
+
+impl Change {
+    /// Makes a change of its parts, and takes its hash, once.
+    ///
+    /// It is refused at its first fault: as `Limit` where its bytes would be more than 4,194,304; then in the
+    /// order of the fields. `ZeroSeqOrStart` where the sequence number or the start is 0; `Limit` where the start
+    /// is past 2^48 - 1, where the message has more than 65,535 bytes, or where there are more than 65,535
+    /// dependencies; `DepsOrder` where these don't rise strictly; `NoRecords`; `Limit` for more than 65,536
+    /// records; and at a record `EmptyRun` where its run has no character, and `Limit` where with it the
+    /// operations are more than 65,536 or the last counter is past 2^48 - 1. `OutOfMemory` comes only where a
+    /// growth was refused.
+    ///
+    /// The cost is that of going over the parts twice, and of hashing their bytes.
+    pub fn new(alloc: Global, parts: ChangeParts) -> Result<Change, ChangeError>
+        ensures made { IfOk result (λ c. (c ≡ parts) × IsChange c) }
+        ensures only { IsChange parts → IsOkUnless result OutOfMemory }
+        ensures exact { Gives (λ _. tt) result (judged parts) }
+    {
+        judge(&parts)?;
+        let hash = hash_parts(&parts)?;
+        Ok(Change { alloc, parts, hash })
+    }
+}

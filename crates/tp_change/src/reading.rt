@@ -1,0 +1,401 @@
+//! Reading a change from its bytes.
+//!
+//! Every function takes its field from the front of a reader, and says which field of specs/Reading that is. The
+//! first fault is the refusal. Nothing is reserved for a count or a length: elements are pushed as they are read,
+//! and a text is copied once, when its bytes are there.
+
+ghost use Rattle.std.specs.Prelude.{◌≡◌, ◌-◌, List, length, true, false, None, Ok, IfOk, IfErr};
+ghost use Rattle.std.specs.Str.{is_utf8};
+ghost use Rattle.std.specs.Int.{w16, w32, w64};
+ghost use Rattle.std.specs.Ordering.{is_lt};
+ghost use Rattle.tp_codec.specs.Front.{byte_at, bytes_at, number_at};
+ghost use Rattle.tp_codec.specs.Reading.{or_fail, fail, characters_at, text_at, repeat_at};
+ghost use Rattle.tp_opid.specs.Order.{hash_cmp};
+ghost use Rattle.tp_change.specs.declared.error.ChangeError.TheVariants.{Short, BadUtf8};
+ghost use Rattle.tp_change.specs.Operations.{count_in};
+ghost use Rattle.tp_change.specs.ChangeHash.{hash_of};
+ghost use Rattle.tp_change.specs.Limits.{IsChange};
+ghost use Rattle.tp_change.specs.Spelling.{spelling};
+ghost use Rattle.tp_change.specs.declared.parts.ChangeParts.{ChangeParts};
+ghost use Rattle.tp_change.specs.Gives.{Gives};
+ghost use Rattle.tp_change.specs.Reading.{actor_at, hash_at, id_at, version_at, seq_at, start_at, rises, dep_at, next_before, room_after, deps_at, place_after_tag, place_at, insert_at, delete_at, record_after_tag, record_at, records_at, room_from, parts_at, sized_at, change_at};
+
+use crate::change::Change;
+use crate::error::ChangeError;
+use crate::parts::ChangeParts;
+use crate::record::Record;
+use sha2::{Digest, Sha256};
+use std::alloc::Global;
+use std::cmp::Ordering;
+use tp_codec::Reader;
+use tp_list::{Items, Text};
+use tp_opid::{Actor, Hash, OpId, Place};
+
+#[tactic(auto, unfolding(tp_codec::specs::Reading::or_fail, tp_codec::specs::Reading::found_or, tp_codec::specs::Reading::and_then, tp_codec::specs::Reading::and_next, tp_codec::specs::Reading::give))]
+fn byte_of(reader: &mut Reader<'_>) -> Result<u8, ChangeError>
+    ensures { Gives (λ b. (b, reader.new)) result (or_fail Short byte_at reader.old) }
+{
+    match reader.u8() {
+        Some(byte) => Ok(byte),
+        None => Err(ChangeError::Short),
+    }
+}
+
+#[tactic(auto, unfolding(tp_codec::specs::Reading::or_fail, tp_codec::specs::Reading::found_or, tp_codec::specs::Reading::and_then, tp_codec::specs::Reading::and_next, tp_codec::specs::Reading::give))]
+fn u16_of(reader: &mut Reader<'_>) -> Result<u16, ChangeError>
+    ensures { Gives (λ n. (n, reader.new)) result (or_fail Short (number_at w16) reader.old) }
+{
+    match reader.u16() {
+        Some(n) => Ok(n),
+        None => Err(ChangeError::Short),
+    }
+}
+
+#[tactic(auto, unfolding(tp_codec::specs::Reading::or_fail, tp_codec::specs::Reading::found_or, tp_codec::specs::Reading::and_then, tp_codec::specs::Reading::and_next, tp_codec::specs::Reading::give))]
+fn u32_of(reader: &mut Reader<'_>) -> Result<u32, ChangeError>
+    ensures { Gives (λ n. (n, reader.new)) result (or_fail Short (number_at w32) reader.old) }
+{
+    match reader.u32() {
+        Some(n) => Ok(n),
+        None => Err(ChangeError::Short),
+    }
+}
+
+#[tactic(auto, unfolding(tp_codec::specs::Reading::or_fail, tp_codec::specs::Reading::found_or, tp_codec::specs::Reading::and_then, tp_codec::specs::Reading::and_next, tp_codec::specs::Reading::give))]
+fn u64_of(reader: &mut Reader<'_>) -> Result<u64, ChangeError>
+    ensures { Gives (λ n. (n, reader.new)) result (or_fail Short (number_at w64) reader.old) }
+{
+    match reader.u64() {
+        Some(n) => Ok(n),
+        None => Err(ChangeError::Short),
+    }
+}
+
+#[tactic(auto, unfolding(crate::specs::Reading::actor_at, tp_codec::specs::Reading::or_fail, tp_codec::specs::Reading::found_or, tp_codec::specs::Reading::and_then, tp_codec::specs::Reading::and_next, tp_codec::specs::Reading::give))]
+fn actor_of(reader: &mut Reader<'_>) -> Result<Actor, ChangeError>
+    ensures { Gives (λ a. (a, reader.new)) result (actor_at reader.old) }
+{
+    match reader.array_16() {
+        Some(bytes) => Ok(Actor(bytes)),
+        None => Err(ChangeError::Short),
+    }
+}
+
+#[tactic(auto, unfolding(crate::specs::Reading::hash_at, tp_codec::specs::Reading::or_fail, tp_codec::specs::Reading::found_or, tp_codec::specs::Reading::and_then, tp_codec::specs::Reading::and_next, tp_codec::specs::Reading::give))]
+fn hash_of(reader: &mut Reader<'_>) -> Result<Hash, ChangeError>
+    ensures { Gives (λ h. (h, reader.new)) result (hash_at reader.old) }
+{
+    match reader.array_32() {
+        Some(bytes) => Ok(Hash(bytes)),
+        None => Err(ChangeError::Short),
+    }
+}
+
+#[tactic(auto, unfolding(crate::specs::Reading::id_at, tp_codec::specs::Reading::or_fail, tp_codec::specs::Reading::found_or, tp_codec::specs::Reading::and_then, tp_codec::specs::Reading::and_next, tp_codec::specs::Reading::give))]
+fn id_of(reader: &mut Reader<'_>) -> Result<OpId, ChangeError>
+    ensures { Gives (λ i. (i, reader.new)) result (id_at reader.old) }
+{
+    let counter = u64_of(reader)?;
+    let actor = actor_of(reader)?;
+    Ok(OpId { counter, actor })
+}
+
+// The bytes as text, or that they are no UTF-8.
+#[tactic(auto, using(crate::proofs::Utf8Tests::utf8_tests))]
+fn utf8_of(bytes: &[u8]) -> Result<&str, ChangeError>
+    ensures found { IfOk result (λ s. (s.now ≡ bytes.now) × (is_utf8 bytes.now ≡ true)) }
+    ensures bad { IfErr result (λ e. (e ≡ BadUtf8) × (is_utf8 bytes.now ≡ false)) }
+{
+    match std::str::from_utf8(bytes) {
+        Ok(text) => Ok(text),
+        Err(_) => Err(ChangeError::BadUtf8),
+    }
+}
+
+#[tactic(auto, unfolding(tp_codec::specs::Reading::or_fail, tp_codec::specs::Reading::found_or, tp_codec::specs::Reading::and_then, tp_codec::specs::Reading::and_next, tp_codec::specs::Reading::give))]
+fn bytes_of<'a>(reader: &mut Reader<'a>, count: usize) -> Result<&'a [u8], ChangeError>
+    ensures { Gives (λ b. (b.now, reader.new)) result (or_fail Short (bytes_at count) reader.old) }
+{
+    match reader.bytes(count) {
+        Some(bytes) => Ok(bytes),
+        None => Err(ChangeError::Short),
+    }
+}
+
+#[tactic(auto, unfolding(tp_codec::specs::Reading::or_fail, tp_codec::specs::Reading::found_or, tp_codec::specs::Reading::and_then, tp_codec::specs::Reading::and_next, tp_codec::specs::Reading::give, tp_codec::specs::Reading::require, tp_codec::specs::Reading::passed, tp_codec::specs::Reading::characters_at))]
+fn characters_of(alloc: Global, reader: &mut Reader<'_>, count: usize) -> Result<Text, ChangeError>
+    ensures { Gives (λ t. (t, reader.new)) result (characters_at Short BadUtf8 count reader.old) }
+{
+    let text = utf8_of(bytes_of(reader, count)?)?;
+    Ok(Text::new(String::from_str(alloc, text)?))
+}
+
+#[tactic(auto, unfolding(tp_codec::specs::Reading::or_fail, tp_codec::specs::Reading::found_or, tp_codec::specs::Reading::and_then, tp_codec::specs::Reading::and_next, tp_codec::specs::Reading::give, tp_codec::specs::Reading::text_at))]
+fn message_of(alloc: Global, reader: &mut Reader<'_>) -> Result<Text, ChangeError>
+    ensures { Gives (λ t. (t, reader.new)) result (text_at Short BadUtf8 w16 reader.old) }
+{
+    let count = u16_of(reader)?;
+    characters_of(alloc, reader, count as usize)
+}
+
+#[tactic(auto, unfolding(tp_codec::specs::Reading::or_fail, tp_codec::specs::Reading::found_or, tp_codec::specs::Reading::and_then, tp_codec::specs::Reading::and_next, tp_codec::specs::Reading::give, tp_codec::specs::Reading::text_at))]
+fn run_of(alloc: Global, reader: &mut Reader<'_>) -> Result<Text, ChangeError>
+    ensures { Gives (λ t. (t, reader.new)) result (text_at Short BadUtf8 w32 reader.old) }
+{
+    let count = u32_of(reader)?;
+    characters_of(alloc, reader, count as usize)
+}
+
+#[tactic(auto, unfolding(crate::specs::Reading::version_at, tp_codec::specs::Reading::or_fail, tp_codec::specs::Reading::found_or, tp_codec::specs::Reading::and_then, tp_codec::specs::Reading::and_next, tp_codec::specs::Reading::give, tp_codec::specs::Reading::require, tp_codec::specs::Reading::passed))]
+fn version_of(reader: &mut Reader<'_>) -> Result<(), ChangeError>
+    ensures { Gives (λ _. (tt, reader.new)) result (version_at reader.old) }
+{
+    let version = byte_of(reader)?;
+    if version != 1 {
+        return Err(ChangeError::Version);
+    }
+    Ok(())
+}
+
+#[tactic(auto, unfolding(crate::specs::Reading::seq_at, tp_codec::specs::Reading::or_fail, tp_codec::specs::Reading::found_or, tp_codec::specs::Reading::and_then, tp_codec::specs::Reading::and_next, tp_codec::specs::Reading::give, tp_codec::specs::Reading::require, tp_codec::specs::Reading::passed))]
+fn seq_of(reader: &mut Reader<'_>) -> Result<u64, ChangeError>
+    ensures { Gives (λ n. (n, reader.new)) result (seq_at reader.old) }
+{
+    let seq = u64_of(reader)?;
+    if seq < 1 {
+        return Err(ChangeError::ZeroSeqOrStart);
+    }
+    Ok(seq)
+}
+
+#[tactic(auto, unfolding(crate::specs::Reading::start_at, tp_codec::specs::Reading::or_fail, tp_codec::specs::Reading::found_or, tp_codec::specs::Reading::and_then, tp_codec::specs::Reading::and_next, tp_codec::specs::Reading::give, tp_codec::specs::Reading::require, tp_codec::specs::Reading::passed))]
+fn start_of(reader: &mut Reader<'_>) -> Result<u64, ChangeError>
+    ensures { Gives (λ n. (n, reader.new)) result (start_at reader.old) }
+{
+    let start = u64_of(reader)?;
+    if start < 1 {
+        return Err(ChangeError::ZeroSeqOrStart);
+    }
+    if start >= 0x1_0000_0000_0000 {
+        return Err(ChangeError::Limit);
+    }
+    Ok(start)
+}
+
+// Whether a dependency is greater than the one before it.
+#[tactic(auto, unfolding(tp_opid::specs::Order::hash_cmp))]
+fn follows(before: Option<Hash>, hash: &Hash) -> bool
+    ensures { result ≡ rises before hash.now }
+{
+    match before {
+        None => true,
+        Some(before) => matches!(before.cmp(hash), Ordering::Less),
+    }
+}
+
+#[tactic(auto, unfolding(crate::specs::Reading::dep_at, tp_codec::specs::Reading::or_fail, tp_codec::specs::Reading::found_or, tp_codec::specs::Reading::and_then, tp_codec::specs::Reading::and_next, tp_codec::specs::Reading::give, tp_codec::specs::Reading::require, tp_codec::specs::Reading::passed))]
+fn dep_of(reader: &mut Reader<'_>, before: Option<Hash>) -> Result<Hash, ChangeError>
+    ensures { Gives (λ h. (h, reader.new)) result (dep_at before reader.old) }
+{
+    let hash = hash_of(reader)?;
+    if !follows(before, &hash) {
+        return Err(ChangeError::DepsOrder);
+    }
+    Ok(hash)
+}
+
+fn counted_deps_of(alloc: Global, reader: &mut Reader<'_>, count: u16) -> Result<Vec<Hash>, ChangeError>
+    ensures { Gives (λ v. (v.items, reader.new)) result (repeat_at dep_at next_before count None reader.old) }
+{
+    let mut deps = Vec::new(alloc);
+    let mut before = None;
+    for _ in 0..count {
+        let hash = dep_of(reader, before)?;
+        deps.push(hash)?;
+        before = Some(hash);
+    }
+    Ok(deps)
+}
+
+#[tactic(auto, unfolding(crate::specs::Reading::deps_at, tp_codec::specs::Reading::or_fail, tp_codec::specs::Reading::found_or, tp_codec::specs::Reading::and_then, tp_codec::specs::Reading::and_next, tp_codec::specs::Reading::give))]
+fn deps_of(alloc: Global, reader: &mut Reader<'_>) -> Result<Items<Hash>, ChangeError>
+    ensures { Gives (λ d. (d, reader.new)) result (deps_at reader.old) }
+{
+    let count = u16_of(reader)?;
+    Ok(Items::new(counted_deps_of(alloc, reader, count)?))
+}
+
+#[tactic(auto, unfolding(crate::specs::Reading::place_after_tag, tp_codec::specs::Reading::or_fail, tp_codec::specs::Reading::found_or, tp_codec::specs::Reading::and_then, tp_codec::specs::Reading::and_next, tp_codec::specs::Reading::give, tp_codec::specs::Reading::fail))]
+fn place_behind_tag(reader: &mut Reader<'_>, tag: u8) -> Result<Place, ChangeError>
+    ensures { Gives (λ p. (p, reader.new)) result (place_after_tag tag reader.old) }
+{
+    match tag {
+        0 => Ok(Place::Start),
+        1 => Ok(Place::After(id_of(reader)?)),
+        _ => Err(ChangeError::BadTag),
+    }
+}
+
+#[tactic(auto, unfolding(crate::specs::Reading::place_at, tp_codec::specs::Reading::or_fail, tp_codec::specs::Reading::found_or, tp_codec::specs::Reading::and_then, tp_codec::specs::Reading::and_next, tp_codec::specs::Reading::give))]
+fn place_of(reader: &mut Reader<'_>) -> Result<Place, ChangeError>
+    ensures { Gives (λ p. (p, reader.new)) result (place_at reader.old) }
+{
+    let tag = byte_of(reader)?;
+    place_behind_tag(reader, tag)
+}
+
+fn char_count(text: &Text) -> usize
+    ensures { result ≡ length text.now }
+{
+    text.as_str().chars().count()
+}
+
+// The record, and how many operations may still come after it.
+#[tactic(auto, unfolding(crate::specs::Reading::insert_at, tp_codec::specs::Reading::or_fail, tp_codec::specs::Reading::found_or, tp_codec::specs::Reading::and_then, tp_codec::specs::Reading::and_next, tp_codec::specs::Reading::give, tp_codec::specs::Reading::require, tp_codec::specs::Reading::passed))]
+fn insert_of(alloc: Global, reader: &mut Reader<'_>, room: usize) -> Result<(Record, usize), ChangeError>
+    ensures record { Gives (λ x. (x.0, reader.new)) result (insert_at room reader.old) }
+    ensures room { IfOk result (λ x. x.1 ≡ room_after room x.0) }
+{
+    let after = place_of(reader)?;
+    let text = run_of(alloc, reader)?;
+    let count = char_count(&text);
+    if count < 1 {
+        return Err(ChangeError::EmptyRun);
+    }
+    if count > room {
+        return Err(ChangeError::Limit);
+    }
+    Ok((Record::Insert { after, text }, room - count))
+}
+
+// The record, and how many operations may still come after it.
+#[tactic(auto, unfolding(crate::specs::Reading::delete_at, tp_codec::specs::Reading::or_fail, tp_codec::specs::Reading::found_or, tp_codec::specs::Reading::and_then, tp_codec::specs::Reading::and_next, tp_codec::specs::Reading::give, tp_codec::specs::Reading::require, tp_codec::specs::Reading::passed))]
+fn delete_of(reader: &mut Reader<'_>, room: usize) -> Result<(Record, usize), ChangeError>
+    ensures record { Gives (λ x. (x.0, reader.new)) result (delete_at room reader.old) }
+    ensures room { IfOk result (λ x. x.1 ≡ room_after room x.0) }
+{
+    if room < 1 {
+        return Err(ChangeError::Limit);
+    }
+    let target = id_of(reader)?;
+    Ok((Record::Delete { target }, room - 1))
+}
+
+// The record, and how many operations may still come after it.
+#[tactic(auto, unfolding(crate::specs::Reading::record_after_tag, tp_codec::specs::Reading::or_fail, tp_codec::specs::Reading::found_or, tp_codec::specs::Reading::and_then, tp_codec::specs::Reading::and_next, tp_codec::specs::Reading::give, tp_codec::specs::Reading::fail))]
+fn record_behind_tag(alloc: Global, reader: &mut Reader<'_>, room: usize, tag: u8) -> Result<(Record, usize), ChangeError>
+    ensures record { Gives (λ x. (x.0, reader.new)) result (record_after_tag room tag reader.old) }
+    ensures room { IfOk result (λ x. x.1 ≡ room_after room x.0) }
+{
+    match tag {
+        1 => insert_of(alloc, reader, room),
+        2 => delete_of(reader, room),
+        _ => Err(ChangeError::BadTag),
+    }
+}
+
+// The record, and how many operations may still come after it.
+#[tactic(auto, unfolding(crate::specs::Reading::record_at, tp_codec::specs::Reading::or_fail, tp_codec::specs::Reading::found_or, tp_codec::specs::Reading::and_then, tp_codec::specs::Reading::and_next, tp_codec::specs::Reading::give))]
+fn record_of(alloc: Global, reader: &mut Reader<'_>, room: usize) -> Result<(Record, usize), ChangeError>
+    ensures record { Gives (λ x. (x.0, reader.new)) result (record_at room reader.old) }
+    ensures room { IfOk result (λ x. x.1 ≡ room_after room x.0) }
+{
+    let tag = byte_of(reader)?;
+    record_behind_tag(alloc, reader, room, tag)
+}
+
+fn counted_records_of(alloc: Global, reader: &mut Reader<'_>, count: u32, room: usize) -> Result<Vec<Record>, ChangeError>
+    ensures { Gives (λ v. (v.items, reader.new)) result (repeat_at record_at room_after count room reader.old) }
+{
+    let mut records = Vec::new(alloc);
+    let mut left = room;
+    for _ in 0..count {
+        let (record, after) = record_of(alloc, reader, left)?;
+        records.push(record)?;
+        left = after;
+    }
+    Ok(records)
+}
+
+#[tactic(auto, unfolding(crate::specs::Reading::records_at, tp_codec::specs::Reading::or_fail, tp_codec::specs::Reading::found_or, tp_codec::specs::Reading::and_then, tp_codec::specs::Reading::and_next, tp_codec::specs::Reading::give, tp_codec::specs::Reading::require, tp_codec::specs::Reading::passed))]
+fn records_of(alloc: Global, reader: &mut Reader<'_>, room: usize) -> Result<Items<Record>, ChangeError>
+    ensures { Gives (λ r. (r, reader.new)) result (records_at room reader.old) }
+{
+    let count = u32_of(reader)?;
+    if count < 1 {
+        return Err(ChangeError::NoRecords);
+    }
+    if count > 65536 {
+        return Err(ChangeError::Limit);
+    }
+    Ok(Items::new(counted_records_of(alloc, reader, count, room)?))
+}
+
+// How many operations a change may have whose first counter is start.
+fn room_of(start: u64) -> usize
+    ensures { result ≡ room_from start }
+{
+    0x1_0000_0000_0000_u64.saturating_sub(start).min(65536) as usize
+}
+
+#[tactic(auto, unfolding(crate::specs::Reading::parts_at, tp_codec::specs::Reading::or_fail, tp_codec::specs::Reading::found_or, tp_codec::specs::Reading::and_then, tp_codec::specs::Reading::and_next, tp_codec::specs::Reading::give))]
+fn parts_of(alloc: Global, reader: &mut Reader<'_>) -> Result<ChangeParts, ChangeError>
+    ensures { Gives (λ c. (c, reader.new)) result (parts_at reader.old) }
+{
+    let actor = actor_of(reader)?;
+    let seq = seq_of(reader)?;
+    let start = start_of(reader)?;
+    let time = u64_of(reader)?;
+    let message = message_of(alloc, reader)?;
+    let deps = deps_of(alloc, reader)?;
+    let records = records_of(alloc, reader, room_of(start))?;
+    Ok(ChangeParts {
+        actor,
+        seq,
+        start,
+        time,
+        message,
+        deps,
+        records,
+    })
+}
+
+#[tactic(auto, unfolding(crate::specs::Reading::sized_at, tp_codec::specs::Reading::or_fail, tp_codec::specs::Reading::found_or, tp_codec::specs::Reading::and_then, tp_codec::specs::Reading::and_next, tp_codec::specs::Reading::give, tp_codec::specs::Reading::require, tp_codec::specs::Reading::passed))]
+fn sized_of(alloc: Global, reader: &mut Reader<'_>, size: usize) -> Result<ChangeParts, ChangeError>
+    ensures { Gives (λ c. (c, reader.new)) result (sized_at size reader.old) }
+{
+    version_of(reader)?;
+    if size > 4_194_304 {
+        return Err(ChangeError::Limit);
+    }
+    parts_of(alloc, reader)
+}
+
+// The parts of the change that the bytes are.
+#[tactic(auto, unfolding(crate::specs::Reading::change_at, crate::specs::Reading::ended, tp_codec::specs::Reading::or_fail, tp_codec::specs::Reading::found_or, tp_codec::specs::Reading::and_then, tp_codec::specs::Reading::and_next, tp_codec::specs::Reading::give))]
+fn change_of(alloc: Global, bytes: &[u8]) -> Result<ChangeParts, ChangeError>
+    ensures { Gives (λ c. c) result (change_at bytes.now) }
+{
+    let mut reader = Reader::new(bytes);
+    let parts = sized_of(alloc, &mut reader, bytes.len())?;
+    if !reader.is_empty() {
+        return Err(ChangeError::Trailing);
+    }
+    Ok(parts)
+}
+
+impl Change {
+    /// The change that the bytes are, all of them, with their SHA-256 as its hash.
+    ///
+    /// Takes one pass over the bytes. Refuses with the first fault from the front, as docs/FORMATS.md orders them,
+    /// and with `OutOfMemory` where a growth was refused.
+    pub fn decode(alloc: Global, bytes: &[u8]) -> Result<Change, ChangeError>
+        ensures found { IfOk result (λ c. IsChange c × (bytes.now ≡ spelling c)) }
+        ensures only { (c : ChangeParts) → IsChange c → bytes.now ≡ spelling c → Gives (λ d. d) result (Ok c) }
+        ensures exact { Gives (λ c. c) result (change_at bytes.now) }
+    {
+        let parts = change_of(alloc, bytes)?;
+        let hash = Hash(Sha256::digest(bytes));
+        Ok(Change { alloc, parts, hash })
+    }
+}

@@ -1,0 +1,72 @@
+//! How many bytes a change has, without writing them.
+
+ghost use Rattle.std.specs.Prelude.{◌≡◌, ◌≤◌, length, min};
+ghost use Rattle.std.specs.List.{flat_map};
+ghost use Rattle.tp_opid.specs.declared.hash.Hash.{Hash};
+ghost use Rattle.tp_change.specs.Spelling.{spelling, spelling_of_id, spelling_of_place, spelling_of_record};
+
+use crate::facts::{of_16, of_32};
+use crate::parts::ChangeParts;
+use crate::record::Record;
+use tp_opid::{Hash, OpId, Place};
+
+fn id_len(id: &OpId) -> usize
+    ensures small { result ≡ 24 }
+    ensures len { result ≡ length (spelling_of_id id.now) }
+{
+    8 + of_16(id.actor.0)
+}
+
+fn place_len(place: &Place) -> usize
+    ensures small { result ≤ 25 }
+    ensures len { result ≡ length (spelling_of_place place.now) }
+{
+    match place {
+        Place::Start => 1,
+        Place::After(id) => 1 + id_len(id),
+    }
+}
+
+fn record_len(entry: &Record) -> usize
+    ensures { result ≡ min usize.MAX (length (spelling_of_record entry.now)) }
+{
+    match entry {
+        Record::Insert { after, text } => text.byte_len().saturating_add(5 + place_len(after)),
+        Record::Delete { target } => 1 + id_len(target),
+    }
+}
+
+fn records_len(records: &[Record]) -> usize
+    ensures { result ≡ min usize.MAX (length (flat_map spelling_of_record records.now)) }
+{
+    let mut total: usize = 0;
+    for entry in records {
+        total = total.saturating_add(record_len(entry));
+    }
+    total
+}
+
+fn hashes_len(hashes: &[Hash]) -> usize
+    ensures { result ≡ min usize.MAX (length (flat_map (λ (h : Hash). h.0) hashes.now)) }
+{
+    let mut total: usize = 0;
+    for hash in hashes {
+        total = total.saturating_add(of_32(hash.0));
+    }
+    total
+}
+
+/// How many bytes the parts are spelled with, or `usize::MAX` where a `usize` can't hold it. No memory; the cost
+/// is that of going over the dependencies and the records, and not over their texts.
+#[tactic(auto, using(crate::proofs::Lengths::length_spelling))]
+pub(crate) fn parts_len(parts: &ChangeParts) -> usize
+    ensures { result ≡ min usize.MAX (length (spelling parts.now)) }
+{
+    let deps = hashes_len(parts.deps.as_slice());
+    let records = records_len(parts.records.as_slice());
+    let message = parts.message.byte_len();
+    let head: usize = 33 + of_16(parts.actor.0);
+    head.saturating_add(message)
+        .saturating_add(deps)
+        .saturating_add(records)
+}

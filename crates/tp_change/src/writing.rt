@@ -1,0 +1,153 @@
+//! The bytes of a change, written front to back.
+
+ghost use Rattle.std.specs.Prelude.{◌<◌, ◌≤◌, ◌^◌, length, encode_utf8_all, OnOk};
+ghost use Rattle.std.specs.Int.{w64, to_be_bytes};
+ghost use Rattle.std.specs.List.{flat_map, AllByRecursion};
+ghost use Rattle.tp_opid.specs.declared.hash.Hash.{Hash};
+ghost use Rattle.tp_change.specs.Limits.{IsChange, IsRecord};
+ghost use Rattle.tp_change.specs.Puts.{Puts};
+ghost use Rattle.tp_change.specs.Spelling.{spelling, spelling_of_id, spelling_of_place, spelling_of_run, spelling_of_message, spelling_of_deps, spelling_of_record, spelling_of_records};
+
+use crate::change::Change;
+use crate::error::ChangeError;
+use crate::parts::ChangeParts;
+use crate::record::Record;
+use crate::sink::Sink;
+use crate::size::parts_len;
+use std::alloc::AllocError;
+use tp_list::{Items, Text};
+use tp_opid::{Hash, OpId, Place};
+
+fn put_u64<S: Sink>(out: &mut S, number: u64) -> Result<(), AllocError>
+    ensures { OnOk result (Puts S.holds out.old out.new (to_be_bytes w64 number)) }
+{
+    out.put(&number.to_be_bytes())
+}
+
+fn put_id<S: Sink>(out: &mut S, id: &OpId) -> Result<(), AllocError>
+    ensures { OnOk result (Puts S.holds out.old out.new (spelling_of_id id.now)) }
+{
+    put_u64(out, id.counter)?;
+    out.put(&id.actor.0)
+}
+
+fn put_place<S: Sink>(out: &mut S, place: &Place) -> Result<(), AllocError>
+    ensures { OnOk result (Puts S.holds out.old out.new (spelling_of_place place.now)) }
+{
+    match place {
+        Place::Start => out.put(&[0]),
+        Place::After(id) => {
+            out.put(&[1])?;
+            put_id(out, id)
+        }
+    }
+}
+
+fn put_run<S: Sink>(out: &mut S, text: &Text) -> Result<(), AllocError>
+    requires { length (encode_utf8_all text.now) < 2 ^ 32 }
+    ensures { OnOk result (Puts S.holds out.old out.new (spelling_of_run text.now)) }
+{
+    out.put(&(text.byte_len() as u32).to_be_bytes())?;
+    out.put(text.as_str().as_bytes())
+}
+
+fn put_message<S: Sink>(out: &mut S, text: &Text) -> Result<(), AllocError>
+    requires { length (encode_utf8_all text.now) < 2 ^ 16 }
+    ensures { OnOk result (Puts S.holds out.old out.new (spelling_of_message text.now)) }
+{
+    out.put(&(text.byte_len() as u16).to_be_bytes())?;
+    out.put(text.as_str().as_bytes())
+}
+
+fn put_record<S: Sink>(out: &mut S, entry: &Record) -> Result<(), AllocError>
+    requires { IsRecord entry.now }
+    ensures { OnOk result (Puts S.holds out.old out.new (spelling_of_record entry.now)) }
+{
+    match entry {
+        Record::Insert { after, text } => {
+            out.put(&[1])?;
+            put_place(out, after)?;
+            put_run(out, text)
+        }
+        Record::Delete { target } => {
+            out.put(&[2])?;
+            put_id(out, target)
+        }
+    }
+}
+
+fn put_hashes<S: Sink>(out: &mut S, hashes: &[Hash]) -> Result<(), AllocError>
+    ensures { OnOk result (Puts S.holds out.old out.new (flat_map (λ (h : Hash). h.0) hashes.now)) }
+{
+    for hash in hashes {
+        out.put(&hash.0)?;
+    }
+    Ok(())
+}
+
+fn put_records<S: Sink>(out: &mut S, records: &[Record]) -> Result<(), AllocError>
+    requires { AllByRecursion IsRecord records.now }
+    ensures { OnOk result (Puts S.holds out.old out.new (flat_map spelling_of_record records.now)) }
+{
+    for entry in records {
+        put_record(out, entry)?;
+    }
+    Ok(())
+}
+
+fn put_deps<S: Sink>(out: &mut S, deps: &Items<Hash>) -> Result<(), AllocError>
+    requires { length deps.now < 2 ^ 16 }
+    ensures { OnOk result (Puts S.holds out.old out.new (spelling_of_deps deps.now)) }
+{
+    out.put(&(deps.len() as u16).to_be_bytes())?;
+    put_hashes(out, deps.as_slice())
+}
+
+fn put_counted<S: Sink>(out: &mut S, records: &Items<Record>) -> Result<(), AllocError>
+    requires count { length records.now < 2 ^ 32 }
+    requires each { AllByRecursion IsRecord records.now }
+    ensures { OnOk result (Puts S.holds out.old out.new (spelling_of_records records.now)) }
+{
+    out.put(&(records.len() as u32).to_be_bytes())?;
+    put_records(out, records.as_slice())
+}
+
+/// Puts the bytes of a change.
+#[tactic(auto, using(crate::proofs::Counts::few_records))]
+pub(crate) fn put_change<S: Sink>(out: &mut S, parts: &ChangeParts) -> Result<(), AllocError>
+    requires { IsChange parts.now }
+    ensures { OnOk result (Puts S.holds out.old out.new (spelling parts.now)) }
+{
+    out.put(&[1])?;
+    out.put(&parts.actor.0)?;
+    put_u64(out, parts.seq)?;
+    put_u64(out, parts.start)?;
+    put_u64(out, parts.time)?;
+    put_message(out, &parts.message)?;
+    put_deps(out, &parts.deps)?;
+    put_counted(out, &parts.records)
+}
+
+impl Change {
+    ghost use Rattle.std.specs.Prelude.{◌≡◌, IfOk, IsOkUnless};
+    ghost use Rattle.tp_change.specs.declared.error.ChangeError.TheVariants.{OutOfMemory};
+
+    /// How many bytes [`encode`](Change::encode) gives, at most 4,194,304. No memory; the cost is that of going
+    /// over the dependencies and the records, and not over their texts.
+    pub fn encoded_len(&self) -> usize
+        ensures { result ≡ length (spelling self.now) }
+    {
+        parts_len(&self.parts)
+    }
+
+    /// The bytes of the change, as docs/FORMATS.md lays them out. They are written once, into memory that is
+    /// reserved once. The only refusal is `OutOfMemory`.
+    pub fn encode(&self) -> Result<Vec<u8>, ChangeError>
+        ensures bytes { IfOk result (λ bytes. bytes.items ≡ spelling self.now) }
+        ensures err { IsOkUnless result OutOfMemory }
+    {
+        let mut out = Vec::with_capacity(self.alloc, self.encoded_len())?;
+        put_change(&mut out, &self.parts)?;
+        Ok(out)
+    }
+}
