@@ -34,14 +34,14 @@ Precedes-cases [] (y ∷ d) = inl tt
 Precedes-cases (x ∷ c) [] = inr (inr tt)
 Precedes-cases (x ∷ c) (y ∷ d) =
     elim (Below-cases x y) as (λ _. Precedes (x ∷ c) (y ∷ d) ⊎ ((x ∷ c ≡ y ∷ d) ⊎ Precedes (y ∷ d) (x ∷ c))) [
-      inl h ↦ inr (inr (inl h))
-    | inr (inl e) ↦
-        elim (Precedes-cases c d) as (λ _. Precedes (x ∷ c) (y ∷ d) ⊎ ((x ∷ c ≡ y ∷ d) ⊎ Precedes (y ∷ d) (x ∷ c))) [
-          inl h ↦ inl (inr (e, h))
-        | inr (inl k) ↦ inr (inl cc)
-        | inr (inr h) ↦ inr (inr (inr (sym e, h)))
-        ]
-    | inr (inr h) ↦ inl (inl h)
+      | inl h ↦ inr (inr (inl h))
+      | inr (inl e) ↦
+          elim (Precedes-cases c d) as (λ _. Precedes (x ∷ c) (y ∷ d) ⊎ ((x ∷ c ≡ y ∷ d) ⊎ Precedes (y ∷ d) (x ∷ c))) [
+            | inl h ↦ inl (inr (e, h))
+            | inr (inl k) ↦ inr (inl cc)
+            | inr (inr h) ↦ inr (inr (inr (sym e, h)))
+          ]
+      | inr (inr h) ↦ inl (inl h)
     ]
 
 -- what precedes a chain precedes each longer one

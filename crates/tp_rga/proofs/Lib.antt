@@ -3,3 +3,8 @@ pub mod Trees
 pub mod Sets
 pub mod Orderings
 pub mod Places
+pub mod Lookups
+pub mod Flagging
+pub mod Keeping
+pub mod OneOrder
+pub mod ByChains

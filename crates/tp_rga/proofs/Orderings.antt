@@ -30,9 +30,10 @@ IsSortedIn-across S (c ∷ F) B h a b (inr i) j = IsSortedIn-across S F B h.1 a 
 
 pub IsSortedIn-join : (S F B : List Insert) → IsSortedIn S F → IsSortedIn S B → ((a b : Insert) → In a F → In b B → Before S a.id b.id) → IsSortedIn S (F ++ B)
 IsSortedIn-join S [] B h k across = k
-IsSortedIn-join S (c ∷ F) B h k across =
-    (λ b i. elim (In-append b F B i) as (λ _. Before S c.id b.id) [ inl j ↦ h.0 b j | inr j ↦ across c b (inl refl) j ],
-     IsSortedIn-join S F B h.1 k (λ a b i j. across a b (inr i) j))
+IsSortedIn-join S (c ∷ F) B h k across = (
+  λ b i. elim (In-append b F B i) as (λ _. Before S c.id b.id) [ inl j ↦ h.0 b j | inr j ↦ across c b (inl refl) j ],
+  IsSortedIn-join S F B h.1 k (λ a b i j. across a b (inr i) j),
+)
 
 -- ---- one list for one set
 
@@ -42,22 +43,22 @@ sorted_once S tree [] (y ∷ M) h k same = absurd (same.back y (inl refl))
 sorted_once S tree (x ∷ L) [] h k same = absurd (same.there x (inl refl))
 sorted_once S tree (x ∷ L) (y ∷ M) h k same =
     let first : x ≡ y =
-        elim (same.there x (inl refl)) as (λ _. x ≡ y) [
-          inl e ↦ e
-        | inr i ↦ elim (same.back y (inl refl)) as (λ _. x ≡ y) [
-              inl e ↦ sym e
-            | inr j ↦ absurd (Before-asym S tree x.id y.id (h.0 y j) (k.0 x i))
-            ]
-        ] in
+    elim (same.there x (inl refl)) as (λ _. x ≡ y) [
+      | inl e ↦ e
+      | inr i ↦ elim (same.back y (inl refl)) as (λ _. x ≡ y) [
+        | inl e ↦ sym e
+        | inr j ↦ absurd (Before-asym S tree x.id y.id (h.0 y j) (k.0 x i))
+      ]
+    ] in
     let rest : SameMembers L M = record {
-        there = λ z i. elim (same.there z (inr i)) as (λ _. In z M) [
-            inl e ↦ absurd (Before-irreflexive S tree x.id (subst (λ (w : Insert). Before S x.id w.id) (e ∙ sym first) (h.0 z i)))
-          | inr j ↦ j
-          ];
-        back = λ z i. elim (same.back z (inr i)) as (λ _. In z L) [
-            inl e ↦ absurd (Before-irreflexive S tree y.id (subst (λ (w : Insert). Before S y.id w.id) (e ∙ first) (k.0 z i)))
-          | inr j ↦ j
-          ]
-      } in
+      there = λ z i. elim (same.there z (inr i)) as (λ _. In z M) [
+        | inl e ↦ absurd (Before-irreflexive S tree x.id (subst (λ (w : Insert). Before S x.id w.id) (e ∙ sym first) (h.0 z i)))
+        | inr j ↦ j
+      ];
+      back = λ z i. elim (same.back z (inr i)) as (λ _. In z L) [
+        | inl e ↦ absurd (Before-irreflexive S tree y.id (subst (λ (w : Insert). Before S y.id w.id) (e ∙ first) (k.0 z i)))
+        | inr j ↦ j
+      ];
+    } in
     let tail : L ≡ M = sorted_once S tree L M h.1 k.1 rest in
     cc

@@ -9,16 +9,11 @@ use Rattle.tp_opid.specs.Insert.{Insert}
 use Rattle.tp_opid.specs.Order.{Below}
 use Rattle.tp_opid.proofs.Orders.{Below-irreflexive, Below-trans, Below-cases, id_eq-apart}
 use Rattle.tp_rga.specs.Tree.{Inserts, IsThere, IsNew, IsPlaceBelow, IsTree, CanInsert}
-use Rattle.tp_rga.specs.Order.{Leads, IsChain, Precedes, Before, IsSortedIn, IsInOrder}
+use Rattle.tp_rga.specs.Order.{Leads, IsChain, Precedes, Before, IsSortedIn, IsInOrder, EndsAt}
 use Rattle.tp_rga.proofs.Chains.{AllBelow, Precedes-irreflexive, Precedes-trans, Precedes-asym, Precedes-longer, Precedes-front, Precedes-beginning, stop_last, passed_first}
 use Rattle.tp_rga.proofs.Trees.{Leads-grow, Before-grow, Leads-push, Leads-front, Leads-same, chain_exists, chain_below, Before-trans, Before-chains}
 use Rattle.tp_rga.proofs.Sets.{In-left, In-right, In-append, In-push, In-last, IsThere-member, IsPlaceBelow-grow, CanInsert-same, IsTree-push}
 use Rattle.tp_rga.proofs.Orderings.{IsSortedIn-grow, IsSortedIn-front, IsSortedIn-back, IsSortedIn-across, IsSortedIn-join}
-
--- the list ends with the element that the place names; for the start it is empty
-abbrev pub EndsAt : List Insert → Place → Type 0
-EndsAt F Start = F ≡ []
-EndsAt F (After r) = (A : List Insert) × (f : Insert) × (F ≡ A ++ f ∷ []) × (f.id ≡ r)
 
 -- x is below each element
 abbrev pub AllAbove : OpId → List Insert → Type 0
@@ -46,9 +41,9 @@ front_chains S F tree sorted Start ends c l e i d k = absurd (subst (λ w. In e 
 front_chains S F tree sorted (After r) (A, f, is, names) c l e i d k =
     let at_f : IsChain S f.id c = subst (λ w. IsChain S w c) (sym names) l in
     elim (In-push e A f (subst (λ w. In e w) is i)) as (λ _. (d ≡ c) ⊎ Precedes d c) [
-      inl j ↦
-        inr (Before-chains S tree e.id f.id (IsSortedIn-across S A (f ∷ []) (subst (IsSortedIn S) is sorted) e f j (inl refl)) d c k at_f)
-    | inr j ↦ inl (Leads-same S tree (After f.id) d c (subst (λ (w : Insert). IsChain S w.id d) j k) at_f)
+      | inl j ↦
+          inr (Before-chains S tree e.id f.id (IsSortedIn-across S A (f ∷ []) (subst (IsSortedIn S) is sorted) e f j (inl refl)) d c k at_f)
+      | inr j ↦ inl (Leads-same S tree (After f.id) d c (subst (λ (w : Insert). IsChain S w.id d) j k) at_f)
     ]
 
 -- after the reference, its chain precedes each
@@ -66,33 +61,33 @@ passed_before : (S F G B : List Insert) (x : Insert) → IsTree S → IsInOrder 
 passed_before S F G B x tree order ends above c l small e i d k =
     let after_reference : Precedes c d = back_chains S F (G ++ B) tree order.sorted x.after ends c l e (In-left e G B i) d k in
     passed_first c d x.id small after_reference (λ q b t is p.
-      let front = Leads-front S Start q b t (After e.id) (subst (λ w. Leads S Start w (After e.id)) is k) in
-      let o : Insert = record { id = b; after = front.1.0; ch = front.1.1.0 } in
-      elim (In-append o F (G ++ B) (order.same.there o front.1.1.1)) as (λ _. Below x.id b) [
-        inl j ↦ absurd (
+    let front = Leads-front S Start q b t (After e.id) (subst (λ w. Leads S Start w (After e.id)) is k) in
+    let o : Insert = record { id = b; after = front.1.0; ch = front.1.1.0 } in
+    elim (In-append o F (G ++ B) (order.same.there o front.1.1.1)) as (λ _. Below x.id b) [
+      | inl j ↦ absurd (
           elim (front_chains S F tree (IsSortedIn-front S F (G ++ B) order.sorted) x.after ends c l o j (q ++ b ∷ []) front.0) as (λ _. ⊥) [
-            inl same ↦ Precedes-irreflexive c (subst (λ w. Precedes c w) same p)
-          | inr h ↦ Precedes-asym c (q ++ b ∷ []) p h
+            | inl same ↦ Precedes-irreflexive c (subst (λ w. Precedes c w) same p)
+            | inr h ↦ Precedes-asym c (q ++ b ∷ []) p h
           ])
       | inr j ↦ elim (In-append o G B j) as (λ _. Below x.id b) [
-          inl m ↦ above o m
+        | inl m ↦ above o m
         | inr m ↦ absurd (
             let whole : d ≡ (q ++ b ∷ []) ++ t = is ∙ rw append_assoc refl in
             let h : Precedes d (q ++ b ∷ []) = Before-chains S tree e.id b (IsSortedIn-across S G B (IsSortedIn-back S F (G ++ B) order.sorted) e o i m) d (q ++ b ∷ []) k front.0 in
             Precedes-beginning (q ++ b ∷ []) t (subst (λ w. Precedes w (q ++ b ∷ [])) whole h))
-        ]
-      ])
+      ]
+    ])
 
 -- the new element stands before the one at which the search stopped
 stopped_before : (S F G : List Insert) (h : Insert) (B : List Insert) (x : Insert) → IsTree S → IsInOrder S (F ++ (G ++ h ∷ B)) → IsNew S x.id → EndsAt F x.after → StopsAt x.id (h ∷ B) → (c : List OpId) → Leads S Start c x.after → (d : List OpId) → IsChain S h.id d → Precedes (c ++ x.id ∷ []) d
 stopped_before S F G h B x tree order new ends stops c l d k =
     let h_in : In h (G ++ h ∷ B) = In-right h G (h ∷ B) (inl refl) in
     let smaller : Below h.id x.id =
-        elim (Below-cases x.id h.id) as (λ _. Below h.id x.id) [
-          inl b ↦ absurd (stops b)
-        | inr (inl e) ↦ absurd (id_eq-apart h.id x.id (new h (order.same.back h (In-right h F (G ++ h ∷ B) h_in))) (sym e))
-        | inr (inr b) ↦ b
-        ] in
+    elim (Below-cases x.id h.id) as (λ _. Below h.id x.id) [
+      | inl b ↦ absurd (stops b)
+      | inr (inl e) ↦ absurd (id_eq-apart h.id x.id (new h (order.same.back h (In-right h F (G ++ h ∷ B) h_in))) (sym e))
+      | inr (inr b) ↦ b
+    ] in
     stop_last c d x.id (chain_below S tree Start d h.id x.id k smaller) (back_chains S F (G ++ h ∷ B) tree order.sorted x.after ends c l h h_in d k)
 
 -- ---- the members with one more between them
@@ -100,34 +95,34 @@ stopped_before S F G h B x tree order new ends stops c l d k =
 In-put : (F G B : List Insert) (x e : Insert) → In e (F ++ (G ++ B)) → In e (F ++ (G ++ x ∷ B))
 In-put F G B x e i =
     elim (In-append e F (G ++ B) i) as (λ _. In e (F ++ (G ++ x ∷ B))) [
-      inl j ↦ In-left e F (G ++ x ∷ B) j
-    | inr j ↦ In-right e F (G ++ x ∷ B) (elim (In-append e G B j) as (λ _. In e (G ++ x ∷ B)) [
-          inl m ↦ In-left e G (x ∷ B) m
+      | inl j ↦ In-left e F (G ++ x ∷ B) j
+      | inr j ↦ In-right e F (G ++ x ∷ B) (elim (In-append e G B j) as (λ _. In e (G ++ x ∷ B)) [
+        | inl m ↦ In-left e G (x ∷ B) m
         | inr m ↦ In-right e G (x ∷ B) (inr m)
-        ])
+      ])
     ]
 
 In-taken : (F G B : List Insert) (x e : Insert) → In e (F ++ (G ++ x ∷ B)) → In e (F ++ (G ++ B)) ⊎ (e ≡ x)
 In-taken F G B x e i =
     elim (In-append e F (G ++ x ∷ B) i) as (λ _. In e (F ++ (G ++ B)) ⊎ (e ≡ x)) [
-      inl j ↦ inl (In-left e F (G ++ B) j)
-    | inr j ↦ elim (In-append e G (x ∷ B) j) as (λ _. In e (F ++ (G ++ B)) ⊎ (e ≡ x)) [
-          inl m ↦ inl (In-right e F (G ++ B) (In-left e G B m))
+      | inl j ↦ inl (In-left e F (G ++ B) j)
+      | inr j ↦ elim (In-append e G (x ∷ B) j) as (λ _. In e (F ++ (G ++ B)) ⊎ (e ≡ x)) [
+        | inl m ↦ inl (In-right e F (G ++ B) (In-left e G B m))
         | inr (inl m) ↦ inr m
         | inr (inr m) ↦ inl (In-right e F (G ++ B) (In-right e G B m))
-        ]
+      ]
     ]
 
 put_members : (S F G B : List Insert) (x : Insert) → SameMembers S (F ++ (G ++ B)) → SameMembers (S ++ x ∷ []) (F ++ (G ++ x ∷ B))
 put_members S F G B x same = record {
   there = λ e i. elim (In-push e S x i) as (λ _. In e (F ++ (G ++ x ∷ B))) [
-      inl j ↦ In-put F G B x e (same.there e j)
+    | inl j ↦ In-put F G B x e (same.there e j)
     | inr j ↦ subst (λ w. In w (F ++ (G ++ x ∷ B))) (sym j) (In-right x F (G ++ x ∷ B) (In-right x G (x ∷ B) (inl refl)))
-    ];
+  ];
   back = λ e i. elim (In-taken F G B x e i) as (λ _. In e (S ++ x ∷ [])) [
-      inl j ↦ In-left e S (x ∷ []) (same.back e j)
+    | inl j ↦ In-left e S (x ∷ []) (same.back e j)
     | inr j ↦ subst (λ w. In w (S ++ x ∷ [])) (sym j) (In-last S x)
-    ]
+  ];
 }
 
 -- ---- the theorem
@@ -143,8 +138,8 @@ new_before S F G (h ∷ B) x tree order new ends stops c l tree' b i =
     let x_chain : IsChain T x.id (c ++ x.id ∷ []) = Leads-push T x.after c x.id (Leads-grow S T more Start c x.after l) (x.ch, In-last S x) in
     let head : Before T x.id h.id = (c ++ x.id ∷ [], d.0, x_chain, Leads-grow S T more Start d.0 (After h.id) d.1, stopped_before S F G h B x tree order new ends stops c l d.0 d.1) in
     elim i as (λ _. Before T x.id b.id) [
-      inl e ↦ subst (λ (w : Insert). Before T x.id w.id) (sym e) head
-    | inr j ↦ Before-trans T tree' x.id h.id b.id head (Before-grow S T more h.id b.id ((IsSortedIn-back S G (h ∷ B) (IsSortedIn-back S F (G ++ h ∷ B) order.sorted)).0 b j))
+      | inl e ↦ subst (λ (w : Insert). Before T x.id w.id) (sym e) head
+      | inr j ↦ Before-trans T tree' x.id h.id b.id head (Before-grow S T more h.id b.id ((IsSortedIn-back S G (h ∷ B) (IsSortedIn-back S F (G ++ h ∷ B) order.sorted)).0 b j))
     ]
 
 -- Right after its reference (the end of F), past elements with greater identifiers (G), before one with no greater
@@ -160,29 +155,33 @@ put_in_order S F G B x tree order can ends above stops =
     let sorted_gb = IsSortedIn-back S F (G ++ B) order.sorted in
     let is_there : (e : Insert) → In e (F ++ (G ++ B)) → IsThere S e.id = (λ e i. IsThere-member S e (order.same.back e i)) in
     let f_before : (e : Insert) → In e F → Before T e.id x.id = (λ e i.
-        let d = chain_exists S tree e.id (is_there e (In-left e F (G ++ B) i)) in
-        let at_front = front_chains S F tree sorted_f x.after ends up.0 up.1 e i d.0 d.1 in
-        (d.0, up.0 ++ x.id ∷ [], Leads-grow S T more Start d.0 (After e.id) d.1, x_chain,
-          elim at_front as (λ _. Precedes d.0 (up.0 ++ x.id ∷ [])) [
-            inl same ↦ subst (λ w. Precedes w (up.0 ++ x.id ∷ [])) (sym same) (Precedes-front up.0 x.id [])
-          | inr p ↦ Precedes-longer d.0 up.0 (x.id ∷ []) p
-          ])) in
+    let d = chain_exists S tree e.id (is_there e (In-left e F (G ++ B) i)) in
+    let at_front = front_chains S F tree sorted_f x.after ends up.0 up.1 e i d.0 d.1 in (
+      d.0,
+      up.0 ++ x.id ∷ [],
+      Leads-grow S T more Start d.0 (After e.id) d.1,
+      x_chain,
+      elim at_front as (λ _. Precedes d.0 (up.0 ++ x.id ∷ [])) [
+        | inl same ↦ subst (λ w. Precedes w (up.0 ++ x.id ∷ [])) (sym same) (Precedes-front up.0 x.id [])
+        | inr p ↦ Precedes-longer d.0 up.0 (x.id ∷ []) p
+      ],
+    )) in
     let g_before : (e : Insert) → In e G → Before T e.id x.id = (λ e i.
-        let d = chain_exists S tree e.id (is_there e (In-right e F (G ++ B) (In-left e G B i))) in
-        (d.0, up.0 ++ x.id ∷ [], Leads-grow S T more Start d.0 (After e.id) d.1, x_chain, passed_before S F G B x tree order ends above up.0 up.1 up.2 e i d.0 d.1)) in
+    let d = chain_exists S tree e.id (is_there e (In-right e F (G ++ B) (In-left e G B i))) in
+    (d.0, up.0 ++ x.id ∷ [], Leads-grow S T more Start d.0 (After e.id) d.1, x_chain, passed_before S F G B x tree order ends above up.0 up.1 up.2 e i d.0 d.1)) in
     let b_after = new_before S F G B x tree order can.new ends stops up.0 up.1 tree' in
     let sorted_xb : IsSortedIn T (x ∷ B) = (b_after, IsSortedIn-grow S T more B (IsSortedIn-back S G B sorted_gb)) in
     let sorted_gxb : IsSortedIn T (G ++ x ∷ B) =
-        IsSortedIn-join T G (x ∷ B) (IsSortedIn-grow S T more G (IsSortedIn-front S G B sorted_gb)) sorted_xb (λ a b i j.
-          elim j as (λ _. Before T a.id b.id) [
-            inl e ↦ subst (λ (w : Insert). Before T a.id w.id) (sym e) (g_before a i)
-          | inr m ↦ Before-grow S T more a.id b.id (IsSortedIn-across S G B sorted_gb a b i m)
-          ]) in
+    IsSortedIn-join T G (x ∷ B) (IsSortedIn-grow S T more G (IsSortedIn-front S G B sorted_gb)) sorted_xb (λ a b i j.
+    elim j as (λ _. Before T a.id b.id) [
+      | inl e ↦ subst (λ (w : Insert). Before T a.id w.id) (sym e) (g_before a i)
+      | inr m ↦ Before-grow S T more a.id b.id (IsSortedIn-across S G B sorted_gb a b i m)
+    ]) in
     record {
       same = put_members S F G B x order.same;
       sorted = IsSortedIn-join T F (G ++ x ∷ B) (IsSortedIn-grow S T more F sorted_f) sorted_gxb (λ a b i j.
-        elim (In-taken [] G B x b j) as (λ _. Before T a.id b.id) [
-          inl m ↦ Before-grow S T more a.id b.id (IsSortedIn-across S F (G ++ B) order.sorted a b i m)
-        | inr e ↦ subst (λ (w : Insert). Before T a.id w.id) (sym e) (f_before a i)
-        ])
+          elim (In-taken [] G B x b j) as (λ _. Before T a.id b.id) [
+            | inl m ↦ Before-grow S T more a.id b.id (IsSortedIn-across S F (G ++ B) order.sorted a b i m)
+            | inr e ↦ subst (λ (w : Insert). Before T a.id w.id) (sym e) (f_before a i)
+          ]);
     }

@@ -29,9 +29,9 @@ In-append x (z ∷ xs) ys (inr h) =
 pub In-push : {X : Type 0} (x : X) (xs : List X) (y : X) → In x (xs ++ y ∷ []) → In x xs ⊎ (x ≡ y)
 In-push x xs y h =
     elim (In-append x xs (y ∷ []) h) as (λ _. In x xs ⊎ (x ≡ y)) [
-      inl k ↦ inl k
-    | inr (inl k) ↦ inr k
-    | inr (inr k) ↦ absurd k
+      | inl k ↦ inl k
+      | inr (inl k) ↦ inr k
+      | inr (inr k) ↦ absurd k
     ]
 
 pub In-last : {X : Type 0} (xs : List X) (y : X) → In y (xs ++ y ∷ [])
@@ -56,30 +56,30 @@ IsPlaceBelow-grow S T more x (After r) h = (IsThere-grow S T more r h.0, h.1)
 pub CanInsert-same : (S T : List Insert) → SameMembers S T → (x : OpId) (p : Place) → CanInsert S x p → CanInsert T x p
 CanInsert-same S T same x p can = record {
   new = λ e i. can.new e (same.back e i);
-  place = IsPlaceBelow-grow S T same.there x p can.place
+  place = IsPlaceBelow-grow S T same.there x p can.place;
 }
 
 pub IsTree-same : (S T : List Insert) → SameMembers S T → IsTree S → IsTree T
 IsTree-same S T same tree = record {
   once = λ a b i j e. tree.once a b (same.back a i) (same.back b j) e;
-  placed = λ e i. IsPlaceBelow-grow S T same.there e.id e.after (tree.placed e (same.back e i))
+  placed = λ e i. IsPlaceBelow-grow S T same.there e.id e.after (tree.placed e (same.back e i));
 }
 
 -- a tree with an insert that it can take is a tree
 pub IsTree-push : (S : List Insert) (x : Insert) → IsTree S → CanInsert S x.id x.after → IsTree (S ++ x ∷ [])
 IsTree-push S x tree can = record {
   once = λ a b i j e. elim (In-push a S x i) as (λ _. a ≡ b) [
-      inl h ↦ elim (In-push b S x j) as (λ _. a ≡ b) [
-          inl k ↦ tree.once a b h k e
-        | inr k ↦ absurd (id_eq-apart a.id x.id (can.new a h) (e ∙ ap (λ (w : Insert). w.id) k))
-        ]
-    | inr h ↦ elim (In-push b S x j) as (λ _. a ≡ b) [
-          inl k ↦ absurd (id_eq-apart b.id x.id (can.new b k) (sym e ∙ ap (λ (w : Insert). w.id) h))
-        | inr k ↦ h ∙ sym k
-        ]
-    ];
-  placed = λ e i. elim (In-push e S x i) as (λ _. IsPlaceBelow (S ++ x ∷ []) e.id e.after) [
-      inl h ↦ IsPlaceBelow-grow S (S ++ x ∷ []) (λ y k. In-left y S (x ∷ []) k) e.id e.after (tree.placed e h)
-    | inr h ↦ subst (λ (w : Insert). IsPlaceBelow (S ++ x ∷ []) w.id w.after) (sym h) (IsPlaceBelow-grow S (S ++ x ∷ []) (λ y k. In-left y S (x ∷ []) k) x.id x.after can.place)
+    | inl h ↦ elim (In-push b S x j) as (λ _. a ≡ b) [
+      | inl k ↦ tree.once a b h k e
+      | inr k ↦ absurd (id_eq-apart a.id x.id (can.new a h) (e ∙ ap (λ (w : Insert). w.id) k))
     ]
+    | inr h ↦ elim (In-push b S x j) as (λ _. a ≡ b) [
+      | inl k ↦ absurd (id_eq-apart b.id x.id (can.new b k) (sym e ∙ ap (λ (w : Insert). w.id) h))
+      | inr k ↦ h ∙ sym k
+    ]
+  ];
+  placed = λ e i. elim (In-push e S x i) as (λ _. IsPlaceBelow (S ++ x ∷ []) e.id e.after) [
+    | inl h ↦ IsPlaceBelow-grow S (S ++ x ∷ []) (λ y k. In-left y S (x ∷ []) k) e.id e.after (tree.placed e h)
+    | inr h ↦ subst (λ (w : Insert). IsPlaceBelow (S ++ x ∷ []) w.id w.after) (sym h) (IsPlaceBelow-grow S (S ++ x ∷ []) (λ y k. In-left y S (x ∷ []) k) x.id x.after can.place)
+  ];
 }

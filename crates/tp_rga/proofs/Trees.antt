@@ -87,11 +87,14 @@ split_out : (C : List Insert) (e : Insert) → In e C → (D : List Insert) × (
 split_out [] e h = absurd h
 split_out (z ∷ C) e (inl h) = (C, refl, λ y i. elim i as (λ _. (y ≡ e) ⊎ In y C) [ inl k ↦ inl (k ∙ sym h) | inr k ↦ inr k ])
 split_out (z ∷ C) e (inr h) =
-    let s = split_out C e h in
-    (z ∷ s.0, ap suc s.1, λ y i. elim i as (λ _. (y ≡ e) ⊎ In y (z ∷ s.0)) [
-        inl k ↦ inr (inl k)
-      | inr k ↦ elim (s.2 y k) as (λ _. (y ≡ e) ⊎ In y (z ∷ s.0)) [ inl m ↦ inl m | inr m ↦ inr (inr m) ]
-      ])
+    let s = split_out C e h in (
+      z ∷ s.0,
+      ap suc s.1,
+      λ y i. elim i as (λ _. (y ≡ e) ⊎ In y (z ∷ s.0)) [
+        | inl k ↦ inr (inl k)
+        | inr k ↦ elim (s.2 y k) as (λ _. (y ≡ e) ⊎ In y (z ∷ s.0)) [ inl m ↦ inl m | inr m ↦ inr (inr m) ]
+      ],
+    )
 
 -- C has the elements below x, of which each step towards the start leaves one out
 chain_from : (S : List Insert) → IsTree S → (n : ℕ) (C : List Insert) → length C ≡ n → (x : OpId) (p : Place) → Inserts S x p → ((e : Insert) → In e S → Below e.id x → In e C) → (c : List OpId) × IsChain S x c
@@ -106,10 +109,10 @@ chain_from S tree (suc n) C len x (After r) i below =
     let out = split_out C e (below e place.0.1.1 place.1) in
     let shorter : length out.0 ≡ n = omega (arith, out.1) in
     let still : (y : Insert) → In y S → Below y.id r → In y out.0 =
-        (λ y j b. elim (out.2 y (below y j (Below-trans y.id r x b place.1))) as (λ _. In y out.0) [
-          inl k ↦ absurd (Below-irreflexive r (subst (λ (w : Insert). Below w.id r) k b))
-        | inr k ↦ k
-        ]) in
+    (λ y j b. elim (out.2 y (below y j (Below-trans y.id r x b place.1))) as (λ _. In y out.0) [
+      | inl k ↦ absurd (Below-irreflexive r (subst (λ (w : Insert). Below w.id r) k b))
+      | inr k ↦ k
+    ]) in
     let up = chain_from S tree n out.0 shorter r place.0.0 place.0.1 still in
     (up.0 ++ x ∷ [], Leads-push S (After r) up.0 x up.1 i)
 
@@ -143,9 +146,9 @@ Before-cases S tree x y h k =
     let c = chain_exists S tree x h in
     let d = chain_exists S tree y k in
     elim (Precedes-cases c.0 d.0) as (λ _. Before S x y ⊎ ((x ≡ y) ⊎ Before S y x)) [
-      inl p ↦ inl (c.0, d.0, c.1, d.1, p)
-    | inr (inl e) ↦ inr (inl (Leads-ends S Start c.0 x y c.1 (subst (λ w. IsChain S y w) (sym e) d.1)))
-    | inr (inr p) ↦ inr (inr (d.0, c.0, d.1, c.1, p))
+      | inl p ↦ inl (c.0, d.0, c.1, d.1, p)
+      | inr (inl e) ↦ inr (inl (Leads-ends S Start c.0 x y c.1 (subst (λ w. IsChain S y w) (sym e) d.1)))
+      | inr (inr p) ↦ inr (inr (d.0, c.0, d.1, c.1, p))
     ]
 
 -- of two elements, the one that stands before has the chain that precedes

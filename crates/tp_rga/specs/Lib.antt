@@ -2,3 +2,5 @@ pub mod Tree
 pub mod Order
 pub mod Shown
 pub mod State
+pub mod Kept
+pub mod Same

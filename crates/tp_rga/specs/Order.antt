@@ -1,13 +1,14 @@
 -- The order of the elements of a text, as RGA has it (Roh and others 2011): among the inserts after one element the
 -- greater identifier stands nearer to it, with all that hangs on it. It is a total order on the elements of a set,
 -- and the same in each larger set, as the strong list specification asks (Attiya and others, PODC 2016).
-use Rattle.std.specs.Prelude.{◌≡◌, ℕ, ◌≤◌, ◌⊎◌, List, [], ◌∷◌, ◌++◌, length, insert}
+use Rattle.std.specs.Prelude.{◌≡◌, ℕ, ◌≤◌, ◌⊎◌, List, [], ◌∷◌, ◌++◌, length, insert, if◌then◌else◌}
 use Rattle.tp_list.specs.Members.{In, SameMembers}
 use Rattle.tp_opid.specs.declared.op_id.OpId.{OpId}
 use Rattle.tp_opid.specs.declared.op_id.Place.{Place}
 use Rattle.tp_opid.specs.declared.op_id.Place.TheVariants.{Start, After}
 use Rattle.tp_opid.specs.Insert.{Insert}
 use Rattle.tp_opid.specs.Order.{Below}
+use Rattle.tp_opid.specs.Same.{id_eq}
 use Rattle.tp_rga.specs.Tree.{Inserts, IsTree}
 
 -- The identifiers lead from the place p to the place q: S inserts each after the one before it, and the first after p.
@@ -34,10 +35,21 @@ abbrev pub IsSortedIn : List Insert → List Insert → Type 0
 IsSortedIn S [] = Unit {0}
 IsSortedIn S (a ∷ L) = ((b : Insert) → In b L → Before S a.id b.id) × IsSortedIn S L
 
+-- F is a front of a list up to the element that the place p names; up to the start it is empty.
+abbrev pub EndsAt : List Insert → Place → Type 0
+EndsAt F Start = F ≡ []
+EndsAt F (After r) = (A : List Insert) × (f : Insert) × (F ≡ A ++ f ∷ []) × (f.id ≡ r)
+
 -- L has the elements of S and no others, in the order of the text.
 pub record IsInOrder (S L : List Insert) : Type 0 where
   pub same : SameMembers S L
   pub sorted : IsSortedIn S L
+
+-- L with x put in directly after the place p.
+abbrev pub insert_after : Place → Insert → List Insert → List Insert
+insert_after Start x L = x ∷ L
+insert_after (After r) x [] = x ∷ []
+insert_after (After r) x (e ∷ L) = if id_eq e.id r then e ∷ x ∷ L else e ∷ insert_after (After r) x L
 
 -- The new list is the old one with x put in somewhere, and where the old one stood in order for a tree, the new one
 -- stands in order for that tree with x.

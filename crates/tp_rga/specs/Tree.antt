@@ -1,7 +1,7 @@
 -- The inserts of a text as a tree: each element stands after the start or after an element with a smaller identifier
 -- (RGA, Roh and others 2011; the timestamped insertion tree of Attiya and others, PODC 2016). All of it depends on
 -- the inserts as a set.
-use Rattle.std.specs.Prelude.{◌≡◌, ℕ, Bool, false, List}
+use Rattle.std.specs.Prelude.{◌≡◌, ℕ, Bool, false, List, [], ◌∷◌}
 use Rattle.tp_list.specs.Members.{In}
 use Rattle.tp_opid.specs.declared.op_id.OpId.{OpId}
 use Rattle.tp_opid.specs.declared.op_id.Place.{Place}
@@ -21,6 +21,20 @@ IsThere S x = (p : Place) × Inserts S x p
 -- No element of S has the identifier x.
 abbrev pub IsNew : List Insert → OpId → Type 0
 IsNew S x = (e : Insert) → In e S → id_eq e.id x ≡ false
+
+-- No two elements of L have one identifier.
+abbrev pub AreApart : List Insert → Type 0
+AreApart [] = Unit {0}
+AreApart (e ∷ L) = IsNew L e.id × AreApart L
+
+-- x is above every identifier of S.
+abbrev pub IsAboveAll : List Insert → OpId → Type 0
+IsAboveAll S x = (e : Insert) → In e S → Below e.id x
+
+-- The place p is the start, or an element of S.
+abbrev pub HasPlace : List Insert → Place → Type 0
+HasPlace S Start = Unit {0}
+HasPlace S (After r) = IsThere S r
 
 -- The place p is the start, or an element of S with an identifier below x.
 abbrev pub IsPlaceBelow : List Insert → OpId → Place → Type 0

@@ -5,8 +5,22 @@
 //! stays as a tombstone, so that what was inserted after it keeps its place.
 #![tactic(auto)]
 
+mod by_chains;
 mod element;
+mod flags;
+mod insertion;
+mod order_laws;
+mod placed;
+mod plain;
 mod sequence;
 
+pub use by_chains::{in_order, is_tree};
 pub use element::Element;
+pub use insertion::Insertion;
+pub use order_laws::{
+    before_cases, before_grows, before_irreflexive, before_trans, greatest_inserted, greatest_next,
+    inserted_members, one_order, order_exists, order_of_part, order_of_set, same_text,
+    shown_of_set, stands_once, tree_grows,
+};
+pub use plain::PlainSequence;
 pub use sequence::Sequence;

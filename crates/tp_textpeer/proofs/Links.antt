@@ -21,7 +21,7 @@ use Rattle.tp_text.proofs.Checked.{refers-same}
 use Rattle.tp_textpeer.specs.declared.error.ShowFault.{ShowFault}
 use Rattle.tp_textpeer.specs.declared.error.ShowFault.TheVariants.{NotChain, BadSeq, BadStart, BadReference}
 use Rattle.tp_textpeer.specs.Log.{first_actor, last_hash, is_by, depends_on, link_fault}
-use Rattle.tp_textpeer.specs.Chain.{Keeps, AllBelowCounter}
+use Rattle.tp_textpeer.specs.Chain.{Remembers, AllBelowCounter}
 
 pub not_equal : (m n : ℕ) → (m ≡ n → ⊥) → eqb m n ≡ false
 not_equal m n h = grind (arith, nat_tests)
@@ -77,10 +77,10 @@ next_counter-push (d ∷ C) c from le =
     let rest = next_counter-push C c from (omega arith) in
     ap (λ n. later (d.start + op_count d) n) rest ∙ later-right (d.start + op_count d) (c.start + op_count c) (omega arith)
 
-pub Keeps-push : (C : List ChangeParts) (c : ChangeParts) (L M : List Insert) (R Q : List (OpId × OpId)) (a : Option Actor) (h : Option Hash) (n : ℕ)
-    → 1 ≤ c.start → is_by a c.actor ≡ true → c.start ≡ n → Keeps C L R a h n → Extends L M (ops_of c) → Q ≡ R ++ deletes_in (ops_of c)
-    → Keeps (C ++ c ∷ []) M Q (Some c.actor) (Some (hash_of c)) (c.start + op_count c)
-Keeps-push C c L M R Q a h n from by start kept grown removed =
+pub Remembers-push : (C : List ChangeParts) (c : ChangeParts) (L M : List Insert) (R Q : List (OpId × OpId)) (a : Option Actor) (h : Option Hash) (n : ℕ)
+    → 1 ≤ c.start → is_by a c.actor ≡ true → c.start ≡ n → Remembers C L R a h n → Extends L M (ops_of c) → Q ≡ R ++ deletes_in (ops_of c)
+    → Remembers (C ++ c ∷ []) M Q (Some c.actor) (Some (hash_of c)) (c.start + op_count c)
+Remembers-push C c L M R Q a h n from by start kept grown removed =
     let put = grown.order (inserts C) kept.tree kept.order in
     record {
       tree = subst IsTree (sym (inserts-push C c)) put.0;
@@ -102,7 +102,7 @@ AllBelowCounter-push c L M n start below grown a e there =
 
 -- ---- the tests by what is kept
 
-pub chain_test : (C : List ChangeParts) (c : ChangeParts) (L : List Insert) (R : List (OpId × OpId)) (a : Option Actor) (h : Option Hash) (n : ℕ) (b : Bool) → Keeps C L R a h n
+pub chain_test : (C : List ChangeParts) (c : ChangeParts) (L : List Insert) (R : List (OpId × OpId)) (a : Option Actor) (h : Option Hash) (n : ℕ) (b : Bool) → Remembers C L R a h n
     → (is_by a c.actor && depends_on h c.deps) ≡ b → (is_by (first_actor C) c.actor && depends_on (last_hash C) c.deps) ≡ b
 chain_test C c L R a h n b kept e =
     subst (λ o. (is_by o c.actor && depends_on (last_hash C) c.deps) ≡ b) kept.author (subst (λ o. (is_by a c.actor && depends_on o c.deps) ≡ b) kept.last e)
@@ -111,6 +111,21 @@ pub by_chain : (x y : Bool) → (x && y) ≡ true → x ≡ true
 by_chain true y h = refl
 by_chain false y h = cc
 
-pub refers_test : (C : List ChangeParts) (c : ChangeParts) (L : List Insert) (R : List (OpId × OpId)) (a : Option Actor) (h : Option Hash) (n : ℕ) (b : Bool) → Keeps C L R a h n
+pub refers_test : (C : List ChangeParts) (c : ChangeParts) (L : List Insert) (R : List (OpId × OpId)) (a : Option Actor) (h : Option Hash) (n : ℕ) (b : Bool) → Remembers C L R a h n
     → b ≡ refers L (ops_of c) → refers (inserts C) (ops_of c) ≡ b
 refers_test C c L R a h n b kept e = refers-same (ops_of c) (inserts C) L kept.order.same ∙ sym e
+
+-- ---- nothing came yet
+
+pub AllBelowCounter-none : (L : List Insert) (n : ℕ) → L ≡ [] → AllBelowCounter L n
+AllBelowCounter-none L n none a e there = absurd (subst (In e) none there)
+
+pub Remembers-none : (L : List Insert) (R : List (OpId × OpId)) → L ≡ [] → R ≡ [] → Remembers [] L R None None 1
+Remembers-none L R none empty = record {
+  tree = record { once = λ a b there. absurd there; placed = λ e there. absurd there };
+  order = subst (IsInOrder []) (sym none) (record { same = record { there = λ x h. h; back = λ x h. h }; sorted = tt });
+  removals = empty;
+  author = refl;
+  last = refl;
+  next = refl;
+}

@@ -14,7 +14,7 @@ use Rattle.tp_textpeer.specs.Log.{first_actor, last_hash}
 
 -- The elements L stand in order for the changes C, R are their deletes, and the actor, the hash and the counter are
 -- what the next change is judged by.
-pub record Keeps (C : List ChangeParts) (L : List Insert) (R : List (OpId × OpId)) (a : Option Actor) (h : Option Hash) (n : ℕ) : Type 0 where
+pub record Remembers (C : List ChangeParts) (L : List Insert) (R : List (OpId × OpId)) (a : Option Actor) (h : Option Hash) (n : ℕ) : Type 0 where
   pub tree : IsTree (inserts C)
   pub order : IsInOrder (inserts C) L
   pub removals : R ≡ deletes C

@@ -1,3 +1,4 @@
 pub mod ShowFault
 pub mod Log
 pub mod Chain
+pub mod Show

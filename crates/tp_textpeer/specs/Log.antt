@@ -1,6 +1,7 @@
 -- Logs: one actor's changes, each on the one before.
-use Rattle.std.specs.Prelude.{◌≡◌, ℕ, ◌+◌, ◌==◌, ◌<◌, nat_lt, ◌&&◌, Bool, true, false, cond, if◌then◌else◌, List, [], ◌∷◌, ◌++◌, length, take, drop, Option, Some, None, Result, Ok, Err}
+use Rattle.std.specs.Prelude.{◌≡◌, ℕ, ◌+◌, ◌==◌, ◌<◌, nat_lt, ◌&&◌, Bool, true, false, cond, if◌then◌else◌, List, [], ◌∷◌, ◌++◌, length, take, drop, ◌≤◌, IfSome, Option, Some, None, Result, Ok, Err}
 use Rattle.std.specs.Int.{w32, from_be_bytes, to_be_bytes}
+use Rattle.std.specs.Io.KnownBytes.{Consumes}
 use Rattle.std.specs.List.{flat_map, AllByRecursion}
 use Rattle.tp_opid.specs.declared.actor.Actor.{Actor}
 use Rattle.tp_opid.specs.declared.hash.Hash.{Hash}
@@ -91,6 +92,16 @@ entry_at bytes =
     if nat_lt (length bytes) 4 then Err (Change change_error.Short)
     else sized_entry_at (from_be_bytes w32 (take 4 bytes)) (drop 4 bytes)
 
+-- What stands at the front of the known bytes has the fault.
+abbrev pub StartsBadly : Option (List ℕ) → ShowFault → Type 0
+StartsBadly known f = IfSome known (λ b. (0 < length b) × (entry_at b ≡ Err f))
+
+-- Between the two the length n of a change was read, which is within the limit.
+pub record HasLength (before after : Option (List ℕ)) (n : ℕ) : Type 0 where
+  pub some : 0 < n
+  pub few : n ≤ 4194304
+  pub bytes : Consumes before after (to_be_bytes w32 n)
+
 -- what is wrong with what stands behind the changes C
 abbrev pub fault_behind : List ChangeParts → Result (ChangeParts × List ℕ) ShowFault → Option ShowFault
 fault_behind C (Ok x) = link_fault C x.0
@@ -106,3 +117,10 @@ pub record IsFault (bytes : List ℕ) (n : ℕ) (fault : ShowFault) : Type 0 whe
   pub linked : LinkedAfter [] good
   pub more : 0 < length rest
   pub wrong : fault_behind good (entry_at rest) ≡ Some fault
+
+-- Of the known bytes `whole`, `left` are left behind the n changes C of a log.
+pub record Stands (whole left : Option (List ℕ)) (n : ℕ) (C : List ChangeParts) : Type 0 where
+  pub count : length C ≡ n
+  pub each : AllByRecursion IsChange C
+  pub linked : LinkedAfter [] C
+  pub bytes : Consumes whole left (log_of C)

@@ -4,7 +4,7 @@ ghost use Rattle.std.specs.Prelude.{◌≡◌, ◌⊎◌, ◌&&◌, ◌+◌, ◌
 ghost use Rattle.tp_change.specs.declared.parts.ChangeParts.{ChangeParts};
 ghost use Rattle.tp_textpeer.specs.declared.error.ShowFault.TheVariants.{OutOfMemory};
 ghost use Rattle.tp_textpeer.specs.Log.{is_by, depends_on, link_fault};
-ghost use Rattle.tp_textpeer.specs.Chain.{Keeps, AllBelowCounter};
+ghost use Rattle.tp_textpeer.specs.Chain.{Remembers, AllBelowCounter};
 
 use crate::error::ShowFault;
 use std::alloc::Global;
@@ -17,9 +17,9 @@ use tp_text::apply_checked;
 #[derive(Drop)]
 pub(crate) struct Chain<S: Sequence> {
     pub(crate) sequence: S,
-    author: Option<Actor>,
-    last: Option<Hash>,
-    next: u64,
+    pub(crate) author: Option<Actor>,
+    pub(crate) last: Option<Hash>,
+    pub(crate) next: u64,
 }
 
 // Whether the actor is the one whose log it is, if it is anyone's yet.
@@ -56,10 +56,10 @@ pub(crate) fn admit<S: Sequence>(chain: &mut Chain<S>, count: u64, change: &Chan
     requires count { count + 1 < 2 ^ 64 }
     ensures below { OnOk result (AllBelowCounter (S.placed chain.new.sequence) chain.new.next) }
     ensures ok { OnOk result ((C : List ChangeParts) → length C ≡ count
-        → Keeps C (S.placed chain.old.sequence) (S.removals chain.old.sequence) chain.old.author chain.old.last chain.old.next
-        → (link_fault C change.now ≡ None) × Keeps (C ++ change.now ∷ []) (S.placed chain.new.sequence) (S.removals chain.new.sequence) chain.new.author chain.new.last chain.new.next) }
+        → Remembers C (S.placed chain.old.sequence) (S.removals chain.old.sequence) chain.old.author chain.old.last chain.old.next
+        → (link_fault C change.now ≡ None) × Remembers (C ++ change.now ∷ []) (S.placed chain.new.sequence) (S.removals chain.new.sequence) chain.new.author chain.new.last chain.new.next) }
     ensures err { IfErr result (λ f. (f ≡ OutOfMemory) ⊎ ((C : List ChangeParts) → length C ≡ count
-        → Keeps C (S.placed chain.old.sequence) (S.removals chain.old.sequence) chain.old.author chain.old.last chain.old.next
+        → Remembers C (S.placed chain.old.sequence) (S.removals chain.old.sequence) chain.old.author chain.old.last chain.old.next
         → link_fault C change.now ≡ Some f)) }
 {
     if !is_chained(chain.author, chain.last, change) {

@@ -2,7 +2,10 @@
 #![tactic(auto)]
 
 mod chain;
+mod entry;
 mod error;
 mod input;
+mod showing;
 
 pub use error::{ShowError, ShowFault};
+pub use showing::show;

@@ -1,0 +1,5 @@
+use Rattle.tp_rga.proofs.Sets.{IsTree-push}
+use Rattle.tp_rga.proofs.order_laws.tree_grows.Goals as goal
+
+pub returns : goal.returns
+returns c = IsTree-push

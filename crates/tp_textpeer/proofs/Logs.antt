@@ -1,0 +1,139 @@
+-- Logs, one change more, and why bytes are a log or have a fault but not both.
+use Rattle.std.proofs.Common.{◌≡◌, ℕ, ◌+◌, ◌<◌, ◌≤◌, List, [], ◌∷◌, ◌++◌, length, Option, Some, None, Result, Ok, Err, refl, sym, ap, ◌∙◌, subst, append_assoc, append-nil, arith}
+use Rattle.std.specs.Prelude.{IfSome}
+use Rattle.std.specs.List.{AllByRecursion, flat_map}
+use Rattle.std.specs.Io.KnownBytes.{Consumes, IsAtEnd}
+use Rattle.std.proofs.lemmas.List.{length-append}
+use Rattle.std.proofs.lemmas.Grind.{flat_map-append}
+use Rattle.tp_change.specs.declared.parts.ChangeParts.{ChangeParts}
+use Rattle.tp_change.specs.Limits.{IsChange}
+use Rattle.tp_change.specs.Spelling.{spelling}
+use Rattle.tp_change.proofs.SpellingLaws.{spelling_bounds}
+use Rattle.tp_textpeer.specs.declared.error.ShowFault.{ShowFault}
+use Rattle.tp_textpeer.specs.Log.{entry, log_of, link_fault, LinkedAfter, IsLog, IsFault, Stands, StartsBadly, entry_at, fault_behind}
+use Rattle.tp_textpeer.proofs.Entries.{entry_again}
+
+log_of-push : (C : List ChangeParts) (c : ChangeParts) → log_of (C ++ c ∷ []) ≡ log_of C ++ entry c
+log_of-push C c = flat_map-append entry C (c ∷ []) ∙ ap (λ l. log_of C ++ l) (append-nil (entry c))
+
+each-push : (C : List ChangeParts) (c : ChangeParts) → AllByRecursion IsChange C → IsChange c → AllByRecursion IsChange (C ++ c ∷ [])
+each-push [] c each is = (is, tt)
+each-push (d ∷ C) c each is = (each.0, each-push C c each.1 is)
+
+linked-push : (before C : List ChangeParts) (c : ChangeParts) → LinkedAfter before C → link_fault (before ++ C) c ≡ None → LinkedAfter before (C ++ c ∷ [])
+linked-push before [] c linked fits = (subst (λ l. link_fault l c ≡ None) (append-nil before) fits, tt)
+linked-push before (d ∷ C) c linked fits =
+    (linked.0, linked-push (before ++ d ∷ []) C c linked.1 (subst (λ l. link_fault l c ≡ None) (sym (append_assoc before (d ∷ []) C)) fits))
+
+consumed : (a b d : Option (List ℕ)) (bs cs : List ℕ) → Consumes a b bs → Consumes b d cs → Consumes a d (bs ++ cs)
+consumed None b d bs cs p q = tt
+consumed (Some x) None d bs cs p q = absurd p
+consumed (Some x) (Some y) None bs cs p q = absurd q
+consumed (Some x) (Some y) (Some z) bs cs p q = p ∙ ap (λ l. bs ++ l) q ∙ sym (append_assoc bs cs z)
+
+-- one change more was read, and may follow
+pub Stands-push : (whole left after : Option (List ℕ)) (n : ℕ) (C : List ChangeParts) (c : ChangeParts) → Stands whole left n C → IsChange c → link_fault C c ≡ None → Consumes left after (entry c) → Stands whole after (n + 1) (C ++ c ∷ [])
+Stands-push whole left after n C c stands is fits took = record {
+  count = let e = length-append C (c ∷ []) in let k = stands.count in omega arith;
+  each = each-push C c stands.each is;
+  linked = linked-push [] C c stands.linked fits;
+  bytes = subst (Consumes whole after) (sym (log_of-push C c)) (consumed whole left after (log_of C) (entry c) stands.bytes took);
+}
+
+consumed-nil : (known : Option (List ℕ)) → Consumes known known []
+consumed-nil None = tt
+consumed-nil (Some b) = refl
+
+-- nothing was read yet
+pub Stands-none : (known : Option (List ℕ)) → Stands known known 0 []
+Stands-none known = record { count = refl; each = tt; linked = tt; bytes = consumed-nil known }
+
+-- all was read
+pub IsLog-ended : (whole left : Option (List ℕ)) (n : ℕ) (C : List ChangeParts) → Stands whole left n C → IsAtEnd left → IfSome whole (λ b. IsLog b C)
+IsLog-ended None left n C stands end = tt
+IsLog-ended (Some b) None n C stands end = absurd stands.bytes
+IsLog-ended (Some b) (Some x) n C stands end = record {
+  spelled = stands.bytes ∙ ap (λ l. log_of C ++ l) end ∙ append-nil (log_of C);
+  each = stands.each;
+  linked = stands.linked;
+}
+
+-- what stands next is no change
+pub IsFault-entry : (whole left : Option (List ℕ)) (n : ℕ) (C : List ChangeParts) (f : ShowFault) → Stands whole left n C → StartsBadly left f → IfSome whole (λ b. IsFault b n f)
+IsFault-entry None left n C f stands bad = tt
+IsFault-entry (Some b) None n C f stands bad = absurd stands.bytes
+IsFault-entry (Some b) (Some rest) n C f stands bad = record {
+  good = C;
+  rest = rest;
+  count = stands.count;
+  spelled = stands.bytes;
+  each = stands.each;
+  linked = stands.linked;
+  more = bad.0;
+  wrong = ap (fault_behind C) bad.1;
+}
+
+some_bytes : (c : ChangeParts) (more : List ℕ) → IsChange c → 0 < length (entry c ++ more)
+some_bytes c more is =
+    let front = length-append (entry c) more in
+    let own = spelling_bounds c is in
+    omega (arith, own.0)
+
+-- the change that stands next may not follow
+pub IsFault-link : (whole left after : Option (List ℕ)) (n : ℕ) (C : List ChangeParts) (c : ChangeParts) (f : ShowFault) → Stands whole left n C → IsChange c → Consumes left after (entry c) → link_fault C c ≡ Some f → IfSome whole (λ b. IsFault b n f)
+IsFault-link None left after n C c f stands is took bad = tt
+IsFault-link (Some b) None after n C c f stands is took bad = absurd stands.bytes
+IsFault-link (Some b) (Some rest) None n C c f stands is took bad = absurd took
+IsFault-link (Some b) (Some rest) (Some more) n C c f stands is took bad = record {
+  good = C;
+  rest = rest;
+  count = stands.count;
+  spelled = stands.bytes;
+  each = stands.each;
+  linked = stands.linked;
+  more = subst (λ l. 0 < length l) (sym took) (some_bytes c more is);
+  wrong = ap (λ l. fault_behind C (entry_at l)) took ∙ ap (fault_behind C) (entry_again c more is) ∙ bad;
+}
+
+-- ---- a log has no fault
+
+same_entry : (c d : ChangeParts) (x y : List ℕ) → IsChange c → IsChange d → entry c ++ x ≡ entry d ++ y → (c ≡ d) × (x ≡ y)
+same_entry c d x y p q e =
+    pairs c d x y (sym (entry_again c x p) ∙ ap entry_at e ∙ entry_again d y q)
+  where
+    pairs : (c d : ChangeParts) (x y : List ℕ) → (let r : Result (ChangeParts × List ℕ) ShowFault = Ok (c, x) in r) ≡ Ok (d, y) → (c ≡ d) × (x ≡ y)
+    pairs c d x y e = let p : (let q : ChangeParts × List ℕ = (c, x) in q) ≡ (d, y) = cc in (ap (λ (q : ChangeParts × List ℕ). q.0) p, ap (λ (q : ChangeParts × List ℕ). q.1) p)
+
+nothing : (c : ChangeParts) (more : List ℕ) → IsChange c → [] ≡ entry c ++ more → ⊥
+nothing c more is e = let some = some_bytes c more is in let none : 0 ≡ length (entry c ++ more) = ap length e in omega arith
+
+no_fault : (before G C : List ChangeParts) (rest : List ℕ) (f : ShowFault) → AllByRecursion IsChange G → AllByRecursion IsChange C → LinkedAfter before C → log_of C ≡ log_of G ++ rest → 0 < length rest
+    → fault_behind (before ++ G) (entry_at rest) ≡ Some f → ⊥
+no_fault before [] [] rest f good each linked e more wrong = let none : 0 ≡ length rest = ap length e in omega arith
+no_fault before [] (c ∷ C) rest f good each linked e more wrong =
+    let found : entry_at rest ≡ Ok (c, log_of C) = ap entry_at (sym e) ∙ entry_again c (log_of C) each.0 in
+    let bad : link_fault (before ++ []) c ≡ Some f = sym (ap (fault_behind (before ++ [])) found) ∙ wrong in
+    let fine : link_fault (before ++ []) c ≡ None = subst (λ l. link_fault l c ≡ None) (sym (append-nil before)) linked.0 in
+    cc
+no_fault before (g ∷ G) [] rest f good each linked e more wrong = nothing g (log_of G ++ rest) good.0 (e ∙ append_assoc (entry g) (log_of G) rest)
+no_fault before (g ∷ G) (c ∷ C) rest f good each linked e more wrong =
+    let same = same_entry c g (log_of C) (log_of G ++ rest) each.0 good.0 (e ∙ append_assoc (entry g) (log_of G) rest) in
+    let joined : before ++ (g ∷ G) ≡ (before ++ c ∷ []) ++ G = ap (λ x. before ++ x ∷ G) (sym same.0) ∙ sym (append_assoc before (c ∷ []) G) in
+    no_fault (before ++ c ∷ []) G C rest f good.1 each.1 linked.1 same.1 more (subst (λ l. fault_behind l (entry_at rest) ≡ Some f) joined wrong)
+
+-- bytes that are a log have no fault
+pub log_has_no_fault : (b : List ℕ) (C : List ChangeParts) (n : ℕ) (f : ShowFault) → IsLog b C → IsFault b n f → ⊥
+log_has_no_fault b C n f log fault =
+    no_fault [] fault.good C fault.rest f fault.each log.each log.linked (sym log.spelled ∙ fault.spelled) fault.more fault.wrong
+
+pub IfSome-map : (o : Option (List ℕ)) (P Q : List ℕ → Type 0) → ((b : List ℕ) → P b → Q b) → IfSome o P → IfSome o Q
+IfSome-map None P Q f h = tt
+IfSome-map (Some b) P Q f h = f b h
+
+pub IfSome-each : (o : Option (List ℕ)) (P : List ℕ → Type 0) → ((b : List ℕ) → P b) → IfSome o P
+IfSome-each None P f = tt
+IfSome-each (Some b) P f = f b
+
+pub IfSome-both : (o : Option (List ℕ)) (P Q R : List ℕ → Type 0) → ((b : List ℕ) → P b → Q b → R b) → IfSome o P → IfSome o Q → IfSome o R
+IfSome-both None P Q R f h k = tt
+IfSome-both (Some b) P Q R f h k = f b h k

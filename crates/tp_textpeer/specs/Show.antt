@@ -1,0 +1,27 @@
+-- What showing a log does.
+use Rattle.std.specs.Prelude.{◌≡◌, ◌⊎◌, ℕ, List, [], ◌∷◌, ◌++◌, Option, IfSome, encode_utf8_all}
+use Rattle.std.specs.Io.KnownBytes.{Appends}
+use Rattle.tp_change.specs.declared.parts.ChangeParts.{ChangeParts}
+use Rattle.tp_text.specs.Text.{IsTextOf}
+use Rattle.tp_textpeer.specs.declared.error.ShowError.{ShowError}
+use Rattle.tp_textpeer.specs.ShowFault.{IsOutside}
+use Rattle.tp_textpeer.specs.Log.{IsLog, IsFault}
+
+-- a text and a newline, as bytes
+abbrev pub line : List ℕ → List ℕ
+line t = encode_utf8_all t ++ 10 ∷ []
+
+-- The bytes are the log of changes whose text is t.
+pub record HasText (bytes : List ℕ) (t : List ℕ) : Type 0 where
+  pub changes : List ChangeParts
+  pub log : IsLog bytes changes
+  pub text : IsTextOf changes t
+
+-- The bytes are a log, and what the writer holds grew by its text and a newline.
+abbrev pub Shows : List ℕ → Option (List ℕ) → Option (List ℕ) → Type 0
+Shows bytes before after = (t : List ℕ) × HasText bytes t × Appends before after (line t)
+
+-- The refusal says that memory is short or a device failed, with 0 as the change; or else what is wrong with the bytes
+-- and at which change.
+abbrev pub Refuses : Option (List ℕ) → ShowError → Type 0
+Refuses known e = (IsOutside e.fault × (e.change ≡ 0)) ⊎ IfSome known (λ bytes. IsFault bytes e.change e.fault)
