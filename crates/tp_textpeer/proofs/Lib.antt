@@ -1,3 +1,4 @@
 pub mod Links
 pub mod Entries
 pub mod Logs
+mod CommandLineLemmas

@@ -2,3 +2,5 @@ pub mod ShowFault
 pub mod Log
 pub mod Chain
 pub mod Show
+pub mod CommandLine
+pub mod Refusal

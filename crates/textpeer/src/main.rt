@@ -1,0 +1,8 @@
+//! The program `textpeer`.
+#![tactic(auto)]
+
+use std::process::ExitCode;
+
+fn main(rt: HostRuntime) -> ExitCode {
+    ExitCode::from(tp_textpeer::run(&rt))
+}
