@@ -1,16 +1,16 @@
 -- The front of the bytes that is to blame for a refusal: the shortest one with a fault other than missing bytes.
-use Rattle.std.proofs.Common.{◌≡◌, ℕ, zero, suc, ◌+◌, ◌<◌, ◌≤◌, Bool, true, false, List, [], ◌∷◌, ◌++◌, length, take, drop, Result, Ok, Err, refl, sym, ap, subst, ◌∙◌, append-nil, arith, ◌⊎◌, inl, inr}
+use Rattle.std.proofs.Common.{◌≡◌, ℕ, zero, suc, ◌+◌, ◌<◌, ◌≤◌, Bool, true, false, List, ◌++◌, length, take, drop, Result, Ok, Err, refl, sym, ap, subst, ◌∙◌, arith, ◌⊎◌, inl, inr}
 use Rattle.std.proofs.lemmas.Bool.{cases_eq}
 use Rattle.std.proofs.lemmas.List.{length-append, take-append-drop, take_at, length-take, take_all, append_assoc}
 use Rattle.tp_codec.proofs.Fields.{AreBytes, AreBytes-take}
 use Rattle.tp_change.specs.declared.error.ChangeError.{ChangeError}
-use Rattle.tp_change.specs.declared.error.ChangeError.TheVariants.{Short}
+use Rattle.tp_change.specs.declared.error.ChangeError.TheVariants.{Short, Trailing}
 use Rattle.tp_change.specs.declared.parts.ChangeParts.{ChangeParts}
 use Rattle.tp_change.specs.Spelling.{spelling}
 use Rattle.tp_change.specs.Limits.{IsChange}
 use Rattle.tp_change.specs.Reading.{change_at}
-use Rattle.tp_change.specs.Faults.{IsSpelling, IsToBlame, SomeFrontIsToBlame}
-use Rattle.tp_change.proofs.WholeChange.{change_takes, change_again, change_stays}
+use Rattle.tp_change.specs.Faults.{SomeFrontIsToBlame}
+use Rattle.tp_change.proofs.WholeChange.{change_takes, change_again, change_stays, change_and_more}
 
 -- the least number below n at which a test holds
 record Least (test : ℕ → Bool) (n : ℕ) : Type 0 where
@@ -23,8 +23,8 @@ least : (test : ℕ → Bool) (n : ℕ) → Least test n ⊎ ((k : ℕ) → k < 
 least test zero = inr (λ k lt. absurd (omega arith))
 least test (suc n) =
     elim (least test n) [
-    | inl found ↦ inl (record { at = found.at; below = omega (arith, found.below); holds = found.holds; before = found.before })
-    | inr none ↦ last (test n) refl none
+      | inl found ↦ inl (record { at = found.at; below = omega (arith, found.below); holds = found.holds; before = found.before })
+      | inr none ↦ last (test n) refl none
     ]
   where
     last : (b : Bool) → test n ≡ b → ((k : ℕ) → k < n → test k ≡ false) → Least test (suc n) ⊎ ((k : ℕ) → k < suc n → test k ≡ false)
@@ -86,30 +86,66 @@ front_at bytes fits size e bad n within faulty before =
     let on : change_at bytes ≡ Err f.0 = ap change_at (sym whole) ∙ change_stays front back f.0 front_fits small f.1 f.2 in
     let same : f.0 ≡ e = same_fault f.0 e (sym on ∙ bad) in
     let longer : (more : List ℕ) → length (front ++ more) ≤ 4194304 → change_at (front ++ more) ≡ Err e
-      = λ more few. change_stays front more f.0 front_fits few f.1 f.2 ∙ ap (λ (d : ChangeError). Err d) same in
-    (front, back, sym whole, record {
-      barred = barred_by front e longer;
-      shorter = λ begin more parts some.
-        let len : length front ≡ length begin + length more = ap length parts ∙ length-append begin more in
-        let lt : length begin < n = omega (arith, length-take n bytes) in
-        let all : bytes ≡ begin ++ (more ++ back) = sym whole ∙ ap (λ (b : List ℕ). b ++ back) parts ∙ append_assoc begin more back in
-        let is_front : take (length begin) bytes ≡ begin = ap (take (length begin)) all ∙ take_at begin (more ++ back) (length begin) refl in
-        let begin_fits : AreBytes begin = subst AreBytes is_front (AreBytes-take (length begin) bytes fits) in
-        let none : is_fault (change_at begin) ≡ false = subst (λ (b : List ℕ). is_fault (change_at b) ≡ false) is_front (before (length begin) lt) in
-        elim (no_fault_is (change_at begin) none) [
-        | inl read ↦ let t = change_takes begin read.0 begin_fits read.1 in inl (read.0, t.0, t.1)
-        | inr short ↦ inr short
-        ];
-      longer = longer;
-    })
+    = λ more few. change_stays front more f.0 front_fits few f.1 f.2 ∙ ap (λ (d : ChangeError). Err d) same in (
+      front,
+      back,
+      sym whole,
+      record {
+        barred = barred_by front e longer;
+        shorter = λ begin more parts some.
+            let len : length front ≡ length begin + length more = ap length parts ∙ length-append begin more in
+            let lt : length begin < n = omega (arith, length-take n bytes) in
+            let all : bytes ≡ begin ++ (more ++ back) = sym whole ∙ ap (λ (b : List ℕ). b ++ back) parts ∙ append_assoc begin more back in
+            let is_front : take (length begin) bytes ≡ begin = ap (take (length begin)) all ∙ take_at begin (more ++ back) (length begin) refl in
+            let begin_fits : AreBytes begin = subst AreBytes is_front (AreBytes-take (length begin) bytes fits) in
+            let none : is_fault (change_at begin) ≡ false = subst (λ (b : List ℕ). is_fault (change_at b) ≡ false) is_front (before (length begin) lt) in
+            elim (no_fault_is (change_at begin) none) [
+              | inl read ↦ let t = change_takes begin read.0 begin_fits read.1 in inl (read.0, t.0, t.1)
+              | inr short ↦ inr short
+            ];
+        longer = longer;
+      },
+    )
 
 -- A fault other than missing bytes has a front that is to blame.
 pub some_front : (bytes : List ℕ) → AreBytes bytes → length bytes ≤ 4194304 → (e : ChangeError) → change_at bytes ≡ Err e → (e ≡ Short → ⊥) → SomeFrontIsToBlame bytes e
 some_front bytes fits size e bad apart =
     elim (least (λ n. is_fault (change_at (take n bytes))) (suc (length bytes))) [
-    | inl l ↦ front_at bytes fits size e bad l.at (omega (arith, l.below)) l.holds l.before
-    | inr none ↦
-      let quiet : is_fault (change_at bytes) ≡ false = subst (λ (b : List ℕ). is_fault (change_at b) ≡ false) (take_all (length bytes) bytes (omega arith)) (none (length bytes) (omega arith)) in
-      let loud : is_fault (change_at bytes) ≡ true = fault_of (change_at bytes) e bad apart in
-      absurd cc
+      | inl l ↦ front_at bytes fits size e bad l.at (omega (arith, l.below)) l.holds l.before
+      | inr none ↦
+          let quiet : is_fault (change_at bytes) ≡ false = subst (λ (b : List ℕ). is_fault (change_at b) ≡ false) (take_all (length bytes) bytes (omega arith)) (none (length bytes) (omega arith)) in
+          let loud : is_fault (change_at bytes) ≡ true = fault_of (change_at bytes) e bad apart in
+          absurd cc
+    ]
+
+short_or : (r : Result ChangeParts ChangeError) → (r ≡ Err Short) ⊎ (((c : ChangeParts) × (r ≡ Ok c)) ⊎ ((e : ChangeError) × (r ≡ Err e) × (e ≡ Short → ⊥)))
+short_or r =
+    elim r as (λ t. r ≡ t → (r ≡ Err Short) ⊎ (((c : ChangeParts) × (r ≡ Ok c)) ⊎ ((e : ChangeError) × (r ≡ Err e) × (e ≡ Short → ⊥)))) [
+      | Ok c ↦ λ h. inr (inl (c, h))
+      | Err e ↦ λ h. by_kind e h (is_other e) refl
+    ] refl
+  where
+    by_kind : (e : ChangeError) → r ≡ Err e → (b : Bool) → is_other e ≡ b → (r ≡ Err Short) ⊎ (((c : ChangeParts) × (r ≡ Ok c)) ⊎ ((d : ChangeError) × (r ≡ Err d) × (d ≡ Short → ⊥)))
+    by_kind e h true k = inr (inr (e, h, apart_other e k))
+    by_kind e h false k = inl (h ∙ ap (λ (f : ChangeError). Err f) (short_is e k))
+
+not_short : (front more : List ℕ) (c : ChangeParts) → AreBytes front → length (front ++ more) ≤ 4194304 → change_at front ≡ Ok c → change_at (front ++ more) ≡ Err Short → ⊥
+not_short front more c fits size read short =
+    let t = change_takes front c fits read in
+    let whole : front ++ more ≡ spelling c ++ more = ap (λ (b : List ℕ). b ++ more) t.1 in
+    elim (change_and_more c more t.0 (rw (← whole) size)) [
+      | inl ok ↦ let no : (let r : Result ChangeParts ChangeError = Ok c in r) ≡ Err Short = sym ok ∙ ap change_at (sym whole) ∙ short in cc
+      | inr bad ↦ let no : Trailing ≡ Short = same_fault Trailing Short (sym bad ∙ ap change_at (sym whole) ∙ short) in cc
+    ]
+
+-- Where bytes are missing, nothing is wrong with any front but that bytes are missing.
+pub front_of_short : (front more : List ℕ) → AreBytes front → length (front ++ more) ≤ 4194304 → change_at (front ++ more) ≡ Err Short → change_at front ≡ Err Short
+front_of_short front more fits size short =
+    elim (short_or (change_at front)) [
+      | inl same ↦ same
+      | inr other ↦
+          elim other [
+            | inl read ↦ absurd (not_short front more read.0 fits size read.1 short)
+            | inr bad ↦ absurd (bad.2 (same_fault bad.0 Short (sym (change_stays front more bad.0 fits size bad.1 bad.2) ∙ short)))
+          ]
     ]

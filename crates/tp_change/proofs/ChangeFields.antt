@@ -1,16 +1,13 @@
 -- The fields of a change: what is read is spelled so, what is spelled is read again, and a fault stays.
-use Rattle.std.proofs.Common.{◌≡◌, ℕ, zero, suc, ◌+◌, ◌-◌, ◌^◌, ◌<◌, ◌≤◌, min, Bool, true, false, cond, eqb, ltb, leb, List, [], ◌∷◌, ◌++◌, length, Option, Some, None, Result, Ok, Err, refl, sym, ap, subst, ◌∙◌, append_assoc, append-nil, arith, inl, inr, eqb-true, ltb-true, lt-ltb, le-leb, leb-true}
-use Rattle.std.specs.Prelude.{encode_utf8_all}
-use Rattle.std.specs.Int.{Width, w16, w32, w64, to_be_bytes}
+use Rattle.std.proofs.Common.{◌≡◌, ℕ, zero, suc, ◌^◌, ◌<◌, ◌≤◌, true, eqb, ltb, leb, List, [], ◌∷◌, ◌++◌, length, Option, Some, None, refl, sym, ap, ◌∙◌, append-nil, arith, eqb-true, ltb-true, lt-ltb, le-leb, leb-true}
+use Rattle.std.specs.Int.{w16, w32, w64, to_be_bytes}
 use Rattle.std.specs.List.{flat_map, AllByRecursion}
-use Rattle.std.specs.Str.{all_scalars}
 use Rattle.std.specs.Ordering.{is_lt}
 use Rattle.std.specs.declared.cmp.Ordering.{Ordering}
 use Rattle.std.specs.declared.cmp.Ordering.TheVariants.{Less, Equal, Greater}
-use Rattle.std.proofs.lemmas.Str.{length-le-encodes}
 use Rattle.tp_codec.specs.Front.{byte_at, bytes_at, number_at}
 use Rattle.tp_codec.specs.Reading.{Reads, give, fail, and_then, or_fail, require, repeat_at, text_at}
-use Rattle.tp_codec.proofs.Fields.{AreBytes, IsField, as_field, give_field, fail_field, then_field, require_field, test_field, byte_field, bytes_field, AreSoMany, number_field, text_field, FitsText, repeat_field, EachFits, wide16, wide32, wide64}
+use Rattle.tp_codec.proofs.Fields.{IsField, as_field, give_field, fail_field, then_field, require_field, test_field, byte_field, bytes_field, AreSoMany, number_field, text_field, FitsText, repeat_field, EachFits, wide16, wide32, wide64}
 use Rattle.tp_list.specs.Rising.{IsRising, IsBelowAll}
 use Rattle.tp_opid.specs.declared.actor.Actor.{Actor}
 use Rattle.tp_opid.specs.declared.hash.Hash.{Hash}
@@ -24,9 +21,8 @@ use Rattle.tp_change.specs.declared.error.ChangeError.TheVariants.{Version, Shor
 use Rattle.tp_change.specs.declared.record.Record.{Record}
 use Rattle.tp_change.specs.declared.record.Record.TheVariants.{Insert, Delete}
 use Rattle.tp_change.specs.declared.parts.ChangeParts.{ChangeParts}
-use Rattle.tp_change.specs.Operations.{count_in, count_of}
-use Rattle.tp_change.specs.Spelling.{spelling_of_id, spelling_of_place, spelling_of_run, spelling_of_message, spelling_of_record, spelling_of_deps, spelling_of_records, spelling}
-use Rattle.tp_change.specs.Limits.{IsBytes, IsActor, IsHash, IsId, IsPlace, IsText, IsRecord, IsChange}
+use Rattle.tp_change.specs.Spelling.{spelling_of_id, spelling_of_place, spelling_of_run, spelling_of_message, spelling_of_record, spelling_of_deps, spelling_of_records}
+use Rattle.tp_change.specs.Limits.{IsBytes, IsActor, IsHash, IsId, IsPlace, IsText}
 use Rattle.tp_change.specs.Reading.{version_at, actor_at, hash_at, id_at, seq_at, start_at, rises, dep_at, next_before, deps_at, place_after_tag, place_at, insert_at, delete_at, record_after_tag, record_at, room_after, records_at, room_from, parts_at}
 
 bytes_are : (n : ℕ) (bytes : List ℕ) → AreSoMany n bytes → IsBytes n bytes
@@ -42,9 +38,9 @@ unfolding version_at
 version_field =
     as_field Short version_at (λ _. (1 ∷ []) ++ []) (λ _. 1 ∷ []) (λ _. (1 < 256) × (eqb 1 1 ≡ true)) (λ _. Unit {0})
     (then_field Short (or_fail Short byte_at) (λ v. require (eqb v 1) Version) (λ b. b ∷ []) (λ b. b < 256) (λ (_ : Unit {0}). 1) (λ _. []) (λ v _. eqb v 1 ≡ true)
-      (byte_field Short)
-      (λ v lt. test_field Short (eqb v 1) Version)
-      (λ v x fit. sym (eqb-true v 1 fit)))
+    (byte_field Short)
+    (λ v lt. test_field Short (eqb v 1) Version)
+    (λ v x fit. sym (eqb-true v 1 fit)))
     (λ x fit. refl) (λ x fit. tt) (λ x fit. (omega arith, refl))
 
 pub actor_field : IsField Short actor_at (λ a. a.0) IsActor
@@ -52,9 +48,9 @@ unfolding actor_at
 actor_field =
     as_field Short actor_at (λ (a : Actor). a.0 ++ []) (λ a. a.0) (λ a. AreSoMany 16 a.0 × (a ≡ record { 0 = a.0 })) IsActor
     (then_field Short (or_fail Short (bytes_at 16)) (λ bytes. give (record { 0 = bytes })) (λ b. b) (AreSoMany 16) (λ (a : Actor). a.0) (λ _. []) (λ bytes a. a ≡ record { 0 = bytes })
-      (bytes_field Short 16)
-      (λ bytes fit. give_field Short (record { 0 = bytes }))
-      (λ bytes a e. ap (λ (x : Actor). x.0) e))
+    (bytes_field Short 16)
+    (λ bytes fit. give_field Short (record { 0 = bytes }))
+    (λ bytes a e. ap (λ (x : Actor). x.0) e))
     (λ a fit. append-nil a.0) (λ a fit. bytes_are 16 a.0 fit.0) (λ a fit. (are_bytes 16 a.0 fit, refl))
 
 pub hash_field : IsField Short hash_at (λ h. h.0) IsHash
@@ -62,9 +58,9 @@ unfolding hash_at
 hash_field =
     as_field Short hash_at (λ (h : Hash). h.0 ++ []) (λ h. h.0) (λ h. AreSoMany 32 h.0 × (h ≡ record { 0 = h.0 })) IsHash
     (then_field Short (or_fail Short (bytes_at 32)) (λ bytes. give (record { 0 = bytes })) (λ b. b) (AreSoMany 32) (λ (h : Hash). h.0) (λ _. []) (λ bytes h. h ≡ record { 0 = bytes })
-      (bytes_field Short 32)
-      (λ bytes fit. give_field Short (record { 0 = bytes }))
-      (λ bytes h e. ap (λ (x : Hash). x.0) e))
+    (bytes_field Short 32)
+    (λ bytes fit. give_field Short (record { 0 = bytes }))
+    (λ bytes h e. ap (λ (x : Hash). x.0) e))
     (λ h fit. append-nil h.0) (λ h fit. bytes_are 32 h.0 fit.0) (λ h fit. (are_bytes 32 h.0 fit, refl))
 
 pub id_field : IsField Short id_at spelling_of_id IsId
@@ -72,12 +68,12 @@ unfolding id_at
 id_field =
     as_field Short id_at (λ (i : OpId). to_be_bytes w64 i.counter ++ (i.actor.0 ++ [])) spelling_of_id (λ i. (i.counter < 2 ^ 64) × (IsActor i.actor × (i ≡ record { counter = i.counter; actor = i.actor }))) IsId
     (then_field Short (or_fail Short (number_at w64)) (λ counter. and_then actor_at (λ actor. give (record { counter = counter; actor = actor }))) (to_be_bytes w64) (λ n. n < 2 ^ 64)
-      (λ (i : OpId). i.counter) (λ i. i.actor.0 ++ []) (λ counter i. IsActor i.actor × (i ≡ record { counter = counter; actor = i.actor }))
-      (number_field Short w64 (2 ^ 64) wide64)
-      (λ counter lt. then_field Short actor_at (λ actor. give (record { counter = counter; actor = actor })) (λ a. a.0) IsActor
-        (λ (i : OpId). i.actor) (λ _. []) (λ actor i. i ≡ record { counter = counter; actor = actor })
-        actor_field (λ actor fit. give_field Short (record { counter = counter; actor = actor })) (λ actor i e. ap (λ (x : OpId). x.actor) e))
-      (λ counter i fit. ap (λ (x : OpId). x.counter) fit.1))
+    (λ (i : OpId). i.counter) (λ i. i.actor.0 ++ []) (λ counter i. IsActor i.actor × (i ≡ record { counter = counter; actor = i.actor }))
+    (number_field Short w64 (2 ^ 64) wide64)
+    (λ counter lt. then_field Short actor_at (λ actor. give (record { counter = counter; actor = actor })) (λ a. a.0) IsActor
+    (λ (i : OpId). i.actor) (λ _. []) (λ actor i. i ≡ record { counter = counter; actor = actor })
+    actor_field (λ actor fit. give_field Short (record { counter = counter; actor = actor })) (λ actor i e. ap (λ (x : OpId). x.actor) e))
+    (λ counter i fit. ap (λ (x : OpId). x.counter) fit.1))
     (λ i fit. ap (λ (b : List ℕ). to_be_bytes w64 i.counter ++ b) (append-nil i.actor.0))
     (λ i fit. record { counter = fit.0; actor = fit.1.0 })
     (λ i fit. (fit.counter, (fit.actor, refl)))
@@ -87,10 +83,10 @@ unfolding seq_at
 seq_field =
     as_field Short seq_at (λ n. to_be_bytes w64 n ++ []) (to_be_bytes w64) (λ n. (n < 2 ^ 64) × ((leb 1 n ≡ true) × (n ≡ n))) (λ n. (1 ≤ n) × (n < 2 ^ 64))
     (then_field Short (or_fail Short (number_at w64)) (λ n. and_then (require (leb 1 n) ZeroSeqOrStart) (λ _. give n)) (to_be_bytes w64) (λ n. n < 2 ^ 64)
-      (λ (n : ℕ). n) (λ _. []) (λ n m. (leb 1 n ≡ true) × (m ≡ n))
-      (number_field Short w64 (2 ^ 64) wide64)
-      (λ n lt. require_field Short (leb 1 n) ZeroSeqOrStart (give n) (λ _. []) (λ m. m ≡ n) (λ _. give_field Short n))
-      (λ n m fit. fit.1))
+    (λ (n : ℕ). n) (λ _. []) (λ n m. (leb 1 n ≡ true) × (m ≡ n))
+    (number_field Short w64 (2 ^ 64) wide64)
+    (λ n lt. require_field Short (leb 1 n) ZeroSeqOrStart (give n) (λ _. []) (λ m. m ≡ n) (λ _. give_field Short n))
+    (λ n m fit. fit.1))
     (λ n fit. append-nil (to_be_bytes w64 n)) (λ n fit. (leb-true 1 n fit.1.0, fit.0)) (λ n fit. (fit.1, (le-leb 1 n fit.0, refl)))
 
 pub start_field : IsField Short start_at (to_be_bytes w64) (λ n. (1 ≤ n) × (n < 2 ^ 48))
@@ -98,11 +94,11 @@ unfolding start_at
 start_field =
     as_field Short start_at (λ n. to_be_bytes w64 n ++ []) (to_be_bytes w64) (λ n. (n < 2 ^ 64) × ((leb 1 n ≡ true) × ((ltb n (2 ^ 48) ≡ true) × (n ≡ n)))) (λ n. (1 ≤ n) × (n < 2 ^ 48))
     (then_field Short (or_fail Short (number_at w64)) (λ n. and_then (require (leb 1 n) ZeroSeqOrStart) (λ _. and_then (require (ltb n (2 ^ 48)) Limit) (λ _. give n))) (to_be_bytes w64) (λ n. n < 2 ^ 64)
-      (λ (n : ℕ). n) (λ _. []) (λ n m. (leb 1 n ≡ true) × ((ltb n (2 ^ 48) ≡ true) × (m ≡ n)))
-      (number_field Short w64 (2 ^ 64) wide64)
-      (λ n lt. require_field Short (leb 1 n) ZeroSeqOrStart (and_then (require (ltb n (2 ^ 48)) Limit) (λ _. give n)) (λ _. []) (λ m. (ltb n (2 ^ 48) ≡ true) × (m ≡ n))
-        (λ _. require_field Short (ltb n (2 ^ 48)) Limit (give n) (λ _. []) (λ m. m ≡ n) (λ _. give_field Short n)))
-      (λ n m fit. fit.1.1))
+    (λ (n : ℕ). n) (λ _. []) (λ n m. (leb 1 n ≡ true) × ((ltb n (2 ^ 48) ≡ true) × (m ≡ n)))
+    (number_field Short w64 (2 ^ 64) wide64)
+    (λ n lt. require_field Short (leb 1 n) ZeroSeqOrStart (and_then (require (ltb n (2 ^ 48)) Limit) (λ _. give n)) (λ _. []) (λ m. (ltb n (2 ^ 48) ≡ true) × (m ≡ n))
+    (λ _. require_field Short (ltb n (2 ^ 48)) Limit (give n) (λ _. []) (λ m. m ≡ n) (λ _. give_field Short n)))
+    (λ n m fit. fit.1.1))
     (λ n fit. append-nil (to_be_bytes w64 n)) (λ n fit. (leb-true 1 n fit.1.0, ltb-true n (2 ^ 48) fit.1.1.0)) (λ n fit. (omega (arith, fit.1), (le-leb 1 n fit.0, (lt-ltb n (2 ^ 48) fit.1, refl))))
 
 -- ---- texts
@@ -128,10 +124,10 @@ unfolding dep_at
 dep_field before =
     as_field Short (dep_at before) (λ (h : Hash). h.0 ++ []) (λ h. h.0) (λ h. IsHash h × ((rises before h ≡ true) × (h ≡ h))) (λ h. IsHash h × (rises before h ≡ true))
     (then_field Short hash_at (λ h. and_then (require (rises before h) DepsOrder) (λ _. give h)) (λ h. h.0) IsHash
-      (λ (h : Hash). h) (λ _. []) (λ h g. (rises before h ≡ true) × (g ≡ h))
-      hash_field
-      (λ h fit. require_field Short (rises before h) DepsOrder (give h) (λ _. []) (λ g. g ≡ h) (λ _. give_field Short h))
-      (λ h g fit. fit.1))
+    (λ (h : Hash). h) (λ _. []) (λ h g. (rises before h ≡ true) × (g ≡ h))
+    hash_field
+    (λ h fit. require_field Short (rises before h) DepsOrder (give h) (λ _. []) (λ g. g ≡ h) (λ _. give_field Short h))
+    (λ h g fit. fit.1))
     (λ h fit. append-nil h.0) (λ h fit. (fit.0, fit.1.0)) (λ h fit. (fit.0, (fit.1, refl)))
 
 less_is : (o : Ordering) → is_lt o ≡ true → o ≡ Less
@@ -179,10 +175,10 @@ unfolding deps_at
 deps_field =
     as_field Short deps_at spelling_of_deps spelling_of_deps (λ deps. (length deps < 2 ^ 16) × ((length deps ≡ length deps) × EachFits DepFits next_before None deps)) FitsDeps
     (then_field Short (or_fail Short (number_at w16)) (λ count. repeat_at dep_at next_before count None) (to_be_bytes w16) (λ n. n < 2 ^ 16)
-      (λ (deps : List Hash). length deps) (flat_map (λ (h : Hash). h.0)) (λ count deps. (length deps ≡ count) × EachFits DepFits next_before None deps)
-      (number_field Short w16 (2 ^ 16) wide16)
-      (λ count lt. repeat_field Short dep_at next_before (λ h. h.0) DepFits dep_field count None)
-      (λ count deps fit. fit.0))
+    (λ (deps : List Hash). length deps) (flat_map (λ (h : Hash). h.0)) (λ count deps. (length deps ≡ count) × EachFits DepFits next_before None deps)
+    (number_field Short w16 (2 ^ 16) wide16)
+    (λ count lt. repeat_field Short dep_at next_before (λ h. h.0) DepFits dep_field count None)
+    (λ count deps fit. fit.0))
     (λ deps fit. refl)
     (λ deps fit. record { hashes = hashes_all None deps fit.1.1; rise = rising_all deps fit.1.1; count = omega (arith, fit.0) })
     (λ deps fit. (omega (arith, fit.count), (refl, fit_all deps fit.hashes fit.rise)))
@@ -220,7 +216,7 @@ after_field_is : IsField Short (and_then id_at (λ id. give (After id))) body_of
 after_field_is =
     as_field Short (and_then id_at (λ id. give (After id))) (λ p. spelling_of_id (id_in p) ++ []) body_of_place (λ p. IsId (id_in p) × (p ≡ After (id_in p))) (PlaceFits 1)
     (then_field Short id_at (λ id. give (After id)) spelling_of_id IsId id_in (λ _. []) (λ id p. p ≡ After id)
-      id_field (λ id fit. give_field Short (After id)) (λ id p e. ap id_in e))
+    id_field (λ id fit. give_field Short (After id)) (λ id p e. ap id_in e))
     (λ p fit. append-nil (spelling_of_id (id_in p)) ∙ ap body_of_place (sym fit.1))
     (λ p fit. rw fit.1 (refl, fit.0)) of_tag
   where
@@ -252,7 +248,7 @@ unfolding place_at
 place_field =
     as_field Short place_at (λ p. (tag_of_place p ∷ []) ++ body_of_place p) spelling_of_place (λ p. (tag_of_place p < 256) × PlaceFits (tag_of_place p) p) IsPlace
     (then_field Short (or_fail Short byte_at) place_after_tag (λ b. b ∷ []) (λ b. b < 256) tag_of_place body_of_place PlaceFits
-      (byte_field Short) (λ tag lt. place_after_tag_field tag) (λ tag p fit. fit.0))
+    (byte_field Short) (λ tag lt. place_after_tag_field tag) (λ tag p fit. fit.0))
     (λ p fit. place_spelled p) (λ p fit. fit.1.1) (λ p fit. (place_tag_below p, (refl, fit)))
 
 -- ---- records
@@ -300,15 +296,15 @@ unfolding insert_at
 insert_field room =
     as_field Short (insert_at room) (λ r. spelling_of_place (place_in r) ++ (spelling_of_run (text_in r) ++ [])) body_of_record (InsertFits room) (RecordFits room 1)
     (then_field Short place_at (λ after. and_then (text_at Short BadUtf8 w32) (λ text. and_then (require (leb 1 (length text)) EmptyRun) (λ _. and_then (require (leb (length text) room) Limit) (λ _. give (Insert after text))))) spelling_of_place IsPlace
-      place_in (λ r. spelling_of_run (text_in r) ++ []) (λ after r. FitsText (2 ^ 32) (text_in r) × ((leb 1 (length (text_in r)) ≡ true) × ((leb (length (text_in r)) room ≡ true) × (r ≡ Insert after (text_in r)))))
-      place_field
-      (λ after fit. then_field Short (text_at Short BadUtf8 w32) (λ text. and_then (require (leb 1 (length text)) EmptyRun) (λ _. and_then (require (leb (length text) room) Limit) (λ _. give (Insert after text)))) spelling_of_run (FitsText (2 ^ 32))
-        text_in (λ _. []) (λ text r. (leb 1 (length text) ≡ true) × ((leb (length text) room ≡ true) × (r ≡ Insert after text)))
-        run_field
-        (λ text fits. require_field Short (leb 1 (length text)) EmptyRun (and_then (require (leb (length text) room) Limit) (λ _. give (Insert after text))) (λ _. []) (λ r. (leb (length text) room ≡ true) × (r ≡ Insert after text))
-          (λ _. require_field Short (leb (length text) room) Limit (give (Insert after text)) (λ _. []) (λ r. r ≡ Insert after text) (λ _. give_field Short (Insert after text))))
-        (λ text r fits. ap text_in fits.1.1))
-      (λ after r fit. ap place_in fit.1.1.1))
+    place_in (λ r. spelling_of_run (text_in r) ++ []) (λ after r. FitsText (2 ^ 32) (text_in r) × ((leb 1 (length (text_in r)) ≡ true) × ((leb (length (text_in r)) room ≡ true) × (r ≡ Insert after (text_in r)))))
+    place_field
+    (λ after fit. then_field Short (text_at Short BadUtf8 w32) (λ text. and_then (require (leb 1 (length text)) EmptyRun) (λ _. and_then (require (leb (length text) room) Limit) (λ _. give (Insert after text)))) spelling_of_run (FitsText (2 ^ 32))
+    text_in (λ _. []) (λ text r. (leb 1 (length text) ≡ true) × ((leb (length text) room ≡ true) × (r ≡ Insert after text)))
+    run_field
+    (λ text fits. require_field Short (leb 1 (length text)) EmptyRun (and_then (require (leb (length text) room) Limit) (λ _. give (Insert after text))) (λ _. []) (λ r. (leb (length text) room ≡ true) × (r ≡ Insert after text))
+    (λ _. require_field Short (leb (length text) room) Limit (give (Insert after text)) (λ _. []) (λ r. r ≡ Insert after text) (λ _. give_field Short (Insert after text))))
+    (λ text r fits. ap text_in fits.1.1))
+    (λ after r fit. ap place_in fit.1.1.1))
     (λ r fit. ap (λ (b : List ℕ). spelling_of_place (place_in r) ++ b) (append-nil (spelling_of_run (text_in r))) ∙ ap body_of_record (sym fit.1.1.1.1))
     (insert_fitted room) (insert_fits room)
 
@@ -327,8 +323,8 @@ unfolding delete_at
 delete_field room =
     as_field Short (delete_at room) (λ r. spelling_of_id (target_in r) ++ []) body_of_record (DeleteFits room) (RecordFits room 2)
     (require_field Short (leb 1 room) Limit (and_then id_at (λ target. give (Delete target))) (λ r. spelling_of_id (target_in r) ++ []) (λ r. IsId (target_in r) × (r ≡ Delete (target_in r)))
-      (λ _. then_field Short id_at (λ target. give (Delete target)) spelling_of_id IsId target_in (λ _. []) (λ target r. r ≡ Delete target)
-        id_field (λ target fit. give_field Short (Delete target)) (λ target r e. ap target_in e)))
+    (λ _. then_field Short id_at (λ target. give (Delete target)) spelling_of_id IsId target_in (λ _. []) (λ target r. r ≡ Delete target)
+    id_field (λ target fit. give_field Short (Delete target)) (λ target r e. ap target_in e)))
     (λ r fit. append-nil (spelling_of_id (target_in r)) ∙ ap body_of_record (sym fit.1.1))
     (delete_fitted room) (delete_fits room)
 
@@ -362,7 +358,7 @@ unfolding record_at
 record_field room =
     as_field Short (record_at room) (λ r. (tag_of_record r ∷ []) ++ body_of_record r) spelling_of_record (λ r. (tag_of_record r < 256) × RecordFits room (tag_of_record r) r) (FitsRecord room)
     (then_field Short (or_fail Short byte_at) (record_after_tag room) (λ b. b ∷ []) (λ b. b < 256) tag_of_record body_of_record (RecordFits room)
-      (byte_field Short) (λ tag lt. record_after_tag_field room tag) (λ tag r fit. fit.0))
+    (byte_field Short) (λ tag lt. record_after_tag_field room tag) (λ tag r fit. fit.0))
     (λ r fit. record_spelled r) (λ r fit. fit.1.1) (λ r fit. (record_tag_below r, (refl, fit)))
 
 pub record FitsRecords (room : ℕ) (records : List Record) : Type 0 where
@@ -376,12 +372,12 @@ records_field room =
     as_field Short (records_at room) spelling_of_records spelling_of_records
     (λ rs. (length rs < 2 ^ 32) × ((leb 1 (length rs) ≡ true) × ((leb (length rs) 65536 ≡ true) × ((length rs ≡ length rs) × EachFits FitsRecord room_after room rs)))) (FitsRecords room)
     (then_field Short (or_fail Short (number_at w32)) (λ count. and_then (require (leb 1 count) NoRecords) (λ _. and_then (require (leb count 65536) Limit) (λ _. repeat_at record_at room_after count room))) (to_be_bytes w32) (λ n. n < 2 ^ 32)
-      (λ (rs : List Record). length rs) (flat_map spelling_of_record) (λ count rs. (leb 1 count ≡ true) × ((leb count 65536 ≡ true) × ((length rs ≡ count) × EachFits FitsRecord room_after room rs)))
-      (number_field Short w32 (2 ^ 32) wide32)
-      (λ count lt. require_field Short (leb 1 count) NoRecords (and_then (require (leb count 65536) Limit) (λ _. repeat_at record_at room_after count room)) (flat_map spelling_of_record) (λ rs. (leb count 65536 ≡ true) × ((length rs ≡ count) × EachFits FitsRecord room_after room rs))
-        (λ _. require_field Short (leb count 65536) Limit (repeat_at record_at room_after count room) (flat_map spelling_of_record) (λ rs. (length rs ≡ count) × EachFits FitsRecord room_after room rs)
-          (λ _. repeat_field Short record_at room_after spelling_of_record FitsRecord record_field count room)))
-      (λ count rs fit. fit.1.1.0))
+    (λ (rs : List Record). length rs) (flat_map spelling_of_record) (λ count rs. (leb 1 count ≡ true) × ((leb count 65536 ≡ true) × ((length rs ≡ count) × EachFits FitsRecord room_after room rs)))
+    (number_field Short w32 (2 ^ 32) wide32)
+    (λ count lt. require_field Short (leb 1 count) NoRecords (and_then (require (leb count 65536) Limit) (λ _. repeat_at record_at room_after count room)) (flat_map spelling_of_record) (λ rs. (leb count 65536 ≡ true) × ((length rs ≡ count) × EachFits FitsRecord room_after room rs))
+    (λ _. require_field Short (leb count 65536) Limit (repeat_at record_at room_after count room) (flat_map spelling_of_record) (λ rs. (length rs ≡ count) × EachFits FitsRecord room_after room rs)
+    (λ _. repeat_field Short record_at room_after spelling_of_record FitsRecord record_field count room)))
+    (λ count rs fit. fit.1.1.0))
     (λ rs fit. refl)
     (λ rs fit. record { some = leb-true 1 (length rs) fit.1.0; count = leb-true (length rs) 65536 fit.1.1.0; each = fit.1.1.1.1 })
     (λ rs fit. (omega (arith, fit.count), (le-leb 1 (length rs) fit.some, (le-leb (length rs) 65536 fit.count, (refl, fit.each)))))

@@ -1,5 +1,5 @@
 -- No fault is found exactly in what is within the limits and the grammar.
-use Rattle.std.proofs.Common.{◌≡◌, ℕ, ◌+◌, ◌-◌, ◌^◌, ◌<◌, ◌≤◌, min, Bool, true, false, ◌&&◌, ltb, leb, List, [], ◌∷◌, ◌++◌, length, Option, Some, None, Result, Ok, Err, refl, sym, ap, ◌∙◌, subst, arith, length-append}
+use Rattle.std.proofs.Common.{◌≡◌, ℕ, ◌+◌, ◌-◌, ◌^◌, ◌<◌, ◌≤◌, min, Bool, true, false, ◌&&◌, List, [], ◌∷◌, length, Some, None, Result, Ok, Err, refl, sym, ap, ◌∙◌, arith, length-append}
 use Rattle.std.specs.Prelude.{encode_utf8_all, nat_lt, nat_le, OnOk}
 use Rattle.std.specs.List.{flat_map, AllByRecursion}
 use Rattle.std.specs.Ordering.{is_lt}
@@ -17,30 +17,36 @@ use Rattle.tp_change.specs.declared.record.Record.{Record}
 use Rattle.tp_change.specs.declared.record.Record.TheVariants.{Insert, Delete}
 use Rattle.tp_change.specs.declared.parts.ChangeParts.{ChangeParts}
 use Rattle.tp_change.specs.Operations.{count_in, count_of}
-use Rattle.tp_change.specs.Spelling.{spelling, spelling_of_record, spelling_of_place, spelling_of_run}
+use Rattle.tp_change.specs.Spelling.{spelling, spelling_of_record, spelling_of_place}
 use Rattle.tp_change.specs.Limits.{IsRecord, IsTypedRecord, IsTyped, IsChange}
 use Rattle.tp_change.specs.Judged.{unless, ◌and_then◌, is_above, rises_after, judged_deps, judged_record, judged_records, judged_numbers, judged_list, judged}
 use Rattle.tp_change.proofs.Counts.{one-le-count_in, length-le-count_of}
 use Rattle.tp_change.proofs.Lengths.{length_spelling}
 
+-- a test that gave no fault holds
 unless_ok : (b : Bool) (e : ChangeError) → unless b e ≡ Ok tt → b ≡ true
 unless_ok true e h = refl
 unless_ok false e h = cc
 
+-- two judgements without a fault
 and_ok : (r s : Result (Unit {0}) ChangeError) → (r and_then s) ≡ Ok tt → (r ≡ Ok tt) × (s ≡ Ok tt)
 and_ok (Ok tt) s h = (refl, h)
 and_ok (Err e) s h = cc
 
+-- and back
 ok_and : (r s : Result (Unit {0}) ChangeError) → r ≡ Ok tt → s ≡ Ok tt → (r and_then s) ≡ Ok tt
 ok_and r s h k = ap (λ x. x and_then s) h ∙ k
 
+-- a test that holds gives no fault
 fine : (b : Bool) (e : ChangeError) → b ≡ true → unless b e ≡ Ok tt
 fine b e h = ap (λ x. unless x e) h
 
+-- both tests of a conjunction hold
 both_true : (a b : Bool) → (a && b) ≡ true → (a ≡ true) × (b ≡ true)
 both_true true b h = (refl, h)
 both_true false b h = cc
 
+-- a test for Less, read
 less_of : (o : Ordering) → is_lt o ≡ true → o ≡ Less
 less_of Less h = refl
 less_of Equal h = cc
@@ -48,10 +54,12 @@ less_of Greater h = cc
 
 -- ---- rising hashes
 
+-- what is below a hash is below all that this one is below
 below_after : (g h : Hash) (hs : List Hash) → hash_cmp g h ≡ Less → IsBelowAll hash_cmp h hs → IsBelowAll hash_cmp g hs
 below_after g h [] less below = tt
 below_after g h (x ∷ xs) less below = (hash_total.trans g h x less below.0, below_after g h xs less below.1)
 
+-- hashes that were found to rise after g rise, and stand above it
 rising_after : (g : Hash) (hs : List Hash) → rises_after (Some g) hs ≡ true → IsBelowAll hash_cmp g hs × IsRising hash_cmp hs
 rising_after g [] e = (tt, tt)
 rising_after g (h ∷ hs) e =
@@ -60,26 +68,31 @@ rising_after g (h ∷ hs) e =
     let more = rising_after h hs two.1 in
     ((less, below_after g h hs less more.0), more)
 
+-- hashes that were found to rise do
 rising_of : (hs : List Hash) → rises_after None hs ≡ true → IsRising hash_cmp hs
 rising_of [] e = tt
 rising_of (h ∷ hs) e = rising_after h hs e
 
+-- rising hashes above g are found to rise after it
 rises_from : (g : Hash) (hs : List Hash) → IsBelowAll hash_cmp g hs → IsRising hash_cmp hs → rises_after (Some g) hs ≡ true
 rises_from g [] below rising = refl
 rises_from g (h ∷ hs) below rising =
     ap (λ o. is_lt o && rises_after (Some h) hs) below.0 ∙ rises_from h hs rising.0 rising.1
 
+-- rising hashes are found to rise
 rises_of : (hs : List Hash) → IsRising hash_cmp hs → rises_after None hs ≡ true
 rises_of [] rising = refl
 rises_of (h ∷ hs) rising = rises_from h hs rising.0 rising.1
 
 -- ---- records
 
+-- a record without a fault has operations, and they have room
 judged_record_ok : (room : ℕ) (r : Record) → judged_record room r ≡ Ok tt → (0 < count_in r) × (count_in r ≤ room)
 judged_record_ok room r h =
     let two = and_ok _ _ h in
     (ltb-true _ _ (unless_ok _ _ two.0), leb-true _ _ (unless_ok _ _ two.1))
 
+-- and back
 ok_judged_record : (room : ℕ) (r : Record) → 0 < count_in r → count_in r ≤ room → judged_record room r ≡ Ok tt
 ok_judged_record room r some few =
     ok_and _ _ (fine (nat_lt 0 (count_in r)) _ (lt-ltb 0 (count_in r) some)) (fine (nat_le (count_in r) room) _ (le-leb (count_in r) room few))
@@ -91,6 +104,7 @@ text_in_record (Insert after text) typed some short =
     (typed.0, record { scalars = typed.1; bytes = omega arith }, some)
 text_in_record (Delete target) typed some short = typed
 
+-- records without a fault are records of a change, and all their operations have room
 records_of : (room : ℕ) (rs : List Record) → AllByRecursion IsTypedRecord rs → length (flat_map spelling_of_record rs) ≤ 4194304 → judged_records room rs ≡ Ok tt → AllByRecursion IsRecord rs × (count_of rs ≤ room)
 records_of room [] typed short h = (tt, omega arith)
 records_of room (r ∷ rs) typed short h =
@@ -101,6 +115,7 @@ records_of room (r ∷ rs) typed short h =
     let more = records_of (room - count_in r) rs typed.1 (omega arith) two.1 in
     ((text_in_record r typed.0 first.0 (omega arith), more.0), omega (arith, first.1, more.1))
 
+-- and back
 ok_records : (room : ℕ) (rs : List Record) → AllByRecursion IsRecord rs → count_of rs ≤ room → judged_records room rs ≡ Ok tt
 ok_records room [] all few = refl
 ok_records room (r ∷ rs) all few =
@@ -108,12 +123,15 @@ ok_records room (r ∷ rs) all few =
 
 -- ---- changes
 
+-- the records are no longer than the change
 short_records : (c : ChangeParts) → length (spelling c) ≤ 4194304 → length (flat_map spelling_of_record c.records) ≤ 4194304
 short_records c short = omega (arith, length_spelling c)
 
+-- the one limit
 below_right : (n a b : ℕ) → n ≤ min a b → n ≤ b
 below_right n a b h = omega arith
 
+-- the other limit
 below_left : (start n top b : ℕ) → start < top → n ≤ min (top - start) b → start + n ≤ top
 below_left start n top b lt h = omega arith
 
@@ -145,6 +163,7 @@ parts_of c typed size numbers message deps list =
       size = short;
     }
 
+-- typed parts without a fault are a change
 pub change_of : (c : ChangeParts) → IsTyped c → judged c ≡ Ok tt → IsChange c
 unfolding judged
 change_of c typed h =
@@ -154,6 +173,7 @@ change_of c typed h =
     let deps = and_ok _ _ message.1 in
     parts_of c typed size.0 numbers.0 message.0 deps.0 deps.1
 
+-- a change has no fault
 pub ok_change : (c : ChangeParts) → IsChange c → judged c ≡ Ok tt
 unfolding judged
 ok_change c h =

@@ -1,6 +1,6 @@
 -- One step of judging a list.
-use Rattle.std.proofs.Common.{◌≡◌, ℕ, ◌+◌, ◌-◌, ◌<◌, ◌≤◌, Bool, true, false, ◌&&◌, List, [], ◌∷◌, length, get_or, drop, Option, Some, None, Result, Ok, Err, refl, sym, ap, ◌∙◌, arith}
-use Rattle.std.proofs.lemmas.List.{at_drop_more, at_drop_all}
+use Rattle.std.proofs.Common.{◌≡◌, ℕ, ◌+◌, ◌-◌, ◌<◌, true, ◌&&◌, List, ◌∷◌, length, get_or, drop, Option, Some, Ok, Err, sym, ap, ◌∙◌}
+use Rattle.std.proofs.lemmas.List.{at_drop_more}
 use Rattle.tp_opid.specs.declared.hash.Hash.{Hash}
 use Rattle.tp_change.specs.declared.record.Record.{Record}
 use Rattle.tp_change.specs.declared.error.ChangeError.{ChangeError}

@@ -1,5 +1,5 @@
 -- Where a walk over the operations begins.
-use Rattle.std.proofs.Common.{◌≡◌, ℕ, ◌+◌, ◌≤◌, ◌^◌, List, [], ◌++◌, length, refl, sym, ap, ◌∙◌, subst, arith, add-zero}
+use Rattle.std.proofs.Common.{◌≡◌, ◌+◌, List, [], ◌++◌, length, refl, sym, ap, subst, arith, add-zero}
 use Rattle.std.specs.List.{AllByRecursion}
 use Rattle.std.specs.Str.{chars}
 use Rattle.std.proofs.lemmas.Str.{chars-nil}
@@ -9,7 +9,7 @@ use Rattle.tp_change.specs.declared.record.Record.{Record}
 use Rattle.tp_change.specs.declared.parts.ChangeParts.{ChangeParts}
 use Rattle.tp_change.specs.Operations.{count_of, run, ops_from, ops_of}
 use Rattle.tp_change.specs.Limits.{IsRecord, IsChange}
-use Rattle.tp_change.specs.OpsLeft.{ops_left, IsWalk}
+use Rattle.tp_change.specs.OpsLeft.{IsWalk}
 
 -- before the first record all operations are left
 pub ops_begin : (c : ChangeParts) (after : Place) (rs : List Record) → rs ≡ c.records → run c.actor c.start after (chars []) ++ ops_from c.actor (c.start + length (chars [])) rs ≡ ops_of c

@@ -1,5 +1,5 @@
 -- The operations of a change, by place: how many they are, and their identifiers.
-use Rattle.std.proofs.Common.{◌≡◌, ℕ, cond, eqb, zero, suc, ◌+◌, ◌<◌, ◌≤◌, ◌⊎◌, List, [], ◌∷◌, ◌++◌, length, map, get_or, refl, sym, ap, ◌∙◌, subst, arith, add-zero, add_assoc, inl, inr}
+use Rattle.std.proofs.Common.{◌≡◌, ℕ, cond, eqb, zero, suc, ◌+◌, ◌<◌, ◌≤◌, List, [], ◌∷◌, ◌++◌, length, map, get_or, refl, sym, ap, ◌∙◌, subst, arith, inl, inr}
 use Rattle.std.proofs.lemmas.List.{map-append}
 use Rattle.std.proofs.lemmas.Bool.{lt-ltb}
 use Rattle.std.specs.Cmp.Lexicographic.{slice_cmp}
@@ -11,7 +11,7 @@ use Rattle.tp_opid.specs.declared.actor.Actor.{Actor}
 use Rattle.tp_opid.specs.declared.op_id.OpId.{OpId}
 use Rattle.tp_opid.specs.declared.op_id.Place.{Place}
 use Rattle.tp_opid.specs.declared.op_id.Place.TheVariants.{After}
-use Rattle.tp_opid.specs.Order.{id_cmp, Below}
+use Rattle.tp_opid.specs.Order.{id_cmp}
 use Rattle.tp_change.specs.declared.op.Op.{Op}
 use Rattle.tp_change.specs.declared.record.Record.{Record}
 use Rattle.tp_change.specs.declared.record.Record.TheVariants as record_of
@@ -23,6 +23,7 @@ use Rattle.tp_change.proofs.Counts.{length-le-count_of}
 
 -- ---- the identifiers, as a list
 
+-- identifiers in a row, cut in two
 ids_from-append : (a : Actor) (n j k : ℕ) → ids_from a n (j + k) ≡ ids_from a n j ++ ids_from a (n + j) k
 ids_from-append a n zero k =
     let e : zero + k ≡ k = omega arith in
@@ -33,14 +34,17 @@ ids_from-append a n (suc j) k =
     let f : n + suc j ≡ (n + 1) + j = omega arith in
     rw (e, f) (ap (λ ids. id_of a n ∷ ids) (ids_from-append a (n + 1) j k))
 
+-- those of a run
 ids-run : (a : Actor) (n : ℕ) (after : Place) (text : List ℕ) → map op_id (run a n after text) ≡ ids_from a n (length text)
 ids-run a n after [] = refl
 ids-run a n after (ch ∷ text) = ap (λ ids. id_of a n ∷ ids) (ids-run a (n + 1) (After (id_of a n)) text)
 
+-- those of a record
 ids-ops_in : (a : Actor) (n : ℕ) (r : Record) → map op_id (ops_in a n r) ≡ ids_from a n (count_in r)
 ids-ops_in a n (record_of.Insert after text) = ids-run a n after text
 ids-ops_in a n (record_of.Delete target) = refl
 
+-- those of records
 ids-ops_from : (a : Actor) (n : ℕ) (rs : List Record) → map op_id (ops_from a n rs) ≡ ids_from a n (count_of rs)
 ids-ops_from a n [] = refl
 ids-ops_from a n (r ∷ rs) =
@@ -53,14 +57,17 @@ ids-ops_of c = ids-ops_from c.actor c.start c.records
 
 -- ---- how many
 
+-- there are as many as were asked for
 length-ids_from : (a : Actor) (n k : ℕ) → length (ids_from a n k) ≡ k
 length-ids_from a n zero = refl
 length-ids_from a n (suc k) = ap suc (length-ids_from a (n + 1) k)
 
+-- each operation has one
 length-ids : (ops : List Op) → length (map op_id ops) ≡ length ops
 length-ids [] = refl
 length-ids (op ∷ ops) = ap suc (length-ids ops)
 
+-- a change has as many operations as its records count
 pub length-ops_of : (c : ChangeParts) → length (ops_of c) ≡ op_count c
 length-ops_of c = sym (length-ids (ops_of c)) ∙ ap length (ids-ops_of c) ∙ length-ids_from c.actor c.start (op_count c)
 
@@ -71,6 +78,7 @@ one-le-op_count c h = let few = length-le-count_of c.records h.records in omega 
 
 -- ---- by place
 
+-- the identifier at a place
 get_or-ids_from : (a : Actor) (n k j : ℕ) (d : OpId) → j < k → get_or (ids_from a n k) j d ≡ id_of a (n + j)
 get_or-ids_from a n zero j d lt = absurd (omega arith)
 get_or-ids_from a n (suc k) zero d lt = let e : n + zero ≡ n = omega arith in rw e refl
@@ -78,6 +86,7 @@ get_or-ids_from a n (suc k) (suc j) d lt =
     let e : n + suc j ≡ (n + 1) + j = omega arith in
     rw e (get_or-ids_from a (n + 1) k j d (omega arith))
 
+-- the identifier of the operation at a place
 get_or-ids : (ops : List Op) (j : ℕ) (d : Op) → get_or (map op_id ops) j (op_id d) ≡ op_id (get_or ops j d)
 get_or-ids [] j d = refl
 get_or-ids (op ∷ ops) zero d = refl
@@ -97,14 +106,16 @@ op_id-apart c i j d lt_i lt_j e =
 
 -- ---- by membership
 
+-- a member of identifiers in a row within the change's is one of the change's
 own_id : (c : ChangeParts) (n k : ℕ) (id : OpId) → c.start ≤ n → n + k ≤ c.start + op_count c → In id (ids_from c.actor n k) → IsOwnId c id
 own_id c n zero id low high h = absurd h
 own_id c n (suc k) id low high h =
     elim h as (λ _. IsOwnId c id) [
-      inl e ↦ subst (IsOwnId c) (sym e) (record { actor = refl; from = low; to = omega arith })
-    | inr more ↦ own_id c (n + 1) k id (omega arith) (omega arith) more
+      | inl e ↦ subst (IsOwnId c) (sym e) (record { actor = refl; from = low; to = omega arith })
+      | inr more ↦ own_id c (n + 1) k id (omega arith) (omega arith) more
     ]
 
+-- a member's identifier is among the identifiers
 in_ids : (op : Op) (ops : List Op) → In op ops → In (op_id op) (map op_id ops)
 in_ids op [] h = h
 in_ids op (x ∷ xs) h = elim h as (λ _. In (op_id op) (map op_id (x ∷ xs))) [ inl e ↦ inl (ap op_id e) | inr more ↦ inr (in_ids op xs more) ]
@@ -116,16 +127,19 @@ own_op c op h =
 
 -- ---- in order
 
+-- of one actor's identifiers the one with the lower counter stands below
 id_below : (a : Actor) (n m : ℕ) → n < m → id_cmp (id_of a n) (id_of a m) ≡ Less
 unfolding id_cmp
 id_below a n m lt =
     let first : nat_cmp n m ≡ Less = ap (λ b. cond b Less (cond (eqb n m) Equal Greater)) (lt-ltb n m lt) in
     ap (λ o. ordering_then o (slice_cmp nat_cmp a.0 a.0)) first
 
+-- an identifier stands below those in a row after it
 ids_below : (a : Actor) (n m k : ℕ) → n < m → IsBelowAll id_cmp (id_of a n) (ids_from a m k)
 ids_below a n m zero lt = tt
 ids_below a n m (suc k) lt = (id_below a n m lt, ids_below a n (m + 1) k (omega arith))
 
+-- identifiers in a row rise
 ids_rise : (a : Actor) (n k : ℕ) → IsRising id_cmp (ids_from a n k)
 ids_rise a n zero = tt
 ids_rise a n (suc k) = (ids_below a n (n + 1) k (omega arith), ids_rise a (n + 1) k)

@@ -1,7 +1,8 @@
 -- Bytes put one after another.
-use Rattle.std.proofs.Common.{◌≡◌, ℕ, List, ◌++◌, append_assoc, subst, Result, Ok, Err, OnOk}
+use Rattle.std.proofs.Common.{ℕ, List, ◌++◌, append_assoc, Result, Ok, Err, OnOk}
 use Rattle.tp_change.specs.Puts.{Puts}
 
+-- what was put before, and what after it
 pub Puts-then : {S : Type 0} (holds : S → List ℕ → Type 0) (a b c : S) (x y : List ℕ) → Puts holds a b x → Puts holds b c y → Puts holds a c (x ++ y)
 Puts-then holds a b c x y p q =
     record { after = λ m h. let two : holds c ((m ++ x) ++ y) = q.after (m ++ x) (p.after m h) in rw append_assoc at two }

@@ -1,5 +1,5 @@
 -- A refusal that passes on.
-use Rattle.std.proofs.Common.{◌≡◌, List, Result, Ok, Err}
+use Rattle.std.proofs.Common.{◌≡◌, Result, Err}
 use Rattle.tp_change.specs.declared.error.ChangeError.{ChangeError}
 use Rattle.tp_change.specs.declared.error.ChangeError.TheVariants.{OutOfMemory}
 use Rattle.tp_change.specs.Gives.{Fails}

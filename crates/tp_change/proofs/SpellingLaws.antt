@@ -1,18 +1,15 @@
 -- Laws of spellings and hashes, for the layers above.
-use Rattle.std.proofs.Common.{◌≡◌, ℕ, zero, suc, ◌+◌, ◌*◌, ◌<◌, ◌≤◌, ◌/◌, ◌%◌, Bool, true, false, leb, List, [], ◌∷◌, ◌++◌, length, get_or, Result, Ok, Err, refl, sym, ap, subst, ◌∙◌, append-nil, arith, le-leb}
+use Rattle.std.proofs.Common.{◌≡◌, ℕ, zero, suc, ◌*◌, ◌≤◌, true, leb, List, [], ◌++◌, length, get_or, Result, Ok, sym, ap, ◌∙◌, append-nil, arith, le-leb}
 use Rattle.std.specs.Int.{w32, to_be_bytes}
 use Rattle.std.proofs.lemmas.List.{length-append}
-use Rattle.tp_codec.specs.Reading.{Reads}
-use Rattle.tp_codec.proofs.Fields.{AreBytes, AreBytes-cons, AreBytes-append, IsField}
+use Rattle.tp_codec.proofs.Fields.{AreBytes, AreBytes-append}
 use Rattle.sha2.specs.Sha256.{sha256, digest_bytes, final_hash, initial_hash_256}
 use Rattle.tp_change.specs.declared.error.ChangeError.{ChangeError}
-use Rattle.tp_change.specs.declared.error.ChangeError.TheVariants.{Short}
 use Rattle.tp_change.specs.declared.parts.ChangeParts.{ChangeParts}
 use Rattle.tp_change.specs.ChangeHash.{hash_of}
 use Rattle.tp_change.specs.Spelling.{spelling}
-use Rattle.tp_change.specs.Limits.{IsChange, IsHash, IsBytes}
+use Rattle.tp_change.specs.Limits.{IsChange, IsHash}
 use Rattle.tp_change.specs.Reading.{sized_at, change_at}
-use Rattle.tp_change.proofs.ChangeFields.{FitsParts}
 use Rattle.tp_change.proofs.WholeChange.{sized_field, parts_fit, change_again, length-spelling}
 
 one_result : (c d : ChangeParts) → (let r : Result ChangeParts ChangeError = Ok c in r) ≡ Ok d → c ≡ d

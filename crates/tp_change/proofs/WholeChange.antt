@@ -1,14 +1,14 @@
 -- The laws of the whole: the bytes of a change are read as it, what is read is a change that the bytes spell, and a
 -- fault other than missing bytes stays, whatever follows.
-use Rattle.std.proofs.Common.{◌≡◌, ℕ, zero, suc, ◌+◌, ◌-◌, ◌^◌, ◌<◌, ◌≤◌, min, Bool, true, false, cond, eqb, ltb, leb, List, [], ◌∷◌, ◌++◌, length, Result, Ok, Err, refl, sym, ap, subst, ◌∙◌, append_assoc, append-nil, arith, ◌⊎◌, inl, inr, eqb-true, eq-eqb, le-leb, leb-true}
-use Rattle.std.specs.Prelude.{encode_utf8_all, IfOk}
-use Rattle.std.specs.Int.{w16, w32, w64, to_be_bytes}
+use Rattle.std.proofs.Common.{◌≡◌, ℕ, ◌+◌, ◌<◌, ◌≤◌, Bool, true, false, cond, eqb, leb, List, [], ◌∷◌, ◌++◌, length, Result, Ok, Err, refl, sym, ap, ◌∙◌, append-nil, arith, ◌⊎◌, inl, inr, eqb-true, eq-eqb, le-leb, leb-true}
+use Rattle.std.specs.Prelude.{encode_utf8_all}
+use Rattle.std.specs.Int.{w32, w64, to_be_bytes}
 use Rattle.std.specs.List.{flat_map, AllByRecursion}
 use Rattle.std.proofs.lemmas.Bool.{cases_eq}
 use Rattle.std.proofs.lemmas.List.{length-append, nil_from_length}
 use Rattle.std.proofs.lemmas.List.Concat.{flat_map-cons}
-use Rattle.tp_codec.specs.Reading.{Reads, and_then, require}
-use Rattle.tp_codec.proofs.Fields.{AreBytes, IsField, as_field, then_field, require_field, FitsText, EachFits, reads_more}
+use Rattle.tp_codec.specs.Reading.{and_then, require}
+use Rattle.tp_codec.proofs.Fields.{AreBytes, IsField, as_field, then_field, require_field, EachFits, reads_more}
 use Rattle.tp_change.specs.declared.error.ChangeError.{ChangeError}
 use Rattle.tp_change.specs.declared.error.ChangeError.TheVariants.{Short, Trailing, Limit}
 use Rattle.tp_change.specs.declared.record.Record.{Record}
@@ -16,9 +16,9 @@ use Rattle.tp_change.specs.declared.record.Record.TheVariants.{Insert, Delete}
 use Rattle.tp_change.specs.declared.parts.ChangeParts.{ChangeParts}
 use Rattle.tp_change.specs.Operations.{count_in, count_of}
 use Rattle.tp_change.specs.Spelling.{spelling_of_place, spelling_of_run, spelling_of_record, spelling_of_message, spelling_of_deps, spelling_of_records, spelling}
-use Rattle.tp_change.specs.Limits.{IsText, IsRecord, IsChange}
+use Rattle.tp_change.specs.Limits.{IsRecord, IsChange}
 use Rattle.tp_change.specs.Reading.{version_at, room_after, room_from, parts_at, sized_at, ended, change_at}
-use Rattle.tp_change.proofs.ChangeFields.{version_field, parts_field, FitsDeps, FitsRecord, FitsRecords, FitsParts, spelling_of_parts}
+use Rattle.tp_change.proofs.ChangeFields.{version_field, parts_field, FitsRecord, FitsParts, spelling_of_parts}
 
 -- ---- what is read is within the limits, and the other way round
 
@@ -65,8 +65,16 @@ length-spelling c =
     let t = to_be_bytes w64 c.time ++ m in
     let st = to_be_bytes w64 c.start ++ t in
     let s = to_be_bytes w64 c.seq ++ st in
-    omega (arith, length-append c.actor.0 s, length-append (to_be_bytes w64 c.seq) st, length-append (to_be_bytes w64 c.start) t, length-append (to_be_bytes w64 c.time) m,
-      length-append (spelling_of_message c.message) d, length-append (spelling_of_deps c.deps) r, length-append (to_be_bytes w32 (length c.records)) (flat_map spelling_of_record c.records))
+    omega (
+      arith,
+      length-append c.actor.0 s,
+      length-append (to_be_bytes w64 c.seq) st,
+      length-append (to_be_bytes w64 c.start) t,
+      length-append (to_be_bytes w64 c.time) m,
+      length-append (spelling_of_message c.message) d,
+      length-append (spelling_of_deps c.deps) r,
+      length-append (to_be_bytes w32 (length c.records)) (flat_map spelling_of_record c.records),
+    )
 
 pub parts_are : (c : ChangeParts) → FitsParts c → length (spelling c) ≤ 4194304 → IsChange c
 parts_are c fit size =
@@ -111,10 +119,10 @@ unfolding sized_at spelling
 sized_field size =
     as_field Short (sized_at size) (λ c. (1 ∷ []) ++ spelling_of_parts c) spelling (λ c. Unit {0} × ((leb size 4194304 ≡ true) × FitsParts c)) (λ c. (leb size 4194304 ≡ true) × FitsParts c)
     (then_field Short version_at (λ _. and_then (require (leb size 4194304) Limit) (λ _. parts_at)) (λ _. 1 ∷ []) (λ _. Unit {0})
-      (λ (c : ChangeParts). tt) spelling_of_parts (λ _ c. (leb size 4194304 ≡ true) × FitsParts c)
-      version_field
-      (λ x fit. require_field Short (leb size 4194304) Limit parts_at spelling_of_parts FitsParts (λ _. parts_field))
-      (λ x c fit. refl))
+    (λ (c : ChangeParts). tt) spelling_of_parts (λ _ c. (leb size 4194304 ≡ true) × FitsParts c)
+    version_field
+    (λ x fit. require_field Short (leb size 4194304) Limit parts_at spelling_of_parts FitsParts (λ _. parts_field))
+    (λ x c fit. refl))
     (λ c fit. refl) (λ c fit. fit.1) (λ c fit. (tt, fit))
 
 ended_ok : {X : Type 0} (r : Result (X × List ℕ) ChangeError) (c : X) → ended r ≡ Ok c → r ≡ Ok (c, [])
@@ -160,7 +168,7 @@ unfolding ended
 ended_err {X} (Ok x) e h = by_test (eqb (length x.1) 0) refl h
   where
     by_test : (b : Bool) → eqb (length x.1) 0 ≡ b → (let t : Result X ChangeError = cond b (Ok x.0) (Err Trailing) in t) ≡ Err e
-      → ((let t : Result (X × List ℕ) ChangeError = Ok x in t) ≡ Err e) ⊎ ((y : X × List ℕ) × ((let t : Result (X × List ℕ) ChangeError = Ok x in t) ≡ Ok y) × (0 < length y.1) × (e ≡ Trailing))
+        → ((let t : Result (X × List ℕ) ChangeError = Ok x in t) ≡ Err e) ⊎ ((y : X × List ℕ) × ((let t : Result (X × List ℕ) ChangeError = Ok x in t) ≡ Ok y) × (0 < length y.1) × (e ≡ Trailing))
     by_test true h r = absurd cc
     by_test false h r = inr (x, refl, some_left (length x.1) h, cc)
 ended_err (Err d) e h = inl (let same : d ≡ e = cc in ap (λ (f : ChangeError). Err f) same)
@@ -190,11 +198,20 @@ change_stays bytes more e fits size r apart =
     let small : length bytes ≤ 4194304 = omega arith in
     let same = same_size (length (bytes ++ more)) (length bytes) (bytes ++ more) size small in
     elim (ended_err (sized_at (length bytes) bytes) e r) [
-    | inl bad ↦ ended_of_err (sized_at (length (bytes ++ more)) (bytes ++ more)) e (same ∙ (sized_field (length bytes)).stays bytes more e fits bad apart)
-    | inr t ↦ behind (length bytes) more e t.0.0 t.0.1 (sized_at (length (bytes ++ more)) (bytes ++ more)) t.2 t.3
-        (same ∙ reads_more Short (sized_at (length bytes)) spelling (λ c. (leb (length bytes) 4194304 ≡ true) × FitsParts c) (sized_field (length bytes)) bytes more t.0.0 t.0.1 fits t.1)
+      | inl bad ↦ ended_of_err (sized_at (length (bytes ++ more)) (bytes ++ more)) e (same ∙ (sized_field (length bytes)).stays bytes more e fits bad apart)
+      | inr t ↦ behind (length bytes) more e t.0.0 t.0.1 (sized_at (length (bytes ++ more)) (bytes ++ more)) t.2 t.3
+          (same ∙ reads_more Short (sized_at (length bytes)) spelling (λ c. (leb (length bytes) 4194304 ≡ true) × FitsParts c) (sized_field (length bytes)) bytes more t.0.0 t.0.1 fits t.1)
     ]
   where
     behind : (n : ℕ) (more : List ℕ) (e : ChangeError) (c : ChangeParts) (rest : List ℕ) (r : Result (ChangeParts × List ℕ) ChangeError) → 0 < length rest → e ≡ Trailing → r ≡ Ok (c, rest ++ more) → ended r ≡ Err e
     behind n more e c [] r some t h = absurd (omega arith)
     behind n more e c (b ∷ rest) r some t h = ended_of_more r c b (rest ++ more) h ∙ ap (λ (f : ChangeError). Err f) (sym t)
+
+-- What follows a change is either nothing or bytes too many.
+pub change_and_more : (c : ChangeParts) (more : List ℕ) → IsChange c → length (spelling c ++ more) ≤ 4194304 → (change_at (spelling c ++ more) ≡ Ok c) ⊎ (change_at (spelling c ++ more) ≡ Err Trailing)
+unfolding change_at
+change_and_more c more is size = by_rest more ((sized_field (length (spelling c ++ more))).again c more (le-leb (length (spelling c ++ more)) 4194304 size, parts_fit c is))
+  where
+    by_rest : (rest : List ℕ) → sized_at (length (spelling c ++ more)) (spelling c ++ more) ≡ Ok (c, rest) → (change_at (spelling c ++ more) ≡ Ok c) ⊎ (change_at (spelling c ++ more) ≡ Err Trailing)
+    by_rest [] h = inl (ended_of_ok (sized_at (length (spelling c ++ more)) (spelling c ++ more)) c h)
+    by_rest (b ∷ rest) h = inr (ended_of_more (sized_at (length (spelling c ++ more)) (spelling c ++ more)) c b rest h)

@@ -1,5 +1,5 @@
 -- Which part of the bytes a refusal is about.
-use Rattle.std.specs.Prelude.{◌≡◌, ℕ, ◌<◌, ◌≤◌, ◌⊎◌, List, ◌++◌, length, slice_index, Err}
+use Rattle.std.specs.Prelude.{◌≡◌, ℕ, ◌<◌, ◌≤◌, ◌⊎◌, List, ◌++◌, length, Err}
 use Rattle.tp_change.specs.declared.error.ChangeError.{ChangeError}
 use Rattle.tp_change.specs.declared.error.ChangeError.TheVariants.{Short}
 use Rattle.tp_change.specs.declared.parts.ChangeParts.{ChangeParts}

@@ -1,10 +1,10 @@
 -- What is wrong with the parts of a change: the whole size first, and then the first fault in the order of the fields.
-use Rattle.std.specs.Prelude.{ℕ, ◌-◌, ◌^◌, ◌==◌, ◌&&◌, nat_le, nat_lt, not, min, Bool, true, false, List, [], ◌∷◌, length, encode_utf8_all, Option, Some, None, Result, Ok, Err, if◌then◌else◌}
+use Rattle.std.specs.Prelude.{ℕ, ◌-◌, ◌^◌, ◌&&◌, nat_le, nat_lt, min, Bool, true, List, [], ◌∷◌, length, encode_utf8_all, Option, Some, None, Result, Ok, Err, if◌then◌else◌}
 use Rattle.std.specs.Ordering.{is_lt}
 use Rattle.tp_opid.specs.declared.hash.Hash.{Hash}
 use Rattle.tp_opid.specs.Order.{hash_cmp}
 use Rattle.tp_change.specs.declared.error.ChangeError.{ChangeError}
-use Rattle.tp_change.specs.declared.error.ChangeError.TheVariants.{ZeroSeqOrStart, DepsOrder, NoRecords, EmptyRun, Limit, OutOfMemory}
+use Rattle.tp_change.specs.declared.error.ChangeError.TheVariants.{ZeroSeqOrStart, DepsOrder, NoRecords, EmptyRun, Limit}
 use Rattle.tp_change.specs.declared.record.Record.{Record}
 use Rattle.tp_change.specs.declared.parts.ChangeParts.{ChangeParts}
 use Rattle.tp_change.specs.Operations.{count_in}
@@ -30,6 +30,7 @@ abbrev pub rises_after : Option Hash → List Hash → Bool
 rises_after before [] = true
 rises_after before (h ∷ hs) = is_above before h && rises_after (Some h) hs
 
+-- at most 65,535 dependencies, rising
 abbrev pub judged_deps : List Hash → Result (Unit {0}) ChangeError
 judged_deps hs = unless (nat_le (length hs) 65535) Limit and_then unless (rises_after None hs) DepsOrder
 
@@ -42,12 +43,15 @@ abbrev pub judged_records : ℕ → List Record → Result (Unit {0}) ChangeErro
 judged_records room [] = Ok tt
 judged_records room (r ∷ rs) = judged_record room r and_then judged_records (room - count_in r) rs
 
+-- the sequence number and the start: from 1, the start below 2^48
 abbrev pub judged_numbers : ℕ → ℕ → Result (Unit {0}) ChangeError
 judged_numbers seq start = unless (nat_lt 0 seq) ZeroSeqOrStart and_then unless (nat_lt 0 start) ZeroSeqOrStart and_then unless (nat_lt start (2 ^ 48)) Limit
 
+-- the record count, and the records: at most 65,536 operations, and at most those whose counters are below 2^48
 abbrev pub judged_list : ℕ → List Record → Result (Unit {0}) ChangeError
 judged_list start rs = unless (nat_lt 0 (length rs)) NoRecords and_then unless (nat_le (length rs) 65536) Limit and_then judged_records (min (2 ^ 48 - start) 65536) rs
 
+-- the fault of the parts of a change
 unfoldable pub judged : ChangeParts → Result (Unit {0}) ChangeError
 judged c =
     unless (nat_le (length (spelling c)) 4194304) Limit and_then

@@ -10,6 +10,7 @@ use crate::record::Record;
 use std::alloc::Global;
 use tp_list::{Items, Text};
 
+/// An equal text.
 fn copy_text(alloc: Global, text: &Text) -> Result<Text, ChangeError>
     ensures copied { IfOk result (λ copied. copied ≡ text.now) }
     ensures err { IsOkUnless result OutOfMemory }
@@ -17,6 +18,7 @@ fn copy_text(alloc: Global, text: &Text) -> Result<Text, ChangeError>
     Ok(Text::new(String::from_str(alloc, text.as_str())?))
 }
 
+/// An equal record.
 fn copy_record(alloc: Global, entry: &Record) -> Result<Record, ChangeError>
     ensures copied { IfOk result (λ copied. copied ≡ entry.now) }
     ensures err { IsOkUnless result OutOfMemory }
@@ -30,6 +32,7 @@ fn copy_record(alloc: Global, entry: &Record) -> Result<Record, ChangeError>
     })
 }
 
+/// Equal records, in memory that is reserved once.
 fn copy_records(alloc: Global, records: &[Record]) -> Result<Vec<Record>, ChangeError>
     ensures copied { IfOk result (λ copied. copied.items ≡ records.now) }
     ensures err { IsOkUnless result OutOfMemory }
@@ -41,6 +44,7 @@ fn copy_records(alloc: Global, records: &[Record]) -> Result<Vec<Record>, Change
     Ok(copied)
 }
 
+/// Equal parts.
 fn copy_parts(alloc: Global, parts: &ChangeParts) -> Result<ChangeParts, ChangeError>
     ensures copied { IfOk result (λ copied. copied ≡ parts.now) }
     ensures err { IsOkUnless result OutOfMemory }

@@ -7,6 +7,7 @@ use crate::change::Change;
 use crate::facts::ops_in;
 use crate::record::Record;
 
+/// How many operations the records have together.
 fn count_ops(records: &[Record]) -> usize
     requires { count_of records.now ≤ 65536 }
     ensures { result ≡ count_of records.now }

@@ -24,6 +24,7 @@ pub(crate) fn of_32(bytes: [u8; 32]) -> usize
     bytes.len()
 }
 
+/// The counter has 64 bits, and the actor 16 bytes.
 fn of_id(id: &OpId)
     ensures { IsId id.now }
 {
@@ -31,6 +32,7 @@ fn of_id(id: &OpId)
     let _bytes = of_16(id.actor.0);
 }
 
+/// So has the identifier of a place.
 fn of_place(place: &Place)
     ensures { IsPlace place.now }
 {
@@ -39,6 +41,7 @@ fn of_place(place: &Place)
     }
 }
 
+/// How many characters a text has.
 fn chars_in(text: &str) -> usize
     ensures { result ≡ length (chars text.now) }
 {

@@ -12,6 +12,7 @@ ghost use Rattle.tp_change.specs.Operations.{count_in};
 
 use crate::error::ChangeError;
 use crate::facts::{of_16, of_32, ops_in};
+use crate::limits::{COUNTERS_END, MAX_BYTES, MAX_DEPS, MAX_MESSAGE_BYTES, MAX_OPS};
 use crate::parts::ChangeParts;
 use crate::record::Record;
 use crate::size::parts_len;
@@ -19,12 +20,14 @@ use std::cmp::Ordering;
 use tp_list::{Items, Text};
 use tp_opid::Hash;
 
+/// The fault, unless the test holds.
 fn ensure(fine: bool, fault: ChangeError) -> Result<(), ChangeError>
     ensures { result ≡ unless fine fault }
 {
     if fine { Ok(()) } else { Err(fault) }
 }
 
+/// Whether a hash stands above the one before it, if there is one.
 #[tactic(auto, unfolding(tp_opid::specs::Order::hash_cmp))]
 fn is_next(before: Option<Hash>, hash: &Hash) -> bool
     ensures { result ≡ is_above before hash.now }
@@ -35,6 +38,7 @@ fn is_next(before: Option<Hash>, hash: &Hash) -> bool
     }
 }
 
+/// Whether each hash stands above the one before it.
 fn do_rise(hashes: &[Hash]) -> bool
     ensures value { result ≡ rises_after None hashes.now }
     ensures bytes { IsTrue result → All IsHash hashes.now }
@@ -50,14 +54,16 @@ fn do_rise(hashes: &[Hash]) -> bool
     true
 }
 
+/// At most so many dependencies, rising.
 fn judge_deps(deps: &Items<Hash>) -> Result<(), ChangeError>
     ensures value { result ≡ judged_deps deps.now }
     ensures bytes { OnOk result (All IsHash deps.now) }
 {
-    ensure(deps.len() <= 65_535, ChangeError::Limit)?;
+    ensure(deps.len() <= MAX_DEPS, ChangeError::Limit)?;
     ensure(do_rise(deps.as_slice()), ChangeError::DepsOrder)
 }
 
+/// How many operations the record is, of those that still have room.
 fn judge_record(room: usize, entry: &Record) -> Result<usize, ChangeError>
     ensures value { MatchResult result (λ count. judged_record room entry.now ≡ Ok tt) (λ e. judged_record room entry.now ≡ Err e) }
     ensures count { IfOk result (λ count. (count ≡ count_in entry.now) × (count ≤ room)) }
@@ -69,6 +75,7 @@ fn judge_record(room: usize, entry: &Record) -> Result<usize, ChangeError>
     Ok(count)
 }
 
+/// Each record in turn, where room is how many operations may come.
 fn judge_records(room: usize, records: &[Record]) -> Result<(), ChangeError>
     ensures value { result ≡ judged_records room records.now }
     ensures typed { OnOk result (All IsTypedRecord records.now) }
@@ -80,39 +87,50 @@ fn judge_records(room: usize, records: &[Record]) -> Result<(), ChangeError>
     Ok(())
 }
 
+/// The sequence number and the start.
 fn judge_numbers(seq: u64, start: u64) -> Result<(), ChangeError>
     ensures { result ≡ judged_numbers seq start }
 {
     ensure(0 < seq, ChangeError::ZeroSeqOrStart)?;
     ensure(0 < start, ChangeError::ZeroSeqOrStart)?;
-    ensure(start < 1 << 48, ChangeError::Limit)
+    ensure(start < COUNTERS_END, ChangeError::Limit)
 }
 
+/// The length of the message.
 fn judge_message(message: &Text) -> Result<(), ChangeError>
     ensures value { result ≡ unless (nat_le (length (encode_utf8_all message.now)) 65535) Limit }
     ensures typed { all_scalars message.now ≡ true }
 {
-    ensure(message.as_str().len() <= 65_535, ChangeError::Limit)
+    ensure(
+        message.as_str().len() <= MAX_MESSAGE_BYTES,
+        ChangeError::Limit,
+    )
 }
 
+/// The record count, and the records.
 fn judge_list(start: u64, records: &Items<Record>) -> Result<(), ChangeError>
     requires { start < 2 ^ 48 }
     ensures value { result ≡ judged_list start records.now }
     ensures typed { OnOk result (All IsTypedRecord records.now) }
 {
     ensure(0 < records.len(), ChangeError::NoRecords)?;
-    ensure(records.len() <= 65_536, ChangeError::Limit)?;
-    let left = (1 << 48) - start;
-    let room = if left < 65_536 { left as usize } else { 65_536 };
+    ensure(records.len() <= MAX_OPS, ChangeError::Limit)?;
+    let left = COUNTERS_END - start;
+    let room = if left < MAX_OPS as u64 {
+        left as usize
+    } else {
+        MAX_OPS
+    };
     judge_records(room, records.as_slice())
 }
 
+/// The whole size and then each field, with what the types say of them.
 #[tactic(auto, unfolding(crate::specs::Judged::judged))]
 fn judge_fields(parts: &ChangeParts) -> Result<(), ChangeError>
     ensures value { result ≡ judged parts.now }
     ensures typed { OnOk result (IsTyped parts.now) }
 {
-    ensure(parts_len(parts) <= 4_194_304, ChangeError::Limit)?;
+    ensure(parts_len(parts) <= MAX_BYTES, ChangeError::Limit)?;
     judge_numbers(parts.seq, parts.start)?;
     judge_message(&parts.message)?;
     judge_deps(&parts.deps)?;

@@ -1,42 +1,27 @@
-//! Laws of the layout, each as a function that does nothing and whose contract is the law.
-//!
-//! Bytes are a change's in one way, a change's bytes begin no other change's, and a refusal other than `Short` is
-//! about a front of the bytes, whatever follows it. By [`Change::decode`](crate::Change::decode)'s contract they
-//! are laws of what it answers.
+//! Laws of changes, as contracts of functions that do nothing.
 
-ghost use Rattle.std.specs.Prelude.{◌≡◌, ℕ, ◌<◌, ◌≤◌, List, [], ◌++◌, length, slice_index, Err};
+ghost use Rattle.std.specs.Prelude.{◌≡◌, ◌↔◌, Ok, map, length};
+ghost use Rattle.tp_list.specs.Rising.{IsRising};
+ghost use Rattle.tp_opid.specs.Order.{id_cmp};
+ghost use Rattle.tp_change.specs.Judged.{judged};
+ghost use Rattle.tp_change.specs.Limits.{IsChange, IsTyped};
+ghost use Rattle.tp_change.specs.OpIds.{op_id, ids_from};
+ghost use Rattle.tp_change.specs.Operations.{ops_of, op_count};
 ghost use Rattle.tp_change.specs.declared.parts.ChangeParts.{ChangeParts};
-ghost use Rattle.tp_change.specs.declared.error.ChangeError.{ChangeError};
-ghost use Rattle.tp_change.specs.declared.error.ChangeError.TheVariants.{Short};
-ghost use Rattle.tp_change.specs.ChangeHash.{hash_of};
-ghost use Rattle.tp_change.specs.Faults.{SomeFrontIsToBlame};
-ghost use Rattle.tp_change.specs.Limits.{IsChange, IsHash};
-ghost use Rattle.tp_change.specs.Reading.{change_at};
-ghost use Rattle.tp_change.specs.Spelling.{spelling};
 
-/// No bytes spell two changes.
-pub fn one_spelling()
-    ensures { (c d : ChangeParts) → IsChange c → IsChange d → spelling c ≡ spelling d → c ≡ d }
-{
-}
+/// The operations have the identifiers of the change's actor with the counters from its start on, each one more
+/// than the one before it; there are as many as the records count.
+pub fn counters_run_on()
+    ensures ids { (c : ChangeParts) → map op_id (ops_of c) ≡ ids_from c.actor c.start (op_count c) }
+    ensures count { (c : ChangeParts) → length (ops_of c) ≡ op_count c }
+{}
 
-/// The bytes of a change begin no other change's bytes.
-pub fn nothing_begins_another()
-    ensures { (c d : ChangeParts) (more : List ℕ) → IsChange c → IsChange d → spelling d ≡ spelling c ++ more → (c ≡ d) × (more ≡ []) }
-{
-}
+/// Each identifier of a change stands below all that come after it, so no two are one.
+pub fn ids_rise()
+    ensures { (c : ChangeParts) → IsRising id_cmp (map op_id (ops_of c)) }
+{}
 
-/// A change has from 1 to 4,194,304 bytes, and a hash of 32 bytes.
-pub fn sizes()
-    ensures bytes { (c : ChangeParts) → IsChange c → (1 ≤ length (spelling c)) × (length (spelling c) ≤ 4194304) }
-    ensures hash { (c : ChangeParts) → IsHash (hash_of c) }
-{
-}
-
-/// Where bytes within the size limit are refused for another reason than missing bytes, a front of them is to
-/// blame: no change's bytes begin with it, each shorter front is a change or only misses bytes, and all bytes within
-/// the limit that begin with it are refused for the same reason.
-pub fn a_front_is_to_blame()
-    ensures { (bytes : List ℕ) (e : ChangeError) → ((i : ℕ) → slice_index bytes i < 256) → length bytes ≤ 4194304 → change_at bytes ≡ Err e → (e ≡ Short → ⊥) → SomeFrontIsToBlame bytes e }
-{
-}
+/// Parts of a program have no fault exactly where they are within the limits and the grammar.
+pub fn no_fault_within()
+    ensures { (c : ChangeParts) → IsTyped c → (judged c ≡ Ok tt) ↔ IsChange c }
+{}

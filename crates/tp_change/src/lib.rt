@@ -12,6 +12,8 @@ mod error;
 mod facts;
 mod judging;
 pub mod laws;
+pub mod layout;
+mod limits;
 mod making;
 mod op;
 mod ops;

@@ -1,9 +1,9 @@
 //! A walk over the operations of a change.
 
-ghost use Rattle.std.specs.Prelude.{◌≡◌, ◌∷◌, [], MatchOption};
+ghost use Rattle.std.specs.Prelude.{◌≡◌, ◌+◌, ◌<◌, ◌^◌, ◌∷◌, [], MatchOption};
 ghost use Rattle.std.specs.Iterator.{YieldsFirst, item_count};
 ghost use Rattle.std.specs.Str.{chars};
-ghost use Rattle.tp_change.specs.Operations.{ops_of};
+ghost use Rattle.tp_change.specs.Operations.{id_of, ops_of};
 ghost use Rattle.tp_change.specs.OpsLeft.{ops_left, IsWalk};
 
 use crate::change::Change;
@@ -32,6 +32,20 @@ fn first_char(text: &str) -> Option<(char, &str)>
     Some((ch, rest.as_str()))
 }
 
+/// The identifier of the next operation. The one after it has the next counter.
+fn next_id(walk: &mut Walk) -> OpId
+    requires { walk.old.counter < 2 ^ 48 }
+    ensures id { result ≡ id_of walk.old.actor walk.old.counter }
+    ensures goes_on { walk.new ≡ record walk.old { counter = walk.old.counter + 1 } }
+{
+    let id = OpId {
+        counter: walk.counter,
+        actor: walk.actor,
+    };
+    walk.counter += 1;
+    id
+}
+
 /// The next insert of the run that the walk stands in.
 fn next_of_run(walk: &mut Walk) -> Option<Op>
     requires { IsWalk walk.old }
@@ -40,12 +54,8 @@ fn next_of_run(walk: &mut Walk) -> Option<Op>
     ensures keeps { IsWalk walk.new }
 {
     let (ch, rest) = first_char(walk.text)?;
-    let id = OpId {
-        counter: walk.counter,
-        actor: walk.actor,
-    };
+    let id = next_id(walk);
     let after = walk.after;
-    walk.counter += 1;
     walk.after = Place::After(id);
     walk.text = rest;
     Some(Op::Insert { id, after, ch })
@@ -69,11 +79,7 @@ fn next_of_walk(walk: &mut Walk) -> Option<Op>
             next_of_run(walk)
         }
         Record::Delete { target } => {
-            let id = OpId {
-                counter: walk.counter,
-                actor: walk.actor,
-            };
-            walk.counter += 1;
+            let id = next_id(walk);
             Some(Op::Delete {
                 id,
                 target: *target,

@@ -3,6 +3,7 @@
 //! Every function takes its field from the front of a reader, and says which field of specs/Reading that is. The
 //! first fault is the refusal. Nothing is reserved for a count or a length: elements are pushed as they are read,
 //! and a text is copied once, when its bytes are there.
+#![tactic(auto, unfolding(tp_codec::specs::Reading::or_fail, tp_codec::specs::Reading::found_or, tp_codec::specs::Reading::and_then, tp_codec::specs::Reading::and_next, tp_codec::specs::Reading::give, tp_codec::specs::Reading::require, tp_codec::specs::Reading::passed, tp_codec::specs::Reading::characters_at, tp_codec::specs::Reading::text_at, tp_codec::specs::Reading::fail, crate::specs::Reading::actor_at, crate::specs::Reading::hash_at, crate::specs::Reading::id_at, crate::specs::Reading::version_at, crate::specs::Reading::seq_at, crate::specs::Reading::start_at, crate::specs::Reading::dep_at, crate::specs::Reading::deps_at, crate::specs::Reading::place_after_tag, crate::specs::Reading::place_at, crate::specs::Reading::insert_at, crate::specs::Reading::delete_at, crate::specs::Reading::record_after_tag, crate::specs::Reading::record_at, crate::specs::Reading::records_at, crate::specs::Reading::parts_at, crate::specs::Reading::sized_at, crate::specs::Reading::change_at, crate::specs::Reading::ended))]
 
 ghost use Rattle.std.specs.Prelude.{◌≡◌, ◌-◌, List, length, true, false, None, Ok, IfOk, IfErr};
 ghost use Rattle.std.specs.Str.{is_utf8};
@@ -31,7 +32,6 @@ use tp_codec::Reader;
 use tp_list::{Items, Text};
 use tp_opid::{Actor, Hash, OpId, Place};
 
-#[tactic(auto, unfolding(tp_codec::specs::Reading::or_fail, tp_codec::specs::Reading::found_or, tp_codec::specs::Reading::and_then, tp_codec::specs::Reading::and_next, tp_codec::specs::Reading::give))]
 fn byte_of(reader: &mut Reader<'_>) -> Result<u8, ChangeError>
     ensures { Gives (λ b. (b, reader.new)) result (or_fail Short byte_at reader.old) }
 {
@@ -41,7 +41,6 @@ fn byte_of(reader: &mut Reader<'_>) -> Result<u8, ChangeError>
     }
 }
 
-#[tactic(auto, unfolding(tp_codec::specs::Reading::or_fail, tp_codec::specs::Reading::found_or, tp_codec::specs::Reading::and_then, tp_codec::specs::Reading::and_next, tp_codec::specs::Reading::give))]
 fn u16_of(reader: &mut Reader<'_>) -> Result<u16, ChangeError>
     ensures { Gives (λ n. (n, reader.new)) result (or_fail Short (number_at w16) reader.old) }
 {
@@ -51,7 +50,6 @@ fn u16_of(reader: &mut Reader<'_>) -> Result<u16, ChangeError>
     }
 }
 
-#[tactic(auto, unfolding(tp_codec::specs::Reading::or_fail, tp_codec::specs::Reading::found_or, tp_codec::specs::Reading::and_then, tp_codec::specs::Reading::and_next, tp_codec::specs::Reading::give))]
 fn u32_of(reader: &mut Reader<'_>) -> Result<u32, ChangeError>
     ensures { Gives (λ n. (n, reader.new)) result (or_fail Short (number_at w32) reader.old) }
 {
@@ -61,7 +59,6 @@ fn u32_of(reader: &mut Reader<'_>) -> Result<u32, ChangeError>
     }
 }
 
-#[tactic(auto, unfolding(tp_codec::specs::Reading::or_fail, tp_codec::specs::Reading::found_or, tp_codec::specs::Reading::and_then, tp_codec::specs::Reading::and_next, tp_codec::specs::Reading::give))]
 fn u64_of(reader: &mut Reader<'_>) -> Result<u64, ChangeError>
     ensures { Gives (λ n. (n, reader.new)) result (or_fail Short (number_at w64) reader.old) }
 {
@@ -71,7 +68,6 @@ fn u64_of(reader: &mut Reader<'_>) -> Result<u64, ChangeError>
     }
 }
 
-#[tactic(auto, unfolding(crate::specs::Reading::actor_at, tp_codec::specs::Reading::or_fail, tp_codec::specs::Reading::found_or, tp_codec::specs::Reading::and_then, tp_codec::specs::Reading::and_next, tp_codec::specs::Reading::give))]
 fn actor_of(reader: &mut Reader<'_>) -> Result<Actor, ChangeError>
     ensures { Gives (λ a. (a, reader.new)) result (actor_at reader.old) }
 {
@@ -81,7 +77,6 @@ fn actor_of(reader: &mut Reader<'_>) -> Result<Actor, ChangeError>
     }
 }
 
-#[tactic(auto, unfolding(crate::specs::Reading::hash_at, tp_codec::specs::Reading::or_fail, tp_codec::specs::Reading::found_or, tp_codec::specs::Reading::and_then, tp_codec::specs::Reading::and_next, tp_codec::specs::Reading::give))]
 fn hash_of(reader: &mut Reader<'_>) -> Result<Hash, ChangeError>
     ensures { Gives (λ h. (h, reader.new)) result (hash_at reader.old) }
 {
@@ -91,7 +86,6 @@ fn hash_of(reader: &mut Reader<'_>) -> Result<Hash, ChangeError>
     }
 }
 
-#[tactic(auto, unfolding(crate::specs::Reading::id_at, tp_codec::specs::Reading::or_fail, tp_codec::specs::Reading::found_or, tp_codec::specs::Reading::and_then, tp_codec::specs::Reading::and_next, tp_codec::specs::Reading::give))]
 fn id_of(reader: &mut Reader<'_>) -> Result<OpId, ChangeError>
     ensures { Gives (λ i. (i, reader.new)) result (id_at reader.old) }
 {
@@ -112,7 +106,6 @@ fn utf8_of(bytes: &[u8]) -> Result<&str, ChangeError>
     }
 }
 
-#[tactic(auto, unfolding(tp_codec::specs::Reading::or_fail, tp_codec::specs::Reading::found_or, tp_codec::specs::Reading::and_then, tp_codec::specs::Reading::and_next, tp_codec::specs::Reading::give))]
 fn bytes_of<'a>(reader: &mut Reader<'a>, count: usize) -> Result<&'a [u8], ChangeError>
     ensures { Gives (λ b. (b.now, reader.new)) result (or_fail Short (bytes_at count) reader.old) }
 {
@@ -122,7 +115,6 @@ fn bytes_of<'a>(reader: &mut Reader<'a>, count: usize) -> Result<&'a [u8], Chang
     }
 }
 
-#[tactic(auto, unfolding(tp_codec::specs::Reading::or_fail, tp_codec::specs::Reading::found_or, tp_codec::specs::Reading::and_then, tp_codec::specs::Reading::and_next, tp_codec::specs::Reading::give, tp_codec::specs::Reading::require, tp_codec::specs::Reading::passed, tp_codec::specs::Reading::characters_at))]
 fn characters_of(alloc: Global, reader: &mut Reader<'_>, count: usize) -> Result<Text, ChangeError>
     ensures { Gives (λ t. (t, reader.new)) result (characters_at Short BadUtf8 count reader.old) }
 {
@@ -130,7 +122,6 @@ fn characters_of(alloc: Global, reader: &mut Reader<'_>, count: usize) -> Result
     Ok(Text::new(String::from_str(alloc, text)?))
 }
 
-#[tactic(auto, unfolding(tp_codec::specs::Reading::or_fail, tp_codec::specs::Reading::found_or, tp_codec::specs::Reading::and_then, tp_codec::specs::Reading::and_next, tp_codec::specs::Reading::give, tp_codec::specs::Reading::text_at))]
 fn message_of(alloc: Global, reader: &mut Reader<'_>) -> Result<Text, ChangeError>
     ensures { Gives (λ t. (t, reader.new)) result (text_at Short BadUtf8 w16 reader.old) }
 {
@@ -138,7 +129,6 @@ fn message_of(alloc: Global, reader: &mut Reader<'_>) -> Result<Text, ChangeErro
     characters_of(alloc, reader, count as usize)
 }
 
-#[tactic(auto, unfolding(tp_codec::specs::Reading::or_fail, tp_codec::specs::Reading::found_or, tp_codec::specs::Reading::and_then, tp_codec::specs::Reading::and_next, tp_codec::specs::Reading::give, tp_codec::specs::Reading::text_at))]
 fn run_of(alloc: Global, reader: &mut Reader<'_>) -> Result<Text, ChangeError>
     ensures { Gives (λ t. (t, reader.new)) result (text_at Short BadUtf8 w32 reader.old) }
 {
@@ -146,7 +136,6 @@ fn run_of(alloc: Global, reader: &mut Reader<'_>) -> Result<Text, ChangeError>
     characters_of(alloc, reader, count as usize)
 }
 
-#[tactic(auto, unfolding(crate::specs::Reading::version_at, tp_codec::specs::Reading::or_fail, tp_codec::specs::Reading::found_or, tp_codec::specs::Reading::and_then, tp_codec::specs::Reading::and_next, tp_codec::specs::Reading::give, tp_codec::specs::Reading::require, tp_codec::specs::Reading::passed))]
 fn version_of(reader: &mut Reader<'_>) -> Result<(), ChangeError>
     ensures { Gives (λ _. (tt, reader.new)) result (version_at reader.old) }
 {
@@ -157,7 +146,6 @@ fn version_of(reader: &mut Reader<'_>) -> Result<(), ChangeError>
     Ok(())
 }
 
-#[tactic(auto, unfolding(crate::specs::Reading::seq_at, tp_codec::specs::Reading::or_fail, tp_codec::specs::Reading::found_or, tp_codec::specs::Reading::and_then, tp_codec::specs::Reading::and_next, tp_codec::specs::Reading::give, tp_codec::specs::Reading::require, tp_codec::specs::Reading::passed))]
 fn seq_of(reader: &mut Reader<'_>) -> Result<u64, ChangeError>
     ensures { Gives (λ n. (n, reader.new)) result (seq_at reader.old) }
 {
@@ -168,7 +156,6 @@ fn seq_of(reader: &mut Reader<'_>) -> Result<u64, ChangeError>
     Ok(seq)
 }
 
-#[tactic(auto, unfolding(crate::specs::Reading::start_at, tp_codec::specs::Reading::or_fail, tp_codec::specs::Reading::found_or, tp_codec::specs::Reading::and_then, tp_codec::specs::Reading::and_next, tp_codec::specs::Reading::give, tp_codec::specs::Reading::require, tp_codec::specs::Reading::passed))]
 fn start_of(reader: &mut Reader<'_>) -> Result<u64, ChangeError>
     ensures { Gives (λ n. (n, reader.new)) result (start_at reader.old) }
 {
@@ -193,7 +180,6 @@ fn follows(before: Option<Hash>, hash: &Hash) -> bool
     }
 }
 
-#[tactic(auto, unfolding(crate::specs::Reading::dep_at, tp_codec::specs::Reading::or_fail, tp_codec::specs::Reading::found_or, tp_codec::specs::Reading::and_then, tp_codec::specs::Reading::and_next, tp_codec::specs::Reading::give, tp_codec::specs::Reading::require, tp_codec::specs::Reading::passed))]
 fn dep_of(reader: &mut Reader<'_>, before: Option<Hash>) -> Result<Hash, ChangeError>
     ensures { Gives (λ h. (h, reader.new)) result (dep_at before reader.old) }
 {
@@ -204,7 +190,11 @@ fn dep_of(reader: &mut Reader<'_>, before: Option<Hash>) -> Result<Hash, ChangeE
     Ok(hash)
 }
 
-fn counted_deps_of(alloc: Global, reader: &mut Reader<'_>, count: u16) -> Result<Vec<Hash>, ChangeError>
+fn counted_deps_of(
+    alloc: Global,
+    reader: &mut Reader<'_>,
+    count: u16,
+) -> Result<Vec<Hash>, ChangeError>
     ensures { Gives (λ v. (v.items, reader.new)) result (repeat_at dep_at next_before count None reader.old) }
 {
     let mut deps = Vec::new(alloc);
@@ -217,7 +207,6 @@ fn counted_deps_of(alloc: Global, reader: &mut Reader<'_>, count: u16) -> Result
     Ok(deps)
 }
 
-#[tactic(auto, unfolding(crate::specs::Reading::deps_at, tp_codec::specs::Reading::or_fail, tp_codec::specs::Reading::found_or, tp_codec::specs::Reading::and_then, tp_codec::specs::Reading::and_next, tp_codec::specs::Reading::give))]
 fn deps_of(alloc: Global, reader: &mut Reader<'_>) -> Result<Items<Hash>, ChangeError>
     ensures { Gives (λ d. (d, reader.new)) result (deps_at reader.old) }
 {
@@ -225,7 +214,6 @@ fn deps_of(alloc: Global, reader: &mut Reader<'_>) -> Result<Items<Hash>, Change
     Ok(Items::new(counted_deps_of(alloc, reader, count)?))
 }
 
-#[tactic(auto, unfolding(crate::specs::Reading::place_after_tag, tp_codec::specs::Reading::or_fail, tp_codec::specs::Reading::found_or, tp_codec::specs::Reading::and_then, tp_codec::specs::Reading::and_next, tp_codec::specs::Reading::give, tp_codec::specs::Reading::fail))]
 fn place_behind_tag(reader: &mut Reader<'_>, tag: u8) -> Result<Place, ChangeError>
     ensures { Gives (λ p. (p, reader.new)) result (place_after_tag tag reader.old) }
 {
@@ -236,7 +224,6 @@ fn place_behind_tag(reader: &mut Reader<'_>, tag: u8) -> Result<Place, ChangeErr
     }
 }
 
-#[tactic(auto, unfolding(crate::specs::Reading::place_at, tp_codec::specs::Reading::or_fail, tp_codec::specs::Reading::found_or, tp_codec::specs::Reading::and_then, tp_codec::specs::Reading::and_next, tp_codec::specs::Reading::give))]
 fn place_of(reader: &mut Reader<'_>) -> Result<Place, ChangeError>
     ensures { Gives (λ p. (p, reader.new)) result (place_at reader.old) }
 {
@@ -251,8 +238,11 @@ fn char_count(text: &Text) -> usize
 }
 
 // The record, and how many operations may still come after it.
-#[tactic(auto, unfolding(crate::specs::Reading::insert_at, tp_codec::specs::Reading::or_fail, tp_codec::specs::Reading::found_or, tp_codec::specs::Reading::and_then, tp_codec::specs::Reading::and_next, tp_codec::specs::Reading::give, tp_codec::specs::Reading::require, tp_codec::specs::Reading::passed))]
-fn insert_of(alloc: Global, reader: &mut Reader<'_>, room: usize) -> Result<(Record, usize), ChangeError>
+fn insert_of(
+    alloc: Global,
+    reader: &mut Reader<'_>,
+    room: usize,
+) -> Result<(Record, usize), ChangeError>
     ensures record { Gives (λ x. (x.0, reader.new)) result (insert_at room reader.old) }
     ensures room { IfOk result (λ x. x.1 ≡ room_after room x.0) }
 {
@@ -269,7 +259,6 @@ fn insert_of(alloc: Global, reader: &mut Reader<'_>, room: usize) -> Result<(Rec
 }
 
 // The record, and how many operations may still come after it.
-#[tactic(auto, unfolding(crate::specs::Reading::delete_at, tp_codec::specs::Reading::or_fail, tp_codec::specs::Reading::found_or, tp_codec::specs::Reading::and_then, tp_codec::specs::Reading::and_next, tp_codec::specs::Reading::give, tp_codec::specs::Reading::require, tp_codec::specs::Reading::passed))]
 fn delete_of(reader: &mut Reader<'_>, room: usize) -> Result<(Record, usize), ChangeError>
     ensures record { Gives (λ x. (x.0, reader.new)) result (delete_at room reader.old) }
     ensures room { IfOk result (λ x. x.1 ≡ room_after room x.0) }
@@ -282,8 +271,12 @@ fn delete_of(reader: &mut Reader<'_>, room: usize) -> Result<(Record, usize), Ch
 }
 
 // The record, and how many operations may still come after it.
-#[tactic(auto, unfolding(crate::specs::Reading::record_after_tag, tp_codec::specs::Reading::or_fail, tp_codec::specs::Reading::found_or, tp_codec::specs::Reading::and_then, tp_codec::specs::Reading::and_next, tp_codec::specs::Reading::give, tp_codec::specs::Reading::fail))]
-fn record_behind_tag(alloc: Global, reader: &mut Reader<'_>, room: usize, tag: u8) -> Result<(Record, usize), ChangeError>
+fn record_behind_tag(
+    alloc: Global,
+    reader: &mut Reader<'_>,
+    room: usize,
+    tag: u8,
+) -> Result<(Record, usize), ChangeError>
     ensures record { Gives (λ x. (x.0, reader.new)) result (record_after_tag room tag reader.old) }
     ensures room { IfOk result (λ x. x.1 ≡ room_after room x.0) }
 {
@@ -295,8 +288,11 @@ fn record_behind_tag(alloc: Global, reader: &mut Reader<'_>, room: usize, tag: u
 }
 
 // The record, and how many operations may still come after it.
-#[tactic(auto, unfolding(crate::specs::Reading::record_at, tp_codec::specs::Reading::or_fail, tp_codec::specs::Reading::found_or, tp_codec::specs::Reading::and_then, tp_codec::specs::Reading::and_next, tp_codec::specs::Reading::give))]
-fn record_of(alloc: Global, reader: &mut Reader<'_>, room: usize) -> Result<(Record, usize), ChangeError>
+fn record_of(
+    alloc: Global,
+    reader: &mut Reader<'_>,
+    room: usize,
+) -> Result<(Record, usize), ChangeError>
     ensures record { Gives (λ x. (x.0, reader.new)) result (record_at room reader.old) }
     ensures room { IfOk result (λ x. x.1 ≡ room_after room x.0) }
 {
@@ -304,7 +300,12 @@ fn record_of(alloc: Global, reader: &mut Reader<'_>, room: usize) -> Result<(Rec
     record_behind_tag(alloc, reader, room, tag)
 }
 
-fn counted_records_of(alloc: Global, reader: &mut Reader<'_>, count: u32, room: usize) -> Result<Vec<Record>, ChangeError>
+fn counted_records_of(
+    alloc: Global,
+    reader: &mut Reader<'_>,
+    count: u32,
+    room: usize,
+) -> Result<Vec<Record>, ChangeError>
     ensures { Gives (λ v. (v.items, reader.new)) result (repeat_at record_at room_after count room reader.old) }
 {
     let mut records = Vec::new(alloc);
@@ -317,8 +318,11 @@ fn counted_records_of(alloc: Global, reader: &mut Reader<'_>, count: u32, room: 
     Ok(records)
 }
 
-#[tactic(auto, unfolding(crate::specs::Reading::records_at, tp_codec::specs::Reading::or_fail, tp_codec::specs::Reading::found_or, tp_codec::specs::Reading::and_then, tp_codec::specs::Reading::and_next, tp_codec::specs::Reading::give, tp_codec::specs::Reading::require, tp_codec::specs::Reading::passed))]
-fn records_of(alloc: Global, reader: &mut Reader<'_>, room: usize) -> Result<Items<Record>, ChangeError>
+fn records_of(
+    alloc: Global,
+    reader: &mut Reader<'_>,
+    room: usize,
+) -> Result<Items<Record>, ChangeError>
     ensures { Gives (λ r. (r, reader.new)) result (records_at room reader.old) }
 {
     let count = u32_of(reader)?;
@@ -338,7 +342,6 @@ fn room_of(start: u64) -> usize
     0x1_0000_0000_0000_u64.saturating_sub(start).min(65536) as usize
 }
 
-#[tactic(auto, unfolding(crate::specs::Reading::parts_at, tp_codec::specs::Reading::or_fail, tp_codec::specs::Reading::found_or, tp_codec::specs::Reading::and_then, tp_codec::specs::Reading::and_next, tp_codec::specs::Reading::give))]
 fn parts_of(alloc: Global, reader: &mut Reader<'_>) -> Result<ChangeParts, ChangeError>
     ensures { Gives (λ c. (c, reader.new)) result (parts_at reader.old) }
 {
@@ -360,7 +363,6 @@ fn parts_of(alloc: Global, reader: &mut Reader<'_>) -> Result<ChangeParts, Chang
     })
 }
 
-#[tactic(auto, unfolding(crate::specs::Reading::sized_at, tp_codec::specs::Reading::or_fail, tp_codec::specs::Reading::found_or, tp_codec::specs::Reading::and_then, tp_codec::specs::Reading::and_next, tp_codec::specs::Reading::give, tp_codec::specs::Reading::require, tp_codec::specs::Reading::passed))]
 fn sized_of(alloc: Global, reader: &mut Reader<'_>, size: usize) -> Result<ChangeParts, ChangeError>
     ensures { Gives (λ c. (c, reader.new)) result (sized_at size reader.old) }
 {
@@ -372,7 +374,6 @@ fn sized_of(alloc: Global, reader: &mut Reader<'_>, size: usize) -> Result<Chang
 }
 
 // The parts of the change that the bytes are.
-#[tactic(auto, unfolding(crate::specs::Reading::change_at, crate::specs::Reading::ended, tp_codec::specs::Reading::or_fail, tp_codec::specs::Reading::found_or, tp_codec::specs::Reading::and_then, tp_codec::specs::Reading::and_next, tp_codec::specs::Reading::give))]
 fn change_of(alloc: Global, bytes: &[u8]) -> Result<ChangeParts, ChangeError>
     ensures { Gives (λ c. c) result (change_at bytes.now) }
 {

@@ -10,6 +10,7 @@ use crate::parts::ChangeParts;
 use crate::record::Record;
 use tp_opid::{Hash, OpId, Place};
 
+/// How many bytes an identifier has.
 fn id_len(id: &OpId) -> usize
     ensures small { result ≡ 24 }
     ensures len { result ≡ length (spelling_of_id id.now) }
@@ -17,6 +18,7 @@ fn id_len(id: &OpId) -> usize
     8 + of_16(id.actor.0)
 }
 
+/// How many bytes a place has.
 fn place_len(place: &Place) -> usize
     ensures small { result ≤ 25 }
     ensures len { result ≡ length (spelling_of_place place.now) }
@@ -27,6 +29,7 @@ fn place_len(place: &Place) -> usize
     }
 }
 
+/// How many bytes a record has, or `usize::MAX`.
 fn record_len(entry: &Record) -> usize
     ensures { result ≡ min usize.MAX (length (spelling_of_record entry.now)) }
 {
@@ -36,6 +39,7 @@ fn record_len(entry: &Record) -> usize
     }
 }
 
+/// How many bytes the records have, or `usize::MAX`.
 fn records_len(records: &[Record]) -> usize
     ensures { result ≡ min usize.MAX (length (flat_map spelling_of_record records.now)) }
 {
@@ -46,6 +50,7 @@ fn records_len(records: &[Record]) -> usize
     total
 }
 
+/// How many bytes the hashes have, or `usize::MAX`.
 fn hashes_len(hashes: &[Hash]) -> usize
     ensures { result ≡ min usize.MAX (length (flat_map (λ (h : Hash). h.0) hashes.now)) }
 {

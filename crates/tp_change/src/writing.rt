@@ -18,12 +18,14 @@ use std::alloc::AllocError;
 use tp_list::{Items, Text};
 use tp_opid::{Hash, OpId, Place};
 
+/// Eight bytes.
 fn put_u64<S: Sink>(out: &mut S, number: u64) -> Result<(), AllocError>
     ensures { OnOk result (Puts S.holds out.old out.new (to_be_bytes w64 number)) }
 {
     out.put(&number.to_be_bytes())
 }
 
+/// A counter and an actor.
 fn put_id<S: Sink>(out: &mut S, id: &OpId) -> Result<(), AllocError>
     ensures { OnOk result (Puts S.holds out.old out.new (spelling_of_id id.now)) }
 {
@@ -31,6 +33,7 @@ fn put_id<S: Sink>(out: &mut S, id: &OpId) -> Result<(), AllocError>
     out.put(&id.actor.0)
 }
 
+/// The tag of a place, and what stands behind it.
 fn put_place<S: Sink>(out: &mut S, place: &Place) -> Result<(), AllocError>
     ensures { OnOk result (Puts S.holds out.old out.new (spelling_of_place place.now)) }
 {
@@ -43,6 +46,7 @@ fn put_place<S: Sink>(out: &mut S, place: &Place) -> Result<(), AllocError>
     }
 }
 
+/// The length and the text of a run.
 fn put_run<S: Sink>(out: &mut S, text: &Text) -> Result<(), AllocError>
     requires { length (encode_utf8_all text.now) < 2 ^ 32 }
     ensures { OnOk result (Puts S.holds out.old out.new (spelling_of_run text.now)) }
@@ -51,6 +55,7 @@ fn put_run<S: Sink>(out: &mut S, text: &Text) -> Result<(), AllocError>
     out.put(text.as_str().as_bytes())
 }
 
+/// The length and the text of the message.
 fn put_message<S: Sink>(out: &mut S, text: &Text) -> Result<(), AllocError>
     requires { length (encode_utf8_all text.now) < 2 ^ 16 }
     ensures { OnOk result (Puts S.holds out.old out.new (spelling_of_message text.now)) }
@@ -59,6 +64,7 @@ fn put_message<S: Sink>(out: &mut S, text: &Text) -> Result<(), AllocError>
     out.put(text.as_str().as_bytes())
 }
 
+/// The tag of a record, and what stands behind it.
 fn put_record<S: Sink>(out: &mut S, entry: &Record) -> Result<(), AllocError>
     requires { IsRecord entry.now }
     ensures { OnOk result (Puts S.holds out.old out.new (spelling_of_record entry.now)) }
@@ -76,6 +82,7 @@ fn put_record<S: Sink>(out: &mut S, entry: &Record) -> Result<(), AllocError>
     }
 }
 
+/// The hashes, one after another.
 fn put_hashes<S: Sink>(out: &mut S, hashes: &[Hash]) -> Result<(), AllocError>
     ensures { OnOk result (Puts S.holds out.old out.new (flat_map (λ (h : Hash). h.0) hashes.now)) }
 {
@@ -85,6 +92,7 @@ fn put_hashes<S: Sink>(out: &mut S, hashes: &[Hash]) -> Result<(), AllocError>
     Ok(())
 }
 
+/// The records, one after another.
 fn put_records<S: Sink>(out: &mut S, records: &[Record]) -> Result<(), AllocError>
     requires { AllByRecursion IsRecord records.now }
     ensures { OnOk result (Puts S.holds out.old out.new (flat_map spelling_of_record records.now)) }
@@ -95,6 +103,7 @@ fn put_records<S: Sink>(out: &mut S, records: &[Record]) -> Result<(), AllocErro
     Ok(())
 }
 
+/// The dependency count and the dependencies.
 fn put_deps<S: Sink>(out: &mut S, deps: &Items<Hash>) -> Result<(), AllocError>
     requires { length deps.now < 2 ^ 16 }
     ensures { OnOk result (Puts S.holds out.old out.new (spelling_of_deps deps.now)) }
@@ -103,17 +112,17 @@ fn put_deps<S: Sink>(out: &mut S, deps: &Items<Hash>) -> Result<(), AllocError>
     put_hashes(out, deps.as_slice())
 }
 
-fn put_counted<S: Sink>(out: &mut S, records: &Items<Record>) -> Result<(), AllocError>
-    requires count { length records.now < 2 ^ 32 }
-    requires each { AllByRecursion IsRecord records.now }
-    ensures { OnOk result (Puts S.holds out.old out.new (spelling_of_records records.now)) }
+/// The record count and the records.
+#[tactic(auto, using(crate::proofs::Counts::few_records))]
+fn put_counted<S: Sink>(out: &mut S, parts: &ChangeParts) -> Result<(), AllocError>
+    requires { IsChange parts.now }
+    ensures { OnOk result (Puts S.holds out.old out.new (spelling_of_records parts.now.records)) }
 {
-    out.put(&(records.len() as u32).to_be_bytes())?;
-    put_records(out, records.as_slice())
+    out.put(&(parts.records.len() as u32).to_be_bytes())?;
+    put_records(out, parts.records.as_slice())
 }
 
 /// Puts the bytes of a change.
-#[tactic(auto, using(crate::proofs::Counts::few_records))]
 pub(crate) fn put_change<S: Sink>(out: &mut S, parts: &ChangeParts) -> Result<(), AllocError>
     requires { IsChange parts.now }
     ensures { OnOk result (Puts S.holds out.old out.new (spelling parts.now)) }
@@ -125,7 +134,7 @@ pub(crate) fn put_change<S: Sink>(out: &mut S, parts: &ChangeParts) -> Result<()
     put_u64(out, parts.time)?;
     put_message(out, &parts.message)?;
     put_deps(out, &parts.deps)?;
-    put_counted(out, &parts.records)
+    put_counted(out, parts)
 }
 
 impl Change {

@@ -3,22 +3,27 @@
 use std::alloc::{AllocError, Global};
 use std::test::*;
 use tp_change::{Change, Record};
-use tp_opid::{Actor, Place};
+use tp_opid::Place;
 
 // Actor 1's "abc" at the start: sequence number 1, counters from 1, time 0, no message, no dependency.
 const ABC: [u8; 58] = [
-    1, 0, 0, 0, 0, 0, 0, 0, 0, 0, 0, 0, 0, 0, 0, 0, 1, 0, 0, 0, 0, 0, 0, 0, 1, 0, 0, 0, 0, 0, 0, 0, 1, 0, 0, 0, 0, 0,
-    0, 0, 0, 0, 0, 0, 0, 0, 0, 0, 1, 1, 0, 0, 0, 0, 3, 97, 98, 99,
+    1, 0, 0, 0, 0, 0, 0, 0, 0, 0, 0, 0, 0, 0, 0, 0, 1, 0, 0, 0, 0, 0, 0, 0, 1, 0, 0, 0, 0, 0, 0, 0,
+    1, 0, 0, 0, 0, 0, 0, 0, 0, 0, 0, 0, 0, 0, 0, 0, 1, 1, 0, 0, 0, 0, 3, 97, 98, 99,
 ];
 
 // Its SHA-256, as coreutils' sha256sum gives it.
-const ABC_HASH: &str = "0153b6a03fe5f13941953ecce0ec2fb782967a032faa1bb8780ef96e70cdfbf3";
-
-// Actor 2's "q" at the start.
-const Q: &str = "0100000000000000000000000000000002000000000000000100000000000000010000000000000000000000000000000101000000000171";
+const ABC_HASH: [u8; 32] = [
+    1, 83, 182, 160, 63, 229, 241, 57, 65, 149, 62, 204, 224, 236, 47, 183, 130, 150, 122, 3, 47,
+    170, 27, 184, 120, 14, 249, 110, 112, 205, 251, 243,
+];
 
 // Actor 1's delete of its own second element, behind ABC: sequence number 2, counter 4, 106 bytes.
-const DELETE: &str = "0100000000000000000000000000000001000000000000000200000000000000040000000000000000000000010153b6a03fe5f13941953ecce0ec2fb782967a032faa1bb8780ef96e70cdfbf30000000102000000000000000200000000000000000000000000000001";
+const DELETE: [u8; 106] = [
+    1, 0, 0, 0, 0, 0, 0, 0, 0, 0, 0, 0, 0, 0, 0, 0, 1, 0, 0, 0, 0, 0, 0, 0, 2, 0, 0, 0, 0, 0, 0, 0,
+    4, 0, 0, 0, 0, 0, 0, 0, 0, 0, 0, 0, 1, 1, 83, 182, 160, 63, 229, 241, 57, 65, 149, 62, 204,
+    224, 236, 47, 183, 130, 150, 122, 3, 47, 170, 27, 184, 120, 14, 249, 110, 112, 205, 251, 243,
+    0, 0, 0, 1, 2, 0, 0, 0, 0, 0, 0, 0, 2, 0, 0, 0, 0, 0, 0, 0, 0, 0, 0, 0, 0, 0, 0, 0, 1,
+];
 
 // ABC with bytes in place of its own from a place on, and bytes after it.
 fn altered(alloc: Global, at: usize, bytes: &[u8], after: &[u8]) -> Result<Vec<u8>, AllocError> {
@@ -42,13 +47,9 @@ fn outcome(alloc: Global, bytes: &[u8]) -> u8 {
     }
 }
 
-fn from_hex(alloc: Global, text: &str) -> Result<Vec<u8>, Fail> {
-    Ok(hex::decode(alloc, text).ok().ok_or("no digits")?)
-}
-
 #[test]
 fn single_faults(rt: HostRuntime) -> Result<(), Fail> {
-    let rows: [(usize, &[u8], &[u8], u8); 14] = [
+    let rows: [(usize, &[u8], &[u8], u8); 17] = [
         (0, &[], &[], 0),
         (0, &[], &[0], 3),
         (0, &[2], &[], 1),
@@ -59,6 +60,9 @@ fn single_faults(rt: HostRuntime) -> Result<(), Fail> {
         (50, &[2], &[], 8),
         (54, &[0], &[], 9),
         (55, &[255], &[], 5),
+        (55, &[237, 160, 128], &[], 5),
+        (55, &[192, 128, 97], &[], 5),
+        (55, &[226, 130, 172], &[], 0),
         (25, &[0, 0, 255, 255, 255, 255, 255, 255], &[], 10),
         (25, &[0, 1, 0, 0, 0, 0, 0, 0], &[], 10),
         (25, &[0, 0, 255, 255, 255, 255, 255, 253], &[], 0),
@@ -109,19 +113,50 @@ fn complements(rt: HostRuntime) -> Result<(), Fail> {
 }
 
 #[test]
-fn parts(rt: HostRuntime) -> Result<(), Fail> {
+fn hash(rt: HostRuntime) -> Result<(), Fail> {
     let change = Change::decode(rt.alloc(), &ABC).ok().ok_or("refused")?;
-    assert_eq!(rt; change.hash().0.as_slice(), from_hex(rt.alloc(), ABC_HASH)?.as_slice());
-    let bytes = from_hex(rt.alloc(), Q)?;
-    let change = Change::decode(rt.alloc(), &bytes).ok().ok_or("refused")?;
-    assert_eq!(rt; change.actor(), Actor([0, 0, 0, 0, 0, 0, 0, 0, 0, 0, 0, 0, 0, 0, 0, 2]));
-    let bytes = from_hex(rt.alloc(), DELETE)?;
-    let change = Change::decode(rt.alloc(), &bytes).ok().ok_or("refused")?;
-    assert_eq!(rt; (change.seq(), change.start(), change.time(), change.deps().len()), (2, 4, 0, 1));
+    assert_eq!(rt; change.hash().0, ABC_HASH);
+    Ok(())
+}
+
+#[test]
+fn fields(rt: HostRuntime) -> Result<(), Fail> {
+    let change = Change::decode(rt.alloc(), &DELETE).ok().ok_or("refused")?;
+    assert_eq!(rt; change.actor().0[15], 1);
+    assert_eq!(rt; change.seq(), 2);
+    assert_eq!(rt; change.start(), 4);
+    assert_eq!(rt; change.time(), 0);
+    assert_eq!(rt; change.message(), "");
+    assert_eq!(rt; change.deps().len(), 1);
+    for hash in change.deps() {
+        assert_eq!(rt; hash.0, ABC_HASH);
+    }
     for record in change.records() {
         assert!(rt; matches!(record, Record::Delete { target } if target.counter == 2));
     }
     Ok(())
+}
+
+// A second dependency behind DELETE's own: one that isn't greater is refused.
+#[test]
+fn dependencies_rise(rt: HostRuntime) -> Result<(), Fail> {
+    for (second, want) in [(ABC_HASH, 6), ([0; 32], 6), ([255; 32], 0)] {
+        let mut bytes = Vec::new(rt.alloc());
+        bytes.extend_from_slice(&DELETE[..43])?;
+        bytes.extend_from_slice(&[0, 2])?;
+        bytes.extend_from_slice(&ABC_HASH)?;
+        bytes.extend_from_slice(&second)?;
+        bytes.extend_from_slice(&DELETE[77..])?;
+        assert_eq!(rt; outcome(rt.alloc(), &bytes), want);
+    }
+    Ok(())
+}
+
+// Run with each allocation refused in turn (`rt try --test --fail-alloc N`): OutOfMemory, and no other refusal.
+#[test]
+fn refused_memory(rt: HostRuntime) {
+    let code = outcome(rt.alloc(), &DELETE);
+    assert!(rt; code == 0 || code == 11, "{code}");
 }
 
 // Characters of one to four bytes: four operations in ten bytes.
@@ -136,7 +171,10 @@ fn wide_characters(rt: HostRuntime) -> Result<(), Fail> {
     assert_eq!(rt; bytes.len(), 65);
     for record in change.records() {
         match record {
-            Record::Insert { after: Place::Start, text: run } => assert_eq!(rt; run.as_str(), text),
+            Record::Insert {
+                after: Place::Start,
+                text: run,
+            } => assert_eq!(rt; run.as_str(), text),
             _ => return Err("no insert at the start".into()),
         }
     }

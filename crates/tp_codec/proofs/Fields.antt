@@ -116,11 +116,11 @@ then_field {X} {Z} {E} short first next spell_first FirstFits get spell_next Nex
       ap (λ (b : List ℕ). and_next (first b) next) regrouped ∙ next_of_ok (first (spell_first (get z) ++ (spell_next z ++ rest))) next (get z) (spell_next z ++ rest) (Ok (z, rest)) (f.again (get z) (spell_next z ++ rest) fit.0) ((g (get z) fit.0).again z rest fit.1);
   stays = λ bytes more e fits r apart.
       elim (next_err (first bytes) next e r) [
-      | inl bad ↦ next_of_err (first (bytes ++ more)) next e (f.stays bytes more e fits bad apart)
-      | inr n ↦
-        let a = f.takes bytes n.0.0 n.0.1 fits n.1 in
-        next_of_ok (first (bytes ++ more)) next n.0.0 (n.0.1 ++ more) (Err e) (reads_more short first spell_first FirstFits f bytes more n.0.0 n.0.1 fits n.1)
-          ((g n.0.0 a.1).stays n.0.1 more e (AreBytes-rest (spell_first n.0.0) bytes n.0.1 a.0 fits) n.2 apart)
+        | inl bad ↦ next_of_err (first (bytes ++ more)) next e (f.stays bytes more e fits bad apart)
+        | inr n ↦
+            let a = f.takes bytes n.0.0 n.0.1 fits n.1 in
+            next_of_ok (first (bytes ++ more)) next n.0.0 (n.0.1 ++ more) (Err e) (reads_more short first spell_first FirstFits f bytes more n.0.0 n.0.1 fits n.1)
+            ((g n.0.0 a.1).stays n.0.1 more e (AreBytes-rest (spell_first n.0.0) bytes n.0.1 a.0 fits) n.2 apart)
       ];
 }
 
@@ -211,14 +211,14 @@ unfolding bytes_at
 bytes_field short n =
     front_field short (bytes_at n) (λ b. b) (AreSoMany n)
     (λ bytes x rest fits e.
-      let u = unless_short (ltb (length bytes) n) (take n bytes, drop n bytes) (x, rest) e in
-      let long : n ≤ length bytes = ltb-false _ _ u.0 in
-      let x-is : take n bytes ≡ x = ap (λ (p : List ℕ × List ℕ). p.0) u.1 in
-      let rest-is : drop n bytes ≡ rest = ap (λ (p : List ℕ × List ℕ). p.1) u.1 in
-      rw (← x-is, ← rest-is) (sym (take-append-drop n bytes), record { count = omega (arith, length-take n bytes); each = AreBytes-take n bytes fits }))
+    let u = unless_short (ltb (length bytes) n) (take n bytes, drop n bytes) (x, rest) e in
+    let long : n ≤ length bytes = ltb-false _ _ u.0 in
+    let x-is : take n bytes ≡ x = ap (λ (p : List ℕ × List ℕ). p.0) u.1 in
+    let rest-is : drop n bytes ≡ rest = ap (λ (p : List ℕ × List ℕ). p.1) u.1 in
+    rw (← x-is, ← rest-is) (sym (take-append-drop n bytes), record { count = omega (arith, length-take n bytes); each = AreBytes-take n bytes fits }))
     (λ x rest fit.
-      let long : ltb (length (x ++ rest)) n ≡ false = le-ltb _ _ (omega (arith, length-append x rest, fit.count)) in
-      rw (long, take_at x rest n fit.count, drop_at x rest n fit.count) refl)
+    let long : ltb (length (x ++ rest)) n ≡ false = le-ltb _ _ (omega (arith, length-append x rest, fit.count)) in
+    rw (long, take_at x rest n fit.count, drop_at x rest n fit.count) refl)
 
 -- ---- numbers
 
@@ -258,16 +258,16 @@ unfolding number_at
 number_field short w limit wide =
     front_field short (number_at w) (to_be_bytes w) (λ n. n < limit)
     (λ bytes n rest fits e.
-      let u = unless_short (ltb (length bytes) (byte_len w)) (from_be_bytes w (take (byte_len w) bytes), drop (byte_len w) bytes) (n, rest) e in
-      let long : byte_len w ≤ length bytes = ltb-false _ _ u.0 in
-      let n-is : from_be_bytes w (take (byte_len w) bytes) ≡ n = ap (λ (p : ℕ × List ℕ). p.0) u.1 in
-      let rest-is : drop (byte_len w) bytes ≡ rest = ap (λ (p : ℕ × List ℕ). p.1) u.1 in
-      let front : to_be_bytes w n ≡ take (byte_len w) bytes = rw (← n-is) (wide.back (take (byte_len w) bytes) (omega (arith, length-take (byte_len w) bytes)) (AreBytes-take (byte_len w) bytes fits)) in
-      (rw (front, ← rest-is) (sym (take-append-drop (byte_len w) bytes)), rw (← n-is) (wide.below (take (byte_len w) bytes) (AreBytes-take (byte_len w) bytes fits))))
+    let u = unless_short (ltb (length bytes) (byte_len w)) (from_be_bytes w (take (byte_len w) bytes), drop (byte_len w) bytes) (n, rest) e in
+    let long : byte_len w ≤ length bytes = ltb-false _ _ u.0 in
+    let n-is : from_be_bytes w (take (byte_len w) bytes) ≡ n = ap (λ (p : ℕ × List ℕ). p.0) u.1 in
+    let rest-is : drop (byte_len w) bytes ≡ rest = ap (λ (p : ℕ × List ℕ). p.1) u.1 in
+    let front : to_be_bytes w n ≡ take (byte_len w) bytes = rw (← n-is) (wide.back (take (byte_len w) bytes) (omega (arith, length-take (byte_len w) bytes)) (AreBytes-take (byte_len w) bytes fits)) in
+    (rw (front, ← rest-is) (sym (take-append-drop (byte_len w) bytes)), rw (← n-is) (wide.below (take (byte_len w) bytes) (AreBytes-take (byte_len w) bytes fits))))
     (λ n rest lt.
-      let len = wide.len n in
-      let long : ltb (length (to_be_bytes w n ++ rest)) (byte_len w) ≡ false = le-ltb _ _ (omega (arith, length-append (to_be_bytes w n) rest)) in
-      rw (long, take_at (to_be_bytes w n) rest (byte_len w) len, drop_at (to_be_bytes w n) rest (byte_len w) len, wide.again n lt) refl)
+    let len = wide.len n in
+    let long : ltb (length (to_be_bytes w n ++ rest)) (byte_len w) ≡ false = le-ltb _ _ (omega (arith, length-append (to_be_bytes w n) rest)) in
+    rw (long, take_at (to_be_bytes w n) rest (byte_len w) len, drop_at (to_be_bytes w n) rest (byte_len w) len, wide.again n lt) refl)
 
 -- ---- repeated fields
 
@@ -291,7 +291,7 @@ one_again short field step spell Fits n s f g (x ∷ xs) rest e fit =
     let regrouped : flat_map spell (x ∷ xs) ++ rest ≡ spell x ++ (flat_map spell xs ++ rest) = ap (λ (b : List ℕ). b ++ rest) (flat_map-cons spell x xs) ∙ append_assoc (spell x) (flat_map spell xs) rest in
     ap (λ (b : List ℕ). and_next (field s b) (λ x. and_then (repeat_at field step n (step s x)) (λ xs. give (x ∷ xs)))) regrouped
     ∙ next_of_ok (field s (spell x ++ (flat_map spell xs ++ rest))) (λ x. and_then (repeat_at field step n (step s x)) (λ xs. give (x ∷ xs))) x (flat_map spell xs ++ rest) (Ok (x ∷ xs, rest)) (f.again x (flat_map spell xs ++ rest) fit.0)
-      (next_of_ok (repeat_at field step n (step s x) (flat_map spell xs ++ rest)) (λ xs. give (x ∷ xs)) xs rest (Ok (x ∷ xs, rest)) ((g x).again xs rest (omega arith, fit.1)) refl)
+    (next_of_ok (repeat_at field step n (step s x) (flat_map spell xs ++ rest)) (λ xs. give (x ∷ xs)) xs rest (Ok (x ∷ xs, rest)) ((g x).again xs rest (omega arith, fit.1)) refl)
 
 repeat_none : {S X E : Type 0} (short : E) (field : S → Reads E X) (step : S → X → S) (spell : X → List ℕ) (Fits : S → X → Type 0) (s : S)
     → IsField short (repeat_at field step zero s) (flat_map spell) (λ xs. (length xs ≡ zero) × EachFits Fits step s xs)
@@ -319,16 +319,16 @@ repeat_one {S} {X} {E} short field step spell Fits n s f g = record {
   again = λ ys rest fit. one_again short field step spell Fits n s f g ys rest fit.0 fit.1;
   stays = λ bytes more e fits r apart.
       elim (next_err (field s bytes) (λ x. and_then (repeat_at field step n (step s x)) (λ xs. give (x ∷ xs))) e r) [
-      | inl bad ↦ next_of_err (field s (bytes ++ more)) (λ x. and_then (repeat_at field step n (step s x)) (λ xs. give (x ∷ xs))) e (f.stays bytes more e fits bad apart)
-      | inr a ↦
-        let x = a.0.0 in
-        let t = f.takes bytes x a.0.1 fits a.1 in
-        let after : AreBytes a.0.1 = AreBytes-rest (spell x) bytes a.0.1 t.0 fits in
-        next_of_ok (field s (bytes ++ more)) (λ x. and_then (repeat_at field step n (step s x)) (λ xs. give (x ∷ xs))) x (a.0.1 ++ more) (Err e) (reads_more short (field s) spell (Fits s) f bytes more x a.0.1 fits a.1)
-        (elim (next_err (repeat_at field step n (step s x) a.0.1) (λ xs. give (x ∷ xs)) e a.2) [
-          | inl bad ↦ next_of_err (repeat_at field step n (step s x) (a.0.1 ++ more)) (λ xs. give (x ∷ xs)) e ((g x).stays a.0.1 more e after bad apart)
-          | inr b ↦ absurd (let no : (let r : Result (List X × List ℕ) E = Ok (x ∷ b.0.0, b.0.1) in r) ≡ Err e = b.2 in cc)
-        ])
+        | inl bad ↦ next_of_err (field s (bytes ++ more)) (λ x. and_then (repeat_at field step n (step s x)) (λ xs. give (x ∷ xs))) e (f.stays bytes more e fits bad apart)
+        | inr a ↦
+            let x = a.0.0 in
+            let t = f.takes bytes x a.0.1 fits a.1 in
+            let after : AreBytes a.0.1 = AreBytes-rest (spell x) bytes a.0.1 t.0 fits in
+            next_of_ok (field s (bytes ++ more)) (λ x. and_then (repeat_at field step n (step s x)) (λ xs. give (x ∷ xs))) x (a.0.1 ++ more) (Err e) (reads_more short (field s) spell (Fits s) f bytes more x a.0.1 fits a.1)
+            (elim (next_err (repeat_at field step n (step s x) a.0.1) (λ xs. give (x ∷ xs)) e a.2) [
+              | inl bad ↦ next_of_err (repeat_at field step n (step s x) (a.0.1 ++ more)) (λ xs. give (x ∷ xs)) e ((g x).stays a.0.1 more e after bad apart)
+              | inr b ↦ absurd (let no : (let r : Result (List X × List ℕ) E = Ok (x ∷ b.0.0, b.0.1) in r) ≡ Err e = b.2 in cc)
+            ])
       ];
 }
 
@@ -366,9 +366,9 @@ AreBytes-encode c lt =
     let second : 128 + c / 4096 % 64 < 256 = omega arith in
     either_are (ltb c 128) _ _ (λ t. let small = ltb-true _ _ t in AreBytes-cons c [] (omega (arith, small)) AreBytes-nil)
     (λ f. either_are (ltb c 2048) _ _ (λ t. let small = ltb-true _ _ t in two_bytes (192 + c / 64) (128 + c % 64) (omega (arith, small)) last)
-      (λ g. either_are (ltb c 65536) _ _
-        (λ t. let small = ltb-true _ _ t in AreBytes-cons (224 + c / 4096) ((128 + c / 64 % 64) ∷ (128 + c % 64) ∷ []) (omega (arith, small)) (two_bytes (128 + c / 64 % 64) (128 + c % 64) third last))
-        (λ h. AreBytes-cons (240 + c / 262144) ((128 + c / 4096 % 64) ∷ (128 + c / 64 % 64) ∷ (128 + c % 64) ∷ []) (omega arith) (AreBytes-cons (128 + c / 4096 % 64) ((128 + c / 64 % 64) ∷ (128 + c % 64) ∷ []) second (two_bytes (128 + c / 64 % 64) (128 + c % 64) third last)))))
+    (λ g. either_are (ltb c 65536) _ _
+    (λ t. let small = ltb-true _ _ t in AreBytes-cons (224 + c / 4096) ((128 + c / 64 % 64) ∷ (128 + c % 64) ∷ []) (omega (arith, small)) (two_bytes (128 + c / 64 % 64) (128 + c % 64) third last))
+    (λ h. AreBytes-cons (240 + c / 262144) ((128 + c / 4096 % 64) ∷ (128 + c / 64 % 64) ∷ (128 + c % 64) ∷ []) (omega arith) (AreBytes-cons (128 + c / 4096 % 64) ((128 + c / 64 % 64) ∷ (128 + c % 64) ∷ []) second (two_bytes (128 + c / 64 % 64) (128 + c % 64) third last)))))
 
 scalar_below : (c : ℕ) → scalar c ≡ true → c < 1114112
 scalar_below c s = elim (scalar_cases c s) [ inl low ↦ omega arith | inr high ↦ high.1 ]
@@ -400,20 +400,20 @@ pub characters_field : {E : Type 0} (short bad : E) (n : ℕ) → IsField short 
 unfolding characters_at
 characters_field short bad n =
     then_field short (or_fail short (bytes_at n)) (λ bytes. and_then (require (is_utf8 bytes) bad) (λ _. give (chars bytes))) (λ b. b) (AreSoMany n)
-      encode_utf8_all (λ _. []) (λ bytes text. (is_utf8 bytes ≡ true) × (text ≡ chars bytes))
-      (bytes_field short n)
-      (λ bytes fit. require_field short (is_utf8 bytes) bad (give (chars bytes)) (λ _. []) (λ text. text ≡ chars bytes) (λ _. give_field short (chars bytes)))
-      (λ bytes text fit. ap encode_utf8_all fit.1 ∙ encodes-chars bytes (IsUtf8-from_is_utf8 bytes fit.0))
+    encode_utf8_all (λ _. []) (λ bytes text. (is_utf8 bytes ≡ true) × (text ≡ chars bytes))
+    (bytes_field short n)
+    (λ bytes fit. require_field short (is_utf8 bytes) bad (give (chars bytes)) (λ _. []) (λ text. text ≡ chars bytes) (λ _. give_field short (chars bytes)))
+    (λ bytes text fit. ap encode_utf8_all fit.1 ∙ encodes-chars bytes (IsUtf8-from_is_utf8 bytes fit.0))
 
 pub text_field : {E : Type 0} (short bad : E) (w : Width) (limit : ℕ) → IsWide w limit → IsField short (text_at short bad w) (spelling_of_text w) (FitsText limit)
 unfolding text_at
 text_field short bad w limit wide =
     let outer = then_field short (or_fail short (number_at w)) (characters_at short bad) (to_be_bytes w) (λ n. n < limit)
-      (λ text. length (encode_utf8_all text)) (λ text. encode_utf8_all text ++ []) (λ n text. AreSoMany n (encode_utf8_all text) × ((is_utf8 (encode_utf8_all text) ≡ true) × (text ≡ chars (encode_utf8_all text))))
-      (number_field short w limit wide)
-      (λ n lt. characters_field short bad n)
-      (λ n text fit. fit.0.count) in
+    (λ text. length (encode_utf8_all text)) (λ text. encode_utf8_all text ++ []) (λ n text. AreSoMany n (encode_utf8_all text) × ((is_utf8 (encode_utf8_all text) ≡ true) × (text ≡ chars (encode_utf8_all text))))
+    (number_field short w limit wide)
+    (λ n lt. characters_field short bad n)
+    (λ n text fit. fit.0.count) in
     as_field short (text_at short bad w) (λ text. to_be_bytes w (length (encode_utf8_all text)) ++ (encode_utf8_all text ++ [])) (spelling_of_text w) _ (FitsText limit) outer
-      (λ text fit. ap (λ (b : List ℕ). to_be_bytes w (length (encode_utf8_all text)) ++ b) (append-nil (encode_utf8_all text)))
-      (λ text fit. text_fits limit text fit.0 fit.1.1.0 fit.1.1.1)
-      (λ text fit. text_fitted limit text fit)
+    (λ text fit. ap (λ (b : List ℕ). to_be_bytes w (length (encode_utf8_all text)) ++ b) (append-nil (encode_utf8_all text)))
+    (λ text fit. text_fits limit text fit.0 fit.1.1.0 fit.1.1.1)
+    (λ text fit. text_fitted limit text fit)

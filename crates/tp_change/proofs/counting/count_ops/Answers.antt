@@ -1,4 +1,4 @@
-use Rattle.std.proofs.Common.{◌≡◌, arith}
+use Rattle.std.proofs.Common.{arith}
 use Rattle.std.proofs.lemmas.List.{at_drop_all}
 use Rattle.tp_change.specs.Operations.{count_of}
 use Rattle.tp_change.proofs.Counts.{count_of_drop}

@@ -1,9 +1,9 @@
-use Rattle.std.proofs.Common.{◌∙◌, sym, subst, Ok, Err}
+use Rattle.std.proofs.Common.{◌∙◌, subst}
 use Rattle.std.specs.List.{All}
 use Rattle.std.proofs.lemmas.List.{take_all}
 use Rattle.std.proofs.lemmas.List.Elements.{All-more}
 use Rattle.tp_change.specs.Limits.{IsTypedRecord}
-use Rattle.tp_change.proofs.JudgedSteps.{records_step, records_stop}
+use Rattle.tp_change.proofs.JudgedSteps.{records_step}
 use Rattle.tp_change.proofs.judging.judge_records.Goals as goal
 
 pub loop-entry-preserved : goal.loop-entry-preserved

@@ -1,4 +1,4 @@
-use Rattle.std.proofs.Common.{◌≡◌, ◌++◌, ◌∷◌, [], None, Err}
+use Rattle.std.proofs.Common.{None}
 use Rattle.std.proofs.lemmas.Result.{err_from_is_err_and}
 use Rattle.tp_codec.proofs.Loops.{begins, goes_on, ends, is_done}
 use Rattle.tp_codec.specs.Reading.{repeat_at}
@@ -14,7 +14,7 @@ returns-in_err-hash c =
     let p = err_from_is_err_and c.from_residual.result c.from_residual.ensures.1 in
     rw (p.1, p.2)
     (fails_on c.in_err-hash.field-0.0 (dep_at c.loop.before c.loop.reader) (repeat_at dep_at next_before c.args.count None c.args.reader.now)
-      (λ e. ends dep_at next_before c.loop.deps.items c.args.count c.loop.counter c.loop.before c.loop.reader c.in_err-hash.field-0.0 (repeat_at dep_at next_before c.args.count None c.args.reader.now) c.loop-test.true e c.loop.invariant) c.in_err-hash.ensures)
+    (λ e. ends dep_at next_before c.loop.deps.items c.args.count c.loop.counter c.loop.before c.loop.reader c.in_err-hash.field-0.0 (repeat_at dep_at next_before c.args.count None c.args.reader.now) c.loop-test.true e c.loop.invariant) c.in_err-hash.ensures)
 
 pub loop-preserved : goal.loop-preserved
 loop-preserved c =

@@ -1,4 +1,3 @@
-use Rattle.std.proofs.Common.{◌≡◌, ◌++◌, ◌∷◌, [], None, Err}
 use Rattle.std.proofs.lemmas.Result.{err_from_is_err_and}
 use Rattle.tp_codec.proofs.Loops.{begins, goes_on, ends, is_done}
 use Rattle.tp_codec.specs.Reading.{repeat_at}
@@ -14,7 +13,7 @@ returns-in_err-record c =
     let p = err_from_is_err_and c.from_residual.result c.from_residual.ensures.1 in
     rw (p.1, p.2)
     (fails_on c.in_err-record.field-0.0 (record_at c.loop.left c.loop.reader) (repeat_at record_at room_after c.args.count c.args.room c.args.reader.now)
-      (λ e. ends record_at room_after c.loop.records.items c.args.count c.loop.counter c.loop.left c.loop.reader c.in_err-record.field-0.0 (repeat_at record_at room_after c.args.count c.args.room c.args.reader.now) c.loop-test.true e c.loop.invariant) c.in_err-record.ensures.record)
+    (λ e. ends record_at room_after c.loop.records.items c.args.count c.loop.counter c.loop.left c.loop.reader c.in_err-record.field-0.0 (repeat_at record_at room_after c.args.count c.args.room c.args.reader.now) c.loop-test.true e c.loop.invariant) c.in_err-record.ensures.record)
 
 pub loop-preserved : goal.loop-preserved
 loop-preserved c =

@@ -1,4 +1,4 @@
-use Rattle.std.proofs.Common.{◌≡◌, ◌-◌, None}
+use Rattle.std.proofs.Common.{◌≡◌, ◌-◌}
 use Rattle.tp_codec.specs.Reading.{repeat_at}
 use Rattle.tp_codec.proofs.Loops.{with_front}
 use Rattle.tp_change.specs.Reading.{record_at, room_after}

@@ -1,5 +1,5 @@
 use Rattle.tp_change.proofs.SpellingLaws.{spelling_bounds, hash_of_is}
-use Rattle.tp_change.proofs.laws.sizes.Goals as goal
+use Rattle.tp_change.proofs.layout.sizes.Goals as goal
 
 pub returns-clause-bytes : goal.returns-clause-bytes
 returns-clause-bytes c = spelling_bounds

@@ -1,0 +1,5 @@
+use Rattle.tp_change.proofs.Blame.{front_of_short}
+use Rattle.tp_change.proofs.layout.short_says_missing_alone.Goals as goal
+
+pub returns : goal.returns
+returns c = front_of_short
