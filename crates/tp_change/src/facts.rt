@@ -42,7 +42,7 @@ fn of_place(place: &Place)
 }
 
 /// How many characters a text has.
-fn chars_in(text: &str) -> usize
+pub(crate) fn chars_in(text: &str) -> usize
     ensures { result ≡ length (chars text.now) }
 {
     text.chars().count()

@@ -23,6 +23,8 @@ ghost use Rattle.tp_change.specs.Reading.{actor_at, hash_at, id_at, version_at, 
 
 use crate::change::Change;
 use crate::error::ChangeError;
+use crate::facts::chars_in;
+use crate::limits::{COUNTERS_END, MAX_BYTES, MAX_OPS};
 use crate::parts::ChangeParts;
 use crate::record::Record;
 use sha2::{Digest, Sha256};
@@ -163,7 +165,7 @@ fn start_of(reader: &mut Reader<'_>) -> Result<u64, ChangeError>
     if start < 1 {
         return Err(ChangeError::ZeroSeqOrStart);
     }
-    if start >= 0x1_0000_0000_0000 {
+    if start >= COUNTERS_END {
         return Err(ChangeError::Limit);
     }
     Ok(start)
@@ -231,12 +233,6 @@ fn place_of(reader: &mut Reader<'_>) -> Result<Place, ChangeError>
     place_behind_tag(reader, tag)
 }
 
-fn char_count(text: &Text) -> usize
-    ensures { result ≡ length text.now }
-{
-    text.as_str().chars().count()
-}
-
 // The record, and how many operations may still come after it.
 fn insert_of(
     alloc: Global,
@@ -248,7 +244,7 @@ fn insert_of(
 {
     let after = place_of(reader)?;
     let text = run_of(alloc, reader)?;
-    let count = char_count(&text);
+    let count = chars_in(text.as_str());
     if count < 1 {
         return Err(ChangeError::EmptyRun);
     }
@@ -329,7 +325,7 @@ fn records_of(
     if count < 1 {
         return Err(ChangeError::NoRecords);
     }
-    if count > 65536 {
+    if count as usize > MAX_OPS {
         return Err(ChangeError::Limit);
     }
     Ok(Items::new(counted_records_of(alloc, reader, count, room)?))
@@ -339,7 +335,7 @@ fn records_of(
 fn room_of(start: u64) -> usize
     ensures { result ≡ room_from start }
 {
-    0x1_0000_0000_0000_u64.saturating_sub(start).min(65536) as usize
+    COUNTERS_END.saturating_sub(start).min(MAX_OPS as u64) as usize
 }
 
 fn parts_of(alloc: Global, reader: &mut Reader<'_>) -> Result<ChangeParts, ChangeError>
@@ -367,7 +363,7 @@ fn sized_of(alloc: Global, reader: &mut Reader<'_>, size: usize) -> Result<Chang
     ensures { Gives (λ c. (c, reader.new)) result (sized_at size reader.old) }
 {
     version_of(reader)?;
-    if size > 4_194_304 {
+    if size > MAX_BYTES {
         return Err(ChangeError::Limit);
     }
     parts_of(alloc, reader)

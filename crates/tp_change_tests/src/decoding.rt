@@ -2,7 +2,7 @@
 
 use std::alloc::{AllocError, Global};
 use std::test::*;
-use tp_change::{Change, Record};
+use tp_change::{Change, ChangeError, Record};
 use tp_opid::Place;
 
 // Actor 1's "abc" at the start: sequence number 1, counters from 1, time 0, no message, no dependency.
@@ -39,10 +39,19 @@ fn altered(alloc: Global, at: usize, bytes: &[u8], after: &[u8]) -> Result<Vec<u
     Ok(changed)
 }
 
-// The number of the refusal, or 0 where the bytes are a change.
+// The change encodes to the very bytes.
+fn spells(change: &Change, bytes: &[u8]) -> Result<bool, ChangeError> {
+    Ok(change.encode()?.as_slice() == bytes)
+}
+
+// The number of the refusal, 0 where the bytes are a change that encodes to them, and 255 where it doesn't.
 fn outcome(alloc: Global, bytes: &[u8]) -> u8 {
     match Change::decode(alloc, bytes) {
-        Ok(_) => 0,
+        Ok(change) => match spells(&change, bytes) {
+            Ok(true) => 0,
+            Ok(false) => 255,
+            Err(e) => e.code(),
+        },
         Err(e) => e.code(),
     }
 }
@@ -104,7 +113,6 @@ fn complements(rt: HostRuntime) -> Result<(), Fail> {
         for at in from..to {
             if at < 58 {
                 let changed = altered(rt.alloc(), at, &[!ABC[at]], &[])?;
-                // The merge puts here: a change encodes to the very bytes.
                 assert_eq!(rt; outcome(rt.alloc(), &changed), want, "at {at}");
             }
         }

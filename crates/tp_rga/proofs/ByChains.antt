@@ -1,5 +1,5 @@
 -- The order straight from its definition: steps of its loops.
-use Rattle.std.proofs.Common.{◌≡◌, ◌⊎◌, inl, inr, ℕ, zero, suc, ◌+◌, ◌<◌, ◌≤◌, Bool, true, false, not, ◌&&◌, ◌||◌, ◌==◌, cond, Some, List, [], ◌∷◌, ◌++◌, length, take, drop, get_or, insert, filter, refl, sym, ap, ◌∙◌, subst, arith, ltb, eq-eqb, MatchBool}
+use Rattle.std.proofs.Common.{◌≡◌, inl, inr, ℕ, zero, suc, ◌+◌, ◌<◌, ◌≤◌, Bool, true, false, not, ◌&&◌, ◌||◌, ◌==◌, cond, Some, List, [], ◌∷◌, ◌++◌, length, take, drop, get_or, insert, filter, refl, sym, ap, ◌∙◌, subst, arith, ltb, eq-eqb, MatchBool}
 use Rattle.std.specs.List.{AllWithin, HoldsAt, list_all}
 use Rattle.std.proofs.lemmas.Bool.Decides.{nat_tests}
 use Rattle.std.proofs.lemmas.List.{drop_more, drop_all, take_more, get_or-take, take-append-drop, length-take}
@@ -12,19 +12,20 @@ use Rattle.tp_opid.specs.Order.{Below}
 use Rattle.tp_opid.specs.Same.{id_eq, place_eq}
 use Rattle.tp_opid.proofs.Orders.{Below-irreflexive, Below-trans, Below-asym, Below-cases, id_eq-same, id_eq-itself, id_eq-apart, place_eq-same, place_eq-itself}
 use Rattle.tp_rga.specs.Tree.{Inserts, IsThere, IsNew, HasPlace, IsPlaceBelow, IsTree}
-use Rattle.tp_rga.specs.Order.{Leads, IsChain, Precedes, Before, IsSortedIn, IsInOrder}
-use Rattle.tp_rga.proofs.Trees.{Before-chains, Before-irreflexive, Before-trans, Before-cases}
+use Rattle.tp_rga.specs.Order.{IsChain, Precedes, Before, IsSortedIn}
+use Rattle.tp_rga.proofs.Trees.{Before-chains, Before-trans, Before-cases}
 use Rattle.tp_rga.specs.Same.{same_insert, agrees, is_only}
 use Rattle.tp_rga.proofs.Sets.{In-left, In-right, In-append, In-push, In-last, IsThere-member}
 use Rattle.tp_rga.proofs.Orderings.{IsSortedIn-front, IsSortedIn-back, IsSortedIn-across, IsSortedIn-join}
 use Rattle.tp_rga.proofs.Lookups.{IsFirst, In-middle, In-index, In-get_or}
-use Rattle.tp_rga.proofs.OneOrder.{In-filter, filter-In}
 
 -- ---- how many elements stand below a place
 
+-- the test of the order of identifiers
 is_less : OpId → OpId → Bool
 is_less a b = elim (Below-cases a b) [ inl h ↦ true | inr h ↦ false ]
 
+-- what is below passes the test
 is_less-true : (a b : OpId) → Below a b → is_less a b ≡ true
 unfolding is_less
 is_less-true a b h =
@@ -34,6 +35,7 @@ is_less-true a b h =
       | inr (inr k) ↦ absurd (Below-asym a b h k)
     ]
 
+-- what passes the test is below
 is_less-below : (a b : OpId) → is_less a b ≡ true → Below a b
 unfolding is_less
 is_less-below a b =
@@ -42,9 +44,11 @@ is_less-below a b =
       | inr k ↦ λ e. cc
     ]
 
+-- how many elements stand below an identifier
 below_count : List Insert → OpId → ℕ
 below_count S x = length (filter (λ (e : Insert). is_less e.id x) S)
 
+-- how far a place is from the start, at most: the number of steps to references is below it
 pub rank : List Insert → Place → ℕ
 rank S Start = 0
 rank S (After x) = suc (below_count S x)
@@ -59,6 +63,7 @@ fewer p q (x ∷ xs) narrow =
       | false ↦ λ e. elim (q x) as (λ b. length (filter p xs) ≤ length (cond b (x ∷ filter q xs) (filter q xs))) [ true ↦ omega arith | false ↦ rest ]
     ] refl
 
+-- and one fewer, at least, where a member that passed the wider test fails the narrower one
 strictly_fewer : {X : Type 0} (p q : X → Bool) (xs : List X) → ((x : X) → p x ≡ true → q x ≡ true) → (y : X) → In y xs → p y ≡ false → q y ≡ true → length (filter p xs) < length (filter q xs)
 strictly_fewer p q [] narrow y i out there = absurd i
 strictly_fewer p q (x ∷ xs) narrow y (inl i) out there =
@@ -92,6 +97,7 @@ reference_there S tree x (After r) i = (tree.placed _ i.1).0
 
 -- ---- comparing chains
 
+-- where two chains agree at a place, the comparison goes on behind it
 pub Precedes-step : (c d : List OpId) (i : ℕ) (z : OpId) → i < length c → i < length d → id_eq (get_or c i z) (get_or d i z) ≡ true → (Precedes (drop i c) (drop i d) → Precedes (drop (i + 1) c) (drop (i + 1) d)) × (Precedes (drop (i + 1) c) (drop (i + 1) d) → Precedes (drop i c) (drop i d))
 Precedes-step c d i z in_c in_d same =
     let e = drop_more c i z in_c in
@@ -104,6 +110,7 @@ Precedes-step c d i z in_c in_d same =
       λ h. subst (λ w. Precedes w (drop i d)) (sym e) (subst (λ w. Precedes (get_or c i z ∷ drop (i + 1) c) w) (sym f) (inr (one, h))),
     )
 
+-- where two chains differ, the greater identifier precedes
 pub Precedes-differs : (c d : List OpId) (i : ℕ) (z : OpId) → i < length c → i < length d → id_eq (get_or c i z) (get_or d i z) ≡ false → (Precedes (drop i c) (drop i d) → Below (get_or d i z) (get_or c i z)) × (Below (get_or d i z) (get_or c i z) → Precedes (drop i c) (drop i d))
 Precedes-differs c d i z in_c in_d differ =
     let e = drop_more c i z in_c in
@@ -115,10 +122,7 @@ Precedes-differs c d i z in_c in_d differ =
       λ b. subst (λ w. Precedes w (drop i d)) (sym e) (subst (λ w. Precedes (get_or c i z ∷ drop (i + 1) c) w) (sym f) (inl b)),
     )
 
--- nothing precedes the empty chain, which precedes each other one
-pub Precedes-ended : (c d : List OpId) (i : ℕ) → length d ≤ i → Precedes (drop i c) (drop i d) → ⊥
-Precedes-ended c d i le h = subst (λ w. Precedes (drop i c) w) (drop_all i d le) h
-
+-- a chain that the other agrees with to its end precedes where it is shorter
 pub Precedes-all_same : (c d : List OpId) (i : ℕ) → length c ≤ i → i ≤ length c → (Precedes (drop i c) (drop i d) → ltb (length c) (length d) ≡ true) × (ltb (length c) (length d) ≡ true → Precedes (drop i c) (drop i d))
 Precedes-all_same c d i le ge =
     let e : drop i c ≡ [] = drop_all i c le in (
@@ -139,6 +143,7 @@ Precedes-all_same c d i le ge =
 
 -- ---- an element that a look-up found
 
+-- the insert that a look-up found has its place in the set
 pub Inserts-found : (S : List Insert) (x : OpId) (i : ℕ) (e : Insert) → IsFirst (λ (w : Insert). id_eq w.id x) S (Some i) → e ≡ get_or S i e → Inserts S x e.after
 Inserts-found S x i e h at =
     let is : e ≡ h.1 = at ∙ ap (λ z. get_or z i e) h.3 ∙ get_or_middle h.0 h.1 h.2 i h.4 e in
@@ -153,12 +158,14 @@ Inserts-found S x i e h at =
 
 -- ---- what chains say of two elements
 
+-- the comparison of their chains decides which of two elements stands first
 pub Before-test : (S : List Insert) → IsTree S → (x y : OpId) (c d : List OpId) (b : Bool) → IsChain S x c → IsChain S y d → (b ≡ true → Precedes c d) × (Precedes c d → b ≡ true) → (b ≡ true → Before S x y) × (Before S x y → b ≡ true)
 Before-test S tree x y c d b l k h =
     (λ e. (c, d, l, k, h.0 e), λ before. h.1 (Before-chains S tree x y before c d l k))
 
 -- ---- members read by index
 
+-- what is read at an index is a member
 pub read_member : (S L : List Insert) → AllIn L S → (i : ℕ) (x : Insert) → i < length L → x ≡ get_or L i x → In x S
 read_member S L part i x lt at = subst (λ w. In w S) (sym at) (part (get_or L i x) (In-get_or L i x lt))
 
@@ -170,23 +177,27 @@ read_as L i x r view at = view ∙ at ∙ ap (get_or L i) (sym view)
 take_part : (S : List Insert) (i : ℕ) → AllIn (take i S) S
 take_part S i x j = subst (In x) (take-append-drop i S) (In-left x (take i S) (drop i S) j)
 
+-- the members of a list that has a front of a set are of the set
 pub part_members : (S : List Insert) (i : ℕ) (L : List Insert) → SameMembers (take i S) L → AllIn L S
 part_members S i L same x j = take_part S i x (same.back x j)
 
 -- ---- a list with one more element at its place
 
+-- what holds below an index holds of the members of that front
 past_members : (P : Insert → Type 0) (L : List Insert) (i : ℕ) → AllWithin P L 0 i → (x : Insert) → In x (take i L) → P x
 past_members P L i all x j =
     let r = In-index x (take i L) j in
     let short : r.0 < i = omega (arith, r.1, length-take i L) in
     subst P (sym (get_or-take i L r.0 x short) ∙ r.2 x) (all r.0 x (omega arith) short)
 
+-- what holds at an index holds of the first element behind
 not_before_first : (P : Insert → Type 0) (L : List Insert) (i : ℕ) → (i < length L → HoldsAt P L i) → (h : Insert) (B : List Insert) → drop i L ≡ h ∷ B → P h
 not_before_first P [] zero stops h B e = cc
 not_before_first P [] (suc i) stops h B e = cc
 not_before_first P (a ∷ L) zero stops h B e = let same : a ≡ h = cc in subst P same (stops (omega arith) a)
 not_before_first P (a ∷ L) (suc i) stops h B e = not_before_first P L i (λ lt d. stops (omega arith) d) h B e
 
+-- a sorted list with one more element, behind all that are before it
 pub put_sorted : (S : List Insert) → IsTree S → (L : List Insert) → AllIn L S → IsSortedIn S L → (x : Insert) → In x S → IsNew L x.id → (i : ℕ) → AllWithin (λ (e : Insert). Before S e.id x.id) L 0 i → (i < length L → HoldsAt (λ (e : Insert). Before S e.id x.id → ⊥) L i) → IsSortedIn S (insert L i x)
 put_sorted S tree L part sorted x x_in new i passed stops =
     let F = take i L in
@@ -252,13 +263,16 @@ same_more_there S tree i L x lt at same there =
 
 -- ---- the test of a tree
 
+-- both of two tests that hold together
 and_both : (a b : Bool) → (a && b) ≡ true → (a ≡ true) × (b ≡ true)
 and_both true b e = (refl, e)
 and_both false b e = cc
 
+-- numbers that the test finds equal are
 eqb-same : (m n : ℕ) → (m == n) ≡ true → m ≡ n
 eqb-same m n e = grind (arith, nat_tests)
 
+-- inserts that the test finds equal are
 same_insert-same : (a b : Insert) → same_insert a b ≡ true → a ≡ b
 same_insert-same a b e =
     let ab = and_both (id_eq a.id b.id && place_eq a.after b.after) (a.ch == b.ch) e in
@@ -271,6 +285,7 @@ same_insert-same a b e =
     made_of : (i j : OpId) (p q : Place) (c d : ℕ) → i ≡ j → p ≡ q → c ≡ d → (let x : Insert = record { id = i; after = p; ch = c } in x) ≡ record { id = j; after = q; ch = d }
     made_of i j p q c d e f g = cc
 
+-- an insert is found equal to itself
 same_insert-itself : (a : Insert) → same_insert a a ≡ true
 same_insert-itself a =
     let i = id_eq-itself a.id in
@@ -278,11 +293,13 @@ same_insert-itself a =
     let c : (a.ch == a.ch) ≡ true = eq-eqb a.ch a.ch refl in
     cc
 
+-- an insert that agrees with another and has its identifier is it
 agrees-same : (e a : Insert) → agrees e a ≡ true → a.id ≡ e.id → a ≡ e
 agrees-same e a t same =
     let found : id_eq a.id e.id ≡ true = ap (λ w. id_eq w e.id) same ∙ id_eq-itself e.id in
     same_insert-same a e (subst (λ b. (not b || same_insert a e) ≡ true) found t)
 
+-- an insert that is the other wherever it has its identifier agrees with it
 agrees-is : (e a : Insert) → (a.id ≡ e.id → a ≡ e) → agrees e a ≡ true
 agrees-is e a h =
     elim (id_eq a.id e.id) as (λ b. id_eq a.id e.id ≡ b → (not b || same_insert a e) ≡ true) [
@@ -290,15 +307,18 @@ agrees-is e a h =
       | false ↦ λ k. refl
     ] refl
 
+-- what passes in a whole list passes at each member
 list_all-member : (p : Insert → Bool) (xs : List Insert) → list_all p xs ≡ true → (x : Insert) → In x xs → p x ≡ true
 list_all-member p [] e x i = absurd i
 list_all-member p (y ∷ xs) e x (inl i) = ap p i ∙ (and_both (p y) (list_all p xs) e).0
 list_all-member p (y ∷ xs) e x (inr i) = list_all-member p xs (and_both (p y) (list_all p xs) e).1 x i
 
+-- what passes at each member passes in the whole list
 list_all-from : (p : Insert → Bool) (xs : List Insert) → ((x : Insert) → In x xs → p x ≡ true) → list_all p xs ≡ true
 list_all-from p [] h = refl
 list_all-from p (y ∷ xs) h = let here = h y (inl refl) in let rest = list_all-from p xs (λ x i. h x (inr i)) in cc
 
+-- where each insert has its place and is the only one of its identifier, the set is a tree
 pub IsTree-from : (S : List Insert) (n : ℕ) → length S ≤ n → AllWithin (λ (e : Insert). IsPlaceBelow S e.id e.after × (is_only S e ≡ true)) S 0 n → IsTree S
 IsTree-from S n le all =
     let each : (e : Insert) → In e S → IsPlaceBelow S e.id e.after × (is_only S e ≡ true) = (λ e i.
@@ -309,10 +329,12 @@ IsTree-from S n le all =
       placed = λ e i. (each e i).0;
     }
 
+-- an insert beside another of its identifier is in no tree
 pub not_tree-only : (S : List Insert) (e : Insert) → In e S → is_only S e ≡ false → IsTree S → ⊥
 not_tree-only S e i other tree =
     let yes : is_only S e ≡ true = list_all-from (agrees e) S (λ a j. agrees-is e a (λ same. tree.once a e j i same)) in cc
 
+-- an insert without its place is in no tree
 pub not_tree-place : (S : List Insert) (e : Insert) → In e S → (b : Bool) → b ≡ false → (IsPlaceBelow S e.id e.after → b ≡ true) → IsTree S → ⊥
 not_tree-place S e i b out test tree = let yes : b ≡ true = test (tree.placed e i) in cc
 
@@ -321,6 +343,7 @@ pub new_of : (L : List Insert) (x : OpId) (b : Bool) → MatchBool b (IsThere L 
 new_of L x true h e = cc
 new_of L x false h e = h
 
+-- what a look-up says where it finds an element
 pub there_of : (L : List Insert) (x : OpId) (b : Bool) → MatchBool b (IsThere L x) (IsNew L x) → b ≡ true → IsThere L x
 there_of L x true h e = h
 there_of L x false h e = cc

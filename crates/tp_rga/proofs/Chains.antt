@@ -10,11 +10,13 @@ abbrev pub AllBelow : OpId → List OpId → Type 0
 AllBelow x [] = Unit {0}
 AllBelow x (y ∷ d) = Below y x × AllBelow x d
 
+-- no chain precedes itself
 pub Precedes-irreflexive : (c : List OpId) → Precedes c c → ⊥
 Precedes-irreflexive [] h = h
 Precedes-irreflexive (a ∷ c) (inl h) = Below-irreflexive a h
 Precedes-irreflexive (a ∷ c) (inr h) = Precedes-irreflexive c h.1
 
+-- the order of chains is transitive
 pub Precedes-trans : (c d e : List OpId) → Precedes c d → Precedes d e → Precedes c e
 Precedes-trans c d [] h k = k
 Precedes-trans c [] (z ∷ e) h k = absurd h
@@ -24,6 +26,7 @@ Precedes-trans (x ∷ c) (y ∷ d) (z ∷ e) (inl h) (inr k) = inl (subst (λ w.
 Precedes-trans (x ∷ c) (y ∷ d) (z ∷ e) (inr h) (inl k) = inl (subst (λ w. Below z w) (sym h.0) k)
 Precedes-trans (x ∷ c) (y ∷ d) (z ∷ e) (inr h) (inr k) = inr (h.0 ∙ k.0, Precedes-trans c d e h.1 k.1)
 
+-- of two chains not both precede the other
 pub Precedes-asym : (c d : List OpId) → Precedes c d → Precedes d c → ⊥
 Precedes-asym c d h k = Precedes-irreflexive c (Precedes-trans c d c h k)
 

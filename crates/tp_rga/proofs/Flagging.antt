@@ -1,7 +1,8 @@
 -- Flags of a list: what they leave of it, and where.
-use Rattle.std.proofs.Common.{◌≡◌, ℕ, zero, suc, ◌+◌, ◌<◌, ◌≤◌, Bool, true, false, not, cond, Option, Some, None, List, [], ◌∷◌, ◌++◌, length, take, drop, get_or, insert, filter, map, slice_get, refl, sym, ap, ◌∙◌, subst, arith, inl, inr}
+use Rattle.std.proofs.Common.{◌≡◌, ℕ, zero, suc, ◌≤◌, Bool, true, false, not, cond, Some, None, List, [], ◌∷◌, length, take, get_or, insert, filter, map, slice_get, refl, sym, ap, subst, arith, inl, inr}
 use Rattle.tp_list.specs.Members.{In}
 
+-- a map of a list with one more element put in
 pub map-insert : {X Y : Type 0} (f : X → Y) (L : List X) (i : ℕ) (x : X) → map f (insert L i x) ≡ insert (map f L) i (f x)
 map-insert f L zero x = refl
 map-insert f [] (suc i) x = refl
@@ -17,11 +18,13 @@ length-filter-insert p (y ∷ L) (suc i) x e =
       | false ↦ length-filter-insert p L i x e
     ]
 
+-- two functions that agree on the members give one list
 pub map_agree : {X Y : Type 0} (f g : X → Y) (L : List X) → ((x : X) → In x L → f x ≡ g x) → map f L ≡ map g L
 map_agree f g [] same = refl
 map_agree f g (x ∷ L) same =
     let here = same x (inl refl) in let rest = map_agree f g L (λ y i. same y (inr i)) in cc
 
+-- two tests that agree on the members keep the same
 pub filter_agree_in : {X : Type 0} (p q : X → Bool) (L : List X) → ((x : X) → In x L → p x ≡ q x) → filter p L ≡ filter q L
 filter_agree_in p q [] same = refl
 filter_agree_in p q (x ∷ L) same =
@@ -49,11 +52,13 @@ slice_get-left f (y ∷ L) (suc k) x down here =
       | false ↦ rest
     ]
 
+-- nothing stands past the end
 pub slice_get-past : {X : Type 0} (L : List X) (i : ℕ) → length L ≤ i → slice_get L i ≡ None
 slice_get-past [] i h = refl
 slice_get-past (x ∷ L) zero h = absurd (omega arith)
 slice_get-past (x ∷ L) (suc i) h = slice_get-past L i (omega arith)
 
+-- a front of a map
 pub take-map_lem : {X Y : Type 0} (f : X → Y) (k : ℕ) (L : List X) → take k (map f L) ≡ map f (take k L)
 take-map_lem f zero L = refl
 take-map_lem f (suc k) [] = refl

@@ -1,11 +1,9 @@
 -- What an insert and a delete leave of a plain sequence's parts, and what its reads find.
-use Rattle.std.proofs.Common.{◌≡◌, ℕ, zero, suc, ◌+◌, ◌-◌, ◌<◌, ◌≤◌, Bool, true, false, not, ◌||◌, cond, Option, Some, None, List, [], ◌∷◌, ◌++◌, length, take, drop, get_or, insert, set, filter, map, position, slice_get, refl, sym, ap, ◌∙◌, subst, arith, inl, inr}
+use Rattle.std.proofs.Common.{◌≡◌, ℕ, zero, suc, ◌+◌, ◌-◌, ◌≤◌, Bool, true, false, not, ◌||◌, cond, Some, None, List, [], ◌∷◌, ◌++◌, length, take, drop, get_or, insert, set, filter, map, position, slice_get, refl, sym, ap, ◌∙◌, subst, arith, inl, inr}
 use Rattle.std.specs.List.{list_any}
 use Rattle.std.specs.Option.{option_map}
 use Rattle.std.proofs.lemmas.List.{take-append-drop, set_at, length-map, map-append}
-use Rattle.std.proofs.lemmas.List.Elements.{filter-append}
-use Rattle.std.proofs.lemmas.List.Folds.{list_any-append}
-use Rattle.tp_list.specs.Members.{In, AllIn}
+use Rattle.tp_list.specs.Members.{In}
 use Rattle.tp_opid.specs.declared.op_id.OpId.{OpId}
 use Rattle.tp_opid.specs.Insert.{Insert}
 use Rattle.tp_opid.specs.Same.{id_eq}
@@ -14,15 +12,17 @@ use Rattle.tp_rga.specs.Tree.{IsThere, IsNew, AreApart}
 use Rattle.tp_rga.specs.Shown.{is_removed, shown, shown_before}
 use Rattle.tp_rga.specs.Kept.{IsKept}
 use Rattle.tp_rga.proofs.Sets.{In-left, In-right, In-append, IsThere-grow}
-use Rattle.tp_rga.proofs.Lookups.{IsFirst, In-middle, position-first, IsThere-not_new}
+use Rattle.tp_rga.proofs.Lookups.{IsFirst, In-middle}
 use Rattle.tp_rga.proofs.Flagging.{map-insert, length-filter-insert, map_agree, filter_agree_in, length-left, slice_get-left, slice_get-past, take-map_lem}
 
 -- ---- an insert
 
-id_eq-apart_back : (a b : OpId) → id_eq a b ≡ false → id_eq b a ≡ false
+-- apart is apart the other way round
+pub id_eq-apart_back : (a b : OpId) → id_eq a b ≡ false → id_eq b a ≡ false
 id_eq-apart_back a b e =
     elim (id_eq b a) as (λ v. id_eq b a ≡ v → v ≡ false) [ true ↦ λ h. absurd (id_eq-apart a b e (sym (id_eq-same b a h))) | false ↦ λ h. refl ] refl
 
+-- a list without two of one identifier, with a new one put in
 AreApart-put : (A B : List Insert) (x : Insert) → AreApart (A ++ B) → IsNew (A ++ B) x.id → AreApart (A ++ x ∷ B)
 AreApart-put [] B x apart new = (λ e i. id_eq-apart_back x.id e.id (id_eq-apart_back e.id x.id (new e i)), apart)
 AreApart-put (a ∷ A) B x apart new = (
@@ -41,6 +41,7 @@ is_removed-new L (r ∷ R) x targets new =
     let here : id_eq r.0 x ≡ false = new _ (targets r (inl refl)).1.1 in
     subst (λ b. (b || list_any (λ s. id_eq s.0 x) R) ≡ false) (sym here) (is_removed-new L R x (λ s i. targets s (inr i)) new)
 
+-- a new element with its flag down
 pub IsKept-insert : (L : List Insert) (flags : List Bool) (R : List (OpId × OpId)) (n i : ℕ) (x : Insert) → IsKept L flags R n → IsNew L x.id → IsKept (insert L i x) (insert flags i false) R (n + 1)
 IsKept-insert L flags R n i x kept new =
     let whole : take i L ++ drop i L ≡ L = take-append-drop i L in
@@ -57,11 +58,13 @@ IsKept-insert L flags R n i x kept new =
 
 -- ---- a delete
 
-removed-other : (R : List (OpId × OpId)) (t b x : OpId) → id_eq t x ≡ false → is_removed (R ++ (t, b) ∷ []) x ≡ is_removed R x
+-- a delete of another element changes nothing
+pub removed-other : (R : List (OpId × OpId)) (t b x : OpId) → id_eq t x ≡ false → is_removed (R ++ (t, b) ∷ []) x ≡ is_removed R x
 removed-other [] t b x e = ap (λ v. v || false) e
 removed-other (r ∷ R) t b x e = ap (λ v. id_eq r.0 x || v) (removed-other R t b x e)
 
-removed-itself : (R : List (OpId × OpId)) (t b x : OpId) → id_eq t x ≡ true → is_removed (R ++ (t, b) ∷ []) x ≡ true
+-- a delete of an element deletes it
+pub removed-itself : (R : List (OpId × OpId)) (t b x : OpId) → id_eq t x ≡ true → is_removed (R ++ (t, b) ∷ []) x ≡ true
 removed-itself [] t b x e = ap (λ v. v || false) e
 removed-itself (r ∷ R) t b x e =
     elim (id_eq r.0 x) as (λ v. (v || is_removed (R ++ (t, b) ∷ []) x) ≡ true) [ true ↦ refl | false ↦ removed-itself R t b x e ]
@@ -72,6 +75,7 @@ AreApart-front [] e B apart d i = absurd i
 AreApart-front (a ∷ A) e B apart d (inl i) = subst (λ (w : Insert). id_eq e.id w.id ≡ false) (sym i) (apart.0 e (In-middle A e B))
 AreApart-front (a ∷ A) e B apart d (inr i) = AreApart-front A e B apart.1 d i
 
+-- and likewise what stands behind it
 AreApart-back : (A : List Insert) (e : Insert) (B : List Insert) → AreApart (A ++ e ∷ B) → (d : Insert) → In d B → id_eq e.id d.id ≡ false
 AreApart-back [] e B apart d i = id_eq-apart_back d.id e.id (apart.0 d i)
 AreApart-back (a ∷ A) e B apart d i = AreApart-back A e B apart.1 d i
@@ -95,12 +99,6 @@ kept_again R t b A e B apart names removed d i =
       | inr (inl j) ↦ subst (λ w. is_removed R w ≡ is_removed (R ++ (t, b) ∷ []) w) (sym (ap (λ (w : Insert). w.id) j ∙ names)) (removed ∙ sym (removed-itself R t b t (id_eq-itself t)))
       | inr (inr j) ↦ other d.id (AreApart-back A e B apart d j)
     ]
-
-found_is : (A : List Insert) (e : Insert) (B : List Insert) (i : ℕ) → length A ≡ i → (d : Insert) → get_or (A ++ e ∷ B) i d ≡ e
-found_is [] e B zero h d = refl
-found_is [] e B (suc i) h d = absurd (omega arith)
-found_is (a ∷ A) e B zero h d = absurd (omega arith)
-found_is (a ∷ A) e B (suc i) h d = found_is A e B i (omega arith) d
 
 -- the flag of the element that a look-up found
 flag_of_found : (L : List Insert) (R : List (OpId × OpId)) (t : OpId) (i : ℕ) (h : IsFirst (λ (e : Insert). id_eq e.id t) L (Some i)) (b : Bool) → b ≡ get_or (map (λ (e : Insert). is_removed R e.id) L) i b → is_removed R t ≡ b
@@ -186,6 +184,7 @@ shown-found L flags R n k i x kept down before here =
     let count : length (filter not (take k (map f L))) ≡ i = ap (λ z. length (filter not (take k z))) (sym kept.flagged) ∙ before in
     subst (λ m. slice_get (shown R L) m ≡ Some x) count (slice_get-left f L k x (subst (λ z. slice_get z k ≡ Some false) kept.flagged down) here)
 
+-- past what is shown there is nothing
 pub shown-past : (L : List Insert) (flags : List Bool) (R : List (OpId × OpId)) (n i : ℕ) → IsKept L flags R n → length (filter not flags) ≤ i → slice_get (shown R L) i ≡ None
 shown-past L flags R n i kept past =
     let e : length (filter not flags) ≡ length (shown R L) = ap (λ z. length (filter not z)) kept.flagged ∙ length-left (λ (e : Insert). is_removed R e.id) L in
@@ -197,9 +196,11 @@ shown-before L flags R n k kept =
     let f : Insert → Bool = λ (e : Insert). is_removed R e.id in
     ap (λ z. length (filter not (take k z))) kept.flagged ∙ ap (λ z. length (filter not z)) (take-map_lem f k L) ∙ length-left f (take k L)
 
+-- how many are shown before an element that a look-up found
 pub shown_before-found : (R : List (OpId × OpId)) (L : List Insert) (x : OpId) (k : ℕ) → position (λ (e : Insert). id_eq e.id x) L ≡ Some k → shown_before R L x ≡ Some (length (shown R (take k L)))
 shown_before-found R L x k e = ap (option_map (λ i. length (shown R (take i L)))) e
 
+-- a test keeps no more than there is
 length-filter_le : {X : Type 0} (p : X → Bool) (xs : List X) → length (filter p xs) ≤ length xs
 length-filter_le p [] = omega arith
 length-filter_le p (x ∷ xs) =

@@ -8,3 +8,4 @@ pub mod Flagging
 pub mod Keeping
 pub mod OneOrder
 pub mod ByChains
+pub mod Edits

@@ -1,39 +1,43 @@
 -- Look-ups in a list, from indexes to members, and the place that the code finds.
-use Rattle.std.proofs.Common.{◌≡◌, ◌⊎◌, inl, inr, ℕ, zero, suc, ◌+◌, ◌-◌, ◌<◌, ◌≤◌, Bool, true, false, not, cond, ltb, Option, Some, None, List, [], ◌∷◌, ◌++◌, length, take, drop, get_or, insert, position, refl, sym, ap, ◌∙◌, subst, arith, append_assoc, MatchBool, IfNone, add-one, length-take, length-drop}
-use Rattle.std.specs.List.{All, AllWithin, HoldsAt, position_or_len, prefix_len}
+use Rattle.std.proofs.Common.{◌≡◌, inl, inr, ℕ, zero, suc, ◌+◌, ◌-◌, ◌<◌, ◌≤◌, Bool, true, false, not, cond, ltb, Option, Some, None, List, [], ◌∷◌, ◌++◌, length, take, drop, get_or, insert, position, refl, sym, ap, ◌∙◌, subst, arith, append_assoc, MatchBool, length-take}
+use Rattle.std.specs.List.{All, AllWithin, HoldsAt, position_or_len}
 use Rattle.std.specs.Option.{option_map, is_some}
 use Rattle.std.proofs.lemmas.Bool.Decides.{nat_tests}
-use Rattle.std.proofs.lemmas.List.{take_more, drop_more, get_or-take, get_or-drop, take-append-drop, length-take-le, drop-drop}
-use Rattle.tp_list.specs.Members.{In, AllIn, SameMembers}
+use Rattle.std.proofs.lemmas.List.{take_more, get_or-take, get_or-drop, take-append-drop, drop-drop}
+use Rattle.tp_list.specs.Members.{In}
 use Rattle.tp_opid.specs.declared.op_id.OpId.{OpId}
 use Rattle.tp_opid.specs.declared.op_id.Place.{Place}
-use Rattle.tp_opid.specs.declared.op_id.Place.TheVariants.{Start, After}
+use Rattle.tp_opid.specs.declared.op_id.Place.TheVariants.{After}
 use Rattle.tp_opid.specs.Insert.{Insert}
 use Rattle.tp_opid.specs.Order.{Below}
 use Rattle.tp_opid.specs.Same.{id_eq}
 use Rattle.tp_opid.proofs.Orders.{id_eq-same, id_eq-itself}
-use Rattle.tp_rga.specs.Tree.{IsThere, IsNew, HasPlace, IsPlaceBelow, IsTree, CanInsert}
+use Rattle.tp_rga.specs.Tree.{IsThere, IsNew, IsPlaceBelow, CanInsert}
 use Rattle.tp_rga.specs.Order.{EndsAt, IsInOrder, IsInserted}
 use Rattle.tp_rga.proofs.Sets.{SameMembers-sym, CanInsert-same}
-use Rattle.tp_rga.proofs.Places.{AllAbove, StopsAt, put_in_order}
+use Rattle.tp_rga.proofs.Places.{StopsAt, put_in_order}
 
 -- ---- members by index
 
+-- a member stands at some index
 pub In-index : {X : Type 0} (x : X) (xs : List X) → In x xs → (k : ℕ) × (k < length xs) × ((d : X) → get_or xs k d ≡ x)
 In-index x [] i = absurd i
 In-index x (y ∷ xs) (inl e) = (zero, omega arith, λ d. sym e)
 In-index x (y ∷ xs) (inr i) = let r = In-index x xs i in (suc r.0, omega (arith, r.1), r.2)
 
+-- what stands at an index is a member
 pub In-get_or : {X : Type 0} (xs : List X) (k : ℕ) (d : X) → k < length xs → In (get_or xs k d) xs
 In-get_or [] k d h = absurd (omega arith)
 In-get_or (x ∷ xs) zero d h = inl refl
 In-get_or (x ∷ xs) (suc k) d h = inr (In-get_or xs k d (omega arith))
 
+-- what holds at each index holds of each member
 pub All-member : {X : Type 0} (P : X → Type 0) (xs : List X) → All P xs → (x : X) → In x xs → P x
 All-member P xs all x i = let r = In-index x xs i in subst P (r.2 x) (all r.0 x r.1)
 
 -- ---- the first that passes
 
+-- the first that passes, of a list with one more in front
 position-cons : {X : Type 0} (p : X → Bool) (x : X) (xs : List X) → position p (x ∷ xs) ≡ cond (p x) (Some 0) (option_map (λ i. suc i) (position p xs))
 position-cons p x xs =
     let rest : ℕ = position_or_len p xs in
@@ -54,12 +58,14 @@ abbrev pub IsFirst : {X : Type 0} → (X → Bool) → List X → Option ℕ →
 IsFirst {X} p xs None = (e : X) → In e xs → p e ≡ false
 IsFirst {X} p xs (Some i) = (A : List X) × (e : X) × (B : List X) × (xs ≡ A ++ e ∷ B) × (length A ≡ i) × (p e ≡ true) × ((d : X) → In d A → p d ≡ false)
 
+-- where the first that passes stands, of a list with one more in front
 IsFirst-cons : {X : Type 0} (p : X → Bool) (x : X) (xs : List X) (b : Bool) → p x ≡ b → (r : Option ℕ) → IsFirst p xs r → IsFirst p (x ∷ xs) (cond b (Some 0) (option_map (λ i. suc i) r))
 IsFirst-cons p x xs true e r h = ([], x, xs, refl, refl, e, λ d i. absurd i)
 IsFirst-cons p x xs false e None h = λ y i. elim i as (λ _. p y ≡ false) [ inl k ↦ ap p k ∙ e | inr k ↦ h y k ]
 IsFirst-cons p x xs false e (Some i) h =
     (x ∷ h.0, h.1, h.2, ap (λ z. x ∷ z) h.3, ap suc h.4, h.5, λ d j. elim j as (λ _. p d ≡ false) [ inl k ↦ ap p k ∙ e | inr k ↦ h.6 d k ])
 
+-- a look-up finds the first that passes
 pub position-first : {X : Type 0} (p : X → Bool) (xs : List X) → IsFirst p xs (position p xs)
 position-first p [] = λ e i. absurd i
 position-first p (x ∷ xs) =
@@ -67,10 +73,12 @@ position-first p (x ∷ xs) =
 
 -- ---- elements by identifier
 
+-- what stands between two parts is a member
 pub In-middle : {X : Type 0} (A : List X) (e : X) (B : List X) → In e (A ++ e ∷ B)
 In-middle [] e B = inl refl
 In-middle (x ∷ A) e B = inr (In-middle A e B)
 
+-- an element that passes the test for an identifier shows that it is there
 pub IsThere-found : (L : List Insert) (x : OpId) (e : Insert) → In e L → id_eq e.id x ≡ true → IsThere L x
 IsThere-found L x e i t = (e.after, (e.ch, subst (λ w. In (record { id = w; after = e.after; ch = e.ch }) L) (id_eq-same e.id x t) i))
 
@@ -87,6 +95,7 @@ found_or_new L x None h = h
 found_or_new L x (Some i) h =
     IsThere-found L x h.1 (subst (λ w. In h.1 w) (sym h.3) (In-middle h.0 h.1 h.2)) h.5
 
+-- whether a look-up finds an element says whether it is there
 pub found-position : (L : List Insert) (x : OpId) → MatchBool (is_some (position (λ (e : Insert). id_eq e.id x) L)) (IsThere L x) (IsNew L x)
 found-position L x = found_or_new L x _ (position-first (λ (e : Insert). id_eq e.id x) L)
 
@@ -98,6 +107,7 @@ EndsAt-found [] i r within here = absurd (omega arith)
 EndsAt-found (d ∷ L) i r within here =
     (take i (d ∷ L), get_or (d ∷ L) i d, take_more (d ∷ L) i d within, id_eq-same _ r (here d))
 
+-- what holds between two indexes holds of the members between them
 AllWithin-member : {X : Type 0} (P : X → Type 0) (xs : List X) (low high : ℕ) → low ≤ high → AllWithin P xs low high → (x : X) → In x (take (high - low) (drop low xs)) → P x
 AllWithin-member P xs low high le all x i =
     let r = In-index x (take (high - low) (drop low xs)) i in
@@ -105,12 +115,14 @@ AllWithin-member P xs low high le all x i =
     let here : get_or xs (low + r.0) x ≡ x = sym (get_or-drop low xs r.0 x) ∙ sym (get_or-take (high - low) (drop low xs) r.0 x short) ∙ r.2 x in
     subst P here (all (low + r.0) x (omega arith) (omega arith))
 
+-- what holds at an index holds of what stands behind
 StopsAt-found : (L : List Insert) (x : OpId) (to : ℕ) → (to < length L → HoldsAt (λ (e : Insert). Below x e.id → ⊥) L to) → StopsAt x (drop to L)
 StopsAt-found [] x zero h = tt
 StopsAt-found [] x (suc to) h = tt
 StopsAt-found (e ∷ L) x zero h = h (omega arith) e
 StopsAt-found (e ∷ L) x (suc to) h = StopsAt-found L x to (λ lt d. h (omega arith) d)
 
+-- a front of the empty list
 take-nil : {X : Type 0} (n : ℕ) → take {A = X} n [] ≡ []
 take-nil zero = refl
 take-nil (suc n) = refl
@@ -143,6 +155,7 @@ place_found L x from to can le within ends passed stops =
 
 -- ---- the tests of what an insert needs
 
+-- an element that is there and below is a place for an insert, and only that
 pub IsPlaceBelow-test : (L : List Insert) (x r : OpId) (b : Bool) → Below r x → MatchBool b (IsThere L r) (IsNew L r) → (b ≡ true → IsPlaceBelow L x (After r)) × (IsPlaceBelow L x (After r) → b ≡ true)
 IsPlaceBelow-test L x r true below h = (λ e. (h, below), λ p. refl)
 IsPlaceBelow-test L x r false below h = (λ e. cc, λ p. absurd (IsThere-not_new L r p.0 h))
@@ -152,9 +165,11 @@ pub CanInsert-there : (L : List Insert) (x : OpId) (p : Place) (b : Bool) → b 
 CanInsert-there L x p true e h = (λ k. cc, λ can. absurd (IsThere-not_new L x h can.new))
 CanInsert-there L x p false e h = cc
 
+-- the answer of a look-up decides whether an element is there
 pub IsThere-test : (L : List Insert) (x : OpId) (b : Bool) → MatchBool b (IsThere L x) (IsNew L x) → (b ≡ true → IsThere L x) × (IsThere L x → b ≡ true)
 IsThere-test L x true h = (λ e. h, λ there. refl)
 IsThere-test L x false h = (λ e. cc, λ there. absurd (IsThere-not_new L x there h))
 
+-- what a look-up says, by its answer
 pub IsFirst-position : (L : List Insert) (x : OpId) (r : Option ℕ) → position (λ (e : Insert). id_eq e.id x) L ≡ r → IsFirst (λ (e : Insert). id_eq e.id x) L r
 IsFirst-position L x r e = subst (IsFirst (λ (w : Insert). id_eq w.id x) L) e (position-first (λ (w : Insert). id_eq w.id x) L)

@@ -1,19 +1,17 @@
 -- A tree has one list in order; it depends on the set alone, and its parts stand in order for parts of the tree.
-use Rattle.std.proofs.Common.{◌≡◌, ◌⊎◌, inl, inr, Bool, true, false, not, cond, ◌||◌, List, [], ◌∷◌, ◌++◌, filter, take, drop, insert, refl, sym, ap, ◌∙◌, subst}
-use Rattle.std.specs.List.{list_any}
+use Rattle.std.proofs.Common.{◌≡◌, inl, inr, Bool, true, false, not, cond, ◌||◌, List, [], ◌∷◌, ◌++◌, filter, take, drop, insert, refl, sym, ap, ◌∙◌, subst}
 use Rattle.std.proofs.lemmas.List.Elements.{filter_agree}
 use Rattle.tp_list.specs.Members.{In, AllIn, SameMembers}
 use Rattle.tp_opid.specs.declared.op_id.OpId.{OpId}
 use Rattle.tp_opid.specs.declared.op_id.Place.{Place}
 use Rattle.tp_opid.specs.declared.op_id.Place.TheVariants.{Start, After}
 use Rattle.tp_opid.specs.Insert.{Insert}
-use Rattle.tp_opid.specs.Order.{Below}
 use Rattle.tp_opid.specs.Same.{id_eq}
 use Rattle.tp_opid.proofs.Orders.{Below-asym, id_eq-same, id_eq-apart}
-use Rattle.tp_rga.specs.Tree.{Inserts, IsThere, IsNew, AreApart, IsAboveAll, HasPlace, IsPlaceBelow, IsTree, CanInsert}
+use Rattle.tp_rga.specs.Tree.{IsThere, AreApart, IsAboveAll, HasPlace, IsPlaceBelow, IsTree, CanInsert}
 use Rattle.tp_rga.specs.Order.{Before, IsSortedIn, IsInOrder, EndsAt, insert_after, IsInserted}
 use Rattle.tp_rga.specs.Shown.{is_removed, shown}
-use Rattle.tp_rga.proofs.Trees.{Leads-grow, Before-grow, Before-irreflexive, Before-trans, Before-cases, Before-chains, chain_exists}
+use Rattle.tp_rga.proofs.Trees.{Leads-grow, Before-irreflexive, Before-trans, Before-cases, Before-chains, chain_exists}
 use Rattle.std.proofs.lemmas.List.{take-append-drop}
 use Rattle.tp_rga.proofs.Sets.{In-left, In-right, In-append, In-push, In-last, IsThere-grow, IsThere-member, SameMembers-sym, IsTree-push, CanInsert-same}
 use Rattle.tp_rga.proofs.Orderings.{IsSortedIn-grow, sorted_once}
@@ -86,6 +84,7 @@ sorted_put S tree x i (a ∷ L) of h =
           )
     ]
 
+-- a part of a tree has a sorted list
 sorted_of : (S : List Insert) → IsTree S → (C : List Insert) → AllIn C S → (L : List Insert) × IsSortedIn S L × SameMembers C L
 sorted_of S tree [] of = ([], tt, record { there = λ e j. j; back = λ e j. j })
 sorted_of S tree (x ∷ C) of =
@@ -99,6 +98,7 @@ sorted_of S tree (x ∷ C) of =
       },
     )
 
+-- a tree has a list in order
 pub order_exists : (S : List Insert) → IsTree S → (L : List Insert) × IsInOrder S L
 order_exists S tree =
     let l = sorted_of S tree S (λ e j. j) in
@@ -117,6 +117,7 @@ sorted_apart S (a ∷ L) tree h = (
   sorted_apart S L tree h.1,
 )
 
+-- in a list in order each element stands once
 pub stands_once : (S L : List Insert) → IsTree S → IsInOrder S L → AreApart L
 stands_once S L tree order = sorted_apart S L tree order.sorted
 
@@ -129,6 +130,7 @@ Before-part S T tree part of x y i j h =
     let d = chain_exists T part y j in
     (c.0, d.0, c.1, d.1, Before-chains S tree x y h c.0 d.0 (Leads-grow T S of Start c.0 (After x) c.1) (Leads-grow T S of Start d.0 (After y) d.1))
 
+-- what a filter keeps is a member that passes
 pub In-filter : {X : Type 0} (p : X → Bool) (xs : List X) (x : X) → In x (filter p xs) → In x xs × (p x ≡ true)
 In-filter p [] x i = absurd i
 In-filter p (y ∷ xs) x i =
@@ -140,6 +142,7 @@ In-filter p (y ∷ xs) x i =
       | false ↦ λ e j. let r = In-filter p xs x j in (inr r.0, r.1)
     ] refl i
 
+-- a member that passes is kept
 pub filter-In : {X : Type 0} (p : X → Bool) (xs : List X) (x : X) → In x xs → p x ≡ true → In x (filter p xs)
 filter-In p [] x i e = absurd i
 filter-In p (y ∷ xs) x (inl i) e = subst (λ b. In x (cond b (y ∷ filter p xs) (filter p xs))) (sym (sym (ap p i) ∙ e)) (inl i)
@@ -147,6 +150,7 @@ filter-In p (y ∷ xs) x (inr i) e =
     let rest = filter-In p xs x i e in
     elim (p y) as (λ b. In x (cond b (y ∷ filter p xs) (filter p xs))) [ true ↦ inr rest | false ↦ rest ]
 
+-- a part of a sorted list is sorted in the part of the tree
 sorted_part : (S T : List Insert) (keep : Insert → Bool) → IsTree S → IsTree T → AllIn T S → (L : List Insert) → ((e : Insert) → In e L → keep e ≡ true → In e T) → IsSortedIn S L → IsSortedIn T (filter keep L)
 sorted_part S T keep tree part of [] kept h = tt
 sorted_part S T keep tree part of (a ∷ L) kept h =
@@ -173,6 +177,7 @@ order_of_part S L keep tree part order = record {
 
 -- ---- the greatest identifier
 
+-- a list with an element put in after a place, as its two parts
 insert_after-parts : (p : Place) (x : Insert) (L : List Insert) → HasPlace L p → (F : List Insert) × (B : List Insert) × (L ≡ F ++ B) × EndsAt F p × (insert_after p x L ≡ F ++ x ∷ B)
 insert_after-parts Start x L h = ([], L, refl, refl, refl)
 insert_after-parts (After r) x [] h = absurd h.1.1
@@ -194,6 +199,7 @@ insert_after-parts (After r) x (e ∷ L) h =
           (e ∷ rest.0, rest.1, ap (λ z. e ∷ z) rest.2, (e ∷ rest.3.0, rest.3.1, ap (λ z. e ∷ z) rest.3.2, rest.3.3), ap (λ z. e ∷ z) rest.4)
     ] refl
 
+-- a place that may be inserted after is there
 has_place : (S : List Insert) (x : OpId) (p : Place) → IsPlaceBelow S x p → HasPlace S p
 has_place S x Start h = tt
 has_place S x (After r) h = h.0
@@ -250,6 +256,7 @@ inserted_there old new x inserted = IsThere-member new x ((inserted_members old 
 
 -- ---- what is shown
 
+-- what is deleted some delete names
 is_removed-by : (R : List (OpId × OpId)) (x : OpId) → is_removed R x ≡ true → (r : OpId × OpId) × In r R × (id_eq r.0 x ≡ true)
 is_removed-by [] x e = cc
 is_removed-by (r ∷ R) x e =
@@ -258,6 +265,7 @@ is_removed-by (r ∷ R) x e =
       | false ↦ λ k h. let rest = is_removed-by R x h in (rest.0, inr rest.1, rest.2)
     ] refl e
 
+-- what a delete names is deleted
 removed_by_member : (R : List (OpId × OpId)) (x : OpId) (r : OpId × OpId) → In r R → id_eq r.0 x ≡ true → is_removed R x ≡ true
 removed_by_member [] x r i e = absurd i
 removed_by_member (s ∷ R) x r (inl i) e = ap (λ b. b || is_removed R x) (ap (λ (w : OpId × OpId). id_eq w.0 x) (sym i) ∙ e)

@@ -1,23 +1,25 @@
 -- Lists in the order of a set: their parts, the same set in another order, and that there is one list.
-use Rattle.std.proofs.Common.{◌≡◌, ◌⊎◌, inl, inr, List, [], ◌∷◌, ◌++◌, refl, sym, ap, ◌∙◌, subst}
+use Rattle.std.proofs.Common.{◌≡◌, inl, inr, List, [], ◌∷◌, ◌++◌, refl, sym, ◌∙◌, subst}
 use Rattle.tp_list.specs.Members.{In, AllIn, SameMembers}
-use Rattle.tp_opid.specs.declared.op_id.OpId.{OpId}
 use Rattle.tp_opid.specs.Insert.{Insert}
-use Rattle.tp_rga.specs.Tree.{IsThere, IsTree}
-use Rattle.tp_rga.specs.Order.{Before, IsSortedIn, IsInOrder}
-use Rattle.tp_rga.proofs.Sets.{In-left, In-right, In-append, IsThere-member}
-use Rattle.tp_rga.proofs.Trees.{Before-grow, Before-irreflexive, Before-asym, Before-cases, Before-trans}
+use Rattle.tp_rga.specs.Tree.{IsTree}
+use Rattle.tp_rga.specs.Order.{Before, IsSortedIn}
+use Rattle.tp_rga.proofs.Sets.{In-left, In-right, In-append}
+use Rattle.tp_rga.proofs.Trees.{Before-grow, Before-irreflexive, Before-asym}
 
+-- a sorted list stays sorted as the set grows
 pub IsSortedIn-grow : (S T : List Insert) → AllIn S T → (L : List Insert) → IsSortedIn S L → IsSortedIn T L
 IsSortedIn-grow S T more [] h = tt
 IsSortedIn-grow S T more (a ∷ L) h = (λ b i. Before-grow S T more a.id b.id (h.0 b i), IsSortedIn-grow S T more L h.1)
 
 -- ---- parts
 
+-- a front of a sorted list
 pub IsSortedIn-front : (S F B : List Insert) → IsSortedIn S (F ++ B) → IsSortedIn S F
 IsSortedIn-front S [] B h = tt
 IsSortedIn-front S (a ∷ F) B h = (λ b i. h.0 b (In-left b F B i), IsSortedIn-front S F B h.1)
 
+-- the rest of a sorted list
 pub IsSortedIn-back : (S F B : List Insert) → IsSortedIn S (F ++ B) → IsSortedIn S B
 IsSortedIn-back S [] B h = h
 IsSortedIn-back S (a ∷ F) B h = IsSortedIn-back S F B h.1
@@ -28,6 +30,7 @@ IsSortedIn-across S [] B h a b i j = absurd i
 IsSortedIn-across S (c ∷ F) B h a b (inl i) j = subst (λ (w : Insert). Before S w.id b.id) (sym i) (h.0 b (In-right b F B j))
 IsSortedIn-across S (c ∷ F) B h a b (inr i) j = IsSortedIn-across S F B h.1 a b i j
 
+-- two sorted lists, each element of the first before each of the second
 pub IsSortedIn-join : (S F B : List Insert) → IsSortedIn S F → IsSortedIn S B → ((a b : Insert) → In a F → In b B → Before S a.id b.id) → IsSortedIn S (F ++ B)
 IsSortedIn-join S [] B h k across = k
 IsSortedIn-join S (c ∷ F) B h k across = (
@@ -37,6 +40,7 @@ IsSortedIn-join S (c ∷ F) B h k across = (
 
 -- ---- one list for one set
 
+-- two sorted lists with the same members are one
 pub sorted_once : (S : List Insert) → IsTree S → (L M : List Insert) → IsSortedIn S L → IsSortedIn S M → SameMembers L M → L ≡ M
 sorted_once S tree [] [] h k same = refl
 sorted_once S tree [] (y ∷ M) h k same = absurd (same.back y (inl refl))

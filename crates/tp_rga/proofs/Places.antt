@@ -1,18 +1,18 @@
 -- Where an insert goes: right after its reference, past each element with a greater identifier. There it stands in
 -- order.
-use Rattle.std.proofs.Common.{◌≡◌, ◌⊎◌, inl, inr, List, [], ◌∷◌, ◌++◌, refl, sym, ap, ◌∙◌, subst, append_assoc}
+use Rattle.std.proofs.Common.{◌≡◌, ◌⊎◌, inl, inr, List, [], ◌∷◌, ◌++◌, refl, sym, ◌∙◌, subst, append_assoc}
 use Rattle.tp_list.specs.Members.{In, AllIn, SameMembers}
 use Rattle.tp_opid.specs.declared.op_id.OpId.{OpId}
 use Rattle.tp_opid.specs.declared.op_id.Place.{Place}
 use Rattle.tp_opid.specs.declared.op_id.Place.TheVariants.{Start, After}
 use Rattle.tp_opid.specs.Insert.{Insert}
 use Rattle.tp_opid.specs.Order.{Below}
-use Rattle.tp_opid.proofs.Orders.{Below-irreflexive, Below-trans, Below-cases, id_eq-apart}
-use Rattle.tp_rga.specs.Tree.{Inserts, IsThere, IsNew, IsPlaceBelow, IsTree, CanInsert}
+use Rattle.tp_opid.proofs.Orders.{Below-cases, id_eq-apart}
+use Rattle.tp_rga.specs.Tree.{IsThere, IsNew, IsPlaceBelow, IsTree, CanInsert}
 use Rattle.tp_rga.specs.Order.{Leads, IsChain, Precedes, Before, IsSortedIn, IsInOrder, EndsAt}
-use Rattle.tp_rga.proofs.Chains.{AllBelow, Precedes-irreflexive, Precedes-trans, Precedes-asym, Precedes-longer, Precedes-front, Precedes-beginning, stop_last, passed_first}
+use Rattle.tp_rga.proofs.Chains.{AllBelow, Precedes-irreflexive, Precedes-asym, Precedes-longer, Precedes-front, Precedes-beginning, stop_last, passed_first}
 use Rattle.tp_rga.proofs.Trees.{Leads-grow, Before-grow, Leads-push, Leads-front, Leads-same, chain_exists, chain_below, Before-trans, Before-chains}
-use Rattle.tp_rga.proofs.Sets.{In-left, In-right, In-append, In-push, In-last, IsThere-member, IsPlaceBelow-grow, CanInsert-same, IsTree-push}
+use Rattle.tp_rga.proofs.Sets.{In-left, In-right, In-append, In-push, In-last, IsThere-member, IsTree-push}
 use Rattle.tp_rga.proofs.Orderings.{IsSortedIn-grow, IsSortedIn-front, IsSortedIn-back, IsSortedIn-across, IsSortedIn-join}
 
 -- x is below each element
@@ -92,6 +92,7 @@ stopped_before S F G h B x tree order new ends stops c l d k =
 
 -- ---- the members with one more between them
 
+-- a member of the list without the new element is one of the list with it
 In-put : (F G B : List Insert) (x e : Insert) → In e (F ++ (G ++ B)) → In e (F ++ (G ++ x ∷ B))
 In-put F G B x e i =
     elim (In-append e F (G ++ B) i) as (λ _. In e (F ++ (G ++ x ∷ B))) [
@@ -102,6 +103,7 @@ In-put F G B x e i =
       ])
     ]
 
+-- a member of the list with the new element is one of the list without it, or is it
 In-taken : (F G B : List Insert) (x e : Insert) → In e (F ++ (G ++ x ∷ B)) → In e (F ++ (G ++ B)) ⊎ (e ≡ x)
 In-taken F G B x e i =
     elim (In-append e F (G ++ x ∷ B) i) as (λ _. In e (F ++ (G ++ B)) ⊎ (e ≡ x)) [
@@ -113,6 +115,7 @@ In-taken F G B x e i =
       ]
     ]
 
+-- the list with the new element has the members of the set with it
 put_members : (S F G B : List Insert) (x : Insert) → SameMembers S (F ++ (G ++ B)) → SameMembers (S ++ x ∷ []) (F ++ (G ++ x ∷ B))
 put_members S F G B x same = record {
   there = λ e i. elim (In-push e S x i) as (λ _. In e (F ++ (G ++ x ∷ B))) [

@@ -1,24 +1,25 @@
 -- Members of lists, and trees as sets of inserts.
-use Rattle.std.proofs.Common.{◌≡◌, ◌⊎◌, inl, inr, Bool, true, false, cond, List, [], ◌∷◌, ◌++◌, refl, sym, ap, ◌∙◌, subst}
+use Rattle.std.proofs.Common.{◌≡◌, ◌⊎◌, inl, inr, List, [], ◌∷◌, ◌++◌, refl, sym, ap, ◌∙◌, subst}
 use Rattle.tp_list.specs.Members.{In, AllIn, SameMembers}
 use Rattle.tp_opid.specs.declared.op_id.OpId.{OpId}
 use Rattle.tp_opid.specs.declared.op_id.Place.{Place}
 use Rattle.tp_opid.specs.declared.op_id.Place.TheVariants.{Start, After}
 use Rattle.tp_opid.specs.Insert.{Insert}
-use Rattle.tp_opid.specs.Order.{Below}
-use Rattle.tp_opid.specs.Same.{id_eq}
 use Rattle.tp_opid.proofs.Orders.{id_eq-apart}
-use Rattle.tp_rga.specs.Tree.{Inserts, IsThere, IsNew, IsPlaceBelow, IsTree, CanInsert}
+use Rattle.tp_rga.specs.Tree.{IsThere, IsPlaceBelow, IsTree, CanInsert}
 
+-- a member of the front
 pub In-left : {X : Type 0} (x : X) (xs ys : List X) → In x xs → In x (xs ++ ys)
 In-left x [] ys h = absurd h
 In-left x (z ∷ xs) ys (inl h) = inl h
 In-left x (z ∷ xs) ys (inr h) = inr (In-left x xs ys h)
 
+-- a member of the rest
 pub In-right : {X : Type 0} (x : X) (xs ys : List X) → In x ys → In x (xs ++ ys)
 In-right x [] ys h = h
 In-right x (z ∷ xs) ys h = inr (In-right x xs ys h)
 
+-- a member of two lists joined is one of either
 pub In-append : {X : Type 0} (x : X) (xs ys : List X) → In x (xs ++ ys) → In x xs ⊎ In x ys
 In-append x [] ys h = inr h
 In-append x (z ∷ xs) ys (inl h) = inl (inl h)
@@ -34,14 +35,17 @@ In-push x xs y h =
       | inr (inr k) ↦ absurd k
     ]
 
+-- the last is a member
 pub In-last : {X : Type 0} (xs : List X) (y : X) → In y (xs ++ y ∷ [])
 In-last xs y = In-right y xs (y ∷ []) (inl refl)
 
+-- the same set the other way round
 pub SameMembers-sym : {X : Type 0} (xs ys : List X) → SameMembers xs ys → SameMembers ys xs
 SameMembers-sym xs ys same = record { there = same.back; back = same.there }
 
 -- ---- the words on trees depend on members alone
 
+-- what is there is there in a larger set
 pub IsThere-grow : (S T : List Insert) → AllIn S T → (x : OpId) → IsThere S x → IsThere T x
 IsThere-grow S T more x h = (h.0, (h.1.0, more _ h.1.1))
 
@@ -49,16 +53,19 @@ IsThere-grow S T more x h = (h.0, (h.1.0, more _ h.1.1))
 pub IsThere-member : (S : List Insert) (e : Insert) → In e S → IsThere S e.id
 IsThere-member S e i = (e.after, (e.ch, i))
 
+-- a place below an identifier is one in a larger set
 pub IsPlaceBelow-grow : (S T : List Insert) → AllIn S T → (x : OpId) (p : Place) → IsPlaceBelow S x p → IsPlaceBelow T x p
 IsPlaceBelow-grow S T more x Start h = tt
 IsPlaceBelow-grow S T more x (After r) h = (IsThere-grow S T more r h.0, h.1)
 
+-- what a set can take each list of it can
 pub CanInsert-same : (S T : List Insert) → SameMembers S T → (x : OpId) (p : Place) → CanInsert S x p → CanInsert T x p
 CanInsert-same S T same x p can = record {
   new = λ e i. can.new e (same.back e i);
   place = IsPlaceBelow-grow S T same.there x p can.place;
 }
 
+-- a list of the members of a tree is a tree
 pub IsTree-same : (S T : List Insert) → SameMembers S T → IsTree S → IsTree T
 IsTree-same S T same tree = record {
   once = λ a b i j e. tree.once a b (same.back a i) (same.back b j) e;

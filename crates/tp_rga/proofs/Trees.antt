@@ -1,6 +1,6 @@
 -- Chains of a tree of inserts: each element has one and no other, and they grow along with the set. So the order of
 -- the elements is a total order.
-use Rattle.std.proofs.Common.{◌≡◌, ◌⊎◌, inl, inr, ℕ, zero, suc, List, [], ◌∷◌, ◌++◌, length, refl, sym, ap, ◌∙◌, subst, arith, append_assoc}
+use Rattle.std.proofs.Common.{◌≡◌, ◌⊎◌, inl, inr, ℕ, zero, suc, List, [], ◌∷◌, ◌++◌, length, refl, sym, ap, ◌∙◌, subst, arith}
 use Rattle.tp_list.specs.Members.{In, AllIn}
 use Rattle.tp_opid.specs.declared.op_id.OpId.{OpId}
 use Rattle.tp_opid.specs.declared.op_id.Place.{Place}
@@ -8,22 +8,25 @@ use Rattle.tp_opid.specs.declared.op_id.Place.TheVariants.{Start, After}
 use Rattle.tp_opid.specs.Insert.{Insert}
 use Rattle.tp_opid.specs.Order.{Below}
 use Rattle.tp_opid.proofs.Orders.{Below-irreflexive, Below-trans}
-use Rattle.tp_rga.specs.Tree.{Inserts, IsThere, IsPlaceBelow, IsTree}
+use Rattle.tp_rga.specs.Tree.{Inserts, IsThere, IsTree}
 use Rattle.tp_rga.specs.Order.{Leads, IsChain, Precedes, Before}
 use Rattle.tp_rga.proofs.Chains.{AllBelow, Precedes-irreflexive, Precedes-trans, Precedes-cases}
 
 -- ---- chains grow along with the set
 
+-- what leads to a place does so in a larger set
 pub Leads-grow : (S T : List Insert) → AllIn S T → (p : Place) (c : List OpId) (q : Place) → Leads S p c q → Leads T p c q
 Leads-grow S T more p [] q l = l
 Leads-grow S T more p (x ∷ c) q l = ((l.0.0, more _ l.0.1), Leads-grow S T more (After x) c q l.1)
 
+-- two elements keep their order in a larger set
 pub Before-grow : (S T : List Insert) → AllIn S T → (x y : OpId) → Before S x y → Before T x y
 Before-grow S T more x y (c, d, l, k, p) =
     (c, d, Leads-grow S T more Start c (After x) l, Leads-grow S T more Start d (After y) k, p)
 
 -- ---- joining and splitting
 
+-- from a place to a second and from there to a third
 pub Leads-join : (S : List Insert) (p : Place) (c : List OpId) (q : Place) (d : List OpId) (r : Place) → Leads S p c q → Leads S q d r → Leads S p (c ++ d) r
 Leads-join S p [] q d r l k = subst (λ w. Leads S w d r) (sym l) k
 Leads-join S p (x ∷ c) q d r l k = (l.0, Leads-join S (After x) c q d r l.1 k)
@@ -44,6 +47,7 @@ Leads-ends S p (a ∷ c) x y l k = Leads-ends S (After a) c x y l.1 k.1
 
 -- ---- one chain for one element
 
+-- an element of a tree stands after one place
 pub Inserts-once : (S : List Insert) → IsTree S → (x : OpId) (p q : Place) → Inserts S x p → Inserts S x q → p ≡ q
 Inserts-once S tree x p q h k = ap (λ (e : Insert). e.after) (tree.once _ _ h.1 k.1 refl)
 
@@ -52,6 +56,7 @@ abbrev LeadsBack : List Insert → Place → List OpId → Type 0
 LeadsBack S p [] = p ≡ Start
 LeadsBack S p (x ∷ c) = (p ≡ After x) × ((r : Place) × (Inserts S x r × LeadsBack S r c))
 
+-- read from its end, one chain leads to a place
 LeadsBack-same : (S : List Insert) → IsTree S → (p : Place) (c d : List OpId) → LeadsBack S p c → LeadsBack S p d → c ≡ d
 LeadsBack-same S tree p [] [] h k = refl
 LeadsBack-same S tree p [] (y ∷ d) h k = let e : Start ≡ After y = sym h ∙ k.0 in cc
@@ -67,14 +72,17 @@ abbrev onto : List OpId → List OpId → List OpId
 onto [] acc = acc
 onto (x ∷ c) acc = onto c (x ∷ acc)
 
+-- a list turned twice
 onto-back : (c acc : List OpId) → onto (onto c acc) [] ≡ onto acc c
 onto-back [] acc = refl
 onto-back (x ∷ c) acc = onto-back c (x ∷ acc)
 
+-- a chain read on from its beginning is read from its end
 LeadsBack-from : (S : List Insert) (p : Place) (c acc : List OpId) (q : Place) → Leads S p c q → LeadsBack S p acc → LeadsBack S q (onto c acc)
 LeadsBack-from S p [] acc q l b = subst (λ w. LeadsBack S w acc) l b
 LeadsBack-from S p (x ∷ c) acc q l b = LeadsBack-from S (After x) c (x ∷ acc) q l.1 (refl, (p, (l.0, b)))
 
+-- one chain leads to a place of a tree
 pub Leads-same : (S : List Insert) → IsTree S → (q : Place) (c d : List OpId) → Leads S Start c q → Leads S Start d q → c ≡ d
 Leads-same S tree q c d l k =
     let e : onto c [] ≡ onto d [] = LeadsBack-same S tree q (onto c []) (onto d []) (LeadsBack-from S Start c [] q l refl) (LeadsBack-from S Start d [] q k refl) in
@@ -116,6 +124,7 @@ chain_from S tree (suc n) C len x (After r) i below =
     let up = chain_from S tree n out.0 shorter r place.0.0 place.0.1 still in
     (up.0 ++ x ∷ [], Leads-push S (After r) up.0 x up.1 i)
 
+-- each element of a tree has a chain
 pub chain_exists : (S : List Insert) → IsTree S → (x : OpId) → IsThere S x → (c : List OpId) × IsChain S x c
 chain_exists S tree x (p, i) = chain_from S tree (length S) S refl x p i (λ e j b. j)
 
@@ -129,14 +138,17 @@ chain_below S tree p (a ∷ d ∷ c) y x l b =
 
 -- ---- the order of the elements of a tree
 
+-- no element stands before itself
 pub Before-irreflexive : (S : List Insert) → IsTree S → (x : OpId) → Before S x x → ⊥
 Before-irreflexive S tree x (c, d, l, k, p) =
     Precedes-irreflexive d (subst (λ w. Precedes w d) (Leads-same S tree (After x) c d l k) p)
 
+-- the order of elements is transitive
 pub Before-trans : (S : List Insert) → IsTree S → (x y z : OpId) → Before S x y → Before S y z → Before S x z
 Before-trans S tree x y z (c, d, l, k, p) (d', e, k', m, q) =
     (c, e, l, m, Precedes-trans c d e p (subst (λ w. Precedes w e) (Leads-same S tree (After y) d' d k' k) q))
 
+-- of two elements not both stand before the other
 pub Before-asym : (S : List Insert) → IsTree S → (x y : OpId) → Before S x y → Before S y x → ⊥
 Before-asym S tree x y h k = Before-irreflexive S tree x (Before-trans S tree x y x h k)
 

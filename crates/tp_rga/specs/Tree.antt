@@ -1,7 +1,7 @@
 -- The inserts of a text as a tree: each element stands after the start or after an element with a smaller identifier
 -- (RGA, Roh and others 2011; the timestamped insertion tree of Attiya and others, PODC 2016). All of it depends on
 -- the inserts as a set.
-use Rattle.std.specs.Prelude.{◌≡◌, ℕ, Bool, false, List, [], ◌∷◌}
+use Rattle.std.specs.Prelude.{◌≡◌, ℕ, false, List, [], ◌∷◌}
 use Rattle.tp_list.specs.Members.{In}
 use Rattle.tp_opid.specs.declared.op_id.OpId.{OpId}
 use Rattle.tp_opid.specs.declared.op_id.Place.{Place}

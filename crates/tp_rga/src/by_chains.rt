@@ -82,7 +82,8 @@ fn place_in(
     requires part { AllIn list.now inserts.now }
     ensures within { IfOk result (λ i. i ≤ length list.now) }
     ensures passed { IfOk result (λ i. AllWithin (λ e. Before inserts.now e.id x.now) list.now 0 i) }
-    ensures stops { IfOk result (λ i. i < length list.now → HoldsAt (λ e. ¬ Before inserts.now e.id x.now) list.now i) }
+    ensures stops { IfOk result
+        (λ i. i < length list.now → HoldsAt (λ e. ¬ Before inserts.now e.id x.now) list.now i) }
 {
     for i in 0..list.len() {
         let e = &list[i];

@@ -13,6 +13,7 @@ mod order_laws;
 mod placed;
 mod plain;
 mod sequence;
+mod text_laws;
 
 pub use by_chains::{in_order, is_tree};
 pub use element::Element;
@@ -20,7 +21,8 @@ pub use insertion::Insertion;
 pub use order_laws::{
     before_cases, before_grows, before_irreflexive, before_trans, greatest_inserted, greatest_next,
     inserted_members, one_order, order_exists, order_of_part, order_of_set, same_text,
-    shown_of_set, stands_once, tree_grows,
+    shown_of_set, stands_once, tree_grows, tree_of_set,
 };
 pub use plain::PlainSequence;
 pub use sequence::Sequence;
+pub use text_laws::{shown_delete, shown_delete_again, shown_insert_after, shown_insert_start};

@@ -11,7 +11,13 @@ ghost use Rattle.tp_rga.specs.Shown.{shown};
 
 /// A tree with an insert that it can take is a tree.
 pub fn tree_grows()
-    ensures { (S : List Insert) (x : Insert) → IsTree S → CanInsert S x.id x.after → IsTree (S ++ x ∷ []) }
+    ensures { (S : List Insert) (x : Insert) → IsTree S → CanInsert S x.id x.after
+        → IsTree (S ++ x ∷ []) }
+{}
+
+/// Whether inserts are a tree depends on them as a set.
+pub fn tree_of_set()
+    ensures { (S T : List Insert) → SameMembers S T → IsTree S → IsTree T }
 {}
 
 /// The order is total: of two elements one is before the other, or they are one.
@@ -22,7 +28,8 @@ pub fn before_cases()
 
 /// The order is transitive.
 pub fn before_trans()
-    ensures { (S : List Insert) → IsTree S → (x y z : Id) → Before S x y → Before S y z → Before S x z }
+    ensures { (S : List Insert) → IsTree S → (x y z : Id) → Before S x y → Before S y z
+        → Before S x z }
 {}
 
 /// No element is before itself.
@@ -57,8 +64,8 @@ pub fn stands_once()
 
 /// A part of a tree that is itself a tree stands in order in that part of the list.
 pub fn order_of_part()
-    ensures { (S L : List Insert) (keep : Insert → Bool) → IsTree S → IsTree (filter keep S) → IsInOrder S L
-        → IsInOrder (filter keep S) (filter keep L) }
+    ensures { (S L : List Insert) (keep : Insert → Bool) → IsTree S → IsTree (filter keep S)
+        → IsInOrder S L → IsInOrder (filter keep S) (filter keep L) }
 {}
 
 /// An element whose identifier is above all others stands directly after its reference.
@@ -69,13 +76,14 @@ pub fn greatest_next()
 
 /// So an insert whose identifier is above all others puts its element directly after its reference.
 pub fn greatest_inserted()
-    ensures { (S old new : List Insert) (x : Insert) → IsTree S → IsInOrder S old → CanInsert S x.id x.after
-        → IsAboveAll S x.id → IsInserted old new x → new ≡ insert_after x.after x old }
+    ensures { (S old new : List Insert) (x : Insert) → IsTree S → IsInOrder S old
+        → CanInsert S x.id x.after → IsAboveAll S x.id → IsInserted old new x → new ≡ insert_after x.after x old }
 {}
 
 /// After an insert the list has what it had and the new element.
 pub fn inserted_members()
-    ensures { (old new : List Insert) (x : Insert) → IsInserted old new x → SameMembers (old ++ x ∷ []) new }
+    ensures { (old new : List Insert) (x : Insert) → IsInserted old new x
+        → SameMembers (old ++ x ∷ []) new }
 {}
 
 /// What is shown depends on the deletes as a set.
@@ -86,6 +94,6 @@ pub fn shown_of_set()
 /// Two lists in order for one set of inserts, under one set of deletes, show one text: who has the same operations
 /// has the same text, in whatever order they came.
 pub fn same_text()
-    ensures { (S T L M : List Insert) (R Q : List (Id × Id)) → IsTree S → SameMembers S T → SameMembers R Q
-        → IsInOrder S L → IsInOrder T M → shown R L ≡ shown Q M }
+    ensures { (S T L M : List Insert) (R Q : List (Id × Id)) → IsTree S → SameMembers S T
+        → SameMembers R Q → IsInOrder S L → IsInOrder T M → shown R L ≡ shown Q M }
 {}

@@ -20,7 +20,8 @@ pub fn place_of(elements: &[Insertion], id: &OpId) -> Option<usize>
 
 /// The place of an element with an identifier, searched from the end, where edits mostly fall.
 fn last_place_of(elements: &[Insertion], id: &OpId) -> Option<usize>
-    ensures found { IfSome result (λ i. (i < length elements.now) × HoldsAt (λ e. id_eq e.id id.now ≡ true) elements.now i) }
+    ensures found { IfSome result
+        (λ i. (i < length elements.now) × HoldsAt (λ e. id_eq e.id id.now ≡ true) elements.now i) }
     ensures none { IfNone result (All (λ e. id_eq e.id id.now ≡ false) elements.now) }
 {
     elements.iter().rposition(|e| e.id.is(id))
@@ -32,7 +33,8 @@ fn past_greater(elements: &[Insertion], from: usize, id: &OpId) -> usize
     ensures from { from ≤ result }
     ensures within { result ≤ length elements.now }
     ensures passed { AllWithin (λ e. Below id.now e.id) elements.now from result }
-    ensures stops { result < length elements.now → HoldsAt (λ e. ¬ Below id.now e.id) elements.now result }
+    ensures stops { result < length elements.now
+        → HoldsAt (λ e. ¬ Below id.now e.id) elements.now result }
 {
     for i in from..elements.len() {
         let e = &elements[i];

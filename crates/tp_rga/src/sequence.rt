@@ -30,11 +30,13 @@ pub trait Sequence: Drop {
         ensures removals { removals result ≡ [] };
 
     /// Makes room for `n` further inserts and deletes together, none of which then takes memory. Room never shrinks
-    /// here. Where memory is short it is an `Err`, and nothing changes.
+    /// here. Where memory is short it is an `Err`, and the elements and deletes stay. It can't fail where that room is
+    /// there already.
     fn reserve(&mut self, n: usize) -> Result<(), AllocError>
         ensures placed { placed self.new ≡ placed self.old }
         ensures removals { removals self.new ≡ removals self.old }
         ensures ok { OnOk result (n ≤ room self.new) }
+        ensures succeeds { n ≤ room self.old → IsOk result }
         ensures room { room self.old ≤ room self.new };
 
     /// Takes in an insert: the element goes right after its reference, past each element with a greater identifier up
@@ -45,7 +47,8 @@ pub trait Sequence: Drop {
     fn insert(&mut self, id: OpId, after: Place, ch: char) -> Result<(), AllocError>
         requires { CanInsert (placed self.old) id after }
         ensures ok { OnOk result
-            (IsInserted (placed self.old) (placed self.new) (record { id = id; after = after; ch = ch })) }
+            (IsInserted (placed self.old) (placed self.new)
+            (record { id = id; after = after; ch = ch })) }
         ensures err { OnErr result (placed self.new ≡ placed self.old) }
         ensures removals { removals self.new ≡ removals self.old }
         ensures succeeds { 0 < room self.old → IsOk result }
@@ -95,7 +98,8 @@ pub trait Sequence: Drop {
 
     /// The element at a place of the list of all elements, or `None` past its end.
     fn element(&self, i: usize) -> Option<Element>
-        ensures { result ≡ option_map (element_of (removals self.now)) (slice_get (placed self.now) i) };
+        ensures { result
+            ≡ option_map (element_of (removals self.now)) (slice_get (placed self.now) i) };
 
     /// The deletes that came, each as its target and the operation that deleted it, in the order of the calls.
     fn deletes(&self) -> &[(OpId, OpId)]

@@ -2,3 +2,4 @@ pub mod Links
 pub mod Entries
 pub mod Logs
 mod CommandLineLemmas
+mod ShowWords

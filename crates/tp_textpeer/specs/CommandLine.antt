@@ -1,5 +1,5 @@
 -- The command line of `textpeer`, as clap's definition for simple commands reads it.
-use Rattle.std.specs.Prelude.{◌≡◌, ◌⊎◌, List, [], ◌∷◌, Option, Some, true, false, codes, Result, MatchResult}
+use Rattle.std.specs.Prelude.{◌≢◌, slice_get, ◌≡◌, ◌⊎◌, List, [], ◌∷◌, Option, Some, true, false, codes, Result, MatchResult}
 use Rattle.clap.specs.Words.{App, HasKind, IsAmong, Kinds, Row, Rule, Shape, Text, first_of, new_rule}
 use Rattle.clap.specs.Simple.{new_shape}
 use Rattle.clap.specs.declared.error.Error.{Error}
@@ -45,6 +45,16 @@ parser_fault e = e.0
 -- an `Ok` comes only where there is no fault, and an `Err` is one of the faults, or that memory ran out
 abbrev pub FailsAs : {T : Type 0} → Kinds → Result T LineError → Type 0
 FailsAs kinds r = MatchResult r (λ _. kinds ≡ []) (λ e. HasKind kinds (parser_fault e))
+
+-- the command shows the log at the path
+abbrev pub IsShow : Text → Command → Type 0
+IsShow path (Show log) = log.now ≡ path
+
+-- the words are `show` and a path, which doesn't begin with a hyphen
+pub record AskToShow (path : Text) (words : List Text) : Type 0 where
+  pub name : Text
+  pub words_are : words ≡ name ∷ codes "show" ∷ path ∷ []
+  pub no_flag : slice_get path 0 ≢ Some 45
 
 -- the words are at no fault, or ask for help or the version
 abbrev pub MayBeDone : Kinds → Type 0

@@ -1,10 +1,10 @@
 //! The command line of `textpeer`.
 
-ghost use Rattle.std.specs.Prelude.{◌≡◌, ◌↔◌, ◌⊎◌, IfOk, IsTrue, false, map};
-ghost use Rattle.clap.specs.Words.{app_of, fault_of, kind_of, subcommand_of};
+ghost use Rattle.std.specs.Prelude.{◌≡◌, ◌↔◌, ◌⊎◌, IfOk, MatchResult, IsTrue, false, map};
+ghost use Rattle.clap.specs.Words.{Text, app_of, fault_of, kind_of, subcommand_of};
 ghost use Rattle.clap.specs.declared.builder.command.Command.TheViews.{out-Command};
 ghost use Rattle.clap.specs.declared.error.kind.ErrorKind.TheVariants.{OutOfMemory};
-ghost use Rattle.tp_textpeer.specs.CommandLine.{FailsAs, IsCommandOf, parser_fault, show_app, textpeer_app};
+ghost use Rattle.tp_textpeer.specs.CommandLine.{AskToShow, FailsAs, IsCommandOf, IsShow, parser_fault, show_app, textpeer_app};
 
 use clap::error::ErrorKind;
 use clap::{Arg, ArgAction};
@@ -72,10 +72,12 @@ impl From<AllocError> for LineError {
 }
 
 /// The command that a command line asks for, of which the first word is the program's name, as in `env::args`. It
-/// is `show LOG`; anything else is a fault, and `--help` and `--version` are requests.
+/// is `show LOG`, where a LOG that begins with a hyphen stands after `--`; anything else is a fault, and `--help` and
+/// `--version` are requests.
 pub fn line<'a, S: AsStr>(alloc: Global, words: &'a [S]) -> Result<Command<'a>, LineError>
     ensures command { IfOk result (IsCommandOf (subcommand_of textpeer_app (map S.text words.entry.now))) }
     ensures fails { FailsAs (fault_of textpeer_app (map S.text words.entry.now)) result }
+    ensures shows { (path : Text) → AskToShow path (map S.text words.entry.now) → MatchResult result (IsShow path) (λ e. kind_of (parser_fault e) ≡ ErrorKind.OutOfMemory) }
 {
     let matches = textpeer_command(alloc)?.try_get_matches_from(words)?;
     let show = matches.subcommand_matches("show").unwrap();

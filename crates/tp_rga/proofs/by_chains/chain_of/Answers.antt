@@ -1,8 +1,8 @@
-use Rattle.std.proofs.Common.{subst, ◌<◌, sym}
+use Rattle.std.proofs.Common.{subst}
 use Rattle.tp_opid.specs.declared.op_id.Place.{Place}
 use Rattle.tp_opid.specs.declared.op_id.Place.TheVariants.{After}
 use Rattle.tp_rga.specs.Order.{Leads}
-use Rattle.tp_rga.proofs.ByChains.{rank, rank-falls, reference_there}
+use Rattle.tp_rga.proofs.ByChains.{rank-falls, reference_there}
 use Rattle.tp_rga.proofs.by_chains.chain_of.Goals as goal
 
 pub loop-place-smaller : goal.loop-place-smaller

@@ -1,4 +1,3 @@
-use Rattle.std.proofs.Common.{ap, sym, ◌∙◌}
 use Rattle.tp_opid.specs.Insert.{Insert}
 use Rattle.tp_rga.proofs.Sets.{IsThere-member}
 use Rattle.tp_rga.proofs.ByChains.{read_as, read_member, part_members, put_sorted, same_more_there, same_more_put, new_of, there_of}

@@ -1,6 +1,4 @@
-use Rattle.std.proofs.Common.{Some, sym, ◌∙◌, subst, ◌≡◌, position}
-use Rattle.tp_opid.specs.Insert.{Insert}
-use Rattle.tp_opid.specs.Same.{id_eq}
+use Rattle.std.proofs.Common.{sym, ◌∙◌, subst}
 use Rattle.tp_rga.specs.State.{State}
 use Rattle.tp_rga.specs.Tree.{IsThere}
 use Rattle.tp_rga.proofs.Lookups.{IsFirst-position, IsThere-not_new}

@@ -1,9 +1,6 @@
-use Rattle.std.proofs.Common.{arith, sym, ap, ◌∙◌, subst, ◌≡◌, ◌≤◌, length}
-use Rattle.tp_opid.specs.Insert.{Insert}
+use Rattle.std.proofs.Common.{arith, sym, subst}
 use Rattle.tp_rga.specs.State.{State}
 use Rattle.tp_rga.specs.Tree.{IsNew}
-use Rattle.tp_rga.specs.Shown.{shown}
-use Rattle.tp_rga.specs.Order.{IsInserted}
 use Rattle.tp_rga.proofs.Keeping.{IsKept-insert, IsKept-left}
 use Rattle.tp_rga.proofs.plain.PlainSequenceSequence.insert.Goals as goal
 

@@ -1,9 +1,6 @@
-use Rattle.std.proofs.Common.{Some, length, take, filter, not, position, sym, ap, ◌∙◌}
-use Rattle.std.specs.Option.{option_map}
-use Rattle.tp_opid.specs.Insert.{Insert}
-use Rattle.tp_opid.specs.Same.{id_eq}
+use Rattle.std.proofs.Common.{Some, sym, ap, ◌∙◌}
 use Rattle.tp_rga.specs.State.{State}
-use Rattle.tp_rga.specs.Shown.{shown, shown_before}
+use Rattle.tp_rga.specs.Shown.{shown_before}
 use Rattle.tp_rga.proofs.Keeping.{shown-before, shown_before-found}
 use Rattle.tp_rga.proofs.plain.PlainSequenceSequence.position.Goals as goal
 

@@ -1,0 +1,389 @@
+-- The text after an edit is the text before with each splice done in turn.
+use Rattle.std.proofs.Common.{◌≡◌, ℕ, zero, suc, ◌+◌, ◌-◌, ◌≤◌, Bool, true, false, ◌||◌, ◌&&◌, List, [], ◌∷◌, ◌++◌, length, inl, inr, refl, sym, ap, ◌∙◌, subst, append_assoc, append-nil, take, drop, arith, not}
+use Rattle.std.proofs.lemmas.Bool.{and_parts}
+use Rattle.std.proofs.lemmas.List.{take-map, drop-map, map-append, length-map, take-append-drop, drop-drop, length-take-le, length-drop, length-append}
+use Rattle.tp_list.specs.Members.{In, AllIn}
+use Rattle.tp_opid.specs.declared.actor.Actor.{Actor}
+use Rattle.tp_opid.specs.declared.op_id.OpId.{OpId}
+use Rattle.tp_opid.specs.declared.op_id.Place.{Place}
+use Rattle.tp_opid.specs.declared.op_id.Place.TheVariants.{Start, After}
+use Rattle.tp_opid.specs.Insert.{Insert}
+use Rattle.tp_opid.specs.Same.{id_eq}
+use Rattle.tp_opid.proofs.Orders.{id_eq-itself, Below-trans, Below-counter}
+use Rattle.tp_change.specs.declared.op.Op.{Op}
+use Rattle.tp_change.specs.declared.op.Op.TheVariants as op_of
+use Rattle.tp_change.specs.declared.record.Record.{Record}
+use Rattle.tp_change.specs.declared.parts.ChangeParts.{ChangeParts}
+use Rattle.tp_change.specs.Operations.{id_of, run, ops_in, ops_from, ops_of, count_in}
+use Rattle.tp_change.specs.Operations as operations
+use Rattle.tp_change.specs.Elements.{element, inserts_in, deletes_in, is_inserted, is_place, refers}
+use Rattle.tp_rga.specs.Tree.{IsThere, IsTree, IsAboveAll}
+use Rattle.tp_rga.specs.Order.{EndsAt, IsInOrder}
+use Rattle.tp_rga.specs.Shown.{is_removed, shown}
+use Rattle.tp_rga.proofs.Sets.{In-left, In-right, In-append, In-last, IsThere-grow, IsThere-member}
+use Rattle.tp_rga.proofs.OneOrder.{one_order, stands_once, In-filter}
+use Rattle.tp_text.specs.Text.{chars_of}
+use Rattle.tp_text.proofs.Applied.{inserts_in-append}
+use Rattle.tp_text.proofs.Numbered.{Numbered, Numbered-ops_of, CanApply-refers, IsFresh-under}
+use Rattle.tp_edit.specs.declared.splice.Splice.{Splice}
+use Rattle.tp_edit.specs.Splices.{inserted, count_of, total_count, spliced, IsInRange, AllInRange, all_spliced}
+use Rattle.tp_edit.specs.EditRecords.{ids_of, ids_from, after_last, deletes_of, runs_of, records_of_splice, ids_after, records_of, ids_after_all}
+use Rattle.tp_edit.specs.EditLaw.{IsReady, ops_of_edit, EditLaw, AppliedLaw}
+use Rattle.tp_edit.proofs.Landed.{length-spliced}
+use Rattle.tp_edit.proofs.ShownEdits.{shown-append, shown_kept, shown_cut, split_shown, named_from-target, AreApart-filter}
+use Rattle.tp_edit.proofs.RunPlaces.{elements_of_run, ids_of-run, chars_of-run, deletes_in-run, run-counter, run_in_order}
+
+-- ---- operations one list after another
+
+deletes_in-append : (xs ys : List Op) → deletes_in (xs ++ ys) ≡ deletes_in xs ++ deletes_in ys
+deletes_in-append [] ys = refl
+deletes_in-append (op_of.Insert id after ch ∷ xs) ys = deletes_in-append xs ys
+deletes_in-append (op_of.Delete id target ∷ xs) ys = ap (λ l. (target, id) ∷ l) (deletes_in-append xs ys)
+
+ops_from-append : (a : Actor) (n : ℕ) (rs qs : List Record) → ops_from a n (rs ++ qs) ≡ ops_from a n rs ++ ops_from a (n + operations.count_of rs) qs
+ops_from-append a n [] qs = ap (λ m. ops_from a m qs) (let e : n ≡ n + 0 = omega arith in e)
+ops_from-append a n (r ∷ rs) qs =
+    ap (λ l. ops_in a n r ++ l) (ops_from-append a (n + count_in r) rs qs ∙ ap (λ m. ops_from a (n + count_in r) rs ++ ops_from a m qs) (let e : (n + count_in r) + operations.count_of rs ≡ n + (count_in r + operations.count_of rs) = omega arith in e))
+    ∙ sym (append_assoc (ops_in a n r) (ops_from a (n + count_in r) rs) (ops_from a (n + (count_in r + operations.count_of rs)) qs))
+
+pub count-append : (rs qs : List Record) → operations.count_of (rs ++ qs) ≡ operations.count_of rs + operations.count_of qs
+count-append [] qs = omega arith
+count-append (r ∷ rs) qs = let rest = count-append rs qs in omega (arith, rest)
+
+count-deletes : (xs : List OpId) → operations.count_of (deletes_of xs) ≡ length xs
+count-deletes [] = refl
+count-deletes (x ∷ xs) = let rest = count-deletes xs in omega (arith, rest)
+
+count-runs : (after : Place) (text : List ℕ) → operations.count_of (runs_of after text) ≡ length text
+count-runs after [] = refl
+count-runs after (ch ∷ text) = omega arith
+
+inserts_in-deletes : (a : Actor) (n : ℕ) (xs : List OpId) → inserts_in (ops_from a n (deletes_of xs)) ≡ []
+inserts_in-deletes a n [] = refl
+inserts_in-deletes a n (x ∷ xs) = inserts_in-deletes a (n + 1) xs
+
+ops_from-runs : (a : Actor) (n : ℕ) (after : Place) (text : List ℕ) → ops_from a n (runs_of after text) ≡ run a n after text
+ops_from-runs a n after [] = refl
+ops_from-runs a n after (ch ∷ text) = append-nil (run a n after (ch ∷ text))
+
+-- ---- references that are there
+
+is_inserted-member : (S : List Insert) (e : Insert) → In e S → is_inserted S e.id ≡ true
+is_inserted-member [] e i = absurd i
+is_inserted-member (f ∷ S) e (inl i) = ap (λ b. b || is_inserted S e.id) (ap (λ (w : Insert). id_eq w.id e.id) (sym i) ∙ id_eq-itself e.id)
+is_inserted-member (f ∷ S) e (inr i) =
+    let rest = is_inserted-member S e i in
+    elim (id_eq f.id e.id) as (λ b. (b || is_inserted S e.id) ≡ true) [ true ↦ refl | false ↦ rest ]
+
+is_inserted-there : (S : List Insert) (x : OpId) → IsThere S x → is_inserted S x ≡ true
+is_inserted-there S x (p, (ch, i)) = is_inserted-member S (element x p ch) i
+
+both : (a b : Bool) → a ≡ true → b ≡ true → (a && b) ≡ true
+both a b p q = ap (λ c. c && b) p ∙ q
+
+is_inserted-grow : (S T : List Insert) → AllIn S T → (x : OpId) → is_inserted S x ≡ true → is_inserted T x ≡ true
+is_inserted-grow S T sub x h =
+    let found = Rattle.tp_text.proofs.Numbered.is_inserted-there S x h in
+    ap (is_inserted T) (sym found.2) ∙ is_inserted-member T found.0 (sub found.0 found.1)
+
+is_place-grow : (S T : List Insert) → AllIn S T → (p : Place) → is_place S p ≡ true → is_place T p ≡ true
+is_place-grow S T sub Start h = refl
+is_place-grow S T sub (After r) h = is_inserted-grow S T sub r h
+
+refers-grow : (ops : List Op) (S T : List Insert) → AllIn S T → refers S ops ≡ true → refers T ops ≡ true
+refers-grow [] S T sub h = refl
+refers-grow (op_of.Insert id after ch ∷ ops) S T sub h =
+    let parts = and_parts (is_place S after) (refers (element id after ch ∷ S) ops) h in
+    both (is_place T after) (refers (element id after ch ∷ T) ops) (is_place-grow S T sub after parts.0)
+    (refers-grow ops (element id after ch ∷ S) (element id after ch ∷ T) (λ e i. elim i [ inl same ↦ inl same | inr old ↦ inr (sub e old) ]) parts.1)
+refers-grow (op_of.Delete id target ∷ ops) S T sub h =
+    let parts = and_parts (is_inserted S target) (refers S ops) h in
+    both (is_inserted T target) (refers T ops) (is_inserted-grow S T sub target parts.0) (refers-grow ops S T sub parts.1)
+
+-- what refers to S, and then to S with the inserts so far
+refers-join : (xs ys : List Op) (S : List Insert) → refers S xs ≡ true → refers (S ++ inserts_in xs) ys ≡ true → refers S (xs ++ ys) ≡ true
+refers-join [] ys S h k = subst (λ T. refers T ys ≡ true) (append-nil S) k
+refers-join (op_of.Insert id after ch ∷ xs) ys S h k =
+    let x = element id after ch in
+    let parts = and_parts (is_place S after) (refers (x ∷ S) xs) h in
+    both (is_place S after) (refers (x ∷ S) (xs ++ ys)) parts.0
+    (refers-join xs ys (x ∷ S) parts.1 (refers-grow ys (S ++ x ∷ inserts_in xs) ((x ∷ S) ++ inserts_in xs) (λ e i. elim (In-append e S (x ∷ inserts_in xs) i) [
+      | inl old ↦ inr (In-left e S (inserts_in xs) old)
+      | inr (inl same) ↦ inl same
+      | inr (inr new) ↦ inr (In-right e S (inserts_in xs) new)
+    ]) k))
+refers-join (op_of.Delete id target ∷ xs) ys S h k =
+    let parts = and_parts (is_inserted S target) (refers S xs) h in
+    both (is_inserted S target) (refers S (xs ++ ys)) parts.0 (refers-join xs ys S parts.1 k)
+
+refers-deletes : (a : Actor) (n : ℕ) (xs : List OpId) (S : List Insert) → ((x : OpId) → In x xs → IsThere S x) → refers S (ops_from a n (deletes_of xs)) ≡ true
+refers-deletes a n [] S there = refl
+refers-deletes a n (x ∷ xs) S there =
+    both (is_inserted S x) (refers S (ops_from a (n + 1) (deletes_of xs))) (is_inserted-there S x (there x (inl refl)))
+    (refers-deletes a (n + 1) xs S (λ y i. there y (inr i)))
+
+refers-run : (a : Actor) (n : ℕ) (after : Place) (text : List ℕ) (S : List Insert) → is_place S after ≡ true → refers S (run a n after text) ≡ true
+refers-run a n after [] S h = refl
+refers-run a n after (ch ∷ text) S h =
+    let x = element (id_of a n) after ch in
+    both (is_place S after) (refers (x ∷ S) (run a (n + 1) (After (id_of a n)) text)) h
+    (refers-run a (n + 1) (After (id_of a n)) text (x ∷ S) (is_inserted-member (x ∷ S) x (inl refl)))
+
+place_is_there : (S F : List Insert) (p : Place) → AllIn F S → EndsAt F p → is_place S p ≡ true
+place_is_there S F Start sub ends = refl
+place_is_there S F (After r) sub (A, f, is, names) =
+    ap (is_inserted S) (sym names) ∙ is_inserted-member S f (sub f (subst (In f) (sym is) (In-last A f)))
+
+-- ---- what operations leave
+
+-- The operations lead from a text that is ready to one that is ready for the counter m, whose visible elements are W.
+pub record Leaves (T L : List Insert) (R : List (OpId × OpId)) (a : Actor) (n : ℕ) (ops : List Op) (m : ℕ) (M W : List Insert) : Type 0 where
+  pub refers : refers T ops ≡ true
+  pub ready : IsReady (T ++ inserts_in ops) M (R ++ deletes_in ops) a m
+  pub shows : shown (R ++ deletes_in ops) M ≡ W
+
+pub Leaves-join : (T L : List Insert) (R : List (OpId × OpId)) (a : Actor) (n : ℕ) (xs : List Op) (m : ℕ) (M W : List Insert) (ys : List Op) (k : ℕ) (N X : List Insert) → Leaves T L R a n xs m M W → Leaves (T ++ inserts_in xs) M (R ++ deletes_in xs) a m ys k N X → Leaves T L R a n (xs ++ ys) k N X
+Leaves-join T L R a n xs m M W ys k N X p q =
+    let members : (T ++ inserts_in xs) ++ inserts_in ys ≡ T ++ inserts_in (xs ++ ys) =
+    append_assoc T (inserts_in xs) (inserts_in ys) ∙ ap (λ l. T ++ l) (sym (inserts_in-append xs ys)) in
+    let named : (R ++ deletes_in xs) ++ deletes_in ys ≡ R ++ deletes_in (xs ++ ys) =
+    append_assoc R (deletes_in xs) (deletes_in ys) ∙ ap (λ l. R ++ l) (sym (deletes_in-append xs ys)) in
+    record {
+      refers = refers-join xs ys T p.refers q.refers;
+      ready = subst (λ S. IsReady S N (R ++ deletes_in (xs ++ ys)) a k) members (subst (λ D. IsReady ((T ++ inserts_in xs) ++ inserts_in ys) N D a k) named q.ready);
+      shows = ap (λ D. shown D N) (sym named) ∙ q.shows;
+    }
+
+-- ---- one splice
+
+shown-there : (T L : List Insert) (R : List (OpId × OpId)) → IsInOrder T L → (e : Insert) → In e (shown R L) → IsThere T e.id
+shown-there T L R order e i =
+    IsThere-member T e (order.same.back e (In-filter (λ (x : Insert). not (is_removed R x.id)) L e i).0)
+
+ids-there : (T W : List Insert) → ((e : Insert) → In e W → IsThere T e.id) → (x : OpId) → In x (ids_of W) → IsThere T x
+ids-there T [] there x i = absurd i
+ids-there T (e ∷ W) there x (inl i) = subst (IsThere T) (sym i) (there e (inl refl))
+ids-there T (e ∷ W) there x (inr i) = ids-there T W (λ f j. there f (inr j)) x i
+
+-- no delete of elements that are there names a new identifier
+none_named : (T : List Insert) (R : List (OpId × OpId)) (a : Actor) (n k : ℕ) → IsAboveAll T (id_of a n) → ((r : OpId × OpId) → In r R → IsThere T r.0) → n ≤ k → is_removed R (id_of a k) ≡ false
+none_named T [] a n k above named le = refl
+none_named T (r ∷ R) a n k above named le =
+    let there = named r (inl refl) in
+    let e = element r.0 there.0 there.1.0 in
+    ap (λ b. b || is_removed R (id_of a k)) (IsFresh-under T a n above e there.1.1 k le)
+    ∙ none_named T R a n k above (λ q i. named q (inr i)) le
+
+-- a delete of each element between A and B leaves A and B
+deletes_leave : (T L : List Insert) (R : List (OpId × OpId)) (a : Actor) (n : ℕ) (A X B : List Insert) → IsReady T L R a n → shown R L ≡ A ++ (X ++ B) → Leaves T L R a n (ops_from a n (deletes_of (ids_of X))) (n + length X) L (A ++ B)
+deletes_leave T L R a n A X B ready shows =
+    let xs = ids_of X in
+    let ops = ops_from a n (deletes_of xs) in
+    let there : (x : OpId) → In x xs → IsThere T x =
+    ids-there T X (λ e i. shown-there T L R ready.order e (subst (In e) (sym shows) (In-right e A (X ++ B) (In-left e X B i)))) in
+    let none : inserts_in ops ≡ [] = inserts_in-deletes a n xs in
+    let members : T ≡ T ++ inserts_in ops = sym (ap (λ l. T ++ l) none ∙ append-nil T) in
+    let apart = AreApart-filter (λ (x : Insert). not (is_removed R x.id)) L (stands_once T L ready.tree ready.order) in
+    record {
+      refers = refers-deletes a n xs T there;
+      ready = subst (λ S. IsReady S L (R ++ deletes_in ops) a (n + length X)) members (record {
+        tree = ready.tree;
+        order = ready.order;
+        above = λ e i. above_later T a n (length X) ready.above e i;
+        targets = λ r i. elim (In-append r R (deletes_in ops) i) [
+          | inl old ↦ ready.targets r old
+          | inr new ↦ there r.0 (named_from-target a n xs r new)
+        ];
+      });
+      shows =
+          shown-append R (deletes_in ops) L ∙ ap (shown (deletes_in ops)) shows
+          ∙ shown_cut a n A X B (subst Rattle.tp_rga.specs.Tree.AreApart shows apart);
+    }
+  where
+    above_later : (T : List Insert) (a : Actor) (n k : ℕ) → IsAboveAll T (id_of a n) → IsAboveAll T (id_of a (n + k))
+    above_later T a n zero above = subst (λ m. IsAboveAll T (id_of a m)) (let e : n ≡ n + 0 = omega arith in e) above
+    above_later T a n (suc k) above =
+        λ e i. Below-trans e.id (id_of a n) (id_of a (n + suc k)) (above e i) (Below-counter (id_of a n) (id_of a (n + suc k)) (omega arith))
+
+-- a run after the last of A comes directly behind A
+run_leaves : (T L : List Insert) (R : List (OpId × OpId)) (a : Actor) (n : ℕ) (A B : List Insert) (text : List ℕ) → IsReady T L R a n → shown R L ≡ A ++ B → (M : List Insert) × Leaves T L R a n (run a n (after_last Start (ids_of A)) text) (n + length text) M (A ++ (elements_of_run a n (after_last Start (ids_of A)) text ++ B))
+run_leaves T L R a n A B text ready shows =
+    let after = after_last Start (ids_of A) in
+    let es = elements_of_run a n after text in
+    let parts = split_shown R L A B shows in
+    let F = parts.0 in
+    let G = parts.1 in
+    let order : IsInOrder T (F ++ G) = subst (IsInOrder T) parts.2 ready.order in
+    let put = run_in_order text T F G a n after ready.tree order parts.5 ready.above in
+    let keep = λ (x : Insert). not (is_removed R x.id) in
+    let new : shown R es ≡ es = shown_kept R es (λ e i.
+    let c = run-counter a n after text e i in
+    ap (is_removed R) c.2 ∙ none_named T R a n c.0 ready.above ready.targets c.1) in
+    let same : R ++ deletes_in (run a n after text) ≡ R = ap (λ l. R ++ l) (deletes_in-run a n after text) ∙ append-nil R in (
+      F ++ (es ++ G),
+      record {
+        refers = refers-run a n after text T (place_is_there T F after (λ e i. order.same.back e (In-left e F G i)) parts.5);
+        ready = record {
+          tree = put.0;
+          order = put.1;
+          above = put.2;
+          targets = λ r i. IsThere-grow T (T ++ es) (λ e j. In-left e T es j) r.0 (ready.targets r (subst (In r) same i));
+        };
+        shows =
+            ap (λ D. shown D (F ++ (es ++ G))) same
+            ∙ Rattle.std.proofs.lemmas.List.Elements.filter-append keep F (es ++ G)
+            ∙ ap (λ l. shown R F ++ l) (Rattle.std.proofs.lemmas.List.Elements.filter-append keep es G)
+            ∙ ap (λ l. l ++ (shown R es ++ shown R G)) parts.3
+            ∙ ap (λ l. A ++ (l ++ shown R G)) new
+            ∙ ap (λ l. A ++ (es ++ l)) parts.4;
+      },
+    )
+
+-- what the operations of some splices leave: visible elements with the identifiers V and the characters t
+record Splices (T L : List Insert) (R : List (OpId × OpId)) (a : Actor) (n : ℕ) (ops : List Op) (m : ℕ) (V : List OpId) (t : List ℕ) : Type 0 where
+  pub placed : List Insert
+  pub visible : List Insert
+  pub leaves : Leaves T L R a n ops m placed visible
+  pub ids : ids_of visible ≡ V
+  pub text : chars_of visible ≡ t
+
+-- how many records one splice has operations
+pub count-splice : (V : List OpId) (s : Splice) → IsInRange (length V) s → operations.count_of (records_of_splice V s) ≡ count_of s
+count-splice V s range =
+    let xs = take s.del (drop s.at V) in
+    let after = after_last Start (take s.at V) in
+    let whole = count-append (deletes_of xs) (runs_of after (inserted s)) in
+    let size = length-take-le s.del (drop s.at V) (let rest = length-drop s.at V in omega (arith, rest)) in
+    omega (arith, whole, count-deletes xs, count-runs after (inserted s), size)
+
+-- one splice
+splice_leaves : (T L : List Insert) (R : List (OpId × OpId)) (a : Actor) (n : ℕ) (s : Splice) → IsReady T L R a n → IsInRange (length (shown R L)) s → Splices T L R a n (ops_from a n (records_of_splice (ids_of (shown R L)) s)) (n + count_of s) (ids_after a n (ids_of (shown R L)) s) (spliced (chars_of (shown R L)) s.at s.del (inserted s))
+splice_leaves T L R a n s ready range =
+    let id = λ (e : Insert). e.id in
+    let ch = λ (e : Insert). e.ch in
+    let W = shown R L in
+    let V = ids_of W in
+    let text = inserted s in
+    let A = take s.at W in
+    let X = take s.del (drop s.at W) in
+    let B = drop (s.at + s.del) W in
+    let split : W ≡ A ++ (X ++ B) =
+    sym (ap (λ l. A ++ (X ++ l)) (sym (drop-drop s.del s.at W)) ∙ ap (λ l. A ++ l) (take-append-drop s.del (drop s.at W)) ∙ take-append-drop s.at W) in
+    let size : length X ≡ s.del = length-take-le s.del (drop s.at W) (let rest = length-drop s.at W in omega (arith, rest)) in
+    let front : take s.at V ≡ ids_of A = take-map id s.at W in
+    let middle : take s.del (drop s.at V) ≡ ids_of X = ap (take s.del) (drop-map id s.at W) ∙ take-map id s.del (drop s.at W) in
+    let back : drop (s.at + s.del) V ≡ ids_of B = drop-map id (s.at + s.del) W in
+    let after = after_last Start (ids_of A) in
+    let cut = ops_from a n (deletes_of (ids_of X)) in
+    let p = deletes_leave T L R a n A X B ready split in
+    let q = run_leaves (T ++ inserts_in cut) L (R ++ deletes_in cut) a (n + length X) A B text p.ready p.shows in
+    let put = run a (n + length X) after text in
+    let es = elements_of_run a (n + length X) after text in
+    let joined = Leaves-join T L R a n cut (n + length X) L (A ++ B) put ((n + length X) + length text) q.0 (A ++ (es ++ B)) p q.1 in
+    let counter : operations.count_of (deletes_of (ids_of X)) ≡ length X = count-deletes (ids_of X) ∙ length-map X id in
+    let ops : cut ++ put ≡ ops_from a n (records_of_splice V s) =
+    ap (λ l. cut ++ l) (sym (ap (λ m. ops_from a (n + m) (runs_of after text)) counter ∙ ops_from-runs a (n + length X) after text))
+    ∙ sym (ops_from-append a n (deletes_of (ids_of X)) (runs_of after text))
+    ∙ ap (λ xs. ops_from a n (deletes_of xs ++ runs_of after text)) (sym middle)
+    ∙ ap (λ xs. ops_from a n (deletes_of (take s.del (drop s.at V)) ++ runs_of (after_last Start xs) text)) (sym front) in
+    let end : (n + length X) + length text ≡ n + count_of s = omega (arith, size) in
+    record {
+      placed = q.0;
+      visible = A ++ (es ++ B);
+      leaves =
+          subst (λ m. Leaves T L R a n (ops_from a n (records_of_splice V s)) m q.0 (A ++ (es ++ B))) end
+          (subst (λ o. Leaves T L R a n o ((n + length X) + length text) q.0 (A ++ (es ++ B))) ops joined);
+      ids =
+          map-append id A (es ++ B) ∙ ap (λ l. ids_of A ++ l) (map-append id es B)
+          ∙ ap (λ l. l ++ (ids_of es ++ ids_of B)) (sym front)
+          ∙ ap (λ l. take s.at V ++ (l ++ ids_of B)) (ids_of-run a (n + length X) after text ∙ ap (λ k. ids_from a (n + k) (length text)) size)
+          ∙ ap (λ l. take s.at V ++ (ids_from a (n + s.del) (length text) ++ l)) (sym back);
+      text =
+          map-append ch A (es ++ B) ∙ ap (λ l. chars_of A ++ l) (map-append ch es B)
+          ∙ ap (λ l. l ++ (chars_of es ++ chars_of B)) (sym (take-map ch s.at W))
+          ∙ ap (λ l. take s.at (chars_of W) ++ (l ++ chars_of B)) (chars_of-run a (n + length X) after text)
+          ∙ ap (λ l. take s.at (chars_of W) ++ (text ++ l)) (sym (drop-map ch (s.at + s.del) W));
+    }
+
+-- all splices
+all_leave : (ss : List Splice) (T L : List Insert) (R : List (OpId × OpId)) (a : Actor) (n : ℕ) → IsReady T L R a n → AllInRange (length (shown R L)) ss → Splices T L R a n (ops_of_edit a n L R ss) (n + total_count ss) (ids_after_all a n (ids_of (shown R L)) ss) (all_spliced (chars_of (shown R L)) ss)
+all_leave [] T L R a n ready range =
+    let members : T ≡ T ++ [] = sym (append-nil T) in
+    let named : R ≡ R ++ [] = sym (append-nil R) in
+    record {
+      placed = L;
+      visible = shown R L;
+      leaves = record {
+        refers = refl;
+        ready = subst (λ S. IsReady S L (R ++ []) a (n + 0)) members (subst (λ D. IsReady T L D a (n + 0)) named (subst (IsReady T L R a) (let e : n ≡ n + 0 = omega arith in e) ready));
+        shows = ap (λ D. shown D L) (sym named);
+      };
+      ids = refl;
+      text = refl;
+    }
+all_leave (s ∷ ss) T L R a n ready range =
+    let W = shown R L in
+    let V = ids_of W in
+    let first = splice_leaves T L R a n s ready range.0 in
+    let rs = records_of_splice V s in
+    let ops = ops_from a n rs in
+    let M = first.placed in
+    let D = R ++ deletes_in ops in
+    let m = n + count_of s in
+    let shows : shown D M ≡ first.visible = first.leaves.shows in
+    let there : ids_of (shown D M) ≡ ids_after a n V s = ap ids_of shows ∙ first.ids in
+    let chars : chars_of (shown D M) ≡ spliced (chars_of W) s.at s.del (inserted s) = ap chars_of shows ∙ first.text in
+    let within : s.at + s.del ≤ length (chars_of W) = (let e = length-map W (λ (x : Insert). x.ch) in omega (arith, range.0, e)) in
+    let size : length W - s.del + length (inserted s) ≡ length (shown D M) =
+    (let e = length-map W (λ (x : Insert). x.ch) in
+    let f = length-map (shown D M) (λ (x : Insert). x.ch) in
+    let g = ap length chars in
+    let h = length-spliced (chars_of W) s.at s.del (inserted s) within in
+    omega (arith, e, f, g, h)) in
+    let rest = all_leave ss (T ++ inserts_in ops) M D a m first.leaves.ready (subst (λ k. AllInRange k ss) size range.1) in
+    let later = ops_of_edit a m M D ss in
+    let joined = Leaves-join T L R a n ops m M first.visible later (m + total_count ss) rest.placed rest.visible first.leaves rest.leaves in
+    let in_ids : s.at + s.del ≤ length V = (let e = length-map W (λ (x : Insert). x.id) in omega (arith, range.0, e)) in
+    let all : ops ++ later ≡ ops_of_edit a n L R (s ∷ ss) =
+    ap (λ U. ops ++ ops_from a m (records_of a m U ss)) there
+    ∙ ap (λ k. ops ++ ops_from a (n + k) (records_of a m (ids_after a n V s) ss)) (sym (count-splice V s in_ids))
+    ∙ sym (ops_from-append a n rs (records_of a m (ids_after a n V s) ss)) in
+    let end : m + total_count ss ≡ n + total_count (s ∷ ss) = omega arith in
+    record {
+      placed = rest.placed;
+      visible = rest.visible;
+      leaves =
+          subst (λ k. Leaves T L R a n (ops_of_edit a n L R (s ∷ ss)) k rest.placed rest.visible) end
+          (subst (λ o. Leaves T L R a n o (m + total_count ss) rest.placed rest.visible) all joined);
+      ids = rest.ids ∙ ap (λ U. ids_after_all a m U ss) there;
+      text = rest.text ∙ ap (λ t. all_spliced t ss) chars;
+    }
+
+-- ---- the law
+
+numbered : (a : Actor) (n : ℕ) (rs : List Record) → Numbered a n (ops_from a n rs)
+unfolding ops_of
+numbered a n rs =
+    let c : ChangeParts = record { actor = a; seq = 0; start = n; time = 0; message = []; deps = []; records = rs } in
+    Numbered-ops_of c
+
+pub edit_law : EditLaw
+edit_law T L R actor n ss ready range =
+    let done = all_leave ss T L R actor n ready range in
+    let ops = ops_of_edit actor n L R ss in
+    let S = T ++ inserts_in ops in
+    let D = R ++ deletes_in ops in
+    let after = done.leaves.ready in
+    let one : (M : List Insert) → IsInOrder S M → done.placed ≡ M = (λ M order. one_order S done.placed M after.tree after.order order) in
+    record {
+      refers = done.leaves.refers;
+      applies = CanApply-refers ops T T actor n (numbered actor n (records_of actor n (ids_of (shown R L)) ss)) (λ e i. i) ready.above (IsFresh-under T actor n ready.above) done.leaves.refers;
+      ids = λ M order. ap (λ N. ids_of (shown D N)) (sym (one M order)) ∙ ap ids_of done.leaves.shows ∙ done.ids;
+      text = λ M order. ap (λ N. chars_of (shown D N)) (sym (one M order)) ∙ ap chars_of done.leaves.shows ∙ done.text;
+      ready = λ M order. subst (λ N. IsReady S N D actor (n + total_count ss)) (one M order) after;
+    }
+
+-- so a sequence that took in the operations shows the text with the splices done
+pub Extends-edited : AppliedLaw
+Extends-edited T L R actor n ss M ready range extends =
+    (edit_law T L R actor n ss ready range).text M (extends.order T ready.tree ready.order).1

@@ -1,0 +1,7 @@
+pub mod Landed
+pub mod SpliceLists
+pub mod RecordSteps
+pub mod ShownEdits
+pub mod RunPlaces
+pub mod Edited
+pub mod RecordLimits

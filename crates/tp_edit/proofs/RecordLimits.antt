@@ -1,0 +1,125 @@
+-- The records of an edit are records of a change: how many operations they are, and what they are made of.
+use Rattle.std.proofs.Common.{◌≡◌, ℕ, zero, suc, ◌+◌, ◌-◌, ◌<◌, ◌≤◌, ◌^◌, List, [], ◌∷◌, ◌++◌, length, inl, inr, refl, sym, ap, ◌∙◌, subst, take, drop, arith}
+use Rattle.std.specs.Prelude.{encode_utf8_all}
+use Rattle.std.specs.List.{AllByRecursion, flat_map}
+use Rattle.std.specs.Int.{w32, to_be_bytes}
+use Rattle.std.proofs.lemmas.List.{take-append-drop, length-append}
+use Rattle.std.proofs.lemmas.Grind.{flat_map-append}
+use Rattle.tp_list.specs.Members.{In}
+use Rattle.tp_opid.specs.declared.actor.Actor.{Actor}
+use Rattle.tp_opid.specs.declared.op_id.OpId.{OpId}
+use Rattle.tp_opid.specs.declared.op_id.Place.{Place}
+use Rattle.tp_opid.specs.declared.op_id.Place.TheVariants.{Start, After}
+use Rattle.tp_change.specs.declared.record.Record.{Record}
+use Rattle.tp_change.specs.Operations.{id_of}
+use Rattle.tp_change.specs.Operations as operations
+use Rattle.tp_change.specs.Spelling.{spelling_of_place, spelling_of_record}
+use Rattle.tp_change.specs.Limits.{IsActor, IsId, IsPlace, IsText, IsRecord}
+use Rattle.tp_rga.proofs.Sets.{In-left, In-right, In-append}
+use Rattle.tp_edit.specs.declared.splice.Splice.{Splice}
+use Rattle.tp_edit.specs.Splices.{inserted, count_of, AllInRange}
+use Rattle.tp_edit.specs.EditRecords.{ids_from, after_last, deletes_of, runs_of, records_of_splice, ids_after, records_of}
+use Rattle.tp_edit.specs.EditLimits.{AllIds, RecordLaw, CountLaw, SizeLaw}
+use Rattle.tp_edit.proofs.Landed.{length-spliced, length-ids_from}
+use Rattle.tp_edit.proofs.Edited.{count-append, count-splice}
+
+-- ---- how many operations
+
+-- the records of an edit in range are as many operations as the splices take
+pub count_of-records_of : CountLaw
+count_of-records_of a n V [] range = refl
+count_of-records_of a n V (s ∷ ss) range =
+    let new = ids_from a (n + s.del) (length (inserted s)) in
+    let size = length-spliced V s.at s.del new range.0 in
+    let few = length-ids_from a (n + s.del) (length (inserted s)) in
+    let left : length V - s.del + length (inserted s) ≡ length (ids_after a n V s) = omega (arith, size, few) in
+    let rest = count_of-records_of a (n + count_of s) (ids_after a n V s) ss (subst (λ k. AllInRange k ss) left range.1) in
+    let first = count-splice V s range.0 in
+    let both = count-append (records_of_splice V s) (records_of a (n + count_of s) (ids_after a n V s) ss) in
+    omega (arith, rest, first, both)
+
+-- an edit that takes an operation has a record
+pub some_record : (rs : List Record) → 0 < operations.count_of rs → 1 ≤ length rs
+some_record [] h = absurd (omega arith)
+some_record (r ∷ rs) h = omega arith
+
+-- ---- what they are made of
+
+AllIds-take : (k : ℕ) (V : List OpId) → AllIds V → AllIds (take k V)
+AllIds-take k V all x i = all x (subst (In x) (take-append-drop k V) (In-left x (take k V) (drop k V) i))
+
+AllIds-drop : (k : ℕ) (V : List OpId) → AllIds V → AllIds (drop k V)
+AllIds-drop k V all x i = all x (subst (In x) (take-append-drop k V) (In-right x (take k V) (drop k V) i))
+
+AllIds-from : (a : Actor) (n k : ℕ) → IsActor a → n + k ≤ 2 ^ 64 → AllIds (ids_from a n k)
+AllIds-from a n zero actor room x i = absurd i
+AllIds-from a n (suc k) actor room x (inl i) = subst IsId (sym i) (record { counter = omega (arith, room); actor = actor })
+AllIds-from a n (suc k) actor room x (inr i) = AllIds-from a (n + 1) k actor (omega (arith, room)) x i
+
+AllIds-after : (a : Actor) (n : ℕ) (V : List OpId) (s : Splice) → IsActor a → n + count_of s ≤ 2 ^ 64 → AllIds V → AllIds (ids_after a n V s)
+AllIds-after a n V s actor room all x i =
+    let new = ids_from a (n + s.del) (length (inserted s)) in
+    elim (In-append x (take s.at V) (new ++ drop (s.at + s.del) V) i) [
+      | inl before ↦ AllIds-take s.at V all x before
+      | inr rest ↦ elim (In-append x new (drop (s.at + s.del) V) rest) [
+        | inl here ↦ AllIds-from a (n + s.del) (length (inserted s)) actor (omega (arith, room)) x here
+        | inr behind ↦ AllIds-drop (s.at + s.del) V all x behind
+      ]
+    ]
+
+AllByRecursion-append : {X : Type 0} (P : X → Type 0) (xs ys : List X) → AllByRecursion P xs → AllByRecursion P ys → AllByRecursion P (xs ++ ys)
+AllByRecursion-append P [] ys h k = k
+AllByRecursion-append P (x ∷ xs) ys h k = (h.0, AllByRecursion-append P xs ys h.1 k)
+
+deletes_of-IsRecord : (xs : List OpId) → AllIds xs → AllByRecursion IsRecord (deletes_of xs)
+deletes_of-IsRecord [] all = tt
+deletes_of-IsRecord (x ∷ xs) all = (all x (inl refl), deletes_of-IsRecord xs (λ y i. all y (inr i)))
+
+after_last-IsPlace : (p : Place) (xs : List OpId) → IsPlace p → AllIds xs → IsPlace (after_last p xs)
+after_last-IsPlace p [] place all = place
+after_last-IsPlace p (x ∷ xs) place all = after_last-IsPlace (After x) xs (all x (inl refl)) (λ y i. all y (inr i))
+
+runs_of-IsRecord : (after : Place) (text : List ℕ) → IsPlace after → IsText 4194304 text → AllByRecursion IsRecord (runs_of after text)
+runs_of-IsRecord after [] place is = tt
+runs_of-IsRecord after (ch ∷ text) place is = ((place, is, omega arith), tt)
+
+-- the records of an edit are within the grammar: identifiers in their range, texts of scalar values, no empty run
+pub records_of-IsRecord : RecordLaw
+records_of-IsRecord a n V [] actor room all texts = tt
+records_of-IsRecord a n V (s ∷ ss) actor room all texts =
+    let deletes = deletes_of (take s.del (drop s.at V)) in
+    let after = after_last Start (take s.at V) in
+    AllByRecursion-append IsRecord (records_of_splice V s) (records_of a (n + count_of s) (ids_after a n V s) ss)
+    (AllByRecursion-append IsRecord deletes (runs_of after (inserted s))
+    (deletes_of-IsRecord (take s.del (drop s.at V)) (AllIds-take s.del (drop s.at V) (AllIds-drop s.at V all)))
+    (runs_of-IsRecord after (inserted s) (after_last-IsPlace Start (take s.at V) tt (AllIds-take s.at V all)) texts.0))
+    (records_of-IsRecord a (n + count_of s) (ids_after a n V s) ss actor (omega (arith, room)) (AllIds-after a n V s actor (omega (arith, room)) all) texts.1)
+
+-- ---- a change within its size has texts within theirs
+
+length-run : (after : Place) (text : List ℕ) → length (encode_utf8_all text) ≤ length (flat_map spelling_of_record (runs_of after text))
+length-run after [] = omega arith
+length-run after (ch ∷ text) =
+    let t = ch ∷ text in
+    let size = to_be_bytes w32 (length (encode_utf8_all t)) in
+    let body = spelling_of_place after ++ (size ++ encode_utf8_all t) in
+    let a = length-append (1 ∷ body) [] in
+    let b = length-append (spelling_of_place after) (size ++ encode_utf8_all t) in
+    let c = length-append size (encode_utf8_all t) in
+    omega (arith, a, b, c)
+
+-- records that are spelled within the limit of a change have texts within the limit of a run
+pub AllTexts-size : SizeLaw
+AllTexts-size a n V [] scalars size = tt
+AllTexts-size a n V (s ∷ ss) scalars size =
+    let deletes = deletes_of (take s.del (drop s.at V)) in
+    let after = after_last Start (take s.at V) in
+    let runs = runs_of after (inserted s) in
+    let later = records_of a (n + count_of s) (ids_after a n V s) ss in
+    let spell = λ (rs : List Record). flat_map spelling_of_record rs in
+    let whole = ap length (flat_map-append spelling_of_record (records_of_splice V s) later) ∙ length-append (spell (records_of_splice V s)) (spell later) in
+    let first = ap length (flat_map-append spelling_of_record deletes runs) ∙ length-append (spell deletes) (spell runs) in
+    let text = length-run after (inserted s) in (
+      record { scalars = scalars.0; bytes = omega (arith, size, whole, first, text) },
+      AllTexts-size a (n + count_of s) (ids_after a n V s) ss scalars.1 (omega (arith, size, whole)),
+    )

@@ -1,0 +1,122 @@
+-- The records of a splice, one after another.
+use Rattle.std.proofs.Common.{◌≡◌, ℕ, ◌+◌, ◌-◌, ◌<◌, ◌≤◌, ◌^◌, List, [], ◌∷◌, ◌++◌, length, get_or, Some, refl, sym, ap, ◌∙◌, subst, arith, take, drop, append_assoc}
+use Rattle.std.specs.Prelude.{slice_get}
+use Rattle.std.proofs.lemmas.List.{take_more, drop_more, take-append-drop, length-drop, get_or-drop}
+use Rattle.std.proofs.lemmas.Option.{slice_get_within, get_or_from_slice_get}
+use Rattle.tp_opid.specs.declared.actor.Actor.{Actor}
+use Rattle.tp_opid.specs.declared.op_id.OpId.{OpId}
+use Rattle.tp_opid.specs.declared.op_id.Place.{Place}
+use Rattle.tp_opid.specs.declared.op_id.Place.TheVariants.{Start, After}
+use Rattle.tp_change.specs.declared.record.Record.{Record}
+use Rattle.tp_change.specs.declared.record.Record.TheVariants as record_of
+use Rattle.tp_edit.specs.declared.splice.Splice.{Splice}
+use Rattle.tp_edit.specs.Splices.{count_of, total_count, IsInRange, AllInRange}
+use Rattle.tp_edit.specs.EditRecords.{after_last, deletes_of, runs_of, records_of_splice, ids_after, ids_after_all, records_of}
+use Rattle.tp_edit.specs.Landings.{landing_of, landings_of, ids_through, AllFit}
+use Rattle.tp_edit.proofs.Landed.{length-ids_landed}
+
+deletes_of-push : (xs : List OpId) (x : OpId) → deletes_of (xs ++ x ∷ []) ≡ deletes_of xs ++ record_of.Delete x ∷ []
+deletes_of-push [] x = refl
+deletes_of-push (y ∷ xs) x = ap (λ l. record_of.Delete y ∷ l) (deletes_of-push xs x)
+
+-- the delete of one element more
+pub deletes_of-more : (W : List OpId) (at k : ℕ) (x : OpId) → slice_get W (at + k) ≡ Some x → deletes_of (take (k + 1) (drop at W)) ≡ deletes_of (take k (drop at W)) ++ record_of.Delete x ∷ []
+deletes_of-more W at k x is =
+    let within = slice_get_within W (at + k) x is in
+    let size = length-drop at W in
+    let short : k < length (drop at W) = omega (arith, within, size) in
+    let there : get_or (drop at W) k x ≡ x = get_or-drop at W k x ∙ get_or_from_slice_get W (at + k) x x is in
+    ap deletes_of (take_more (drop at W) k x short ∙ ap (λ y. take k (drop at W) ++ y ∷ []) there)
+    ∙ deletes_of-push (take k (drop at W)) x
+
+after_last-push : (p : Place) (xs : List OpId) (x : OpId) → after_last p (xs ++ x ∷ []) ≡ After x
+after_last-push p [] x = refl
+after_last-push p (y ∷ xs) x = after_last-push (After y) xs x
+
+-- the place after the element before `at`
+pub after_last-at : (W : List OpId) (at : ℕ) (x : OpId) → 0 < at → slice_get W (at - 1) ≡ Some x → After x ≡ after_last Start (take at W)
+after_last-at W at x some is =
+    let within = slice_get_within W (at - 1) x is in
+    let up : (at - 1) + 1 ≡ at = omega arith in
+    let front : take at W ≡ take (at - 1) W ++ x ∷ [] =
+    ap (λ k. take k W) (sym up) ∙ take_more W (at - 1) x within ∙ ap (λ y. take (at - 1) W ++ y ∷ []) (get_or_from_slice_get W (at - 1) x x is) in
+    sym (ap (after_last Start) front ∙ after_last-push Start (take (at - 1) W) x)
+
+pub after_last-start : (W : List OpId) (at : ℕ) → at ≡ 0 → Start ≡ after_last Start (take at W)
+after_last-start W at none = ap (λ k. after_last Start (take k W)) (sym none)
+
+-- a run where there is text
+pub runs_of-some : (after : Place) (text : List ℕ) → 0 < length text → runs_of after text ≡ record_of.Insert after text ∷ []
+runs_of-some after [] some = absurd (omega arith)
+runs_of-some after (ch ∷ text) some = refl
+
+pub runs_of-none : (after : Place) (text : List ℕ) → length text ≤ 0 → runs_of after text ≡ []
+runs_of-none after [] none = refl
+runs_of-none after (ch ∷ text) none = absurd (omega arith)
+
+-- ---- one splice after others
+
+records_of-push : (a : Actor) (n : ℕ) (V : List OpId) (ss : List Splice) (s : Splice) → records_of a n V (ss ++ s ∷ []) ≡ records_of a n V ss ++ records_of_splice (ids_after_all a n V ss) s
+records_of-push a n V [] s = append_nil_right (records_of_splice V s)
+  where
+    append_nil_right : (xs : List Record) → xs ++ [] ≡ xs
+    append_nil_right [] = refl
+    append_nil_right (x ∷ xs) = ap (λ l. x ∷ l) (append_nil_right xs)
+records_of-push a n V (k ∷ ss) s =
+    ap (λ l. records_of_splice V k ++ l) (records_of-push a (n + count_of k) (ids_after a n V k) ss s)
+    ∙ sym (append_assoc (records_of_splice V k) (records_of a (n + count_of k) (ids_after a n V k) ss) (records_of_splice (ids_after_all a (n + count_of k) (ids_after a n V k) ss) s))
+
+pub records_of-more : (a : Actor) (n : ℕ) (V : List OpId) (ss : List Splice) (i : ℕ) (d : Splice) → i < length ss → records_of a n V (take (i + 1) ss) ≡ records_of a n V (take i ss) ++ records_of_splice (ids_after_all a n V (take i ss)) (get_or ss i d)
+records_of-more a n V ss i d lt = ap (records_of a n V) (take_more ss i d lt) ∙ records_of-push a n V (take i ss) (get_or ss i d)
+
+landings_of-push : (n : ℕ) (ss : List Splice) (s : Splice) → landings_of n (ss ++ s ∷ []) ≡ landings_of n ss ++ landing_of (n + total_count ss) s ∷ []
+landings_of-push n [] s = ap (λ m. landing_of m s ∷ []) (let e : n ≡ n + 0 = omega arith in e)
+landings_of-push n (k ∷ ss) s =
+    ap (λ l. landing_of n k ∷ l) (landings_of-push (n + count_of k) ss s ∙ ap (λ m. landings_of (n + count_of k) ss ++ landing_of m s ∷ []) (let e : (n + count_of k) + total_count ss ≡ n + (count_of k + total_count ss) = omega arith in e))
+
+pub landings_of-more : (n : ℕ) (ss : List Splice) (i : ℕ) (d : Splice) → i < length ss → landings_of n (take (i + 1) ss) ≡ landings_of n (take i ss) ++ landing_of (n + total_count (take i ss)) (get_or ss i d) ∷ []
+landings_of-more n ss i d lt = ap (landings_of n) (take_more ss i d lt) ∙ landings_of-push n (take i ss) (get_or ss i d)
+
+-- what the landings leave is what the splices leave
+pub ids_through-landings : (a : Actor) (n : ℕ) (V : List OpId) (ss : List Splice) → ids_through a V (landings_of n ss) ≡ ids_after_all a n V ss
+ids_through-landings a n V [] = refl
+ids_through-landings a n V (s ∷ ss) = ids_through-landings a (n + count_of s) (ids_after a n V s) ss
+
+-- splices in range with few enough operations are landings that fit
+pub AllFit-landings : (a : Actor) (n : ℕ) (V : List OpId) (ss : List Splice) → AllInRange (length V) ss → n + total_count ss < 2 ^ 64 → AllFit a V (landings_of n ss)
+AllFit-landings a n V [] h room = tt
+AllFit-landings a n V (s ∷ ss) h room =
+    let size = length-ids_landed a V (landing_of n s) h.0 in
+    (h.0, omega (arith, room), AllFit-landings a (n + count_of s) (ids_after a n V s) ss (subst (λ k. AllInRange k ss) (sym size) h.1) (omega (arith, room)))
+
+-- the part of the splices up to a place is in range, and so is the next one
+pub AllInRange-front : (a : Actor) (n : ℕ) (V : List OpId) (ss : List Splice) (s : Splice) (rest : List Splice) → AllInRange (length V) (ss ++ s ∷ rest) → AllInRange (length V) ss × IsInRange (length (ids_after_all a n V ss)) s
+AllInRange-front a n V [] s rest h = (tt, h.0)
+AllInRange-front a n V (k ∷ ss) s rest h =
+    let size = length-ids_landed a V (landing_of n k) h.0 in
+    let more = AllInRange-front a (n + count_of k) (ids_after a n V k) ss s rest (subst (λ m. AllInRange m (ss ++ s ∷ rest)) (sym size) h.1) in
+    ((h.0, subst (λ m. AllInRange m ss) size more.0), more.1)
+
+total_count-append : (xs ys : List Splice) → total_count (xs ++ ys) ≡ total_count xs + total_count ys
+total_count-append [] ys = omega arith
+total_count-append (x ∷ xs) ys = let rest = total_count-append xs ys in omega (arith, rest)
+
+-- what is known of the splice at a place, where the ones before it are done
+pub record IsNext (a : Actor) (n : ℕ) (V : List OpId) (done : List Splice) (s : Splice) : Type 0 where
+  pub fit : AllFit a V (landings_of n done)
+  pub place : IsInRange (length (ids_through a V (landings_of n done))) s
+  pub room : (n + total_count done) + count_of s < 2 ^ 64
+
+pub IsNext-at : (a : Actor) (n : ℕ) (V : List OpId) (ss : List Splice) (i : ℕ) (d : Splice) → i < length ss → AllInRange (length V) ss → n + total_count ss < 2 ^ 64 → IsNext a n V (take i ss) (get_or ss i d)
+IsNext-at a n V ss i d lt range room =
+    let done = take i ss in
+    let s = get_or ss i d in
+    let rest = drop (i + 1) ss in
+    let whole : done ++ s ∷ rest ≡ ss = ap (λ l. done ++ l) (sym (drop_more ss i d lt)) ∙ take-append-drop i ss in
+    let front = AllInRange-front a n V done s rest (subst (AllInRange (length V)) (sym whole) range) in
+    let counted = ap total_count (sym whole) ∙ total_count-append done (s ∷ rest) in
+    record {
+      fit = AllFit-landings a n V done front.0 (omega (arith, room, counted));
+      place = subst (λ W. IsInRange (length W) s) (sym (ids_through-landings a n V done)) front.1;
+      room = omega (arith, room, counted);
+    }

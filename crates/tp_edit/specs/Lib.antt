@@ -1,0 +1,5 @@
+pub mod Splices
+pub mod EditRecords
+pub mod Landings
+pub mod EditLaw
+pub mod EditLimits

@@ -1,0 +1,5 @@
+//! Edits on worked examples.
+#![tactic(auto)]
+
+#[cfg(test)]
+mod tests;

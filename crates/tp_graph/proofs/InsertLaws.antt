@@ -1,0 +1,320 @@
+-- Laws of inserts and references.
+use Rattle.std.proofs.Common.{◌≡◌, ℕ, suc, zero, ◌+◌, ◌<◌, ◌≤◌, ◌==◌, ◌⊎◌, inl, inr, List, [], ◌∷◌, ◌++◌, length, Bool, true, false, ◌||◌, ◌&&◌, nat_lt, nat_le, refl, sym, ap, ◌∙◌, subst, arith, append_assoc, take, drop, get_or, add-one, drop-cons}
+use Rattle.std.proofs.lemmas.List.{append-nil, take_more, drop_all}
+use Rattle.std.proofs.lemmas.Bool.{eqb-true, eq-eqb}
+use Rattle.std.proofs.lemmas.Bool.Decides.{nat_tests}
+use Rattle.std.specs.List.{AllByRecursion}
+use Rattle.tp_list.specs.Members.{In, AllIn}
+use Rattle.tp_opid.specs.declared.actor.Actor.{Actor}
+use Rattle.tp_opid.specs.declared.op_id.OpId.{OpId}
+use Rattle.tp_opid.specs.declared.op_id.Place.{Place}
+use Rattle.tp_opid.specs.declared.op_id.Place.TheVariants.{Start, After}
+use Rattle.tp_opid.specs.Insert as element_of
+use Rattle.tp_opid.specs.Same.{same_actor, id_eq}
+use Rattle.tp_opid.proofs.Orders.{same_actor-same, same_actor-itself, id_eq-same, id_eq-itself}
+use Rattle.tp_change.specs.declared.op.Op.{Op}
+use Rattle.tp_change.specs.declared.op.Op.TheVariants as op_of
+use Rattle.tp_change.specs.declared.record.Record.{Record}
+use Rattle.tp_change.specs.declared.record.Record.TheVariants.{Insert, Delete}
+use Rattle.tp_change.specs.declared.parts.ChangeParts.{ChangeParts}
+use Rattle.tp_change.specs.Operations.{ops_of, ops_from, ops_in, run, id_of, count_in, count_of, op_count}
+use Rattle.tp_change.specs.Limits.{IsRecord, IsChange}
+use Rattle.tp_change.specs.Elements.{element, inserts_in, inserts, is_inserted, is_place, refers}
+use Rattle.tp_graph.specs.Covers.{covers, is_there, all_there}
+use Rattle.tp_graph.proofs.Tests.{truth, never, not_true, same_test, or_cases, or_left, or_right, both, both_left, both_right}
+
+-- ---- joined lists
+
+pub inserts_in-append : (xs ys : List Op) → inserts_in (xs ++ ys) ≡ inserts_in xs ++ inserts_in ys
+inserts_in-append [] ys = refl
+inserts_in-append (op_of.Insert id after ch ∷ xs) ys = ap (λ l. element id after ch ∷ l) (inserts_in-append xs ys)
+inserts_in-append (op_of.Delete id target ∷ xs) ys = inserts_in-append xs ys
+
+pub is_inserted-append : (S T : List element_of.Insert) (id : OpId) → is_inserted (S ++ T) id ≡ (is_inserted S id || is_inserted T id)
+is_inserted-append [] T id = refl
+is_inserted-append (x ∷ S) T id =
+    elim (id_eq x.id id) as (λ b. (b || is_inserted (S ++ T) id) ≡ ((b || is_inserted S id) || is_inserted T id)) [
+      true ↦ refl
+    | false ↦ is_inserted-append S T id
+    ]
+
+pub inserts-append : (C D : List ChangeParts) → inserts (C ++ D) ≡ inserts C ++ inserts D
+inserts-append [] D = refl
+inserts-append (c ∷ C) D = ap (λ l. inserts_in (ops_of c) ++ l) (inserts-append C D) ∙ sym (append_assoc (inserts_in (ops_of c)) (inserts C) (inserts D))
+
+pub ops_from-append : (a : Actor) (n : ℕ) (rs ss : List Record) → ops_from a n (rs ++ ss) ≡ ops_from a n rs ++ ops_from a (n + count_of rs) ss
+ops_from-append a n [] ss = let e : n ≡ n + 0 = omega arith in ap (λ m. ops_from a m ss) e
+ops_from-append a n (r ∷ rs) ss =
+    let e : n + count_in r + count_of rs ≡ n + (count_in r + count_of rs) = omega arith in
+    ap (λ l. ops_in a n r ++ l) (ops_from-append a (n + count_in r) rs ss)
+    ∙ ap (λ m. ops_in a n r ++ (ops_from a (n + count_in r) rs ++ ops_from a m ss)) e
+    ∙ sym (append_assoc (ops_in a n r) (ops_from a (n + count_in r) rs) (ops_from a (n + (count_in r + count_of rs)) ss))
+
+-- ---- which identifiers are inserted
+
+pub is_inserted-In : (S : List element_of.Insert) (id : OpId) → is_inserted S id ≡ true → (x : element_of.Insert) × In x S × (x.id ≡ id)
+is_inserted-In [] id e = cc
+is_inserted-In (x ∷ S) id e =
+    elim (or_cases (id_eq x.id id) (is_inserted S id) e) [
+      inl s ↦ (x, inl refl, id_eq-same x.id id s)
+    | inr r ↦ let w = is_inserted-In S id r in (w.0, inr w.1, w.2)
+    ]
+
+pub In-is_inserted : (S : List element_of.Insert) (x : element_of.Insert) (id : OpId) → In x S → x.id ≡ id → is_inserted S id ≡ true
+In-is_inserted [] x id i e = absurd i
+In-is_inserted (y ∷ S) x id (inl s) e = or_left (id_eq y.id id) (is_inserted S id) (rw (← e, s) (id_eq-itself y.id))
+In-is_inserted (y ∷ S) x id (inr i) e = or_right (id_eq y.id id) (is_inserted S id) (In-is_inserted S x id i e)
+
+pub is_inserted-more : (S T : List element_of.Insert) (id : OpId) → AllIn S T → is_inserted S id ≡ true → is_inserted T id ≡ true
+is_inserted-more S T id more e = let w = is_inserted-In S id e in In-is_inserted T w.0 id (more w.0 w.1) w.2
+
+-- an identifier is another by its actor and its counter
+id_eq-parts : (a : Actor) (n : ℕ) (id : OpId) → id_eq (id_of a n) id ≡ (same_actor a id.actor && (n == id.counter))
+id_eq-parts a n id =
+    same_test (id_eq (id_of a n) id) (same_actor a id.actor && (n == id.counter))
+    (λ t.
+      let e : id_of a n ≡ id = id_eq-same (id_of a n) id t in
+      let actor : a ≡ id.actor = ap (λ (x : OpId). x.actor) e in
+      let counter : n ≡ id.counter = ap (λ (x : OpId). x.counter) e in
+      both (same_actor a id.actor) (n == id.counter) (subst (λ b. same_actor a b ≡ true) actor (same_actor-itself a)) (eq-eqb n id.counter counter))
+    (λ t.
+      let actor = same_actor-same a id.actor (both_left (same_actor a id.actor) (n == id.counter) t) in
+      let counter = eqb-true n id.counter (both_right (same_actor a id.actor) (n == id.counter) t) in
+      let e : id_of a n ≡ id = ap (λ b. id_of b n) actor ∙ ap (λ m. id_of id.actor m) counter in
+      subst (λ x. id_eq (id_of a n) x ≡ true) e (id_eq-itself (id_of a n)))
+
+one_more : (s : Bool) (n k m : ℕ) → ((s && (n == k)) || (s && (nat_le (n + 1) k && nat_lt k (n + 1 + m)))) ≡ (s && (nat_le n k && nat_lt k (n + suc m)))
+one_more false n k m = refl
+one_more true n k m = counted n k m where
+  counted : (n k m : ℕ) → ((n == k) || (nat_le (n + 1) k && nat_lt k (n + 1 + m))) ≡ (nat_le n k && nat_lt k (n + suc m))
+  counted n k m = grind (arith, nat_tests)
+
+no_more : (s : Bool) (n k : ℕ) → false ≡ (s && (nat_le n k && nat_lt k (n + 0)))
+no_more false n k = refl
+no_more true n k = grind (arith, nat_tests)
+
+-- the inserts of a run have the counters from the first on
+pub is_inserted-run : (a : Actor) (n : ℕ) (after : Place) (text : List ℕ) (id : OpId) → is_inserted (inserts_in (run a n after text)) id ≡ (same_actor a id.actor && (nat_le n id.counter && nat_lt id.counter (n + length text)))
+is_inserted-run a n after [] id = no_more (same_actor a id.actor) n id.counter
+is_inserted-run a n after (ch ∷ text) id =
+    ap (λ b. b || is_inserted (inserts_in (run a (n + 1) (After (id_of a n)) text)) id) (id_eq-parts a n id)
+    ∙ ap (λ b. (same_actor a id.actor && (n == id.counter)) || b) (is_inserted-run a (n + 1) (After (id_of a n)) text id)
+    ∙ one_more (same_actor a id.actor) n id.counter (length text)
+
+-- the inserts of records are those at the counters that they cover
+pub is_inserted-covers : (a : Actor) (n : ℕ) (rs : List Record) (id : OpId) → is_inserted (inserts_in (ops_from a n rs)) id ≡ (same_actor a id.actor && covers n rs id.counter)
+is_inserted-covers a n [] id = none (same_actor a id.actor) where
+  none : (s : Bool) → false ≡ (s && false)
+  none true = refl
+  none false = refl
+is_inserted-covers a n (Insert after text ∷ rs) id =
+    ap (λ l. is_inserted l id) (inserts_in-append (run a n after text) (ops_from a (n + length text) rs))
+    ∙ is_inserted-append (inserts_in (run a n after text)) (inserts_in (ops_from a (n + length text) rs)) id
+    ∙ ap (λ b. b || is_inserted (inserts_in (ops_from a (n + length text) rs)) id) (is_inserted-run a n after text id)
+    ∙ ap (λ b. (same_actor a id.actor && (nat_le n id.counter && nat_lt id.counter (n + length text))) || b) (is_inserted-covers a (n + length text) rs id)
+    ∙ joined (same_actor a id.actor) (nat_le n id.counter && nat_lt id.counter (n + length text)) (covers (n + length text) rs id.counter) where
+  joined : (s x y : Bool) → ((s && x) || (s && y)) ≡ (s && (x || y))
+  joined true x y = refl
+  joined false x y = refl
+is_inserted-covers a n (Delete target ∷ rs) id = is_inserted-covers a (n + 1) rs id
+
+-- ---- references depend on which identifiers are inserted
+
+abbrev pub SameIds : List element_of.Insert → List element_of.Insert → Type 0
+SameIds S T = (id : OpId) → is_inserted S id ≡ is_inserted T id
+
+SameIds-more : (x : element_of.Insert) (S T : List element_of.Insert) → SameIds S T → SameIds (x ∷ S) (x ∷ T)
+SameIds-more x S T f id = ap (λ b. id_eq x.id id || b) (f id)
+
+pub is_place-same : (S T : List element_of.Insert) (p : Place) → SameIds S T → is_place S p ≡ is_place T p
+is_place-same S T Start f = refl
+is_place-same S T (After id) f = f id
+
+pub refers-same : (S T : List element_of.Insert) (ops : List Op) → SameIds S T → refers S ops ≡ refers T ops
+refers-same S T [] f = refl
+refers-same S T (op_of.Insert id after ch ∷ ops) f =
+    ap (λ b. b && refers (element id after ch ∷ S) ops) (is_place-same S T after f)
+    ∙ ap (λ b. is_place T after && b) (refers-same (element id after ch ∷ S) (element id after ch ∷ T) ops (SameIds-more (element id after ch) S T f))
+refers-same S T (op_of.Delete id target ∷ ops) f =
+    ap (λ b. b && refers S ops) (f target) ∙ ap (λ b. is_inserted T target && b) (refers-same S T ops f)
+
+-- S with the inserts of the operations in front
+pub grown : List element_of.Insert → List Op → List element_of.Insert
+grown S [] = S
+grown S (op_of.Insert id after ch ∷ ops) = grown (element id after ch ∷ S) ops
+grown S (op_of.Delete id target ∷ ops) = grown S ops
+
+and_assoc : (a b c : Bool) → (a && (b && c)) ≡ ((a && b) && c)
+and_assoc true b c = refl
+and_assoc false b c = refl
+
+pub refers-append : (S : List element_of.Insert) (xs ys : List Op) → refers S (xs ++ ys) ≡ (refers S xs && refers (grown S xs) ys)
+unfolding grown
+refers-append S [] ys = refl
+refers-append S (op_of.Insert id after ch ∷ xs) ys =
+    ap (λ b. is_place S after && b) (refers-append (element id after ch ∷ S) xs ys) ∙ and_assoc (is_place S after) (refers (element id after ch ∷ S) xs) (refers (grown (element id after ch ∷ S) xs) ys)
+refers-append S (op_of.Delete id target ∷ xs) ys =
+    ap (λ b. is_inserted S target && b) (refers-append S xs ys) ∙ and_assoc (is_inserted S target) (refers S xs) (refers (grown S xs) ys)
+
+pub grown-ids : (S : List element_of.Insert) (xs : List Op) (id : OpId) → is_inserted (grown S xs) id ≡ (is_inserted (inserts_in xs) id || is_inserted S id)
+unfolding grown
+grown-ids S [] id = refl
+grown-ids S (op_of.Insert i after ch ∷ xs) id =
+    grown-ids (element i after ch ∷ S) xs id ∙ turn (is_inserted (inserts_in xs) id) (id_eq i id) (is_inserted S id) where
+  turn : (a b c : Bool) → (a || (b || c)) ≡ ((b || a) || c)
+  turn true true c = refl
+  turn true false c = refl
+  turn false true c = refl
+  turn false false c = refl
+grown-ids S (op_of.Delete i target ∷ xs) id = grown-ids S xs id
+
+-- of a run only the first reference matters
+run_goes_on : (a : Actor) (n : ℕ) (text : List ℕ) (S : List element_of.Insert) (p : OpId) → is_inserted S p ≡ true → refers S (run a n (After p) text) ≡ true
+run_goes_on a n [] S p e = refl
+run_goes_on a n (ch ∷ text) S p e =
+    both (is_inserted S p) (refers (element (id_of a n) (After p) ch ∷ S) (run a (n + 1) (After (id_of a n)) text)) e
+    (run_goes_on a (n + 1) text (element (id_of a n) (After p) ch ∷ S) (id_of a n) (or_left (id_eq (id_of a n) (id_of a n)) (is_inserted S (id_of a n)) (id_eq-itself (id_of a n))))
+
+refers-run : (a : Actor) (n : ℕ) (after : Place) (text : List ℕ) (S : List element_of.Insert) → 0 < length text → refers S (run a n after text) ≡ is_place S after
+refers-run a n after [] S some = absurd (omega arith)
+refers-run a n after (ch ∷ text) S some =
+    ap (λ b. is_place S after && b)
+    (run_goes_on a (n + 1) text (element (id_of a n) after ch ∷ S) (id_of a n) (or_left (id_eq (id_of a n) (id_of a n)) (is_inserted S (id_of a n)) (id_eq-itself (id_of a n))))
+    ∙ alone (is_place S after) where
+  alone : (b : Bool) → (b && true) ≡ b
+  alone true = refl
+  alone false = refl
+
+refers-record : (a : Actor) (n : ℕ) (r : Record) (S : List element_of.Insert) → IsRecord r → refers S (ops_in a n r) ≡ is_there S r
+refers-record a n (Insert after text) S h = refers-run a n after text S h.2
+refers-record a n (Delete target) S h = alone (is_inserted S target) where
+  alone : (b : Bool) → (b && true) ≡ b
+  alone true = refl
+  alone false = refl
+
+is_there-same : (S T : List element_of.Insert) (r : Record) → SameIds S T → is_there S r ≡ is_there T r
+is_there-same S T (Insert after text) f = is_place-same S T after f
+is_there-same S T (Delete target) f = f target
+
+-- references, record by record
+refers-records : (a : Actor) (n : ℕ) (S T : List element_of.Insert) (before rs : List Record)
+  → AllByRecursion IsRecord rs → SameIds T (inserts_in (ops_from a n before) ++ S) → refers T (ops_from a (n + count_of before) rs) ≡ all_there a n S before rs
+refers-records a n S T before [] h f = refl
+refers-records a n S T before (r ∷ rs) h f =
+    let m = n + count_of before in
+    let step : n + count_of before + count_in r ≡ n + count_of (before ++ r ∷ []) = counted before in
+    let next : SameIds (grown T (ops_in a m r)) (inserts_in (ops_from a n (before ++ r ∷ [])) ++ S) =
+        λ id.
+          grown-ids T (ops_in a m r) id
+          ∙ ap (λ b. is_inserted (inserts_in (ops_in a m r)) id || b) (f id ∙ is_inserted-append (inserts_in (ops_from a n before)) S id)
+          ∙ turn (is_inserted (inserts_in (ops_in a m r)) id) (is_inserted (inserts_in (ops_from a n before)) id) (is_inserted S id)
+          ∙ ap (λ b. b || is_inserted S id) (sym (is_inserted-append (inserts_in (ops_from a n before)) (inserts_in (ops_in a m r)) id))
+          ∙ ap (λ l. is_inserted l id || is_inserted S id) (sym (inserts_in-append (ops_from a n before) (ops_in a m r)))
+          ∙ ap (λ l. is_inserted (inserts_in (ops_from a n before ++ l)) id || is_inserted S id) (sym (one_record m r))
+          ∙ ap (λ l. is_inserted (inserts_in l) id || is_inserted S id) (sym (ops_from-append a n before (r ∷ [])))
+          ∙ sym (is_inserted-append (inserts_in (ops_from a n (before ++ r ∷ []))) S id) in
+    refers-append T (ops_in a m r) (ops_from a (m + count_in r) rs)
+    ∙ ap (λ b. b && refers (grown T (ops_in a m r)) (ops_from a (m + count_in r) rs)) (refers-record a m r T h.0 ∙ is_there-same T (inserts_in (ops_from a n before) ++ S) r f)
+    ∙ ap (λ k. is_there (inserts_in (ops_from a n before) ++ S) r && refers (grown T (ops_in a m r)) (ops_from a k rs)) step
+    ∙ ap (λ b. is_there (inserts_in (ops_from a n before) ++ S) r && b) (refers-records a n S (grown T (ops_in a m r)) (before ++ r ∷ []) rs h.1 next)
+    where
+  turn : (a b c : Bool) → (a || (b || c)) ≡ ((b || a) || c)
+  turn true true c = refl
+  turn true false c = refl
+  turn false true c = refl
+  turn false false c = refl
+  counted : (before : List Record) → n + count_of before + count_in r ≡ n + count_of (before ++ r ∷ [])
+  counted [] = omega arith
+  counted (b ∷ before) = let e = counted before in omega arith
+  one_record : (m : ℕ) (r : Record) → ops_from a m (r ∷ []) ≡ ops_in a m r
+  one_record m r = append-nil (ops_in a m r)
+
+-- the references of a change, record by record
+pub refers-all_there : (S : List element_of.Insert) (c : ChangeParts) → IsChange c → refers S (ops_of c) ≡ all_there c.actor c.start S [] c.records
+unfolding ops_of
+refers-all_there S c h =
+    let e : c.start ≡ c.start + 0 = omega arith in
+    ap (λ n. refers S (ops_from c.actor n c.records)) e ∙ refers-records c.actor c.start S S [] c.records h.records (λ id. refl)
+
+-- ---- an identifier in a change
+
+pub inserts_id-is : (c : ChangeParts) (id : OpId) → is_inserted (inserts_in (ops_of c)) id ≡ (same_actor c.actor id.actor && covers c.start c.records id.counter)
+unfolding ops_of
+inserts_id-is c id = is_inserted-covers c.actor c.start c.records id
+
+covers-low : (n : ℕ) (rs : List Record) (k : ℕ) → k < n → covers n rs k ≡ false
+covers-low n [] k h = refl
+covers-low n (Insert after text ∷ rs) k h = let rest = covers-low (n + length text) rs k (omega arith) in grind (arith, nat_tests)
+covers-low n (Delete target ∷ rs) k h = covers-low (n + 1) rs k (omega arith)
+
+covers-high : (n : ℕ) (rs : List Record) (k : ℕ) → n + count_of rs ≤ k → covers n rs k ≡ false
+covers-high n [] k h = refl
+covers-high n (Insert after text ∷ rs) k h =
+    let within : n + length text ≤ k = omega arith in
+    let rest = covers-high (n + length text) rs k (omega arith) in grind (arith, nat_tests)
+covers-high n (Delete target ∷ rs) k h = covers-high (n + 1) rs k (omega arith)
+
+pub inserts_id-other : (c : ChangeParts) (id : OpId) → same_actor c.actor id.actor ≡ false → false ≡ is_inserted (inserts_in (ops_of c)) id
+inserts_id-other c id e = sym (inserts_id-is c id ∙ ap (λ b. b && covers c.start c.records id.counter) e)
+
+nothing_covered : (s : Bool) → (s && false) ≡ false
+nothing_covered true = refl
+nothing_covered false = refl
+
+pub inserts_id-low : (c : ChangeParts) (id : OpId) → id.counter < c.start → false ≡ is_inserted (inserts_in (ops_of c)) id
+inserts_id-low c id h = sym (inserts_id-is c id ∙ ap (λ b. same_actor c.actor id.actor && b) (covers-low c.start c.records id.counter h) ∙ nothing_covered (same_actor c.actor id.actor))
+
+pub inserts_id-high : (c : ChangeParts) (id : OpId) (end : ℕ) → end ≡ c.start + op_count c → end ≤ id.counter → false ≡ is_inserted (inserts_in (ops_of c)) id
+unfolding op_count
+inserts_id-high c id end e h =
+    let past : c.start + count_of c.records ≤ id.counter = omega (arith, e) in
+    sym (inserts_id-is c id ∙ ap (λ b. same_actor c.actor id.actor && b) (covers-high c.start c.records id.counter past) ∙ nothing_covered (same_actor c.actor id.actor))
+
+pub inserts_id-at : (c : ChangeParts) (id : OpId) (b : Bool) → same_actor c.actor id.actor ≡ true → b ≡ covers c.start c.records id.counter → b ≡ is_inserted (inserts_in (ops_of c)) id
+inserts_id-at c id b e f = f ∙ sym (inserts_id-is c id ∙ ap (λ s. s && covers c.start c.records id.counter) e)
+
+-- ---- the steps of the test of references
+
+known_is : (a : Actor) (n : ℕ) (before : List Record) (S : List element_of.Insert) (id : OpId)
+  → is_inserted (inserts_in (ops_from a n before) ++ S) id ≡ ((same_actor a id.actor && covers n before id.counter) || is_inserted S id)
+known_is a n before S id =
+    is_inserted-append (inserts_in (ops_from a n before)) S id ∙ ap (λ b. b || is_inserted S id) (is_inserted-covers a n before id)
+
+pub known_other : (a : Actor) (n : ℕ) (before : List Record) (S : List element_of.Insert) (id : OpId) (b : Bool)
+  → same_actor a id.actor ≡ false → b ≡ is_inserted S id → b ≡ is_inserted (inserts_in (ops_from a n before) ++ S) id
+known_other a n before S id b e f = f ∙ sym (known_is a n before S id ∙ ap (λ s. (s && covers n before id.counter) || is_inserted S id) e)
+
+pub known_covered : (a : Actor) (n : ℕ) (before : List Record) (S : List element_of.Insert) (id : OpId)
+  → same_actor a id.actor ≡ true → covers n before id.counter ≡ true → true ≡ is_inserted (inserts_in (ops_from a n before) ++ S) id
+known_covered a n before S id e f =
+    sym (known_is a n before S id ∙ ap (λ s. (s && covers n before id.counter) || is_inserted S id) e ∙ ap (λ s. s || is_inserted S id) f)
+
+pub known_uncovered : (a : Actor) (n : ℕ) (before : List Record) (S : List element_of.Insert) (id : OpId) (b : Bool)
+  → same_actor a id.actor ≡ true → covers n before id.counter ≡ false → b ≡ is_inserted S id → b ≡ is_inserted (inserts_in (ops_from a n before) ++ S) id
+known_uncovered a n before S id b e f g =
+    g ∙ sym (known_is a n before S id ∙ ap (λ s. (s && covers n before id.counter) || is_inserted S id) e ∙ ap (λ s. s || is_inserted S id) f)
+
+pub count_of-take : (rs : List Record) (i : ℕ) → count_of (take i rs) ≤ count_of rs
+count_of-take [] zero = omega arith
+count_of-take [] (suc i) = omega arith
+count_of-take (r ∷ rs) zero = omega arith
+count_of-take (r ∷ rs) (suc i) = let h = count_of-take rs i in omega arith
+
+pub all_there-step : (a : Actor) (n : ℕ) (S : List element_of.Insert) (rs : List Record) (i : ℕ) (r : Record) → i < length rs → r ≡ get_or rs i r
+  → all_there a n S (take i rs) (drop i rs) ≡ (is_there (inserts_in (ops_from a n (take i rs)) ++ S) r && all_there a n S (take (i + 1) rs) (drop (i + 1) rs))
+all_there-step a n S rs i r small e =
+    ap (all_there a n S (take i rs)) (drop-cons rs i r small)
+    ∙ ap (λ x. all_there a n S (take i rs) (x ∷ drop (suc i) rs)) (sym e)
+    ∙ ap (λ l. is_there (inserts_in (ops_from a n (take i rs)) ++ S) r && all_there a n S l (drop (suc i) rs)) (sym (take_more rs i r small ∙ ap (λ x. take i rs ++ x ∷ []) (sym e)))
+    ∙ ap (λ k. is_there (inserts_in (ops_from a n (take i rs)) ++ S) r && all_there a n S (take (i + 1) rs) (drop k rs)) (sym (add-one i))
+
+pub all_there-stop : (a : Actor) (n : ℕ) (S : List element_of.Insert) (rs : List Record) (i : ℕ) (r : Record) → i < length rs → r ≡ get_or rs i r
+  → is_there (inserts_in (ops_from a n (take i rs)) ++ S) r ≡ false → all_there a n S (take i rs) (drop i rs) ≡ false
+all_there-stop a n S rs i r small e f = all_there-step a n S rs i r small e ∙ ap (λ b. b && all_there a n S (take (i + 1) rs) (drop (i + 1) rs)) f
+
+pub all_there-on : (a : Actor) (n : ℕ) (S : List element_of.Insert) (rs : List Record) (i : ℕ) (r : Record) → i < length rs → r ≡ get_or rs i r
+  → is_there (inserts_in (ops_from a n (take i rs)) ++ S) r ≡ true → all_there a n S (take (i + 1) rs) (drop (i + 1) rs) ≡ all_there a n S (take i rs) (drop i rs)
+all_there-on a n S rs i r small e f = sym (all_there-step a n S rs i r small e ∙ ap (λ b. b && all_there a n S (take (i + 1) rs) (drop (i + 1) rs)) f)
+
+pub all_there-end : (a : Actor) (n : ℕ) (S : List element_of.Insert) (rs : List Record) (i : ℕ) → length rs ≤ i → all_there a n S (take i rs) (drop i rs) ≡ true
+all_there-end a n S rs i h = ap (all_there a n S (take i rs)) (drop_all i rs h)

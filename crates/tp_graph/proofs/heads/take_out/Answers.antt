@@ -1,0 +1,10 @@
+use Rattle.std.proofs.Common.{◌∙◌, not, rules}
+use Rattle.std.proofs.lemmas.Fn.{filter_same}
+use Rattle.tp_graph.specs.Named as named
+use Rattle.tp_graph.proofs.HeadSteps.{filter-without}
+use Rattle.tp_graph.proofs.heads.take_out.Goals as goal
+
+pub returns-clause-items : goal.returns-clause-items
+returns-clause-items c =
+    filter_same _ (λ h. not (named.among c.args.others.now h)) _ (λ x b g k. search rules) _ _ c.retain.ensures.filtered
+    ∙ filter-without c.args.others.now c.args.heads.now.items

@@ -1,0 +1,20 @@
+use Rattle.std.proofs.Common.{◌≡◌, ◌∙◌, ap, refl, get_or, Some}
+use Rattle.std.specs.List.{slice_get}
+use Rattle.std.proofs.lemmas.Option.{slice_get_read, slice_get-get_or}
+use Rattle.tp_graph.specs.Marks.{marked_more}
+use Rattle.tp_graph.proofs.SoundLaws.{deps_first}
+use Rattle.tp_graph.proofs.MarksLaws.{followed, passed_by, place_in}
+use Rattle.tp_graph.proofs.walk.follow.Goals as goal
+
+pub returns-then-marks-place : goal.returns-then-marks-place
+returns-then-marks-place c =
+    followed c.args.applied.now c.args.hashes.now c.args.place c.index-applied-place.result c.args.marks.now c.mark.new.marks
+    (deps_first c.args.applied.now c.requires.sound)
+    (slice_get_read c.args.applied.now _ c.args.place c.index-applied-place.result refl c.requires.place c.index-applied-place.is)
+    c.requires.walked c.if-marks-place.true
+    (c.mark.ensures ∙ ap (λ d. marked_more d c.args.applied.now c.args.marks.now) c.deps.ensures)
+
+pub returns-else-marks-place : goal.returns-else-marks-place
+returns-else-marks-place c =
+    let w = place_in c.args.applied.now c.args.place c.requires.place in
+    passed_by c.args.applied.now c.args.hashes.now c.args.place w.0 c.args.marks.now w.1 c.requires.walked c.if-marks-place.false

@@ -1,0 +1,24 @@
+-- References judged record by record.
+use Rattle.std.specs.Prelude.{ℕ, ◌+◌, List, [], ◌∷◌, ◌++◌, length, Bool, true, false, ◌||◌, ◌&&◌, nat_lt, nat_le}
+use Rattle.tp_opid.specs.declared.actor.Actor.{Actor}
+use Rattle.tp_opid.specs.Insert as element_of
+use Rattle.tp_change.specs.declared.record.Record.{Record}
+use Rattle.tp_change.specs.declared.record.Record.TheVariants.{Insert, Delete}
+use Rattle.tp_change.specs.Operations.{ops_from}
+use Rattle.tp_change.specs.Elements.{inserts_in, is_inserted, is_place}
+
+-- The records, the first of which has the counter n, insert at the counter k.
+abbrev pub covers : ℕ → List Record → ℕ → Bool
+covers n [] k = false
+covers n (Insert after text ∷ rs) k = (nat_le n k && nat_lt k (n + length text)) || covers (n + length text) rs k
+covers n (Delete target ∷ rs) k = covers (n + 1) rs k
+
+-- The reference or the target of the record is among S.
+abbrev pub is_there : List element_of.Insert → Record → Bool
+is_there S (Insert after text) = is_place S after
+is_there S (Delete target) = is_inserted S target
+
+-- The reference or the target of each record of rs is among S, or inserted by a record that stands before it.
+abbrev pub all_there : Actor → ℕ → List element_of.Insert → List Record → List Record → Bool
+all_there a n S before [] = true
+all_there a n S before (r ∷ rs) = is_there (inserts_in (ops_from a n before) ++ S) r && all_there a n S (before ++ r ∷ []) rs

@@ -1,0 +1,55 @@
+-- Whether a change fits behind the changes of a list, and why not.
+use Rattle.std.specs.Prelude.{◌≡◌, ℕ, ◌+◌, ◌==◌, List, [], ◌∷◌, length, Bool, true, false, not, cond, ◌||◌, ◌&&◌, Option, Some, None, nat_lt}
+use Rattle.tp_opid.specs.declared.actor.Actor.{Actor}
+use Rattle.tp_opid.specs.Same.{same_actor}
+use Rattle.tp_change.specs.declared.parts.ChangeParts.{ChangeParts}
+use Rattle.tp_change.specs.ChangeHash.{hash_of}
+use Rattle.tp_change.specs.Operations.{ops_of, op_count}
+use Rattle.tp_graph.specs.declared.error.GraphError.{GraphError}
+use Rattle.tp_graph.specs.declared.error.GraphError.TheVariants.{Known, MissingDeps, BadSeq, BadStart, BadReference, SeqClash, Full}
+use Rattle.tp_graph.specs.Named.{has, has_all}
+use Rattle.tp_graph.specs.Past.{past}
+use Rattle.tp_change.specs.Elements.{inserts, refers, next_counter}
+
+-- how many of the changes the actor made
+abbrev pub count_by : Actor → List ChangeParts → ℕ
+count_by a [] = 0
+count_by a (c ∷ C) = cond (same_actor c.actor a) (count_by a C + 1) (count_by a C)
+
+-- One of the changes has c's actor and sequence number. It is asked only where none has c's hash.
+abbrev pub clashes : List ChangeParts → ChangeParts → Bool
+clashes [] c = false
+clashes (d ∷ C) c = (same_actor d.actor c.actor && (d.seq == c.seq)) || clashes C c
+
+-- The fault of numbers or references that c has behind its past P, the first that holds.
+unfoldable pub misfit_behind : List ChangeParts → ChangeParts → Option GraphError
+misfit_behind P c =
+    cond (c.seq == count_by c.actor P + 1)
+    (cond (c.start == next_counter P) (cond (refers (inserts P) (ops_of c)) None (Some BadReference)) (Some BadStart))
+    (Some BadSeq)
+
+-- the fault, or else SeqClash where the test holds
+abbrev pub or_clash : Option GraphError → Bool → Option GraphError
+or_clash (Some e) b = Some e
+or_clash None b = cond b (Some SeqClash) None
+
+-- Why c doesn't fit behind C: the first that holds, or None where it fits. Known: a change of C has its hash.
+-- MissingDeps: a dependency isn't in C. BadSeq, BadStart, BadReference: judged on the past of its dependencies
+-- alone. SeqClash: another change of C has its actor and sequence number.
+unfoldable pub misfit : List ChangeParts → ChangeParts → Option GraphError
+misfit C c =
+    cond (has C (hash_of c)) (Some Known)
+    (cond (has_all C c.deps) (or_clash (misfit_behind (past C c.deps) c) (clashes C c)) (Some MissingDeps))
+
+-- how many changes a graph has at most
+abbrev pub most_changes : ℕ
+most_changes = 4294967295
+
+-- the misfit, or else Full where the list has as many changes as a graph may have
+abbrev pub or_full : Option GraphError → Bool → Option GraphError
+or_full (Some e) b = Some e
+or_full None b = cond b (Some Full) None
+
+-- Why c can't enter behind C: its misfit, or else Full; None where it can enter.
+unfoldable pub cause : List ChangeParts → ChangeParts → Option GraphError
+cause C c = or_full (misfit C c) (length C == most_changes)

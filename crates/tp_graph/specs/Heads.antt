@@ -1,0 +1,22 @@
+-- The heads of changes.
+use Rattle.std.specs.Prelude.{List, [], ◌∷◌, cond}
+use Rattle.tp_list.specs.Rising.{rising}
+use Rattle.tp_opid.specs.declared.hash.Hash.{Hash}
+use Rattle.tp_opid.specs.Order.{hash_cmp}
+use Rattle.tp_change.specs.declared.parts.ChangeParts.{ChangeParts}
+use Rattle.tp_change.specs.ChangeHash.{hash_of}
+use Rattle.tp_graph.specs.Named.{among, is_needed}
+
+-- the hashes of the changes of C on which none of D depends, in the order of C
+abbrev pub not_needed : List ChangeParts → List ChangeParts → List Hash
+not_needed D [] = []
+not_needed D (c ∷ C) = cond (is_needed D c) (not_needed D C) (hash_of c ∷ not_needed D C)
+
+-- the hashes of the changes on which no other depends, rising
+abbrev pub heads : List ChangeParts → List Hash
+heads C = rising hash_cmp (not_needed C C)
+
+-- the hashes that are none of H
+abbrev pub without : List Hash → List Hash → List Hash
+without H [] = []
+without H (h ∷ hs) = cond (among H h) (without H hs) (h ∷ without H hs)

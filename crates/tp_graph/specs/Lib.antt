@@ -1,0 +1,14 @@
+pub mod GraphError
+pub mod Named
+pub mod Reach
+pub mod Past
+pub mod Heads
+pub mod Fit
+pub mod Sound
+pub mod Places
+pub mod Marks
+pub mod Covers
+pub mod GraphState
+pub mod Answers
+pub mod Since
+pub mod Tree

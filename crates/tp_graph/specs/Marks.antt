@@ -1,0 +1,41 @@
+-- A past as marks, one for each change of the list.
+use Rattle.std.specs.Prelude.{ℕ, ◌+◌, List, [], ◌∷◌, Bool, ◌||◌, cond, ◌++◌, take, drop}
+use Rattle.tp_opid.specs.declared.hash.Hash.{Hash}
+use Rattle.tp_change.specs.declared.parts.ChangeParts.{ChangeParts}
+use Rattle.tp_graph.specs.Named.{names, is_needed}
+use Rattle.tp_graph.specs.Past.{past}
+
+-- whether each change is in the past of H
+abbrev pub marks : List ChangeParts → List Hash → List Bool
+marks [] H = []
+marks (c ∷ C) H = (names H c || is_needed (past C H) c) ∷ marks C H
+
+-- the changes that are marked
+abbrev pub pick : List Bool → List ChangeParts → List ChangeParts
+pick [] C = []
+pick (b ∷ bs) [] = []
+pick (b ∷ bs) (c ∷ C) = cond b (c ∷ pick bs C) (pick bs C)
+
+-- the places that are marked, where the first has the number n
+abbrev pub places_from : ℕ → List Bool → List ℕ
+places_from n [] = []
+places_from n (b ∷ bs) = cond b (n ∷ places_from (n + 1) bs) (places_from (n + 1) bs)
+
+-- the marks, and one more on each change that H names
+abbrev pub marked_more : List Hash → List ChangeParts → List Bool → List Bool
+marked_more H [] bs = bs
+marked_more H (c ∷ C) [] = []
+marked_more H (c ∷ C) (b ∷ bs) = (b || names H c) ∷ marked_more H C bs
+
+-- whether H names each change, or one of K depends on it
+abbrev pub marks_for : List ChangeParts → List ChangeParts → List Hash → List Bool
+marks_for [] K H = []
+marks_for (c ∷ C) K H = (names H c || is_needed K c) ∷ marks_for C K H
+
+-- where the walk stands at the place m: what it passed has its marks, what is before has those by what it passed
+abbrev pub walked : List ChangeParts → List Hash → ℕ → List Bool
+walked C H m = marks_for (take m C) (past (drop m C) H) H ++ marks (drop m C) H
+
+-- the changes that are marked from the place i on
+abbrev pub rest_of : List Bool → List ChangeParts → ℕ → List ChangeParts
+rest_of bs C i = pick (drop i bs) (drop i C)

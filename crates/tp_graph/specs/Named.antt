@@ -1,0 +1,30 @@
+-- Changes by their hashes.
+use Rattle.std.specs.Prelude.{List, [], ◌∷◌, Bool, true, false, ◌||◌, ◌&&◌}
+use Rattle.tp_opid.specs.declared.hash.Hash.{Hash}
+use Rattle.tp_opid.specs.Same.{same_hash}
+use Rattle.tp_change.specs.declared.parts.ChangeParts.{ChangeParts}
+use Rattle.tp_change.specs.ChangeHash.{hash_of}
+
+-- the hash is one of the hashes
+abbrev pub among : List Hash → Hash → Bool
+among [] h = false
+among (g ∷ hs) h = same_hash g h || among hs h
+
+-- one of the hashes is the change's
+abbrev pub names : List Hash → ChangeParts → Bool
+names hs c = among hs (hash_of c)
+
+-- one of the changes has the hash
+abbrev pub has : List ChangeParts → Hash → Bool
+has [] h = false
+has (c ∷ C) h = same_hash (hash_of c) h || has C h
+
+-- each of the hashes is that of one of the changes
+abbrev pub has_all : List ChangeParts → List Hash → Bool
+has_all C [] = true
+has_all C (h ∷ hs) = has C h && has_all C hs
+
+-- one of the changes depends on c
+abbrev pub is_needed : List ChangeParts → ChangeParts → Bool
+is_needed [] c = false
+is_needed (d ∷ C) c = names d.deps c || is_needed C c

@@ -1,0 +1,33 @@
+-- Inserts as a tree: each element stands after the start, or after an element with a smaller identifier (RGA, Roh and
+-- others 2011). The words are those of the sequence layer.
+use Rattle.std.specs.Prelude.{◌≡◌, ℕ, Bool, false, List, [], ◌∷◌, ◌++◌}
+use Rattle.tp_list.specs.Members.{In}
+use Rattle.tp_opid.specs.declared.op_id.OpId.{OpId}
+use Rattle.tp_opid.specs.declared.op_id.Place.{Place}
+use Rattle.tp_opid.specs.declared.op_id.Place.TheVariants.{Start, After}
+use Rattle.tp_opid.specs.Insert.{Insert}
+use Rattle.tp_opid.specs.Order.{Below}
+use Rattle.tp_opid.specs.Same.{id_eq}
+
+-- Some element of S has the identifier.
+abbrev pub IsThere : List Insert → OpId → Type 0
+IsThere S x = (p : Place) × ((ch : ℕ) × In (record { id = x; after = p; ch = ch }) S)
+
+-- No element of S has the identifier.
+abbrev pub IsNew : List Insert → OpId → Type 0
+IsNew S x = (e : Insert) → In e S → id_eq e.id x ≡ false
+
+-- The place is the start, or an element of S with an identifier below x.
+abbrev pub IsPlaceBelow : List Insert → OpId → Place → Type 0
+IsPlaceBelow S x Start = Unit {0}
+IsPlaceBelow S x (After r) = IsThere S r × Below r x
+
+-- No identifier is that of two elements, and each reference is there and smaller.
+pub record IsTree (S : List Insert) : Type 0 where
+  pub once : (a b : Insert) → In a S → In b S → a.id ≡ b.id → a ≡ b
+  pub placed : (e : Insert) → In e S → IsPlaceBelow S e.id e.after
+
+-- S can take an insert of x after p: the identifier is new, and the reference is there and smaller.
+pub record CanInsert (S : List Insert) (x : OpId) (p : Place) : Type 0 where
+  pub new : IsNew S x
+  pub place : IsPlaceBelow S x p

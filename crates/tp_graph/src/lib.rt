@@ -1,0 +1,21 @@
+//! The graph of changes: which changes are applied, in the order in which they entered, with their heads and
+//! pasts, and which wait for changes that they depend on.
+//!
+//! Changes name those that they depend on by hash, as Git's commits and Automerge's changes do, so a set of
+//! changes is a directed graph without cycles. A change enters only where it fits: see [`GraphError`].
+#![tactic(auto)]
+
+mod check;
+mod error;
+mod graph;
+mod heads;
+mod index;
+mod judge;
+pub mod laws;
+mod past;
+mod since;
+mod walk;
+
+pub use error::GraphError;
+pub use graph::{Graph, Rejected};
+pub use past::Past;

@@ -1,0 +1,5 @@
+use Rattle.tp_rga.proofs.Sets.{IsTree-same}
+use Rattle.tp_rga.proofs.order_laws.tree_of_set.Goals as goal
+
+pub returns : goal.returns
+returns c = IsTree-same
