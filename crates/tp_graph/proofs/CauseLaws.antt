@@ -1,6 +1,6 @@
 -- How a cause comes of its parts.
-use Rattle.std.proofs.Common.{◌≡◌, List, Bool, true, false, cond, Option, Some, None, Result, Ok, Err, refl, sym, ap, ◌∙◌, subst}
-use Rattle.std.specs.Result.{IsErr, IsErrAnd}
+use Rattle.std.proofs.Common.{◌≡◌, List, true, false, Some, Result, Ok, Err, refl, sym, subst}
+use Rattle.std.specs.Result.{IsErrAnd}
 use Rattle.tp_change.specs.declared.parts.ChangeParts.{ChangeParts}
 use Rattle.tp_change.specs.ChangeHash.{hash_of}
 use Rattle.tp_graph.specs.declared.error.GraphError.{GraphError}
@@ -27,6 +27,6 @@ IsCause-behind C c Full new there h = cause_behind C c Full new there h
 IsCause-behind C c OutOfMemory new there h = tt
 
 pub Answers-behind : (C : List ChangeParts) (c : ChangeParts) (e : GraphError) (r : Result (Unit {0}) GraphError)
-  → has C (hash_of c) ≡ false → has_all C c.deps ≡ true → IsCause e (misfit_behind (past C c.deps) c) → IsErrAnd r (λ x. x ≡ e) → Answers r (cause C c)
+    → has C (hash_of c) ≡ false → has_all C c.deps ≡ true → IsCause e (misfit_behind (past C c.deps) c) → IsErrAnd r (λ x. x ≡ e) → Answers r (cause C c)
 Answers-behind C c e (Ok x) new there h k = absurd k
 Answers-behind C c e (Err x) new there h k = subst (λ y. IsCause y (cause C c)) (sym k) (IsCause-behind C c e new there h)

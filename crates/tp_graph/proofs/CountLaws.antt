@@ -1,25 +1,24 @@
 -- Laws of counts and counters in sound lists.
-use Rattle.std.proofs.Common.{◌≡◌, ℕ, suc, zero, ◌+◌, ◌<◌, ◌≤◌, ◌==◌, ◌⊎◌, inl, inr, List, [], ◌∷◌, ◌++◌, Bool, true, false, ◌||◌, ◌&&◌, cond, nat_lt, Option, Some, None, refl, sym, ap, ◌∙◌, subst, arith, append_assoc}
-use Rattle.std.proofs.lemmas.Bool.{eqb-true, eq-eqb}
+use Rattle.std.proofs.Common.{◌≡◌, ℕ, ◌+◌, ◌<◌, ◌≤◌, ◌==◌, ◌⊎◌, inl, inr, List, [], ◌∷◌, ◌++◌, Bool, true, false, ◌||◌, ◌&&◌, cond, nat_lt, Some, None, refl, sym, ap, ◌∙◌, subst, arith}
+use Rattle.std.proofs.lemmas.Bool.{eq-eqb}
 use Rattle.std.proofs.lemmas.Bool.Decides.{nat_tests}
 use Rattle.tp_list.specs.Members.{In, AllIn}
 use Rattle.tp_opid.specs.declared.actor.Actor.{Actor}
 use Rattle.tp_opid.specs.declared.hash.Hash.{Hash}
 use Rattle.tp_opid.specs.declared.op_id.OpId.{OpId}
 use Rattle.tp_opid.specs.Insert as element_of
-use Rattle.tp_opid.specs.Same.{same_actor, same_hash}
-use Rattle.tp_opid.proofs.Orders.{same_actor-same, same_actor-itself, same_hash-same, same_hash-itself}
+use Rattle.tp_opid.specs.Same.{same_actor}
+use Rattle.tp_opid.proofs.Orders.{same_actor-same, same_actor-itself}
 use Rattle.tp_change.specs.declared.parts.ChangeParts.{ChangeParts}
 use Rattle.tp_change.specs.ChangeHash.{hash_of}
 use Rattle.tp_change.specs.Operations.{op_count, ops_of}
-use Rattle.tp_graph.specs.declared.error.GraphError.{GraphError}
 use Rattle.tp_graph.specs.declared.error.GraphError.TheVariants.{BadSeq, BadStart, BadReference}
-use Rattle.tp_graph.specs.Named.{names, has, has_all, is_needed}
+use Rattle.tp_graph.specs.Named.{names, is_needed}
 use Rattle.tp_graph.specs.Past.{past, with_reached}
 use Rattle.tp_change.specs.Elements.{inserts_in, inserts, is_inserted, refers, later, next_counter}
 use Rattle.tp_graph.specs.Fit.{count_by, clashes, misfit_behind}
 use Rattle.tp_graph.specs.Sound.{Sound, Fits}
-use Rattle.tp_graph.proofs.Tests.{truth, never, not_true, same_test, both, both_left, both_right, or_cases, or_left, or_right}
+use Rattle.tp_graph.proofs.Tests.{truth, never, same_test, both, or_left, or_right}
 use Rattle.tp_graph.proofs.NamedLaws.{In-left, In-right, In-cases, In-last, In-has}
 use Rattle.tp_graph.proofs.PastLaws.{past-In, kept, left_out, kept-In, In-with_reached}
 use Rattle.tp_graph.proofs.InsertLaws.{is_inserted-more, refers-same}
@@ -33,16 +32,16 @@ count_by-append a [] ys = omega arith
 count_by-append a (x ∷ xs) ys =
     let h = count_by-append a xs ys in
     elim (same_actor x.actor a) as (λ b. cond b (count_by a (xs ++ ys) + 1) (count_by a (xs ++ ys)) ≡ cond b (count_by a xs + 1) (count_by a xs) + count_by a ys) [
-      true ↦ omega arith
-    | false ↦ h
+      | true ↦ omega arith
+      | false ↦ h
     ]
 
 -- a member of a joined list that isn't the one between
 beside : (z x : ChangeParts) (A B : List ChangeParts) → In z (A ++ x ∷ B) → (z ≡ x → ⊥) → In z (A ++ B)
 beside z x A B i apart =
     elim (In-cases z A (x ∷ B) i) [
-      inl l ↦ In-left z A B l
-    | inr r ↦ elim r [ inl e ↦ absurd (apart e) | inr k ↦ In-right z A B k ]
+      | inl l ↦ In-left z A B l
+      | inr r ↦ elim r [ inl e ↦ absurd (apart e) | inr k ↦ In-right z A B k ]
     ]
 
 pub count_by-le : (a : Actor) (xs ys : List ChangeParts) → HashesOnce xs → AllIn xs ys → count_by a xs ≤ count_by a ys
@@ -52,14 +51,14 @@ count_by-le a (x ∷ xs) ys o more =
     let A = w.0 in
     let B = w.1 in
     let rest : AllIn xs (A ++ B) =
-        λ z i. beside z x A B (subst (λ l. In z l) w.2 (more z (inr i))) (λ e. never (In-has xs z (hash_of x) i (ap hash_of e)) o.0) in
+    λ z i. beside z x A B (subst (λ l. In z l) w.2 (more z (inr i))) (λ e. never (In-has xs z (hash_of x) i (ap hash_of e)) o.0) in
     let fewer : count_by a xs ≤ count_by a (A ++ B) = count_by-le a xs (A ++ B) o.1 rest in
     let joined : count_by a (A ++ B) ≡ count_by a A + count_by a B = count_by-append a A B in
     let whole : count_by a ys ≡ count_by a A + count_by a (x ∷ B) = ap (count_by a) w.2 ∙ count_by-append a A (x ∷ B) in
     one (same_actor x.actor a) (count_by a xs) (count_by a B) (count_by a A) (count_by a ys) (omega arith) whole where
-  one : (b : Bool) (n m k t : ℕ) → n ≤ k + m → t ≡ k + cond b (m + 1) m → cond b (n + 1) n ≤ t
-  one true n m k t h e = omega arith
-  one false n m k t h e = omega arith
+      one : (b : Bool) (n m k t : ℕ) → n ≤ k + m → t ≡ k + cond b (m + 1) m → cond b (n + 1) n ≤ t
+      one true n m k t h e = omega arith
+      one false n m k t h e = omega arith
 
 le_both : (m n : ℕ) → m ≤ n → n ≤ m → m ≡ n
 le_both m n h k = omega arith
@@ -105,8 +104,8 @@ pub inserts-In : (C : List ChangeParts) (x : element_of.Insert) → In x (insert
 inserts-In [] x i = absurd i
 inserts-In (d ∷ C) x i =
     elim (In-cases x (inserts_in (ops_of d)) (inserts C) i) [
-      inl l ↦ (d, inl refl, l)
-    | inr r ↦ let w = inserts-In C x r in (w.0, inr w.1, w.2)
+      | inl l ↦ (d, inl refl, l)
+      | inr r ↦ let w = inserts-In C x r in (w.0, inr w.1, w.2)
     ]
 
 pub inserts-more : (C D : List ChangeParts) → AllIn C D → AllIn (inserts C) (inserts D)
@@ -148,15 +147,15 @@ own_count_by C c s r f =
     let n : ℕ = count_by c.actor C in
     let fewer : k ≤ n = count_by-le c.actor (past C c.deps) C (hashes_once (past C c.deps) (sound_pasts C s c.deps)) (past-In C c.deps) in
     elim (le_or_lt n k) [
-      inl h ↦ le_both k n fewer h
-    | inr h ↦
-        let low : 1 ≤ k + 1 = omega arith in
-        let high : k + 1 ≤ n = omega arith in
-        let w = r.there c.actor (k + 1) low high in
-        never (In-clashes C c w.0 w.1 w.2 (w.3 ∙ sym f.seq)) f.free
+      | inl h ↦ le_both k n fewer h
+      | inr h ↦
+          let low : 1 ≤ k + 1 = omega arith in
+          let high : k + 1 ≤ n = omega arith in
+          let w = r.there c.actor (k + 1) low high in
+          never (In-clashes C c w.0 w.1 w.2 (w.3 ∙ sym f.seq)) f.free
     ] where
-  le_or_lt : (n k : ℕ) → (n ≤ k) ⊎ (k < n)
-  le_or_lt n k = elim (truth (nat_lt k n)) [ inl t ↦ inr (grind (arith, nat_tests)) | inr f ↦ inl (grind (arith, nat_tests)) ]
+      le_or_lt : (n k : ℕ) → (n ≤ k) ⊎ (k < n)
+      le_or_lt n k = elim (truth (nat_lt k n)) [ inl t ↦ inr (grind (arith, nat_tests)) | inr f ↦ inl (grind (arith, nat_tests)) ]
 
 seqs_step : (C : List ChangeParts) (x : ChangeParts) → Sound C → SeqsRun C → Fits C x → SeqsRun (C ++ x ∷ [])
 seqs_step C x s r f =
@@ -164,42 +163,43 @@ seqs_step C x s r f =
     let number : x.seq ≡ count_by x.actor C + 1 = f.seq ∙ ap (λ n. n + 1) own in
     record {
       bounded = λ c i. elim (In-cases c C (x ∷ []) i) [
-          inl j ↦
+        | inl j ↦
             let h = r.bounded c j in
             let e = count_by-append c.actor C (x ∷ []) in
             omega arith
         | inr j ↦ elim j [
-            inl e ↦
+          | inl e ↦
               let whole : count_by x.actor (C ++ x ∷ []) ≡ count_by x.actor C + 1 = count_by-append x.actor C (x ∷ []) ∙ ap (λ b. count_by x.actor C + cond b (0 + 1) 0) (same_actor-itself x.actor) ∙ ap (λ n. count_by x.actor C + n) one in
               let h : x.seq ≤ count_by x.actor (C ++ x ∷ []) = omega arith in
               subst (λ (y : ChangeParts). y.seq ≤ count_by y.actor (C ++ x ∷ [])) (sym e) h
           | inr z ↦ absurd z
-          ]
-        ];
+        ]
+      ];
       there = λ a n low high. found a n low (subst (λ k. n ≤ k) (count_by-append a C (x ∷ [])) high) (truth (same_actor x.actor a)) number;
     } where
-  one : 0 + 1 ≡ 1
-  one = omega arith
-  found : (a : Actor) (n : ℕ) → 1 ≤ n → n ≤ count_by a C + count_by a (x ∷ []) → ((same_actor x.actor a ≡ true) ⊎ (same_actor x.actor a ≡ false))
-    → x.seq ≡ count_by x.actor C + 1 → (c : ChangeParts) × In c (C ++ x ∷ []) × (same_actor c.actor a ≡ true) × (c.seq ≡ n)
-  found a n low high (inr e) number =
-      let same : n ≤ count_by a C = grind (arith, high, e) in
-      let w = r.there a n low same in (w.0, In-left w.0 C (x ∷ []) w.1, w.2, w.3)
-  found a n low high (inl e) number =
-      let who : x.actor ≡ a = same_actor-same x.actor a e in
-      let numbered : x.seq ≡ count_by a C + 1 = subst (λ b. x.seq ≡ count_by b C + 1) who number in
-      let within : n ≤ count_by a C + 1 = grind (arith, high, e) in
-      elim (truth (nat_lt (count_by a C) n)) [
-        inl t ↦ (x, In-last x C, e, let last : x.seq ≡ n = grind (arith, nat_tests) in last)
-      | inr t ↦
-          let same : n ≤ count_by a C = grind (arith, nat_tests) in
+      one : 0 + 1 ≡ 1
+      one = omega arith
+
+      found : (a : Actor) (n : ℕ) → 1 ≤ n → n ≤ count_by a C + count_by a (x ∷ []) → ((same_actor x.actor a ≡ true) ⊎ (same_actor x.actor a ≡ false))
+          → x.seq ≡ count_by x.actor C + 1 → (c : ChangeParts) × In c (C ++ x ∷ []) × (same_actor c.actor a ≡ true) × (c.seq ≡ n)
+      found a n low high (inr e) number =
+          let same : n ≤ count_by a C = grind (arith, high, e) in
           let w = r.there a n low same in (w.0, In-left w.0 C (x ∷ []) w.1, w.2, w.3)
-      ]
+      found a n low high (inl e) number =
+          let who : x.actor ≡ a = same_actor-same x.actor a e in
+          let numbered : x.seq ≡ count_by a C + 1 = subst (λ b. x.seq ≡ count_by b C + 1) who number in
+          let within : n ≤ count_by a C + 1 = grind (arith, high, e) in
+          elim (truth (nat_lt (count_by a C) n)) [
+            | inl t ↦ (x, In-last x C, e, let last : x.seq ≡ n = grind (arith, nat_tests) in last)
+            | inr t ↦
+                let same : n ≤ count_by a C = grind (arith, nat_tests) in
+                let w = r.there a n low same in (w.0, In-left w.0 C (x ∷ []) w.1, w.2, w.3)
+          ]
 
 pub seqs_run : (C : List ChangeParts) → Sound C → SeqsRun C
 seqs_run = sound-induct SeqsRun
-  (record { bounded = λ c i. absurd i; there = λ a s low high. absurd (omega arith) })
-  seqs_step
+    (record { bounded = λ c i. absurd i; there = λ a s low high. absurd (omega arith) })
+    seqs_step
 
 pub own_count : (C : List ChangeParts) (c : ChangeParts) → Sound C → Fits C c → count_by c.actor (past C c.deps) ≡ count_by c.actor C
 own_count C c s f = own_count_by C c s (seqs_run C s) f
@@ -209,44 +209,47 @@ past_has_own : (C : List ChangeParts) (H : List Hash) (a : Actor) (d : ChangePar
 past_has_own [] H a d o e i s = i
 past_has_own (x ∷ C) H a d o e i s =
     elim (truth (names H x || is_needed (past C H) x)) [
-      inl t ↦
-        let rest : count_by a (past C H) ≡ count_by a C = both_more (same_actor x.actor a) (count_by a (past C H)) (count_by a C) (ap (count_by a) (sym (kept H x (past C H) t)) ∙ e) in
-        elim i [
-          inl z ↦ subst (λ y. In y (with_reached H x (past C H))) (sym z) (kept-In H x (past C H) t)
-        | inr j ↦ In-with_reached H x d (past C H) (past_has_own C H a d o.1 rest j s)
-        ]
-    | inr f ↦
-        let same : count_by a (past C H) ≡ cond (same_actor x.actor a) (count_by a C + 1) (count_by a C) = ap (count_by a) (sym (left_out H x (past C H) f)) ∙ e in
-        let fewer : count_by a (past C H) ≤ count_by a C = past_fewer C H a in
-        elim i [
-          inl z ↦
-            let mine : same_actor x.actor a ≡ true = subst (λ (y : ChangeParts). same_actor y.actor a ≡ true) z s in
-            let more : count_by a (past C H) ≡ count_by a C + 1 = same ∙ ap (λ b. cond b (count_by a C + 1) (count_by a C)) mine in
-            absurd (omega arith)
-        | inr j ↦
-            In-with_reached H x d (past C H) (past_has_own C H a d o.1 (not_more (same_actor x.actor a) (count_by a (past C H)) (count_by a C) same fewer) j s)
-        ]
+      | inl t ↦
+          let rest : count_by a (past C H) ≡ count_by a C = both_more (same_actor x.actor a) (count_by a (past C H)) (count_by a C) (ap (count_by a) (sym (kept H x (past C H) t)) ∙ e) in
+          elim i [
+            | inl z ↦ subst (λ y. In y (with_reached H x (past C H))) (sym z) (kept-In H x (past C H) t)
+            | inr j ↦ In-with_reached H x d (past C H) (past_has_own C H a d o.1 rest j s)
+          ]
+      | inr f ↦
+          let same : count_by a (past C H) ≡ cond (same_actor x.actor a) (count_by a C + 1) (count_by a C) = ap (count_by a) (sym (left_out H x (past C H) f)) ∙ e in
+          let fewer : count_by a (past C H) ≤ count_by a C = past_fewer C H a in
+          elim i [
+            | inl z ↦
+                let mine : same_actor x.actor a ≡ true = subst (λ (y : ChangeParts). same_actor y.actor a ≡ true) z s in
+                let more : count_by a (past C H) ≡ count_by a C + 1 = same ∙ ap (λ b. cond b (count_by a C + 1) (count_by a C)) mine in
+                absurd (omega arith)
+            | inr j ↦
+                In-with_reached H x d (past C H) (past_has_own C H a d o.1 (not_more (same_actor x.actor a) (count_by a (past C H)) (count_by a C) same fewer) j s)
+          ]
     ] where
-  both_more : (b : Bool) (m n : ℕ) → cond b (m + 1) m ≡ cond b (n + 1) n → m ≡ n
-  both_more true m n h = omega arith
-  both_more false m n h = h
-  not_more : (b : Bool) (m n : ℕ) → m ≡ cond b (n + 1) n → m ≤ n → m ≡ n
-  not_more true m n h k = absurd (omega arith)
-  not_more false m n h k = h
-  past_fewer : (C : List ChangeParts) (H : List Hash) (a : Actor) → count_by a (past C H) ≤ count_by a C
-  past_fewer [] H a = omega arith
-  past_fewer (y ∷ C) H a =
-      let h = past_fewer C H a in
-      elim (names H y || is_needed (past C H) y) as (λ b. count_by a (cond b (y ∷ past C H) (past C H)) ≤ count_by a (y ∷ C)) [
-        true ↦ step (same_actor y.actor a) (count_by a (past C H)) (count_by a C) h
-      | false ↦ up (same_actor y.actor a) (count_by a (past C H)) (count_by a C) h
-      ] where
-    step : (b : Bool) (m n : ℕ) → m ≤ n → cond b (m + 1) m ≤ cond b (n + 1) n
-    step true m n h = omega arith
-    step false m n h = h
-    up : (b : Bool) (m n : ℕ) → m ≤ n → m ≤ cond b (n + 1) n
-    up true m n h = omega arith
-    up false m n h = h
+      both_more : (b : Bool) (m n : ℕ) → cond b (m + 1) m ≡ cond b (n + 1) n → m ≡ n
+      both_more true m n h = omega arith
+      both_more false m n h = h
+
+      not_more : (b : Bool) (m n : ℕ) → m ≡ cond b (n + 1) n → m ≤ n → m ≡ n
+      not_more true m n h k = absurd (omega arith)
+      not_more false m n h k = h
+
+      past_fewer : (C : List ChangeParts) (H : List Hash) (a : Actor) → count_by a (past C H) ≤ count_by a C
+      past_fewer [] H a = omega arith
+      past_fewer (y ∷ C) H a =
+          let h = past_fewer C H a in
+          elim (names H y || is_needed (past C H) y) as (λ b. count_by a (cond b (y ∷ past C H) (past C H)) ≤ count_by a (y ∷ C)) [
+            | true ↦ step (same_actor y.actor a) (count_by a (past C H)) (count_by a C) h
+            | false ↦ up (same_actor y.actor a) (count_by a (past C H)) (count_by a C) h
+          ] where
+            step : (b : Bool) (m n : ℕ) → m ≤ n → cond b (m + 1) m ≤ cond b (n + 1) n
+            step true m n h = omega arith
+            step false m n h = h
+
+            up : (b : Bool) (m n : ℕ) → m ≤ n → m ≤ cond b (n + 1) n
+            up true m n h = omega arith
+            up false m n h = h
 
 -- each of the actor's changes is in the past of a change that fits
 pub own_past : (C : List ChangeParts) (c d : ChangeParts) → Sound C → Fits C c → In d C → same_actor d.actor c.actor ≡ true → In d (past C c.deps)
@@ -255,4 +258,3 @@ own_past C c d s f i e = past_has_own C c.deps c.actor d (hashes_once C s) (own_
 -- a change that fits has its actor's next sequence number
 pub next_seq : (C : List ChangeParts) (c : ChangeParts) → Sound C → Fits C c → c.seq ≡ count_by c.actor C + 1
 next_seq C c s f = f.seq ∙ ap (λ n. n + 1) (own_count C c s f)
-

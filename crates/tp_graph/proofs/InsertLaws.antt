@@ -1,5 +1,5 @@
 -- Laws of inserts and references.
-use Rattle.std.proofs.Common.{◌≡◌, ℕ, suc, zero, ◌+◌, ◌<◌, ◌≤◌, ◌==◌, ◌⊎◌, inl, inr, List, [], ◌∷◌, ◌++◌, length, Bool, true, false, ◌||◌, ◌&&◌, nat_lt, nat_le, refl, sym, ap, ◌∙◌, subst, arith, append_assoc, take, drop, get_or, add-one, drop-cons}
+use Rattle.std.proofs.Common.{◌≡◌, ℕ, suc, zero, ◌+◌, ◌<◌, ◌≤◌, ◌==◌, inl, inr, List, [], ◌∷◌, ◌++◌, length, Bool, true, false, ◌||◌, ◌&&◌, nat_lt, nat_le, refl, sym, ap, ◌∙◌, subst, arith, append_assoc, take, drop, get_or, add-one, drop-cons}
 use Rattle.std.proofs.lemmas.List.{append-nil, take_more, drop_all}
 use Rattle.std.proofs.lemmas.Bool.{eqb-true, eq-eqb}
 use Rattle.std.proofs.lemmas.Bool.Decides.{nat_tests}
@@ -21,7 +21,7 @@ use Rattle.tp_change.specs.Operations.{ops_of, ops_from, ops_in, run, id_of, cou
 use Rattle.tp_change.specs.Limits.{IsRecord, IsChange}
 use Rattle.tp_change.specs.Elements.{element, inserts_in, inserts, is_inserted, is_place, refers}
 use Rattle.tp_graph.specs.Covers.{covers, is_there, all_there}
-use Rattle.tp_graph.proofs.Tests.{truth, never, not_true, same_test, or_cases, or_left, or_right, both, both_left, both_right}
+use Rattle.tp_graph.proofs.Tests.{same_test, or_cases, or_left, or_right, both, both_left, both_right}
 
 -- ---- joined lists
 
@@ -34,8 +34,8 @@ pub is_inserted-append : (S T : List element_of.Insert) (id : OpId) → is_inser
 is_inserted-append [] T id = refl
 is_inserted-append (x ∷ S) T id =
     elim (id_eq x.id id) as (λ b. (b || is_inserted (S ++ T) id) ≡ ((b || is_inserted S id) || is_inserted T id)) [
-      true ↦ refl
-    | false ↦ is_inserted-append S T id
+      | true ↦ refl
+      | false ↦ is_inserted-append S T id
     ]
 
 pub inserts-append : (C D : List ChangeParts) → inserts (C ++ D) ≡ inserts C ++ inserts D
@@ -56,8 +56,8 @@ pub is_inserted-In : (S : List element_of.Insert) (id : OpId) → is_inserted S 
 is_inserted-In [] id e = cc
 is_inserted-In (x ∷ S) id e =
     elim (or_cases (id_eq x.id id) (is_inserted S id) e) [
-      inl s ↦ (x, inl refl, id_eq-same x.id id s)
-    | inr r ↦ let w = is_inserted-In S id r in (w.0, inr w.1, w.2)
+      | inl s ↦ (x, inl refl, id_eq-same x.id id s)
+      | inr r ↦ let w = is_inserted-In S id r in (w.0, inr w.1, w.2)
     ]
 
 pub In-is_inserted : (S : List element_of.Insert) (x : element_of.Insert) (id : OpId) → In x S → x.id ≡ id → is_inserted S id ≡ true
@@ -73,15 +73,15 @@ id_eq-parts : (a : Actor) (n : ℕ) (id : OpId) → id_eq (id_of a n) id ≡ (sa
 id_eq-parts a n id =
     same_test (id_eq (id_of a n) id) (same_actor a id.actor && (n == id.counter))
     (λ t.
-      let e : id_of a n ≡ id = id_eq-same (id_of a n) id t in
-      let actor : a ≡ id.actor = ap (λ (x : OpId). x.actor) e in
-      let counter : n ≡ id.counter = ap (λ (x : OpId). x.counter) e in
-      both (same_actor a id.actor) (n == id.counter) (subst (λ b. same_actor a b ≡ true) actor (same_actor-itself a)) (eq-eqb n id.counter counter))
+    let e : id_of a n ≡ id = id_eq-same (id_of a n) id t in
+    let actor : a ≡ id.actor = ap (λ (x : OpId). x.actor) e in
+    let counter : n ≡ id.counter = ap (λ (x : OpId). x.counter) e in
+    both (same_actor a id.actor) (n == id.counter) (subst (λ b. same_actor a b ≡ true) actor (same_actor-itself a)) (eq-eqb n id.counter counter))
     (λ t.
-      let actor = same_actor-same a id.actor (both_left (same_actor a id.actor) (n == id.counter) t) in
-      let counter = eqb-true n id.counter (both_right (same_actor a id.actor) (n == id.counter) t) in
-      let e : id_of a n ≡ id = ap (λ b. id_of b n) actor ∙ ap (λ m. id_of id.actor m) counter in
-      subst (λ x. id_eq (id_of a n) x ≡ true) e (id_eq-itself (id_of a n)))
+    let actor = same_actor-same a id.actor (both_left (same_actor a id.actor) (n == id.counter) t) in
+    let counter = eqb-true n id.counter (both_right (same_actor a id.actor) (n == id.counter) t) in
+    let e : id_of a n ≡ id = ap (λ b. id_of b n) actor ∙ ap (λ m. id_of id.actor m) counter in
+    subst (λ x. id_eq (id_of a n) x ≡ true) e (id_eq-itself (id_of a n)))
 
 one_more : (s : Bool) (n k m : ℕ) → ((s && (n == k)) || (s && (nat_le (n + 1) k && nat_lt k (n + 1 + m)))) ≡ (s && (nat_le n k && nat_lt k (n + suc m)))
 one_more false n k m = refl
@@ -113,9 +113,9 @@ is_inserted-covers a n (Insert after text ∷ rs) id =
     ∙ ap (λ b. b || is_inserted (inserts_in (ops_from a (n + length text) rs)) id) (is_inserted-run a n after text id)
     ∙ ap (λ b. (same_actor a id.actor && (nat_le n id.counter && nat_lt id.counter (n + length text))) || b) (is_inserted-covers a (n + length text) rs id)
     ∙ joined (same_actor a id.actor) (nat_le n id.counter && nat_lt id.counter (n + length text)) (covers (n + length text) rs id.counter) where
-  joined : (s x y : Bool) → ((s && x) || (s && y)) ≡ (s && (x || y))
-  joined true x y = refl
-  joined false x y = refl
+      joined : (s x y : Bool) → ((s && x) || (s && y)) ≡ (s && (x || y))
+      joined true x y = refl
+      joined false x y = refl
 is_inserted-covers a n (Delete target ∷ rs) id = is_inserted-covers a (n + 1) rs id
 
 -- ---- references depend on which identifiers are inserted
@@ -161,11 +161,11 @@ unfolding grown
 grown-ids S [] id = refl
 grown-ids S (op_of.Insert i after ch ∷ xs) id =
     grown-ids (element i after ch ∷ S) xs id ∙ turn (is_inserted (inserts_in xs) id) (id_eq i id) (is_inserted S id) where
-  turn : (a b c : Bool) → (a || (b || c)) ≡ ((b || a) || c)
-  turn true true c = refl
-  turn true false c = refl
-  turn false true c = refl
-  turn false false c = refl
+      turn : (a b c : Bool) → (a || (b || c)) ≡ ((b || a) || c)
+      turn true true c = refl
+      turn true false c = refl
+      turn false true c = refl
+      turn false false c = refl
 grown-ids S (op_of.Delete i target ∷ xs) id = grown-ids S xs id
 
 -- of a run only the first reference matters
@@ -181,9 +181,9 @@ refers-run a n after (ch ∷ text) S some =
     ap (λ b. is_place S after && b)
     (run_goes_on a (n + 1) text (element (id_of a n) after ch ∷ S) (id_of a n) (or_left (id_eq (id_of a n) (id_of a n)) (is_inserted S (id_of a n)) (id_eq-itself (id_of a n))))
     ∙ alone (is_place S after) where
-  alone : (b : Bool) → (b && true) ≡ b
-  alone true = refl
-  alone false = refl
+      alone : (b : Bool) → (b && true) ≡ b
+      alone true = refl
+      alone false = refl
 
 refers-record : (a : Actor) (n : ℕ) (r : Record) (S : List element_of.Insert) → IsRecord r → refers S (ops_in a n r) ≡ is_there S r
 refers-record a n (Insert after text) S h = refers-run a n after text S h.2
@@ -198,36 +198,38 @@ is_there-same S T (Delete target) f = f target
 
 -- references, record by record
 refers-records : (a : Actor) (n : ℕ) (S T : List element_of.Insert) (before rs : List Record)
-  → AllByRecursion IsRecord rs → SameIds T (inserts_in (ops_from a n before) ++ S) → refers T (ops_from a (n + count_of before) rs) ≡ all_there a n S before rs
+    → AllByRecursion IsRecord rs → SameIds T (inserts_in (ops_from a n before) ++ S) → refers T (ops_from a (n + count_of before) rs) ≡ all_there a n S before rs
 refers-records a n S T before [] h f = refl
 refers-records a n S T before (r ∷ rs) h f =
     let m = n + count_of before in
     let step : n + count_of before + count_in r ≡ n + count_of (before ++ r ∷ []) = counted before in
     let next : SameIds (grown T (ops_in a m r)) (inserts_in (ops_from a n (before ++ r ∷ [])) ++ S) =
-        λ id.
-          grown-ids T (ops_in a m r) id
-          ∙ ap (λ b. is_inserted (inserts_in (ops_in a m r)) id || b) (f id ∙ is_inserted-append (inserts_in (ops_from a n before)) S id)
-          ∙ turn (is_inserted (inserts_in (ops_in a m r)) id) (is_inserted (inserts_in (ops_from a n before)) id) (is_inserted S id)
-          ∙ ap (λ b. b || is_inserted S id) (sym (is_inserted-append (inserts_in (ops_from a n before)) (inserts_in (ops_in a m r)) id))
-          ∙ ap (λ l. is_inserted l id || is_inserted S id) (sym (inserts_in-append (ops_from a n before) (ops_in a m r)))
-          ∙ ap (λ l. is_inserted (inserts_in (ops_from a n before ++ l)) id || is_inserted S id) (sym (one_record m r))
-          ∙ ap (λ l. is_inserted (inserts_in l) id || is_inserted S id) (sym (ops_from-append a n before (r ∷ [])))
-          ∙ sym (is_inserted-append (inserts_in (ops_from a n (before ++ r ∷ []))) S id) in
+    λ id.
+    grown-ids T (ops_in a m r) id
+    ∙ ap (λ b. is_inserted (inserts_in (ops_in a m r)) id || b) (f id ∙ is_inserted-append (inserts_in (ops_from a n before)) S id)
+    ∙ turn (is_inserted (inserts_in (ops_in a m r)) id) (is_inserted (inserts_in (ops_from a n before)) id) (is_inserted S id)
+    ∙ ap (λ b. b || is_inserted S id) (sym (is_inserted-append (inserts_in (ops_from a n before)) (inserts_in (ops_in a m r)) id))
+    ∙ ap (λ l. is_inserted l id || is_inserted S id) (sym (inserts_in-append (ops_from a n before) (ops_in a m r)))
+    ∙ ap (λ l. is_inserted (inserts_in (ops_from a n before ++ l)) id || is_inserted S id) (sym (one_record m r))
+    ∙ ap (λ l. is_inserted (inserts_in l) id || is_inserted S id) (sym (ops_from-append a n before (r ∷ [])))
+    ∙ sym (is_inserted-append (inserts_in (ops_from a n (before ++ r ∷ []))) S id) in
     refers-append T (ops_in a m r) (ops_from a (m + count_in r) rs)
     ∙ ap (λ b. b && refers (grown T (ops_in a m r)) (ops_from a (m + count_in r) rs)) (refers-record a m r T h.0 ∙ is_there-same T (inserts_in (ops_from a n before) ++ S) r f)
     ∙ ap (λ k. is_there (inserts_in (ops_from a n before) ++ S) r && refers (grown T (ops_in a m r)) (ops_from a k rs)) step
     ∙ ap (λ b. is_there (inserts_in (ops_from a n before) ++ S) r && b) (refers-records a n S (grown T (ops_in a m r)) (before ++ r ∷ []) rs h.1 next)
-    where
-  turn : (a b c : Bool) → (a || (b || c)) ≡ ((b || a) || c)
-  turn true true c = refl
-  turn true false c = refl
-  turn false true c = refl
-  turn false false c = refl
-  counted : (before : List Record) → n + count_of before + count_in r ≡ n + count_of (before ++ r ∷ [])
-  counted [] = omega arith
-  counted (b ∷ before) = let e = counted before in omega arith
-  one_record : (m : ℕ) (r : Record) → ops_from a m (r ∷ []) ≡ ops_in a m r
-  one_record m r = append-nil (ops_in a m r)
+  where
+    turn : (a b c : Bool) → (a || (b || c)) ≡ ((b || a) || c)
+    turn true true c = refl
+    turn true false c = refl
+    turn false true c = refl
+    turn false false c = refl
+
+    counted : (before : List Record) → n + count_of before + count_in r ≡ n + count_of (before ++ r ∷ [])
+    counted [] = omega arith
+    counted (b ∷ before) = let e = counted before in omega arith
+
+    one_record : (m : ℕ) (r : Record) → ops_from a m (r ∷ []) ≡ ops_in a m r
+    one_record m r = append-nil (ops_in a m r)
 
 -- the references of a change, record by record
 pub refers-all_there : (S : List element_of.Insert) (c : ChangeParts) → IsChange c → refers S (ops_of c) ≡ all_there c.actor c.start S [] c.records
@@ -276,21 +278,21 @@ inserts_id-at c id b e f = f ∙ sym (inserts_id-is c id ∙ ap (λ s. s && cove
 -- ---- the steps of the test of references
 
 known_is : (a : Actor) (n : ℕ) (before : List Record) (S : List element_of.Insert) (id : OpId)
-  → is_inserted (inserts_in (ops_from a n before) ++ S) id ≡ ((same_actor a id.actor && covers n before id.counter) || is_inserted S id)
+    → is_inserted (inserts_in (ops_from a n before) ++ S) id ≡ ((same_actor a id.actor && covers n before id.counter) || is_inserted S id)
 known_is a n before S id =
     is_inserted-append (inserts_in (ops_from a n before)) S id ∙ ap (λ b. b || is_inserted S id) (is_inserted-covers a n before id)
 
 pub known_other : (a : Actor) (n : ℕ) (before : List Record) (S : List element_of.Insert) (id : OpId) (b : Bool)
-  → same_actor a id.actor ≡ false → b ≡ is_inserted S id → b ≡ is_inserted (inserts_in (ops_from a n before) ++ S) id
+    → same_actor a id.actor ≡ false → b ≡ is_inserted S id → b ≡ is_inserted (inserts_in (ops_from a n before) ++ S) id
 known_other a n before S id b e f = f ∙ sym (known_is a n before S id ∙ ap (λ s. (s && covers n before id.counter) || is_inserted S id) e)
 
 pub known_covered : (a : Actor) (n : ℕ) (before : List Record) (S : List element_of.Insert) (id : OpId)
-  → same_actor a id.actor ≡ true → covers n before id.counter ≡ true → true ≡ is_inserted (inserts_in (ops_from a n before) ++ S) id
+    → same_actor a id.actor ≡ true → covers n before id.counter ≡ true → true ≡ is_inserted (inserts_in (ops_from a n before) ++ S) id
 known_covered a n before S id e f =
     sym (known_is a n before S id ∙ ap (λ s. (s && covers n before id.counter) || is_inserted S id) e ∙ ap (λ s. s || is_inserted S id) f)
 
 pub known_uncovered : (a : Actor) (n : ℕ) (before : List Record) (S : List element_of.Insert) (id : OpId) (b : Bool)
-  → same_actor a id.actor ≡ true → covers n before id.counter ≡ false → b ≡ is_inserted S id → b ≡ is_inserted (inserts_in (ops_from a n before) ++ S) id
+    → same_actor a id.actor ≡ true → covers n before id.counter ≡ false → b ≡ is_inserted S id → b ≡ is_inserted (inserts_in (ops_from a n before) ++ S) id
 known_uncovered a n before S id b e f g =
     g ∙ sym (known_is a n before S id ∙ ap (λ s. (s && covers n before id.counter) || is_inserted S id) e ∙ ap (λ s. s || is_inserted S id) f)
 
@@ -301,7 +303,7 @@ count_of-take (r ∷ rs) zero = omega arith
 count_of-take (r ∷ rs) (suc i) = let h = count_of-take rs i in omega arith
 
 pub all_there-step : (a : Actor) (n : ℕ) (S : List element_of.Insert) (rs : List Record) (i : ℕ) (r : Record) → i < length rs → r ≡ get_or rs i r
-  → all_there a n S (take i rs) (drop i rs) ≡ (is_there (inserts_in (ops_from a n (take i rs)) ++ S) r && all_there a n S (take (i + 1) rs) (drop (i + 1) rs))
+    → all_there a n S (take i rs) (drop i rs) ≡ (is_there (inserts_in (ops_from a n (take i rs)) ++ S) r && all_there a n S (take (i + 1) rs) (drop (i + 1) rs))
 all_there-step a n S rs i r small e =
     ap (all_there a n S (take i rs)) (drop-cons rs i r small)
     ∙ ap (λ x. all_there a n S (take i rs) (x ∷ drop (suc i) rs)) (sym e)
@@ -309,11 +311,11 @@ all_there-step a n S rs i r small e =
     ∙ ap (λ k. is_there (inserts_in (ops_from a n (take i rs)) ++ S) r && all_there a n S (take (i + 1) rs) (drop k rs)) (sym (add-one i))
 
 pub all_there-stop : (a : Actor) (n : ℕ) (S : List element_of.Insert) (rs : List Record) (i : ℕ) (r : Record) → i < length rs → r ≡ get_or rs i r
-  → is_there (inserts_in (ops_from a n (take i rs)) ++ S) r ≡ false → all_there a n S (take i rs) (drop i rs) ≡ false
+    → is_there (inserts_in (ops_from a n (take i rs)) ++ S) r ≡ false → all_there a n S (take i rs) (drop i rs) ≡ false
 all_there-stop a n S rs i r small e f = all_there-step a n S rs i r small e ∙ ap (λ b. b && all_there a n S (take (i + 1) rs) (drop (i + 1) rs)) f
 
 pub all_there-on : (a : Actor) (n : ℕ) (S : List element_of.Insert) (rs : List Record) (i : ℕ) (r : Record) → i < length rs → r ≡ get_or rs i r
-  → is_there (inserts_in (ops_from a n (take i rs)) ++ S) r ≡ true → all_there a n S (take (i + 1) rs) (drop (i + 1) rs) ≡ all_there a n S (take i rs) (drop i rs)
+    → is_there (inserts_in (ops_from a n (take i rs)) ++ S) r ≡ true → all_there a n S (take (i + 1) rs) (drop (i + 1) rs) ≡ all_there a n S (take i rs) (drop i rs)
 all_there-on a n S rs i r small e f = sym (all_there-step a n S rs i r small e ∙ ap (λ b. b && all_there a n S (take (i + 1) rs) (drop (i + 1) rs)) f)
 
 pub all_there-end : (a : Actor) (n : ℕ) (S : List element_of.Insert) (rs : List Record) (i : ℕ) → length rs ≤ i → all_there a n S (take i rs) (drop i rs) ≡ true

@@ -1,7 +1,6 @@
 -- What a graph keeps stays true where a change is made ready for, and where it enters.
-use Rattle.std.proofs.Common.{◌≡◌, ℕ, ◌+◌, ◌<◌, ◌≤◌, ◌==◌, List, [], ◌∷◌, ◌++◌, length, Bool, true, false, cond, Option, Some, None, refl, sym, ap, ◌∙◌, subst, arith, length-append}
+use Rattle.std.proofs.Common.{◌≡◌, ℕ, ◌+◌, ◌<◌, ◌==◌, List, [], ◌∷◌, ◌++◌, length, Bool, true, false, cond, Option, Some, None, refl, sym, ap, ◌∙◌, arith, length-append}
 use Rattle.std.proofs.lemmas.Bool.Decides.{nat_tests}
-use Rattle.tp_list.specs.Members.{In}
 use Rattle.tp_list.specs.Rising as list
 use Rattle.tp_opid.specs.declared.hash.Hash.{Hash}
 use Rattle.tp_opid.specs.Order.{hash_cmp}
@@ -11,12 +10,11 @@ use Rattle.tp_change.specs.declared.parts.ChangeParts.{ChangeParts}
 use Rattle.tp_change.specs.ChangeHash.{hash_of}
 use Rattle.tp_change.specs.Operations.{op_count}
 use Rattle.tp_graph.specs.declared.error.GraphError.{GraphError}
-use Rattle.tp_graph.specs.declared.error.GraphError.TheVariants.{Full}
 use Rattle.tp_graph.specs.Named.{has}
 use Rattle.tp_graph.specs.Heads as head
 use Rattle.tp_graph.specs.Fit.{misfit, cause, or_full, most_changes}
-use Rattle.tp_graph.specs.Places.{noted, NotesFrom, ends_of}
-use Rattle.tp_graph.specs.Sound.{Sound, Fits}
+use Rattle.tp_graph.specs.Places.{noted}
+use Rattle.tp_graph.specs.Sound.{Fits}
 use Rattle.tp_graph.specs.GraphState.{IsKept}
 use Rattle.tp_graph.proofs.Tests.{not_true, never}
 use Rattle.tp_graph.proofs.NamedLaws.{In-has}
@@ -47,16 +45,16 @@ cause-from_Fits C c f small =
 
 -- a new note for a hash that isn't there
 pub IsKept-noted : (C W : List ChangeParts) (heads : List Hash) (old new : List (Hash × ℕ)) (ends : List ℕ) (h : Hash) (p : ℕ)
-  → IsKept C W heads old ends → has C h ≡ false → ((other : Hash) → noted new other ≡ cond (same_hash h other) (Some p) (noted old other)) → IsKept C W heads new ends
+    → IsKept C W heads old ends → has C h ≡ false → ((other : Hash) → noted new other ≡ cond (same_hash h other) (Some p) (noted old other)) → IsKept C W heads new ends
 IsKept-noted C W heads old new ends h p k lacks notes = record {
   sound = k.sound;
   few = k.few;
   heads_are = k.heads_are;
   noted_are = NotesFrom-more 0 C old new
-    (λ c i.
+      (λ c i.
       let apart : same_hash h (hash_of c) ≡ false = not_true (same_hash h (hash_of c)) (λ t. never (In-has C c h i (sym (same_hash-same h (hash_of c) t))) lacks) in
       notes (hash_of c) ∙ ap (λ b. cond b (Some p) (noted old (hash_of c))) apart)
-    k.noted_are;
+      k.noted_are;
   ends_are = k.ends_are;
   few_wait = k.few_wait;
 }
@@ -66,8 +64,8 @@ noted_itself old new h p notes = notes h ∙ ap (λ b. cond b (Some p) (noted ol
 
 -- a change that enters
 pub IsKept-push : (C W : List ChangeParts) (c : ChangeParts) (heads : List Hash) (entries : List (Hash × ℕ)) (ends : List ℕ)
-  → IsKept C W heads entries ends → cause C c ≡ None → noted entries (hash_of c) ≡ Some (length C)
-  → IsKept (C ++ c ∷ []) W (list.put hash_cmp (hash_of c) (head.without c.deps heads)) entries (ends ++ (c.start + op_count c) ∷ [])
+    → IsKept C W heads entries ends → cause C c ≡ None → noted entries (hash_of c) ≡ Some (length C)
+    → IsKept (C ++ c ∷ []) W (list.put hash_cmp (hash_of c) (head.without c.deps heads)) entries (ends ++ (c.start + op_count c) ∷ [])
 IsKept-push C W c heads entries ends k none at =
     let f = Fits-from_cause C c none in
     let one = (enters C c none).1 in
@@ -82,15 +80,15 @@ IsKept-push C W c heads entries ends k none at =
       ends_are = ap (λ l. l ++ (c.start + op_count c) ∷ []) k.ends_are ∙ sym (ends_of-push C c);
       few_wait = k.few_wait;
     } where
-  counted : (n : ℕ) → n ≡ 0 + n
-  counted n = omega arith
+      counted : (n : ℕ) → n ≡ 0 + n
+      counted n = omega arith
 
 -- the same, of vectors that were changed so
 pub IsKept-entered : (C W : List ChangeParts) (c : ChangeParts) (heads : List Hash) (entries : List (Hash × ℕ)) (ends : List ℕ)
-  (D : List ChangeParts) (heads_after : List Hash) (ends_after : List ℕ) (h : Hash) (deps : List Hash) (end : ℕ)
-  → IsKept C W heads entries ends → cause C c ≡ None → noted entries (hash_of c) ≡ Some (length C)
-  → h ≡ hash_of c → deps ≡ c.deps → end ≡ c.start + op_count c
-  → D ≡ C ++ c ∷ [] → heads_after ≡ list.put hash_cmp h (head.without deps heads) → ends_after ≡ ends ++ end ∷ []
-  → IsKept D W heads_after entries ends_after
+    (D : List ChangeParts) (heads_after : List Hash) (ends_after : List ℕ) (h : Hash) (deps : List Hash) (end : ℕ)
+    → IsKept C W heads entries ends → cause C c ≡ None → noted entries (hash_of c) ≡ Some (length C)
+    → h ≡ hash_of c → deps ≡ c.deps → end ≡ c.start + op_count c
+    → D ≡ C ++ c ∷ [] → heads_after ≡ list.put hash_cmp h (head.without deps heads) → ends_after ≡ ends ++ end ∷ []
+    → IsKept D W heads_after entries ends_after
 IsKept-entered C W c heads entries ends D heads_after ends_after h deps end k none at hash_is deps_are end_is all heads_are ends_are =
     rw (all, heads_are, ends_are, hash_is, deps_are, end_is) (IsKept-push C W c heads entries ends k none at)

@@ -1,22 +1,22 @@
 -- Laws of marks, and of the walk back that makes them.
-use Rattle.std.proofs.Common.{◌≡◌, ℕ, suc, zero, ◌+◌, ◌-◌, ◌<◌, ◌≤◌, ◌⊎◌, inl, inr, List, [], ◌∷◌, ◌++◌, length, Bool, true, false, ◌||◌, cond, Option, Some, None, take, drop, get_or, replicate, refl, sym, ap, ◌∙◌, subst, arith, add-zero, add-one, append_assoc}
+use Rattle.std.proofs.Common.{◌≡◌, ℕ, suc, zero, ◌+◌, ◌-◌, ◌<◌, ◌≤◌, ◌⊎◌, inl, inr, List, [], ◌∷◌, ◌++◌, length, Bool, true, false, ◌||◌, cond, Some, take, drop, get_or, replicate, refl, sym, ap, ◌∙◌, subst, arith, add-one, append_assoc}
 use Rattle.std.proofs.Math.ListN.{set}
 use Rattle.std.proofs.lemmas.List.{take_more, append-nil, take_all, drop_all, length-replicate}
 use Rattle.std.proofs.lemmas.Option.{get_or_from_slice_get}
 use Rattle.std.proofs.Math.Seq.{take-append_seam}
 use Rattle.std.specs.List.{slice_get}
-use Rattle.tp_list.specs.Members.{In, AllIn}
+use Rattle.tp_list.specs.Members.{In}
 use Rattle.tp_opid.specs.declared.hash.Hash.{Hash}
 use Rattle.tp_opid.specs.Same.{same_hash}
 use Rattle.tp_opid.proofs.Orders.{same_hash-same, same_hash-itself}
 use Rattle.tp_change.specs.declared.parts.ChangeParts.{ChangeParts}
 use Rattle.tp_change.specs.ChangeHash.{hash_of}
-use Rattle.tp_graph.specs.Named.{among, names, has, is_needed}
-use Rattle.tp_graph.specs.Past.{past, with_reached}
+use Rattle.tp_graph.specs.Named.{names, has, is_needed}
+use Rattle.tp_graph.specs.Past.{past}
 use Rattle.tp_graph.specs.Places.{place_from}
-use Rattle.tp_graph.specs.Marks.{marks, pick, places_from, marked_more, marks_for, walked}
-use Rattle.tp_graph.specs.Sound.{Sound, Fits}
-use Rattle.tp_graph.proofs.Tests.{truth, never, not_true, or_left, or_right, or_cases, neither_left, neither_right}
+use Rattle.tp_graph.specs.Marks.{marks, pick, marked_more, marks_for, walked}
+use Rattle.tp_graph.specs.Sound.{Sound}
+use Rattle.tp_graph.proofs.Tests.{truth, never, not_true, neither_left, neither_right}
 use Rattle.tp_graph.proofs.NamedLaws.{In-has, has-In, names-append, names-In}
 use Rattle.tp_graph.proofs.PastLaws.{kept, left_out}
 use Rattle.tp_graph.proofs.PlacesLaws.{place_from-low}
@@ -31,8 +31,8 @@ pub pick-marks : (C : List ChangeParts) (H : List Hash) → pick (marks C H) C �
 pick-marks [] H = refl
 pick-marks (c ∷ C) H =
     elim (names H c || is_needed (past C H) c) as (λ b. cond b (c ∷ pick (marks C H) C) (pick (marks C H) C) ≡ cond b (c ∷ past C H) (past C H)) [
-      true ↦ ap (λ l. c ∷ l) (pick-marks C H)
-    | false ↦ pick-marks C H
+      | true ↦ ap (λ l. c ∷ l) (pick-marks C H)
+      | false ↦ pick-marks C H
     ]
 
 -- ---- no hash twice in a list
@@ -52,18 +52,20 @@ HashesOnce-push (c ∷ C) x o e = (
   at_end t = in_two C (has-In (C ++ x ∷ []) (hash_of c) t) where
     other : same_hash (hash_of c) (hash_of x) ≡ false
     other = neither_left (same_hash (hash_of c) (hash_of x)) (has C (hash_of x)) e
+
     cases : (y : ChangeParts) (D : List ChangeParts) → In y (D ++ x ∷ []) → In y D ⊎ (y ≡ x)
     cases y [] (inl s) = inr s
     cases y [] (inr i) = absurd i
     cases y (d ∷ D) (inl s) = inl (inl s)
     cases y (d ∷ D) (inr i) = elim (cases y D i) [ inl j ↦ inl (inr j) | inr s ↦ inr s ]
+
     in_two : (D : List ChangeParts) → ((y : ChangeParts) × In y (C ++ x ∷ []) × (hash_of y ≡ hash_of c)) → ⊥
     in_two D w = elim (cases w.0 C w.1) [
-        inl i ↦ never (In-has C w.0 (hash_of c) i w.2) o.0
+      | inl i ↦ never (In-has C w.0 (hash_of c) i w.2) o.0
       | inr s ↦
-        let same : hash_of c ≡ hash_of x = sym w.2 ∙ ap hash_of s in
-        never (subst (λ g. same_hash (hash_of c) g ≡ true) same (same_hash-itself (hash_of c))) other
-      ]
+          let same : hash_of c ≡ hash_of x = sym w.2 ∙ ap hash_of s in
+          never (subst (λ g. same_hash (hash_of c) g ≡ true) same (same_hash-itself (hash_of c))) other
+    ]
 
 pub hashes_once : (C : List ChangeParts) → Sound C → HashesOnce C
 hashes_once = sound-induct HashesOnce tt (λ C x s o f. HashesOnce-push C x o f.new)
@@ -77,9 +79,9 @@ marked_more-none H (c ∷ C) [] l f = refl
 marked_more-none H (c ∷ C) (b ∷ bs) l f =
     let less : length bs ≡ length C = omega arith in
     rw (f c (inl refl)) (ap (λ x. x ∷ marked_more H C bs) (or_nothing b) ∙ ap (λ l. b ∷ l) (marked_more-none H C bs less (λ d i. f d (inr i)))) where
-  or_nothing : (b : Bool) → (b || false) ≡ b
-  or_nothing true = refl
-  or_nothing false = refl
+      or_nothing : (b : Bool) → (b || false) ≡ b
+      or_nothing true = refl
+      or_nothing false = refl
 
 pub marked_more-nil : (C : List ChangeParts) (bs : List Bool) → length bs ≡ length C → marked_more [] C bs ≡ bs
 marked_more-nil C bs l = marked_more-none [] C bs l (λ c i. refl)
@@ -97,21 +99,21 @@ marked_more-twice H K [] bs = refl
 marked_more-twice H K (c ∷ C) [] = refl
 marked_more-twice H K (c ∷ C) (b ∷ bs) =
     rw (names-append H K c) (ap (λ x. x ∷ marked_more K C (marked_more H C bs)) (assoc b (names H c) (names K c)) ∙ ap (λ l. (b || (names H c || names K c)) ∷ l) (marked_more-twice H K C bs)) where
-  assoc : (a b c : Bool) → ((a || b) || c) ≡ (a || (b || c))
-  assoc true b c = refl
-  assoc false b c = refl
+      assoc : (a b c : Bool) → ((a || b) || c) ≡ (a || (b || c))
+      assoc true b c = refl
+      assoc false b c = refl
 
 -- the mark of a hash that is not the first change's
 mark_later : (n : ℕ) (C : List ChangeParts) (bs : List Bool) (h : Hash) (b : Bool) (i : ℕ) → Some (n + i) ≡ place_from (n + 1) C h → {m : Bool} → m ≡ false
-  → ((j : ℕ) → Some (n + 1 + j) ≡ place_from (n + 1) C h → marked_more (h ∷ []) C bs ≡ set bs j true)
-  → ((b || (m || false)) ∷ marked_more (h ∷ []) C bs) ≡ set (b ∷ bs) i true
+    → ((j : ℕ) → Some (n + 1 + j) ≡ place_from (n + 1) C h → marked_more (h ∷ []) C bs ≡ set bs j true)
+    → ((b || (m || false)) ∷ marked_more (h ∷ []) C bs) ≡ set (b ∷ bs) i true
 mark_later n C bs h b zero there miss ih = let low : n + 1 ≤ n + 0 = place_from-low (n + 1) C h (n + 0) there in absurd (omega arith)
 mark_later n C bs h b (suc j) there miss ih =
     let step : n + suc j ≡ n + 1 + j = omega arith in
     rw miss (ap (λ x. x ∷ marked_more (h ∷ []) C bs) (nothing b) ∙ ap (λ l. b ∷ l) (ih j (ap Some (sym step) ∙ there))) where
-  nothing : (b : Bool) → (b || (false || false)) ≡ b
-  nothing true = refl
-  nothing false = refl
+      nothing : (b : Bool) → (b || (false || false)) ≡ b
+      nothing true = refl
+      nothing false = refl
 
 -- the mark of one hash is at its place
 mark_at : (n : ℕ) (C : List ChangeParts) (bs : List Bool) (h : Hash) (i : ℕ) → HashesOnce C → length bs ≡ length C → Some (n + i) ≡ place_from n C h → marked_more (h ∷ []) C bs ≡ set bs i true
@@ -120,31 +122,33 @@ mark_at n (c ∷ C) [] h i o l e = cc
 mark_at n (c ∷ C) (b ∷ bs) h i o l e =
     let less : length bs ≡ length C = omega arith in
     elim (truth (same_hash (hash_of c) h)) [
-      inl s ↦
-        let same : hash_of c ≡ h = same_hash-same (hash_of c) h s in
-        let here : Some (n + i) ≡ Some n = e ∙ ap (λ t. cond t (Some n) (place_from (n + 1) C h)) s in
-        let first : n + i ≡ n = cc in
-        let at : i ≡ 0 = omega arith in
-        let hit : same_hash h (hash_of c) ≡ true = subst (λ g. same_hash h g ≡ true) (sym same) (same_hash-itself h) in
-        let rest : marked_more (h ∷ []) C bs ≡ bs =
-            marked_more-none (h ∷ []) C bs less
-            (λ d j. not_true (names (h ∷ []) d)
-              (λ t. never (In-has C d (hash_of c) j (other h d t ∙ sym same)) o.0)) in
-        rw (at, hit, rest) (ap (λ x. x ∷ bs) (yes b))
-    | inr s ↦
-        let there : Some (n + i) ≡ place_from (n + 1) C h = e ∙ ap (λ t. cond t (Some n) (place_from (n + 1) C h)) s in
-        let miss : same_hash h (hash_of c) ≡ false =
-            not_true (same_hash h (hash_of c)) (λ t. never (subst (λ g. same_hash (hash_of c) g ≡ true) (sym (same_hash-same h (hash_of c) t)) (same_hash-itself (hash_of c))) s) in
-        mark_later n C bs h b i there miss (λ j t. mark_at (n + 1) C bs h j o.1 less t)
+      | inl s ↦
+          let same : hash_of c ≡ h = same_hash-same (hash_of c) h s in
+          let here : Some (n + i) ≡ Some n = e ∙ ap (λ t. cond t (Some n) (place_from (n + 1) C h)) s in
+          let first : n + i ≡ n = cc in
+          let at : i ≡ 0 = omega arith in
+          let hit : same_hash h (hash_of c) ≡ true = subst (λ g. same_hash h g ≡ true) (sym same) (same_hash-itself h) in
+          let rest : marked_more (h ∷ []) C bs ≡ bs =
+          marked_more-none (h ∷ []) C bs less
+          (λ d j. not_true (names (h ∷ []) d)
+          (λ t. never (In-has C d (hash_of c) j (other h d t ∙ sym same)) o.0)) in
+          rw (at, hit, rest) (ap (λ x. x ∷ bs) (yes b))
+      | inr s ↦
+          let there : Some (n + i) ≡ place_from (n + 1) C h = e ∙ ap (λ t. cond t (Some n) (place_from (n + 1) C h)) s in
+          let miss : same_hash h (hash_of c) ≡ false =
+          not_true (same_hash h (hash_of c)) (λ t. never (subst (λ g. same_hash (hash_of c) g ≡ true) (sym (same_hash-same h (hash_of c) t)) (same_hash-itself (hash_of c))) s) in
+          mark_later n C bs h b i there miss (λ j t. mark_at (n + 1) C bs h j o.1 less t)
     ] where
-  yes : (b : Bool) → (b || (true || false)) ≡ true
-  yes true = refl
-  yes false = refl
-  other : (h : Hash) (d : ChangeParts) → names (h ∷ []) d ≡ true → hash_of d ≡ h
-  other h d t = elim (names-In (h ∷ []) d t) [ inl s ↦ s | inr z ↦ absurd z ]
-  nothing : (b : Bool) → (b || (false || false)) ≡ b
-  nothing true = refl
-  nothing false = refl
+      yes : (b : Bool) → (b || (true || false)) ≡ true
+      yes true = refl
+      yes false = refl
+
+      other : (h : Hash) (d : ChangeParts) → names (h ∷ []) d ≡ true → hash_of d ≡ h
+      other h d t = elim (names-In (h ∷ []) d t) [ inl s ↦ s | inr z ↦ absurd z ]
+
+      nothing : (b : Bool) → (b || (false || false)) ≡ b
+      nothing true = refl
+      nothing false = refl
 
 pub set_is_marked_more : (C : List ChangeParts) (bs : List Bool) (h : Hash) (i : ℕ) → HashesOnce C → length bs ≡ length C → Some i ≡ place_from 0 C h → marked_more (h ∷ []) C bs ≡ set bs i true
 set_is_marked_more C bs h i o l e = let at : i ≡ 0 + i = omega arith in mark_at 0 C bs h i o l (ap Some (sym at) ∙ e)
@@ -154,11 +158,11 @@ pub marked_more-unknown : (C : List ChangeParts) (bs : List Bool) (h : Hash) →
 marked_more-unknown C bs h l e =
     marked_more-none (h ∷ []) C bs l
     (λ c i. not_true (names (h ∷ []) c)
-      (λ t. never (elim (names-In (h ∷ []) c t) [ inl s ↦ In-has C c h i s | inr z ↦ absurd z ]) e))
+    (λ t. never (elim (names-In (h ∷ []) c t) [ inl s ↦ In-has C c h i s | inr z ↦ absurd z ]) e))
 
 -- the step over one more hash
 pub marked_more-step : (H : List Hash) (i : ℕ) (d : Hash) (C : List ChangeParts) (bs cs ds : List Bool)
-  → i < length H → cs ≡ marked_more (take i H) C bs → ds ≡ marked_more (get_or H i d ∷ []) C cs → ds ≡ marked_more (take (i + 1) H) C bs
+    → i < length H → cs ≡ marked_more (take i H) C bs → ds ≡ marked_more (get_or H i d ∷ []) C cs → ds ≡ marked_more (take (i + 1) H) C bs
 marked_more-step H i d C bs cs ds small e f =
     f ∙ ap (marked_more (get_or H i d ∷ []) C) e ∙ marked_more-twice (take i H) (get_or H i d ∷ []) C bs
     ∙ ap (λ l. marked_more l C bs) (sym (take_more H i d small))
@@ -194,14 +198,14 @@ marks_for-append (c ∷ A) B K H = ap (λ l. (names H c || is_needed K c) ∷ l)
 
 -- what the walk has before it looks at c, with c's mark apart
 pub before_look : (A : List ChangeParts) (c : ChangeParts) (D : List ChangeParts) (H : List Hash)
-  → marks_for (A ++ c ∷ []) (past D H) H ++ marks D H ≡ marks_for A (past D H) H ++ marks (c ∷ D) H
+    → marks_for (A ++ c ∷ []) (past D H) H ++ marks D H ≡ marks_for A (past D H) H ++ marks (c ∷ D) H
 before_look A c D H =
     ap (λ l. l ++ marks D H) (marks_for-append A (c ∷ []) (past D H) H)
     ∙ append_assoc (marks_for A (past D H) H) ((names H c || is_needed (past D H) c) ∷ []) (marks D H)
 
 -- a change that isn't marked leaves the marks
 pub pass_by : (A : List ChangeParts) (c : ChangeParts) (D : List ChangeParts) (H : List Hash) → (names H c || is_needed (past D H) c) ≡ false
-  → marks_for (A ++ c ∷ []) (past D H) H ++ marks D H ≡ marks_for A (past (c ∷ D) H) H ++ marks (c ∷ D) H
+    → marks_for (A ++ c ∷ []) (past D H) H ++ marks D H ≡ marks_for A (past (c ∷ D) H) H ++ marks (c ∷ D) H
 pass_by A c D H e = before_look A c D H ∙ ap (λ K. marks_for A K H ++ marks (c ∷ D) H) (sym (left_out H c (past D H) e))
 
 apart_after : (A : List ChangeParts) (c : ChangeParts) (D : List ChangeParts) → DepsFirst (A ++ c ∷ D) → (d : ChangeParts) → In d (c ∷ D) → names c.deps d ≡ false
@@ -210,7 +214,7 @@ apart_after (a ∷ A) c D o d i = apart_after A c D o.1 d i
 
 -- a change that is marked marks those that it depends on
 pub follow_on : (A : List ChangeParts) (c : ChangeParts) (D : List ChangeParts) (H : List Hash) → DepsFirst (A ++ c ∷ D) → (names H c || is_needed (past D H) c) ≡ true
-  → marked_more c.deps (A ++ c ∷ D) (marks_for (A ++ c ∷ []) (past D H) H ++ marks D H) ≡ marks_for A (past (c ∷ D) H) H ++ marks (c ∷ D) H
+    → marked_more c.deps (A ++ c ∷ D) (marks_for (A ++ c ∷ []) (past D H) H ++ marks D H) ≡ marks_for A (past (c ∷ D) H) H ++ marks (c ∷ D) H
 follow_on A c D H o e =
     ap (marked_more c.deps (A ++ c ∷ D)) (before_look A c D H)
     ∙ marked_more-append c.deps A (c ∷ D) (marks_for A (past D H) H) (marks (c ∷ D) H) (length-marks_for A (past D H) H)
@@ -250,12 +254,12 @@ walk_on C H m c o e f =
 
 -- the mark that is read is the one that the walk looks at
 mark_read : (C : List ChangeParts) (H : List Hash) (m : ℕ) (c : ChangeParts) (bs : List Bool) (b : Bool) → slice_get C m ≡ Some c → bs ≡ walked C H (m + 1) → get_or bs m false ≡ b
-  → (names H c || is_needed (past (drop (m + 1) C) H) c) ≡ b
+    → (names H c || is_needed (past (drop (m + 1) C) H) c) ≡ b
 mark_read C H m c bs b e w r =
     sym (get_or_from_slice_get bs m (names H c || is_needed (past (drop (m + 1) C) H) c) false (ap (λ l. slice_get l m) w ∙ walked-at C H m c e)) ∙ r
 
 pub followed : (C : List ChangeParts) (H : List Hash) (m : ℕ) (c : ChangeParts) (bs ds : List Bool)
-  → DepsFirst C → slice_get C m ≡ Some c → bs ≡ walked C H (m + 1) → get_or bs m false ≡ true → ds ≡ marked_more c.deps C bs → ds ≡ walked C H m
+    → DepsFirst C → slice_get C m ≡ Some c → bs ≡ walked C H (m + 1) → get_or bs m false ≡ true → ds ≡ marked_more c.deps C bs → ds ≡ walked C H m
 followed C H m c bs ds o e w r f = f ∙ ap (marked_more c.deps C) w ∙ walk_on C H m c o e (mark_read C H m c bs true e w r)
 
 pub passed_by : (C : List ChangeParts) (H : List Hash) (m : ℕ) (c : ChangeParts) (bs : List Bool) → slice_get C m ≡ Some c → bs ≡ walked C H (m + 1) → get_or bs m false ≡ false → bs ≡ walked C H m
@@ -270,6 +274,7 @@ walked-start C H bs e = e ∙ first C ∙ ends C where
     turn : (b : Bool) → (false || b) ≡ (b || false)
     turn true = refl
     turn false = refl
+
   ends : (D : List ChangeParts) → marks_for D [] H ≡ walked D H (length D)
   ends D =
       let whole : take (length D) D ≡ D = take_all (length D) D (omega arith) in
@@ -290,7 +295,7 @@ place_in (x ∷ xs) (suc m) h = place_in xs m (omega arith)
 
 -- the start of the walk, in a vector
 pub walk_starts : (C : List ChangeParts) (H : List Hash) (xs ys : List Bool) (n : ℕ) → n ≡ length ys → ys ≡ replicate (length C) false → xs ≡ marked_more H C ys
-  → (take n (xs ++ drop (length xs) ys) ≡ walked C H (length C - 0)) × (length (take n (xs ++ drop (length xs) ys)) ≡ length C)
+    → (take n (xs ++ drop (length xs) ys) ≡ walked C H (length C - 0)) × (length (take n (xs ++ drop (length xs) ys)) ≡ length C)
 walk_starts C H xs ys n e f g =
     let long : length ys ≡ length C = ap length f ∙ length-replicate (length C) false in
     let whole : length xs ≡ length C = ap length g ∙ length-marked_more H C ys long in

@@ -1,5 +1,5 @@
 -- The tests on hashes as membership, and what they say of joined lists.
-use Rattle.std.proofs.Common.{◌≡◌, ◌⊎◌, inl, inr, List, [], ◌∷◌, ◌++◌, Bool, true, false, ◌||◌, ◌&&◌, refl, sym, ap, ◌∙◌, subst}
+use Rattle.std.proofs.Common.{◌≡◌, ◌⊎◌, inl, inr, List, [], ◌∷◌, ◌++◌, true, false, ◌||◌, refl, sym, ◌∙◌}
 use Rattle.tp_list.specs.Members.{In, AllIn}
 use Rattle.tp_opid.specs.declared.hash.Hash.{Hash}
 use Rattle.tp_opid.specs.Same.{same_hash}
@@ -7,7 +7,7 @@ use Rattle.tp_opid.proofs.Orders.{same_hash-same, same_hash-itself}
 use Rattle.tp_change.specs.declared.parts.ChangeParts.{ChangeParts}
 use Rattle.tp_change.specs.ChangeHash.{hash_of}
 use Rattle.tp_graph.specs.Named.{names, has, has_all, is_needed}
-use Rattle.tp_graph.proofs.Tests.{truth, never, not_true, same_test, or_cases, or_left, or_right, neither, neither_left, neither_right, both, both_left, both_right}
+use Rattle.tp_graph.proofs.Tests.{never, not_true, or_cases, or_left, or_right, both, both_left, both_right}
 
 -- ---- membership
 
@@ -34,8 +34,8 @@ pub names-In : (H : List Hash) (c : ChangeParts) → names H c ≡ true → In (
 names-In [] c e = cc
 names-In (h ∷ H) c e =
     elim (or_cases (same_hash h (hash_of c)) (names H c) e) [
-      inl s ↦ inl (sym (same_hash-same h (hash_of c) s))
-    | inr r ↦ inr (names-In H c r)
+      | inl s ↦ inl (sym (same_hash-same h (hash_of c) s))
+      | inr r ↦ inr (names-In H c r)
     ]
 
 pub In-names : (H : List Hash) (c : ChangeParts) → In (hash_of c) H → names H c ≡ true
@@ -47,8 +47,8 @@ pub names-append : (H K : List Hash) (c : ChangeParts) → names (H ++ K) c ≡ 
 names-append [] K c = refl
 names-append (h ∷ H) K c =
     elim (same_hash h (hash_of c)) as (λ b. (b || names (H ++ K) c) ≡ ((b || names H c) || names K c)) [
-      true ↦ refl
-    | false ↦ names-append H K c
+      | true ↦ refl
+      | false ↦ names-append H K c
     ]
 
 pub names-more : (H K : List Hash) (c : ChangeParts) → AllIn H K → names H c ≡ true → names K c ≡ true
@@ -60,8 +60,8 @@ pub has-In : (C : List ChangeParts) (h : Hash) → has C h ≡ true → (c : Cha
 has-In [] h e = cc
 has-In (c ∷ C) h e =
     elim (or_cases (same_hash (hash_of c) h) (has C h) e) [
-      inl s ↦ (c, inl refl, same_hash-same (hash_of c) h s)
-    | inr r ↦ let w = has-In C h r in (w.0, inr w.1, w.2)
+      | inl s ↦ (c, inl refl, same_hash-same (hash_of c) h s)
+      | inr r ↦ let w = has-In C h r in (w.0, inr w.1, w.2)
     ]
 
 pub In-has : (C : List ChangeParts) (c : ChangeParts) (h : Hash) → In c C → hash_of c ≡ h → has C h ≡ true
@@ -73,8 +73,8 @@ pub has-append : (C D : List ChangeParts) (h : Hash) → has (C ++ D) h ≡ (has
 has-append [] D h = refl
 has-append (c ∷ C) D h =
     elim (same_hash (hash_of c) h) as (λ b. (b || has (C ++ D) h) ≡ ((b || has C h) || has D h)) [
-      true ↦ refl
-    | false ↦ has-append C D h
+      | true ↦ refl
+      | false ↦ has-append C D h
     ]
 
 pub has-left : (C D : List ChangeParts) (h : Hash) → has C h ≡ true → has (C ++ D) h ≡ true
@@ -104,8 +104,8 @@ pub is_needed-In : (C : List ChangeParts) (c : ChangeParts) → is_needed C c �
 is_needed-In [] c e = cc
 is_needed-In (d ∷ C) c e =
     elim (or_cases (names d.deps c) (is_needed C c) e) [
-      inl s ↦ (d, inl refl, names-In d.deps c s)
-    | inr r ↦ let w = is_needed-In C c r in (w.0, inr w.1, w.2)
+      | inl s ↦ (d, inl refl, names-In d.deps c s)
+      | inr r ↦ let w = is_needed-In C c r in (w.0, inr w.1, w.2)
     ]
 
 pub In-is_needed : (C : List ChangeParts) (c d : ChangeParts) → In d C → In (hash_of c) d.deps → is_needed C c ≡ true
@@ -117,8 +117,8 @@ pub is_needed-append : (C D : List ChangeParts) (c : ChangeParts) → is_needed 
 is_needed-append [] D c = refl
 is_needed-append (x ∷ C) D c =
     elim (names x.deps c) as (λ b. (b || is_needed (C ++ D) c) ≡ ((b || is_needed C c) || is_needed D c)) [
-      true ↦ refl
-    | false ↦ is_needed-append C D c
+      | true ↦ refl
+      | false ↦ is_needed-append C D c
     ]
 
 pub is_needed-more : (C D : List ChangeParts) (c : ChangeParts) → AllIn C D → is_needed C c ≡ true → is_needed D c ≡ true

@@ -1,13 +1,13 @@
 -- Laws of the past in any list of changes.
-use Rattle.std.proofs.Common.{◌≡◌, ◌⊎◌, inl, inr, List, [], ◌∷◌, ◌++◌, Bool, true, false, ◌||◌, cond, refl, sym, ap, ◌∙◌, subst}
+use Rattle.std.proofs.Common.{◌≡◌, ◌⊎◌, inl, inr, List, [], ◌∷◌, ◌++◌, true, false, ◌||◌, cond, refl, sym, ap, ◌∙◌, subst}
 use Rattle.tp_list.specs.Members.{In, AllIn}
 use Rattle.tp_opid.specs.declared.hash.Hash.{Hash}
 use Rattle.tp_change.specs.declared.parts.ChangeParts.{ChangeParts}
 use Rattle.tp_change.specs.ChangeHash.{hash_of}
-use Rattle.tp_graph.specs.Named.{names, has, has_all, is_needed}
+use Rattle.tp_graph.specs.Named.{names, is_needed}
 use Rattle.tp_graph.specs.Past.{past, with_reached}
-use Rattle.tp_graph.proofs.Tests.{truth, never, not_true, same_test, or_cases, or_left, or_right, neither, neither_left, neither_right}
-use Rattle.tp_graph.proofs.NamedLaws.{names-In, In-names, names-append, names-more, is_needed-In, In-is_needed, is_needed-append, is_needed-more, In-left, In-right}
+use Rattle.tp_graph.proofs.Tests.{truth, never, not_true, or_cases, or_left, or_right, neither, neither_left, neither_right}
+use Rattle.tp_graph.proofs.NamedLaws.{In-names, names-append, names-more, is_needed-append, is_needed-more}
 
 -- ---- one step
 
@@ -21,8 +21,8 @@ left_out H c K e = rw e refl
 pub with_reached-In : (H : List Hash) (c d : ChangeParts) (K : List ChangeParts) → In d (with_reached H c K) → ((d ≡ c) × ((names H c || is_needed K c) ≡ true)) ⊎ In d K
 with_reached-In H c d K i =
     elim (truth (names H c || is_needed K c)) [
-      inl t ↦ elim (subst (λ (l : List ChangeParts). In d l) (kept H c K t) i) [ inl e ↦ inl (e, t) | inr k ↦ inr k ]
-    | inr f ↦ inr (subst (λ (l : List ChangeParts). In d l) (left_out H c K f) i)
+      | inl t ↦ elim (subst (λ (l : List ChangeParts). In d l) (kept H c K t) i) [ inl e ↦ inl (e, t) | inr k ↦ inr k ]
+      | inr f ↦ inr (subst (λ (l : List ChangeParts). In d l) (left_out H c K f) i)
     ]
 
 pub In-with_reached : (H : List Hash) (c d : ChangeParts) (K : List ChangeParts) → In d K → In d (with_reached H c K)
@@ -51,14 +51,14 @@ pub past-more : (C : List ChangeParts) (H K : List Hash) → AllIn H K → AllIn
 past-more [] H K more d i = i
 past-more (c ∷ C) H K more d i =
     elim (with_reached-In H c d (past C H) i) [
-      inl e ↦
-        let t : (names K c || is_needed (past C K) c) ≡ true =
-            elim (or_cases (names H c) (is_needed (past C H) c) e.1) [
-              inl n ↦ or_left (names K c) (is_needed (past C K) c) (names-more H K c more n)
+      | inl e ↦
+          let t : (names K c || is_needed (past C K) c) ≡ true =
+          elim (or_cases (names H c) (is_needed (past C H) c) e.1) [
+            | inl n ↦ or_left (names K c) (is_needed (past C K) c) (names-more H K c more n)
             | inr n ↦ or_right (names K c) (is_needed (past C K) c) (is_needed-more (past C H) (past C K) c (past-more C H K more) n)
-            ] in
-        rw e.0 (kept-In K c (past C K) t)
-    | inr k ↦ In-with_reached K c d (past C K) (past-more C H K more d k)
+          ] in
+          rw e.0 (kept-In K c (past C K) t)
+      | inr k ↦ In-with_reached K c d (past C K) (past-more C H K more d k)
     ]
 
 -- a past of fewer hashes is the same within a past of more
@@ -66,31 +66,31 @@ pub past-of_part : (C : List ChangeParts) (H K : List Hash) → AllIn H K → pa
 past-of_part [] H K more = refl
 past-of_part (c ∷ C) H K more =
     elim (truth (names K c || is_needed (past C K) c)) [
-      inl t ↦ ap (λ l. past l H) (kept K c (past C K) t) ∙ ap (with_reached H c) (past-of_part C H K more)
-    | inr f ↦
-        let n : names H c ≡ false = not_true (names H c) (λ t. never (names-more H K c more t) (neither_left (names K c) (is_needed (past C K) c) f)) in
-        let m : is_needed (past C H) c ≡ false =
-            not_true (is_needed (past C H) c)
-            (λ t. never (is_needed-more (past C H) (past C K) c (past-more C H K more) t) (neither_right (names K c) (is_needed (past C K) c) f)) in
-        ap (λ l. past l H) (left_out K c (past C K) f) ∙ past-of_part C H K more ∙ sym (left_out H c (past C H) (neither (names H c) (is_needed (past C H) c) n m))
+      | inl t ↦ ap (λ l. past l H) (kept K c (past C K) t) ∙ ap (with_reached H c) (past-of_part C H K more)
+      | inr f ↦
+          let n : names H c ≡ false = not_true (names H c) (λ t. never (names-more H K c more t) (neither_left (names K c) (is_needed (past C K) c) f)) in
+          let m : is_needed (past C H) c ≡ false =
+          not_true (is_needed (past C H) c)
+          (λ t. never (is_needed-more (past C H) (past C K) c (past-more C H K more) t) (neither_right (names K c) (is_needed (past C K) c) f)) in
+          ap (λ l. past l H) (left_out K c (past C K) f) ∙ past-of_part C H K more ∙ sym (left_out H c (past C H) (neither (names H c) (is_needed (past C H) c) n m))
     ]
 
 -- the step, where one more change is kept at the end
 with_reached-push : (H D : List Hash) (c d : ChangeParts) (K : List ChangeParts) → d.deps ≡ D → with_reached H c (K ++ d ∷ []) ≡ with_reached (H ++ D) c K ++ d ∷ []
 with_reached-push H D c d K e =
     let same : (names H c || is_needed (K ++ d ∷ []) c) ≡ (names (H ++ D) c || is_needed K c) =
-        rw (is_needed-append K (d ∷ []) c, names-append H D c, e)
-        (elim (names H c) as (λ a. (a || (is_needed K c || (names D c || false))) ≡ ((a || names D c) || is_needed K c)) [
-          true ↦ refl
-        | false ↦ elim (is_needed K c) as (λ b. (b || (names D c || false)) ≡ (names D c || b)) [
-            true ↦ elim (names D c) as (λ x. true ≡ (x || true)) [ true ↦ refl | false ↦ refl ]
-          | false ↦ refl
-          ]
-        ]) in
+    rw (is_needed-append K (d ∷ []) c, names-append H D c, e)
+    (elim (names H c) as (λ a. (a || (is_needed K c || (names D c || false))) ≡ ((a || names D c) || is_needed K c)) [
+      | true ↦ refl
+      | false ↦ elim (is_needed K c) as (λ b. (b || (names D c || false)) ≡ (names D c || b)) [
+        | true ↦ elim (names D c) as (λ x. true ≡ (x || true)) [ true ↦ refl | false ↦ refl ]
+        | false ↦ refl
+      ]
+    ]) in
     rw same
     (elim (names (H ++ D) c || is_needed K c) as (λ b. cond b (c ∷ (K ++ d ∷ [])) (K ++ d ∷ []) ≡ cond b (c ∷ K) K ++ d ∷ []) [
-      true ↦ refl
-    | false ↦ refl
+      | true ↦ refl
+      | false ↦ refl
     ])
 
 -- a named change at the end brings its dependencies

@@ -1,5 +1,5 @@
 -- Loops over marked changes: what is still to come, by places.
-use Rattle.std.proofs.Common.{◌≡◌, ℕ, suc, zero, ◌+◌, ◌<◌, ◌≤◌, List, [], ◌∷◌, ◌++◌, length, Bool, true, false, ◌||◌, cond, Option, Some, None, take, drop, get_or, nat_lt, refl, sym, ap, ◌∙◌, subst, arith, add-one, drop-cons, append_assoc, ◌==◌, ◌&&◌}
+use Rattle.std.proofs.Common.{◌≡◌, ℕ, suc, zero, ◌+◌, ◌<◌, ◌≤◌, List, [], ◌∷◌, ◌++◌, length, Bool, true, false, ◌||◌, cond, Some, drop, get_or, refl, sym, ap, ◌∙◌, subst, arith, add-one, drop-cons, append_assoc, ◌==◌, ◌&&◌}
 use Rattle.std.specs.List.{slice_get}
 use Rattle.std.proofs.lemmas.Option.{get_or_from_slice_get}
 use Rattle.std.proofs.lemmas.Bool.Decides.{nat_tests}
@@ -10,7 +10,7 @@ use Rattle.tp_change.specs.declared.parts.ChangeParts.{ChangeParts}
 use Rattle.tp_change.specs.Operations.{op_count, ops_of}
 use Rattle.tp_graph.specs.Fit.{count_by, clashes}
 use Rattle.tp_change.specs.Elements.{inserts_in, inserts, is_inserted, next_counter, later}
-use Rattle.tp_graph.specs.Marks.{pick, rest_of}
+use Rattle.tp_graph.specs.Marks.{rest_of}
 use Rattle.tp_graph.specs.Places.{ends_of}
 use Rattle.tp_graph.specs.Since.{skip}
 use Rattle.tp_graph.proofs.InsertLaws.{is_inserted-append}
@@ -71,41 +71,41 @@ pub later-end : (a : ℕ) → 1 ≤ a → later a 1 ≡ a
 later-end a h = grind (arith, nat_tests)
 
 pub counted_one : (a : Actor) (bs : List Bool) (C : List ChangeParts) (i : ℕ) (c : ChangeParts) (same : Bool)
-  → length bs ≡ length C → slice_get C i ≡ Some c → get_or bs i false ≡ true → same_actor c.actor a ≡ same
-  → cond same 1 0 + count_by a (rest_of bs C (i + 1)) ≡ count_by a (rest_of bs C i)
+    → length bs ≡ length C → slice_get C i ≡ Some c → get_or bs i false ≡ true → same_actor c.actor a ≡ same
+    → cond same 1 0 + count_by a (rest_of bs C (i + 1)) ≡ count_by a (rest_of bs C i)
 counted_one a bs C i c same l e t s =
     let n : ℕ = count_by a (rest_of bs C (i + 1)) in
     sums n same ∙ ap (λ b. cond b (n + 1) n) (sym s) ∙ ap (count_by a) (sym (rest_of-kept bs C i c l e t)) where
-  sums : (n : ℕ) (b : Bool) → cond b 1 0 + n ≡ cond b (n + 1) n
-  sums n true = omega arith
-  sums n false = omega arith
+      sums : (n : ℕ) (b : Bool) → cond b 1 0 + n ≡ cond b (n + 1) n
+      sums n true = omega arith
+      sums n false = omega arith
 
 pub counted_none : (a : Actor) (bs : List Bool) (C : List ChangeParts) (i : ℕ) (c : ChangeParts)
-  → length bs ≡ length C → slice_get C i ≡ Some c → get_or bs i false ≡ false
-  → 0 + count_by a (rest_of bs C (i + 1)) ≡ count_by a (rest_of bs C i)
+    → length bs ≡ length C → slice_get C i ≡ Some c → get_or bs i false ≡ false
+    → 0 + count_by a (rest_of bs C (i + 1)) ≡ count_by a (rest_of bs C i)
 counted_none a bs C i c l e t = let same = ap (count_by a) (rest_of-left bs C i c l e t) in omega (arith, same)
 
 pub end_kept : (bs : List Bool) (C : List ChangeParts) (i : ℕ) (c : ChangeParts) (d : ℕ)
-  → length bs ≡ length C → slice_get C i ≡ Some c → get_or bs i false ≡ true
-  → next_counter (rest_of bs C i) ≡ later (get_or (ends_of C) i d) (next_counter (rest_of bs C (i + 1)))
+    → length bs ≡ length C → slice_get C i ≡ Some c → get_or bs i false ≡ true
+    → next_counter (rest_of bs C i) ≡ later (get_or (ends_of C) i d) (next_counter (rest_of bs C (i + 1)))
 end_kept bs C i c d l e t =
     ap next_counter (rest_of-kept bs C i c l e t)
     ∙ ap (λ n. later n (next_counter (rest_of bs C (i + 1)))) (sym (get_or_from_slice_get (ends_of C) i (c.start + op_count c) d (ends_of-at C i c e)))
 
 pub end_left : (bs : List Bool) (C : List ChangeParts) (i : ℕ) (c : ChangeParts)
-  → length bs ≡ length C → slice_get C i ≡ Some c → get_or bs i false ≡ false
-  → next_counter (rest_of bs C i) ≡ later 0 (next_counter (rest_of bs C (i + 1)))
+    → length bs ≡ length C → slice_get C i ≡ Some c → get_or bs i false ≡ false
+    → next_counter (rest_of bs C i) ≡ later 0 (next_counter (rest_of bs C (i + 1)))
 end_left bs C i c l e t = ap next_counter (rest_of-left bs C i c l e t) ∙ sym (later-nothing (next_counter (rest_of bs C (i + 1))))
 
 pub inserts_kept : (bs : List Bool) (C : List ChangeParts) (i : ℕ) (c : ChangeParts) (id : OpId)
-  → length bs ≡ length C → slice_get C i ≡ Some c → get_or bs i false ≡ true
-  → is_inserted (inserts (rest_of bs C i)) id ≡ (is_inserted (inserts_in (ops_of c)) id || is_inserted (inserts (rest_of bs C (i + 1))) id)
+    → length bs ≡ length C → slice_get C i ≡ Some c → get_or bs i false ≡ true
+    → is_inserted (inserts (rest_of bs C i)) id ≡ (is_inserted (inserts_in (ops_of c)) id || is_inserted (inserts (rest_of bs C (i + 1))) id)
 inserts_kept bs C i c id l e t =
     ap (λ K. is_inserted (inserts K) id) (rest_of-kept bs C i c l e t) ∙ is_inserted-append (inserts_in (ops_of c)) (inserts (rest_of bs C (i + 1))) id
 
 pub inserts_left : (bs : List Bool) (C : List ChangeParts) (i : ℕ) (c : ChangeParts) (id : OpId)
-  → length bs ≡ length C → slice_get C i ≡ Some c → get_or bs i false ≡ false
-  → is_inserted (inserts (rest_of bs C i)) id ≡ (false || is_inserted (inserts (rest_of bs C (i + 1))) id)
+    → length bs ≡ length C → slice_get C i ≡ Some c → get_or bs i false ≡ false
+    → is_inserted (inserts (rest_of bs C i)) id ≡ (false || is_inserted (inserts (rest_of bs C (i + 1))) id)
 inserts_left bs C i c id l e t = ap (λ K. is_inserted (inserts K) id) (rest_of-left bs C i c l e t)
 
 clashes-drop : (C : List ChangeParts) (i : ℕ) (x c : ChangeParts) → i < length C → x ≡ get_or C i x → clashes (drop i C) c ≡ ((same_actor x.actor c.actor && (x.seq == c.seq)) || clashes (drop (i + 1) C) c)
@@ -128,13 +128,13 @@ skip-step (b ∷ bs) (x ∷ C) (suc i) c l e = let less : length bs ≡ length C
 
 -- a change that isn't marked is put at the end
 pub skip-on : (bs : List Bool) (C : List ChangeParts) (i : ℕ) (x : ChangeParts) (xs ys : List ChangeParts) → length bs ≡ length C → slice_get C i ≡ Some x → get_or bs i false ≡ false
-  → ys ≡ xs ++ x ∷ [] → xs ++ skip (drop i bs) (drop i C) ≡ skip bs C → ys ++ skip (drop (i + 1) bs) (drop (i + 1) C) ≡ skip bs C
+    → ys ≡ xs ++ x ∷ [] → xs ++ skip (drop i bs) (drop i C) ≡ skip bs C → ys ++ skip (drop (i + 1) bs) (drop (i + 1) C) ≡ skip bs C
 skip-on bs C i x xs ys l e f g h =
     rw (add-one, g) (append_assoc xs (x ∷ []) (skip (drop (suc i) bs) (drop (suc i) C))
-      ∙ ap (λ r. xs ++ r) (sym (skip-step bs C i x l e ∙ ap (λ b. cond b (skip (drop (suc i) bs) (drop (suc i) C)) (x ∷ skip (drop (suc i) bs) (drop (suc i) C))) f)) ∙ h)
+    ∙ ap (λ r. xs ++ r) (sym (skip-step bs C i x l e ∙ ap (λ b. cond b (skip (drop (suc i) bs) (drop (suc i) C)) (x ∷ skip (drop (suc i) bs) (drop (suc i) C))) f)) ∙ h)
 
 -- one that is marked is passed by
 pub skip-by : (bs : List Bool) (C : List ChangeParts) (i : ℕ) (x : ChangeParts) (xs ys : List ChangeParts) → length bs ≡ length C → slice_get C i ≡ Some x → get_or bs i false ≡ true
-  → ys ≡ xs → xs ++ skip (drop i bs) (drop i C) ≡ skip bs C → ys ++ skip (drop (i + 1) bs) (drop (i + 1) C) ≡ skip bs C
+    → ys ≡ xs → xs ++ skip (drop i bs) (drop i C) ≡ skip bs C → ys ++ skip (drop (i + 1) bs) (drop (i + 1) C) ≡ skip bs C
 skip-by bs C i x xs ys l e f g h =
     rw (add-one, g) (ap (λ r. xs ++ r) (sym (skip-step bs C i x l e ∙ ap (λ b. cond b (skip (drop (suc i) bs) (drop (suc i) C)) (x ∷ skip (drop (suc i) bs) (drop (suc i) C))) f)) ∙ h)

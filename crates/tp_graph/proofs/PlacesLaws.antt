@@ -1,8 +1,8 @@
 -- Laws of places.
-use Rattle.std.proofs.Common.{◌≡◌, ℕ, suc, zero, ◌+◌, ◌-◌, ◌<◌, ◌≤◌, ◌⊎◌, inl, inr, List, [], ◌∷◌, ◌++◌, length, Bool, true, false, ◌||◌, cond, Option, Some, None, refl, sym, ap, ◌∙◌, subst, arith, add-zero, add-one, IsTrue, ◌↔◌, ◌&&◌, drop, get_or, drop-cons, is_some}
+use Rattle.std.proofs.Common.{◌≡◌, ℕ, suc, zero, ◌+◌, ◌<◌, ◌≤◌, inl, inr, List, [], ◌∷◌, ◌++◌, length, Bool, true, false, ◌||◌, cond, Some, None, refl, sym, ap, ◌∙◌, subst, arith, add-zero, add-one, IsTrue, ◌↔◌, ◌&&◌, drop, get_or, drop-cons, is_some}
 use Rattle.std.specs.List.{slice_get}
 use Rattle.std.proofs.lemmas.Option.{slice_get_past, slice_get_read}
-use Rattle.tp_list.specs.Members.{In, AllIn}
+use Rattle.tp_list.specs.Members.{In}
 use Rattle.tp_opid.specs.declared.hash.Hash.{Hash}
 use Rattle.tp_opid.specs.Same.{same_hash}
 use Rattle.tp_opid.proofs.Orders.{same_hash-same, same_hash-itself}
@@ -10,7 +10,7 @@ use Rattle.tp_change.specs.declared.parts.ChangeParts.{ChangeParts}
 use Rattle.tp_change.specs.ChangeHash.{hash_of}
 use Rattle.tp_graph.specs.Named.{has, has_all}
 use Rattle.tp_graph.specs.Places.{place_from, noted, NotesFrom, HasAt}
-use Rattle.tp_graph.proofs.Tests.{truth, never, not_true, or_left, or_right, or_cases}
+use Rattle.tp_graph.proofs.Tests.{truth, not_true}
 use Rattle.tp_graph.proofs.NamedLaws.{In-has}
 
 -- a map that notes the places gives the place of each hash that is there
@@ -18,16 +18,16 @@ pub place_from-noted : (n : ℕ) (C : List ChangeParts) (entries : List (Hash ×
 place_from-noted n [] entries h N e = cc
 place_from-noted n (c ∷ C) entries h N e =
     elim (same_hash (hash_of c) h) as (λ b. same_hash (hash_of c) h ≡ b → (b || has C h) ≡ true → noted entries h ≡ cond b (Some n) (place_from (n + 1) C h)) [
-      true ↦ λ s t. subst (λ g. noted entries g ≡ Some n) (same_hash-same (hash_of c) h s) N.0
-    | false ↦ λ s t. place_from-noted (n + 1) C entries h N.1 t
+      | true ↦ λ s t. subst (λ g. noted entries g ≡ Some n) (same_hash-same (hash_of c) h s) N.0
+      | false ↦ λ s t. place_from-noted (n + 1) C entries h N.1 t
     ] refl e
 
 pub place_from-none : (n : ℕ) (C : List ChangeParts) (h : Hash) → has C h ≡ false → place_from n C h ≡ None
 place_from-none n [] h e = refl
 place_from-none n (c ∷ C) h e =
     elim (same_hash (hash_of c) h) as (λ b. (b || has C h) ≡ false → cond b (Some n) (place_from (n + 1) C h) ≡ None) [
-      true ↦ λ t. cc
-    | false ↦ λ t. place_from-none (n + 1) C h t
+      | true ↦ λ t. cc
+      | false ↦ λ t. place_from-none (n + 1) C h t
     ] e
 
 -- a hash that is there has a place, with a change that has it
@@ -35,14 +35,14 @@ pub place_from-there : (n : ℕ) (C : List ChangeParts) (h : Hash) → has C h �
 place_from-there n [] h e = cc
 place_from-there n (c ∷ C) h e =
     elim (same_hash (hash_of c) h) as (λ b. same_hash (hash_of c) h ≡ b → (b || has C h) ≡ true → (i : ℕ) × (cond b (Some n) (place_from (n + 1) C h) ≡ Some (n + i)) × (i < length (c ∷ C)) × HasAt (c ∷ C) i h) [
-      true ↦ λ s t. (0, ap Some (sym (add-zero n)), omega arith, (c, refl, same_hash-same (hash_of c) h s))
-    | false ↦ λ s t.
-        let w = place_from-there (n + 1) C h t in
-        let k : ℕ = w.0 in
-        let e : n + 1 + k ≡ n + suc k = omega arith in
-        let below : k < length C = w.2 in
-        let below_too : suc k < length (c ∷ C) = omega arith in
-        (suc k, w.1 ∙ ap Some e, below_too, w.3)
+      | true ↦ λ s t. (0, ap Some (sym (add-zero n)), omega arith, (c, refl, same_hash-same (hash_of c) h s))
+      | false ↦ λ s t.
+          let w = place_from-there (n + 1) C h t in
+          let k : ℕ = w.0 in
+          let e : n + 1 + k ≡ n + suc k = omega arith in
+          let below : k < length C = w.2 in
+          let below_too : suc k < length (c ∷ C) = omega arith in
+          (suc k, w.1 ∙ ap Some e, below_too, w.3)
     ] refl e
 
 pub slice_get-In : {X : Type 0} (xs : List X) (i : ℕ) (x : X) → slice_get xs i ≡ Some x → In x xs
@@ -62,11 +62,11 @@ pub lacks_by : (C : List ChangeParts) (entries : List (Hash × ℕ)) (h : Hash) 
 lacks_by C entries h i N e no_at =
     not_true (has C h)
     (λ t. let w = place_from-there 0 C h t in
-      let k : ℕ = w.0 in
-      let zero_first : 0 + k ≡ k = omega arith in
-      let same : Some i ≡ Some k = sym e ∙ place_from-noted 0 C entries h N t ∙ w.1 ∙ ap Some zero_first in
-      let at : k ≡ i = cc in
-      no_at (subst (λ j. HasAt C j h) at w.3))
+    let k : ℕ = w.0 in
+    let zero_first : 0 + k ≡ k = omega arith in
+    let same : Some i ≡ Some k = sym e ∙ place_from-noted 0 C entries h N t ∙ w.1 ∙ ap Some zero_first in
+    let at : k ≡ i = cc in
+    no_at (subst (λ j. HasAt C j h) at w.3))
 
 pub place_is_none : (C : List ChangeParts) (entries : List (Hash × ℕ)) (h : Hash) (i : ℕ) → NotesFrom 0 C entries → noted entries h ≡ Some i → (HasAt C i h → ⊥) → None ≡ place_from 0 C h
 place_is_none C entries h i N e no_at = sym (place_from-none 0 C h (lacks_by C entries h i N e no_at))
@@ -83,14 +83,14 @@ place_unnoted C entries h N e = sym (place_from-none 0 C h (lacks_unnoted C entr
 pub place_from-some : (C : List ChangeParts) (h : Hash) (i : ℕ) → Some i ≡ place_from 0 C h → (i < length C) × HasAt C i h
 place_from-some C h i e =
     elim (truth (has C h)) [
-      inl t ↦
-        let w = place_from-there 0 C h t in
-        let k : ℕ = w.0 in
-        let zero_first : 0 + k ≡ k = omega arith in
-        let same : Some i ≡ Some k = e ∙ w.1 ∙ ap Some zero_first in
-        let at : k ≡ i = cc in
-        (subst (λ j. j < length C) at w.2, subst (λ j. HasAt C j h) at w.3)
-    | inr f ↦ let bad : Some i ≡ None = e ∙ place_from-none 0 C h f in cc
+      | inl t ↦
+          let w = place_from-there 0 C h t in
+          let k : ℕ = w.0 in
+          let zero_first : 0 + k ≡ k = omega arith in
+          let same : Some i ≡ Some k = e ∙ w.1 ∙ ap Some zero_first in
+          let at : k ≡ i = cc in
+          (subst (λ j. j < length C) at w.2, subst (λ j. HasAt C j h) at w.3)
+      | inr f ↦ let bad : Some i ≡ None = e ∙ place_from-none 0 C h f in cc
     ]
 
 pub has-from_place : (C : List ChangeParts) (h : Hash) → None ≡ place_from 0 C h → has C h ≡ false
@@ -113,13 +113,13 @@ NotesFrom-push n (c ∷ C) x entries N e =
 pub place_from-low : (n : ℕ) (C : List ChangeParts) (h : Hash) (m : ℕ) → Some m ≡ place_from n C h → n ≤ m
 place_from-low n C h m e =
     elim (truth (has C h)) [
-      inl t ↦
-        let w = place_from-there n C h t in
-        let k : ℕ = w.0 in
-        let same : Some m ≡ Some (n + k) = e ∙ w.1 in
-        let at : m ≡ n + k = cc in
-        omega arith
-    | inr f ↦ let bad : Some m ≡ None = e ∙ place_from-none n C h f in cc
+      | inl t ↦
+          let w = place_from-there n C h t in
+          let k : ℕ = w.0 in
+          let same : Some m ≡ Some (n + k) = e ∙ w.1 in
+          let at : m ≡ n + k = cc in
+          omega arith
+      | inr f ↦ let bad : Some m ≡ None = e ∙ place_from-none n C h f in cc
     ]
 
 -- ---- the test at a place
@@ -128,10 +128,10 @@ pub has_at_by : (C : List ChangeParts) (i : ℕ) (x : ChangeParts) (g h : Hash) 
 has_at_by C i x g h b e f t = (
   λ y. let s : same_hash g h ≡ true = sym t ∙ y in (x, e, sym f ∙ same_hash-same g h s),
   λ w.
-    let found : Some w.0 ≡ Some x = sym w.1 ∙ e in
-    let one : w.0 ≡ x = cc in
-    let same : g ≡ h = f ∙ ap hash_of (sym one) ∙ w.2 in
-    t ∙ ap (same_hash g) (sym same) ∙ same_hash-itself g,
+      let found : Some w.0 ≡ Some x = sym w.1 ∙ e in
+      let one : w.0 ≡ x = cc in
+      let same : g ≡ h = f ∙ ap hash_of (sym one) ∙ w.2 in
+      t ∙ ap (same_hash g) (sym same) ∙ same_hash-itself g,
 )
 
 pub has_at_past : (C : List ChangeParts) (i : ℕ) (h : Hash) → length C ≤ i → IsTrue false ↔ HasAt C i h
@@ -145,8 +145,8 @@ pub is_some-place_from : (n : ℕ) (C : List ChangeParts) (h : Hash) → is_some
 is_some-place_from n [] h = refl
 is_some-place_from n (c ∷ C) h =
     elim (same_hash (hash_of c) h) as (λ b. is_some (cond b (Some n) (place_from (n + 1) C h)) ≡ (b || has C h)) [
-      true ↦ refl
-    | false ↦ is_some-place_from (n + 1) C h
+      | true ↦ refl
+      | false ↦ is_some-place_from (n + 1) C h
     ]
 
 -- ---- the steps over hashes

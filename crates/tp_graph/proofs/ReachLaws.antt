@@ -1,17 +1,16 @@
 -- The past in a sound list is what the dependencies lead to.
-use Rattle.std.proofs.Common.{◌≡◌, ℕ, suc, zero, ◌⊎◌, inl, inr, List, [], ◌∷◌, ◌++◌, Bool, true, false, ◌||◌, refl, sym, ap, ◌∙◌, subst}
+use Rattle.std.proofs.Common.{◌≡◌, ℕ, suc, zero, inl, inr, List, [], ◌∷◌, true, refl, sym, ◌∙◌, subst}
 use Rattle.tp_list.specs.Members.{In, AllIn}
 use Rattle.tp_opid.specs.declared.hash.Hash.{Hash}
 use Rattle.tp_change.specs.declared.parts.ChangeParts.{ChangeParts}
 use Rattle.tp_change.specs.ChangeHash.{hash_of}
-use Rattle.tp_graph.specs.Named.{names, has, has_all, is_needed}
-use Rattle.tp_graph.specs.Past.{past, with_reached}
-use Rattle.tp_graph.specs.Reach.{Chain, Reaches, InPast}
-use Rattle.tp_graph.specs.Sound.{Sound}
+use Rattle.tp_graph.specs.Named.{names, has_all, is_needed}
+use Rattle.tp_graph.specs.Past.{past}
+use Rattle.tp_graph.specs.Reach.{Chain, InPast}
 use Rattle.tp_graph.proofs.Tests.{or_cases}
-use Rattle.tp_graph.proofs.NamedLaws.{names-In, has-In, In-has, has_all-In, is_needed-In}
+use Rattle.tp_graph.proofs.NamedLaws.{names-In, has-In, has_all-In, is_needed-In}
 use Rattle.tp_graph.proofs.PastLaws.{past-In, past-named, with_reached-In}
-use Rattle.tp_graph.proofs.SoundLaws.{HashesApart, hashes_apart, IsClosed, deps_there, DepsFirst, deps_first, past-closed}
+use Rattle.tp_graph.proofs.SoundLaws.{HashesApart, IsClosed, DepsFirst, past-closed}
 
 pub Chain-more : (C D : List ChangeParts) → AllIn C D → (n : ℕ) (h g : Hash) → Chain C n h g → Chain D n h g
 Chain-more C D more zero h g k = k
@@ -31,21 +30,21 @@ InPast-from_past [] H c i = absurd i
 InPast-from_past (x ∷ C) H c i =
     let more : AllIn C (x ∷ C) = λ d j. inr j in
     elim (with_reached-In H x c (past C H) i) [
-      inl w ↦
-        subst (λ y. InPast (x ∷ C) H y) (sym w.0)
-        (elim (or_cases (names H x) (is_needed (past C H) x) w.1) [
-          inl n ↦ (inl refl, hash_of x, names-In H x n, (0, refl))
-        | inr n ↦
-            let d = is_needed-In (past C H) x n in
-            let p = InPast-more C (x ∷ C) H d.0 more (InPast-from_past C H d.0 d.1) in
-            (inl refl, p.1, p.2, (suc p.3.0, Chain-on (x ∷ C) p.3.0 p.1 d.0 (hash_of x) p.3.1 p.0 d.2))
-        ])
-    | inr k ↦ InPast-more C (x ∷ C) H c more (InPast-from_past C H c k)
+      | inl w ↦
+          subst (λ y. InPast (x ∷ C) H y) (sym w.0)
+          (elim (or_cases (names H x) (is_needed (past C H) x) w.1) [
+            | inl n ↦ (inl refl, hash_of x, names-In H x n, (0, refl))
+            | inr n ↦
+                let d = is_needed-In (past C H) x n in
+                let p = InPast-more C (x ∷ C) H d.0 more (InPast-from_past C H d.0 d.1) in
+                (inl refl, p.1, p.2, (suc p.3.0, Chain-on (x ∷ C) p.3.0 p.1 d.0 (hash_of x) p.3.1 p.0 d.2))
+          ])
+      | inr k ↦ InPast-more C (x ∷ C) H c more (InPast-from_past C H c k)
     ]
 
 -- what is reached from a hash whose changes are in the past is there too
 chain_stays : (C : List ChangeParts) (H : List Hash) → DepsFirst C → (n : ℕ) (h : Hash) (c : ChangeParts)
-  → ((x : ChangeParts) → In x C → hash_of x ≡ h → In x (past C H)) → Chain C n h (hash_of c) → In c C → In c (past C H)
+    → ((x : ChangeParts) → In x C → hash_of x ≡ h → In x (past C H)) → Chain C n h (hash_of c) → In c C → In c (past C H)
 chain_stays C H o zero h c f k i = f c i (sym k)
 chain_stays C H o (suc n) h c f k i =
     chain_stays C H o n k.3 c (λ x j e. past-closed C H o x k.0 (f k.0 k.1 k.2) j (subst (λ g. In g k.0.deps) (sym e) k.4)) k.5 i
@@ -59,24 +58,31 @@ past-from_InPast C H o c p =
 
 -- a way among the changes of C is one among those of D, where D has all that is on it
 chain_moves : (C D : List ChangeParts) (H : List Hash) → DepsFirst C → ((x : ChangeParts) → In x (past C H) → In x D) → (n : ℕ) (h : Hash) (c : ChangeParts)
-  → ((x : ChangeParts) → In x C → hash_of x ≡ h → In x (past C H)) → Chain C n h (hash_of c) → Chain D n h (hash_of c)
+    → ((x : ChangeParts) → In x C → hash_of x ≡ h → In x (past C H)) → Chain C n h (hash_of c) → Chain D n h (hash_of c)
 chain_moves C D H o held zero h c f k = k
 chain_moves C D H o held (suc n) h c f k =
-    let at = f k.0 k.1 k.2 in
-    (k.0, held k.0 at, k.2, k.3, k.4,
-      chain_moves C D H o held n k.3 c (λ x j e. past-closed C H o x k.0 at j (subst (λ g. In g k.0.deps) (sym e) k.4)) k.5)
+    let at = f k.0 k.1 k.2 in (
+      k.0,
+      held k.0 at,
+      k.2,
+      k.3,
+      k.4,
+      chain_moves C D H o held n k.3 c (λ x j e. past-closed C H o x k.0 at j (subst (λ g. In g k.0.deps) (sym e) k.4)) k.5,
+    )
 
 pub past-held : (C D : List ChangeParts) (H : List Hash) → DepsFirst C → DepsFirst D → AllIn (past C H) D → AllIn (past C H) (past D H)
 past-held C D H o q held c i =
     let p = InPast-from_past C H c i in
     past-from_InPast D H q c (
-      held c i, p.1, p.2,
+      held c i,
+      p.1,
+      p.2,
       (p.3.0, chain_moves C D H o held p.3.0 p.1 c (λ x j e. past-named C H x j (subst (λ g. In g H) (sym e) p.2)) p.3.1),
     )
 
 -- and the other way round, where C has the hashes, and the dependencies of its changes
 chain_back : (C D : List ChangeParts) (H : List Hash) → DepsFirst C → IsClosed C → HashesApart D → ((x : ChangeParts) → In x (past C H) → In x D)
-  → (n : ℕ) (h g : Hash) → (x : ChangeParts) → In x (past C H) → hash_of x ≡ h → Chain D n h g → (y : ChangeParts) × In y (past C H) × (hash_of y ≡ g)
+    → (n : ℕ) (h g : Hash) → (x : ChangeParts) → In x (past C H) → hash_of x ≡ h → Chain D n h g → (y : ChangeParts) × In y (past C H) × (hash_of y ≡ g)
 chain_back C D H o closed apart held zero h g x i e k = (x, i, e ∙ k)
 chain_back C D H o closed apart held (suc n) h g x i e k =
     let same : k.0 ≡ x = apart k.0 x k.1 (held x i) (k.2 ∙ sym e) in
@@ -86,7 +92,7 @@ chain_back C D H o closed apart held (suc n) h g x i e k =
     (past-closed C H o next.0 x i next.1 (subst (λ z. In z x.deps) (sym next.2) dep)) next.2 k.5
 
 pub past-held_back : (C D : List ChangeParts) (H : List Hash)
-  → DepsFirst C → IsClosed C → HashesApart D → has_all C H ≡ true → AllIn (past C H) D → AllIn (past D H) (past C H)
+    → DepsFirst C → IsClosed C → HashesApart D → has_all C H ≡ true → AllIn (past C H) D → AllIn (past D H) (past C H)
 past-held_back C D H o closed apart all held c i =
     let p = InPast-from_past D H c i in
     let x = has-In C p.1 (has_all-In C H all p.1 p.2) in

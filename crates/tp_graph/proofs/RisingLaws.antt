@@ -16,27 +16,27 @@ put-In cmp z x [] (inl e) = inl e
 put-In cmp z x [] (inr i) = absurd i
 put-In cmp z x (y ∷ ys) i =
     elim (cmp x y) as (λ o. In z (put_at o x y ys (put cmp x ys)) → (z ≡ x) ⊎ In z (y ∷ ys)) [
-      Less ↦ λ j. elim j [ inl e ↦ inl e | inr k ↦ inr k ]
-    | Equal ↦ λ j. inr j
-    | Greater ↦ λ j. elim j [ inl e ↦ inr (inl e) | inr k ↦ elim (put-In cmp z x ys k) [ inl e ↦ inl e | inr m ↦ inr (inr m) ] ]
+      | Less ↦ λ j. elim j [ inl e ↦ inl e | inr k ↦ inr k ]
+      | Equal ↦ λ j. inr j
+      | Greater ↦ λ j. elim j [ inl e ↦ inr (inl e) | inr k ↦ elim (put-In cmp z x ys k) [ inl e ↦ inl e | inr m ↦ inr (inr m) ] ]
     ] i
 
 pub In-put_other : {X : Type 0} (cmp : X → X → Ordering) (z x : X) (xs : List X) → In z xs → In z (put cmp x xs)
 In-put_other cmp z x [] i = absurd i
 In-put_other cmp z x (y ∷ ys) i =
     elim (cmp x y) as (λ o. In z (put_at o x y ys (put cmp x ys))) [
-      Less ↦ inr i
-    | Equal ↦ i
-    | Greater ↦ elim i [ inl e ↦ inl e | inr k ↦ inr (In-put_other cmp z x ys k) ]
+      | Less ↦ inr i
+      | Equal ↦ i
+      | Greater ↦ elim i [ inl e ↦ inl e | inr k ↦ inr (In-put_other cmp z x ys k) ]
     ]
 
 pub In-put : {X : Type 0} (cmp : X → X → Ordering) → CmpEqualImpliesEq cmp → (x : X) (xs : List X) → In x (put cmp x xs)
 In-put cmp exact x [] = inl refl
 In-put cmp exact x (y ∷ ys) =
     elim (cmp x y) as (λ o. cmp x y ≡ o → In x (put_at o x y ys (put cmp x ys))) [
-      Less ↦ λ e. inl refl
-    | Equal ↦ λ e. inl (exact x y e)
-    | Greater ↦ λ e. inr (In-put cmp exact x ys)
+      | Less ↦ λ e. inl refl
+      | Equal ↦ λ e. inl (exact x y e)
+      | Greater ↦ λ e. inr (In-put cmp exact x ys)
     ] refl
 
 pub rising-In : {X : Type 0} (cmp : X → X → Ordering) (z : X) (xs : List X) → In z (rising cmp xs) → In z xs
@@ -58,9 +58,9 @@ pub IsBelowAll-put : {X : Type 0} (cmp : X → X → Ordering) (w x : X) (xs : L
 IsBelowAll-put cmp w x [] h b = (h, tt)
 IsBelowAll-put cmp w x (y ∷ ys) h b =
     elim (cmp x y) as (λ o. IsBelowAll cmp w (put_at o x y ys (put cmp x ys))) [
-      Less ↦ (h, b)
-    | Equal ↦ b
-    | Greater ↦ (b.0, IsBelowAll-put cmp w x ys h b.1)
+      | Less ↦ (h, b)
+      | Equal ↦ b
+      | Greater ↦ (b.0, IsBelowAll-put cmp w x ys h b.1)
     ]
 
 pub put-rises : {X : Type 0} (cmp : X → X → Ordering) → IsTotalOrder cmp → (x : X) (xs : List X) → IsRising cmp xs → IsRising cmp (put cmp x xs)
@@ -68,9 +68,9 @@ put-rises cmp total x [] r = (tt, tt)
 put-rises cmp total x (y ∷ ys) r =
     let back : cmp y x ≡ ordering_reverse (cmp x y) = total.antisymm y x in
     elim (cmp x y) as (λ o. cmp x y ≡ o → cmp y x ≡ ordering_reverse o → IsRising cmp (put_at o x y ys (put cmp x ys))) [
-      Less ↦ λ e b. ((e, IsBelowAll-trans cmp total x y ys e r.0), r)
-    | Equal ↦ λ e b. r
-    | Greater ↦ λ e b. (IsBelowAll-put cmp y x ys b r.0, put-rises cmp total x ys r.1)
+      | Less ↦ λ e b. ((e, IsBelowAll-trans cmp total x y ys e r.0), r)
+      | Equal ↦ λ e b. r
+      | Greater ↦ λ e b. (IsBelowAll-put cmp y x ys b r.0, put-rises cmp total x ys r.1)
     ] refl back
 
 pub rising-rises : {X : Type 0} (cmp : X → X → Ordering) → IsTotalOrder cmp → (xs : List X) → IsRising cmp (rising cmp xs)
@@ -87,14 +87,14 @@ pub less_itself : {X : Type 0} {A : Type 0} (cmp : X → X → Ordering) → IsT
 less_itself cmp total x h = let e : cmp x x ≡ Equal = tied_itself total x in cc
 
 same_first : {X : Type 0} (cmp : X → X → Ordering) → IsTotalOrder cmp → (x y : X) (xs ys : List X)
-  → IsBelowAll cmp x xs → IsBelowAll cmp y ys → In x (y ∷ ys) → In y (x ∷ xs) → x ≡ y
+    → IsBelowAll cmp x xs → IsBelowAll cmp y ys → In x (y ∷ ys) → In y (x ∷ xs) → x ≡ y
 same_first cmp total x y xs ys b c (inl e) j = e
 same_first cmp total x y xs ys b c (inr i) (inl e) = sym e
 same_first cmp total x y xs ys b c (inr i) (inr j) =
     less_itself cmp total x (total.trans x y x (below-In cmp x y xs b j) (below-In cmp y x ys c i))
 
 same_rest : {X : Type 0} (cmp : X → X → Ordering) → IsTotalOrder cmp → (x y z : X) (xs ys : List X)
-  → IsBelowAll cmp x xs → x ≡ y → In z xs → In z (y ∷ ys) → In z ys
+    → IsBelowAll cmp x xs → x ≡ y → In z xs → In z (y ∷ ys) → In z ys
 same_rest cmp total x y z xs ys b e i (inl k) =
     less_itself cmp total x (subst (λ w. cmp x w ≡ Less) (k ∙ sym e) (below-In cmp x z xs b i))
 same_rest cmp total x y z xs ys b e i (inr k) = k
@@ -107,7 +107,7 @@ one_list cmp total (x ∷ xs) [] r s f g = absurd (f x (inl refl))
 one_list cmp total (x ∷ xs) (y ∷ ys) r s f g =
     let e = same_first cmp total x y xs ys r.0 s.0 (f x (inl refl)) (g y (inl refl)) in
     let rest =
-        one_list cmp total xs ys r.1 s.1
-        (λ z i. same_rest cmp total x y z xs ys r.0 e i (f z (inr i)))
-        (λ z i. same_rest cmp total y x z ys xs s.0 (sym e) i (g z (inr i))) in
+    one_list cmp total xs ys r.1 s.1
+    (λ z i. same_rest cmp total x y z xs ys r.0 e i (f z (inr i)))
+    (λ z i. same_rest cmp total y x z ys xs s.0 (sym e) i (g z (inr i))) in
     ap (λ w. w ∷ xs) e ∙ ap (λ l. y ∷ l) rest

@@ -1,5 +1,5 @@
 -- What depends on the changes as a set, and what stays as changes enter.
-use Rattle.std.proofs.Common.{◌≡◌, ℕ, suc, zero, ◌+◌, ◌<◌, ◌≤◌, ◌==◌, ◌⊎◌, ◌↔◌, inl, inr, List, [], ◌∷◌, ◌++◌, length, Bool, true, false, ◌||◌, ◌&&◌, cond, Option, Some, None, refl, sym, ap, ◌∙◌, subst, arith, append_assoc}
+use Rattle.std.proofs.Common.{◌≡◌, ℕ, suc, zero, ◌+◌, ◌≤◌, ◌==◌, inl, inr, List, [], ◌∷◌, ◌++◌, Bool, true, false, ◌||◌, ◌&&◌, cond, Option, Some, None, refl, sym, ap, ◌∙◌, subst, arith, append_assoc}
 use Rattle.std.proofs.lemmas.Bool.{eqb-true}
 use Rattle.tp_list.specs.Members.{In, AllIn, SameMembers}
 use Rattle.tp_opid.specs.declared.hash.Hash.{Hash}
@@ -9,19 +9,19 @@ use Rattle.tp_change.specs.declared.parts.ChangeParts.{ChangeParts}
 use Rattle.tp_change.specs.ChangeHash.{hash_of}
 use Rattle.tp_change.specs.Operations.{ops_of}
 use Rattle.tp_graph.specs.declared.error.GraphError.{GraphError}
-use Rattle.tp_graph.specs.declared.error.GraphError.TheVariants.{Known, MissingDeps, SeqClash}
-use Rattle.tp_graph.specs.Named.{names, has, has_all, is_needed}
+use Rattle.tp_graph.specs.declared.error.GraphError.TheVariants.{Known, MissingDeps}
+use Rattle.tp_graph.specs.Named.{has, has_all}
 use Rattle.tp_graph.specs.Past.{past}
-use Rattle.tp_graph.specs.Reach.{Chain, InPast}
+use Rattle.tp_graph.specs.Reach.{Chain}
 use Rattle.tp_graph.specs.Heads.{heads}
 use Rattle.tp_change.specs.Elements.{inserts, refers, next_counter}
 use Rattle.tp_graph.specs.Fit.{misfit, misfit_behind, or_clash, clashes, count_by}
-use Rattle.tp_graph.specs.Sound.{SoundAfter, Sound, Fits}
+use Rattle.tp_graph.specs.Sound.{Sound, Fits}
 use Rattle.tp_graph.proofs.Tests.{truth, never, not_true, same_test, or_cases, or_left, both_left, both_right, neither}
-use Rattle.tp_graph.proofs.NamedLaws.{In-left, In-right, has-In, In-has, has-append, has-left, has-more, lacks-fewer, has_all-In, has_all-more, In-has_all}
+use Rattle.tp_graph.proofs.NamedLaws.{In-left, In-right, has-In, has-append, has-more, lacks-fewer, has_all-In, has_all-more}
 use Rattle.tp_graph.proofs.PastLaws.{past-In}
-use Rattle.tp_graph.proofs.SoundLaws.{Fits-from_misfit, misfit-from_Fits, SoundAfter-front, SoundAfter-rest, Sound-front, Fits-at, In-split, hashes_apart, HashesApart, deps_there, IsClosed, deps_first, past-before, Sound-before, sound_pasts, clashes-fewer}
-use Rattle.tp_graph.proofs.ReachLaws.{InPast-from_past, past-from_InPast, past-held, past-held_back}
+use Rattle.tp_graph.proofs.SoundLaws.{Fits-from_misfit, misfit-from_Fits, Sound-front, Fits-at, In-split, hashes_apart, deps_there, IsClosed, deps_first, Sound-before, sound_pasts, clashes-fewer}
+use Rattle.tp_graph.proofs.ReachLaws.{InPast-from_past, past-held, past-held_back}
 use Rattle.tp_graph.proofs.HeadsLaws.{past-heads, has_all-heads}
 use Rattle.tp_graph.proofs.MarksLaws.{hashes_once}
 use Rattle.tp_graph.proofs.CountLaws.{misfit_behind-same, seqs_run}
@@ -29,7 +29,7 @@ use Rattle.tp_graph.proofs.CountLaws.{misfit_behind-same, seqs_run}
 -- ---- the misfit, part by part
 
 misfit-parts : (C D : List ChangeParts) (c : ChangeParts) → has C (hash_of c) ≡ has D (hash_of c) → has_all C c.deps ≡ has_all D c.deps
-  → misfit_behind (past C c.deps) c ≡ misfit_behind (past D c.deps) c → clashes C c ≡ clashes D c → misfit C c ≡ misfit D c
+    → misfit_behind (past C c.deps) c ≡ misfit_behind (past D c.deps) c → clashes C c ≡ clashes D c → misfit C c ≡ misfit D c
 unfolding misfit
 misfit-parts C D c e f g h =
     ap (λ b. cond b (Some Known) (cond (has_all C c.deps) (or_clash (misfit_behind (past C c.deps) c) (clashes C c)) (Some MissingDeps))) e
@@ -46,12 +46,12 @@ misfit-same C D c s t f g =
     misfit-parts C D c (has-same C D (hash_of c) f g)
     (same_test (has_all C c.deps) (has_all D c.deps) (has_all-more C D c.deps f) (has_all-more D C c.deps g))
     (misfit_behind-same (past C c.deps) (past D c.deps) c
-      (hashes_once (past C c.deps) (sound_pasts C s c.deps)) (hashes_once (past D c.deps) (sound_pasts D t c.deps))
-      (past-held C D c.deps (deps_first C s) (deps_first D t) (λ x i. f x (past-In C c.deps x i)))
-      (past-held D C c.deps (deps_first D t) (deps_first C s) (λ x i. g x (past-In D c.deps x i))))
+    (hashes_once (past C c.deps) (sound_pasts C s c.deps)) (hashes_once (past D c.deps) (sound_pasts D t c.deps))
+    (past-held C D c.deps (deps_first C s) (deps_first D t) (λ x i. f x (past-In C c.deps x i)))
+    (past-held D C c.deps (deps_first D t) (deps_first C s) (λ x i. g x (past-In D c.deps x i))))
     (same_test (clashes C c) (clashes D c) (not_fewer C D f) (not_fewer D C g)) where
-  not_fewer : (A B : List ChangeParts) → AllIn A B → clashes A c ≡ true → clashes B c ≡ true
-  not_fewer A B more e = elim (truth (clashes B c)) [ inl t ↦ t | inr n ↦ never e (clashes-fewer A B c more n) ]
+      not_fewer : (A B : List ChangeParts) → AllIn A B → clashes A c ≡ true → clashes B c ≡ true
+      not_fewer A B more e = elim (truth (clashes B c)) [ inl t ↦ t | inr n ↦ never e (clashes-fewer A B c more n) ]
 
 -- a past is the same in every sound list that holds it
 pub past-same : (C D : List ChangeParts) (H : List Hash) → Sound C → Sound D → has_all C H ≡ true → AllIn (past C H) D → SameMembers (past C H) (past D H)
@@ -84,7 +84,7 @@ Fits-later C D c s f new free =
 
 -- a misfit of a change whose dependencies are there stays, unless its hash enters
 pub misfit-later : (C D : List ChangeParts) (c : ChangeParts) (e : GraphError) → Sound (C ++ D) → has_all C c.deps ≡ true → has D (hash_of c) ≡ false
-  → misfit C c ≡ Some e → misfit (C ++ D) c ≡ Some e
+    → misfit C c ≡ Some e → misfit (C ++ D) c ≡ Some e
 unfolding misfit
 misfit-later C D c e s all new m =
     let same_hash : has (C ++ D) (hash_of c) ≡ has C (hash_of c) = has-append C D (hash_of c) ∙ ap (λ b. has C (hash_of c) || b) new ∙ alone (has C (hash_of c)) in
@@ -92,17 +92,19 @@ misfit-later C D c e s all new m =
     let same : past (C ++ D) c.deps ≡ past C c.deps = Sound-before C D c.deps all s in
     rw (same_hash, all_there, same)
     (step (has C (hash_of c)) (misfit_behind (past C c.deps) c) (clashes C c) (clashes (C ++ D) c)
-      (λ t. more t) (ap (λ b. cond (has C (hash_of c)) (Some Known) (cond b (or_clash (misfit_behind (past C c.deps) c) (clashes C c)) (Some MissingDeps))) (sym all) ∙ m)) where
-  alone : (b : Bool) → (b || false) ≡ b
-  alone true = refl
-  alone false = refl
-  more : clashes C c ≡ true → clashes (C ++ D) c ≡ true
-  more t = elim (truth (clashes (C ++ D) c)) [ inl u ↦ u | inr n ↦ never t (clashes-fewer C (C ++ D) c (λ x i. In-left x C D i) n) ]
-  step : (h : Bool) (o : Option GraphError) (b d : Bool) → (b ≡ true → d ≡ true) → cond h (Some Known) (or_clash o b) ≡ Some e → cond h (Some Known) (or_clash o d) ≡ Some e
-  step true o b d f k = k
-  step false (Some x) b d f k = k
-  step false None true d f k = rw (f refl) k
-  step false None false d f k = cc
+    (λ t. more t) (ap (λ b. cond (has C (hash_of c)) (Some Known) (cond b (or_clash (misfit_behind (past C c.deps) c) (clashes C c)) (Some MissingDeps))) (sym all) ∙ m)) where
+      alone : (b : Bool) → (b || false) ≡ b
+      alone true = refl
+      alone false = refl
+
+      more : clashes C c ≡ true → clashes (C ++ D) c ≡ true
+      more t = elim (truth (clashes (C ++ D) c)) [ inl u ↦ u | inr n ↦ never t (clashes-fewer C (C ++ D) c (λ x i. In-left x C D i) n) ]
+
+      step : (h : Bool) (o : Option GraphError) (b d : Bool) → (b ≡ true → d ≡ true) → cond h (Some Known) (or_clash o b) ≡ Some e → cond h (Some Known) (or_clash o d) ≡ Some e
+      step true o b d f k = k
+      step false (Some x) b d f k = k
+      step false None true d f k = rw (f refl) k
+      step false None false d f k = cc
 
 -- a change that is refused for good never enters
 pub refused_stays_out : (C D : List ChangeParts) (c : ChangeParts) (e : GraphError) → Sound (C ++ D) → has_all C c.deps ≡ true → misfit C c ≡ Some e → In c D → ⊥
@@ -120,7 +122,7 @@ refused_stays_out C D c e s all m i =
 
 -- a change on the heads, with the next numbers and references that are there, fits
 pub Fits-edit : (C : List ChangeParts) (c : ChangeParts) → Sound C → c.deps ≡ heads C → c.seq ≡ count_by c.actor C + 1 → c.start ≡ next_counter C
-  → refers (inserts C) (ops_of c) ≡ true → has C (hash_of c) ≡ false → Fits C c
+    → refers (inserts C) (ops_of c) ≡ true → has C (hash_of c) ≡ false → Fits C c
 Fits-edit C c s deps seq start refs new =
     let whole : past C c.deps ≡ C = ap (past C) deps ∙ past-heads C (deps_first C s) in
     record {
@@ -131,19 +133,20 @@ Fits-edit C c s deps seq start refs new =
       refs = ap (λ l. refers (inserts l) (ops_of c)) whole ∙ refs;
       free = not_true (clashes C c) (λ t. clash_not (clash_of C t));
     } where
-  clash_of : (D : List ChangeParts) → clashes D c ≡ true → (d : ChangeParts) × In d D × (same_actor d.actor c.actor ≡ true) × (d.seq ≡ c.seq)
-  clash_of [] e = cc
-  clash_of (x ∷ D) e =
-      elim (or_cases (same_actor x.actor c.actor && (x.seq == c.seq)) (clashes D c) e) [
-        inl t ↦ (x, inl refl, both_left (same_actor x.actor c.actor) (x.seq == c.seq) t, eqb-true x.seq c.seq (both_right (same_actor x.actor c.actor) (x.seq == c.seq) t))
-      | inr r ↦ let w = clash_of D r in (w.0, inr w.1, w.2, w.3)
-      ]
-  clash_not : ((d : ChangeParts) × In d C × (same_actor d.actor c.actor ≡ true) × (d.seq ≡ c.seq)) → ⊥
-  clash_not w =
-      let bound : w.0.seq ≤ count_by w.0.actor C = (seqs_run C s).bounded w.0 w.1 in
-      let one : count_by w.0.actor C ≡ count_by c.actor C = ap (λ a. count_by a C) (same_actor-same w.0.actor c.actor w.2) in
-      let same : w.0.seq ≡ c.seq = w.3 in
-      absurd (omega arith)
+      clash_of : (D : List ChangeParts) → clashes D c ≡ true → (d : ChangeParts) × In d D × (same_actor d.actor c.actor ≡ true) × (d.seq ≡ c.seq)
+      clash_of [] e = cc
+      clash_of (x ∷ D) e =
+          elim (or_cases (same_actor x.actor c.actor && (x.seq == c.seq)) (clashes D c) e) [
+            | inl t ↦ (x, inl refl, both_left (same_actor x.actor c.actor) (x.seq == c.seq) t, eqb-true x.seq c.seq (both_right (same_actor x.actor c.actor) (x.seq == c.seq) t))
+            | inr r ↦ let w = clash_of D r in (w.0, inr w.1, w.2, w.3)
+          ]
+
+      clash_not : ((d : ChangeParts) × In d C × (same_actor d.actor c.actor ≡ true) × (d.seq ≡ c.seq)) → ⊥
+      clash_not w =
+          let bound : w.0.seq ≤ count_by w.0.actor C = (seqs_run C s).bounded w.0 w.1 in
+          let one : count_by w.0.actor C ≡ count_by c.actor C = ap (λ a. count_by a C) (same_actor-same w.0.actor c.actor w.2) in
+          let same : w.0.seq ≡ c.seq = w.3 in
+          absurd (omega arith)
 
 -- ---- equal heads
 
@@ -177,30 +180,32 @@ Fits-part P C c p s more f new free =
     let same = misfit_behind-same (past P c.deps) (past C c.deps) c (hashes_once (past P c.deps) (sound_pasts P p c.deps)) (hashes_once (past C c.deps) (sound_pasts C s c.deps)) there back in
     let all = has_all-more P C c.deps more f.deps in
     Fits-from_misfit C c (parts (sym same) all new free (misfit-from_Fits P c f) f.new f.deps) where
-  first : (o : Option GraphError) (b : Bool) → or_clash o b ≡ None → o ≡ None
-  first (Some e) b h = cc
-  first None b h = refl
-  parts : misfit_behind (past C c.deps) c ≡ misfit_behind (past P c.deps) c → has_all C c.deps ≡ true → has C (hash_of c) ≡ false → clashes C c ≡ false
-    → misfit P c ≡ None → has P (hash_of c) ≡ false → has_all P c.deps ≡ true → misfit C c ≡ None
-  parts same all new free m new_too all_too =
-      let none : misfit_behind (past P c.deps) c ≡ None = first (misfit_behind (past P c.deps) c) (clashes P c) (sym (rw (new_too, all_too) refl) ∙ m) in
-      rw (new, all, same, none, free) refl
+      first : (o : Option GraphError) (b : Bool) → or_clash o b ≡ None → o ≡ None
+      first (Some e) b h = cc
+      first None b h = refl
+
+      parts : misfit_behind (past C c.deps) c ≡ misfit_behind (past P c.deps) c → has_all C c.deps ≡ true → has C (hash_of c) ≡ false → clashes C c ≡ false
+          → misfit P c ≡ None → has P (hash_of c) ≡ false → has_all P c.deps ≡ true → misfit C c ≡ None
+      parts same all new free m new_too all_too =
+          let none : misfit_behind (past P c.deps) c ≡ None = first (misfit_behind (past P c.deps) c) (clashes P c) (sym (rw (new_too, all_too) refl) ∙ m) in
+          rw (new, all, same, none, free) refl
 
 -- what fits a part that has all of its actor's changes fits the whole, unless it is there
 pub Fits-whole : (P C : List ChangeParts) (c : ChangeParts) → Sound P → Sound C → AllIn P C → ((d : ChangeParts) → In d C → same_actor d.actor c.actor ≡ true → In d P)
-  → Fits P c → has C (hash_of c) ≡ false → Fits C c
+    → Fits P c → has C (hash_of c) ≡ false → Fits C c
 Fits-whole P C c p s more own f new = Fits-part P C c p s more f new (not_true (clashes C c) (λ t. never (held C own t) f.free)) where
   held : (D : List ChangeParts) → ((d : ChangeParts) → In d D → same_actor d.actor c.actor ≡ true → In d P) → clashes D c ≡ true → clashes P c ≡ true
   held [] g e = cc
   held (x ∷ D) g e =
       elim (or_cases (same_actor x.actor c.actor && (x.seq == c.seq)) (clashes D c) e) [
-        inl t ↦ in_part P (g x (inl refl) (both_left (same_actor x.actor c.actor) (x.seq == c.seq) t)) t
-      | inr r ↦ held D (λ d i. g d (inr i)) r
+        | inl t ↦ in_part P (g x (inl refl) (both_left (same_actor x.actor c.actor) (x.seq == c.seq) t)) t
+        | inr r ↦ held D (λ d i. g d (inr i)) r
       ] where
-    right : (a b : Bool) → b ≡ true → (a || b) ≡ true
-    right true b h = refl
-    right false b h = h
-    in_part : (Q : List ChangeParts) → In x Q → (same_actor x.actor c.actor && (x.seq == c.seq)) ≡ true → clashes Q c ≡ true
-    in_part [] i t = absurd i
-    in_part (y ∷ Q) (inl z) t = or_left (same_actor y.actor c.actor && (y.seq == c.seq)) (clashes Q c) (subst (λ (w : ChangeParts). (same_actor w.actor c.actor && (w.seq == c.seq)) ≡ true) z t)
-    in_part (y ∷ Q) (inr i) t = right (same_actor y.actor c.actor && (y.seq == c.seq)) (clashes Q c) (in_part Q i t)
+        right : (a b : Bool) → b ≡ true → (a || b) ≡ true
+        right true b h = refl
+        right false b h = h
+
+        in_part : (Q : List ChangeParts) → In x Q → (same_actor x.actor c.actor && (x.seq == c.seq)) ≡ true → clashes Q c ≡ true
+        in_part [] i t = absurd i
+        in_part (y ∷ Q) (inl z) t = or_left (same_actor y.actor c.actor && (y.seq == c.seq)) (clashes Q c) (subst (λ (w : ChangeParts). (same_actor w.actor c.actor && (w.seq == c.seq)) ≡ true) z t)
+        in_part (y ∷ Q) (inr i) t = right (same_actor y.actor c.actor && (y.seq == c.seq)) (clashes Q c) (in_part Q i t)

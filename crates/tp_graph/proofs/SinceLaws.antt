@@ -1,6 +1,6 @@
 -- Laws of what stands outside a past, of places, and of what waiting changes want.
-use Rattle.std.proofs.Common.{◌≡◌, ℕ, suc, zero, ◌+◌, ◌<◌, ◌≤◌, ◌⊎◌, ◌↔◌, inl, inr, List, [], ◌∷◌, ◌++◌, Bool, true, false, ◌||◌, cond, refl, sym, ap, ◌∙◌, subst, arith}
-use Rattle.tp_list.specs.Members.{In, AllIn}
+use Rattle.std.proofs.Common.{◌≡◌, ◌⊎◌, ◌↔◌, inl, inr, List, [], ◌∷◌, true, false, ◌||◌, cond, refl, sym, ap, subst}
+use Rattle.tp_list.specs.Members.{In}
 use Rattle.tp_list.specs.Rising.{IsRising, put}
 use Rattle.tp_opid.specs.declared.hash.Hash.{Hash}
 use Rattle.tp_opid.specs.Order.{hash_cmp}
@@ -8,9 +8,9 @@ use Rattle.tp_opid.proofs.Orders.{hash_total, hash_exact}
 use Rattle.tp_change.specs.declared.parts.ChangeParts.{ChangeParts}
 use Rattle.tp_graph.specs.Named.{among, names, has, is_needed}
 use Rattle.tp_graph.specs.Past.{past}
-use Rattle.tp_graph.specs.Marks.{marks, pick, places_from}
-use Rattle.tp_graph.specs.Since.{since, skip, past_places, is_wanted, IsMissing, gather, gather_all}
-use Rattle.tp_graph.proofs.Tests.{truth, never, not_true, or_cases, or_left, or_right, neither, neither_left, neither_right}
+use Rattle.tp_graph.specs.Marks.{marks}
+use Rattle.tp_graph.specs.Since.{since, skip, is_wanted, IsMissing, gather, gather_all}
+use Rattle.tp_graph.proofs.Tests.{truth, or_cases, or_left, or_right, neither, neither_left, neither_right}
 use Rattle.tp_graph.proofs.HeadsLaws.{among-In, In-among}
 use Rattle.tp_graph.proofs.RisingLaws.{put-In, In-put, In-put_other, put-rises}
 
@@ -18,8 +18,8 @@ pub skip-marks : (C : List ChangeParts) (H : List Hash) → skip (marks C H) C �
 skip-marks [] H = refl
 skip-marks (c ∷ C) H =
     elim (names H c || is_needed (past C H) c) as (λ b. cond b (skip (marks C H) C) (c ∷ skip (marks C H) C) ≡ cond b (since C H) (c ∷ since C H)) [
-      true ↦ skip-marks C H
-    | false ↦ ap (λ l. c ∷ l) (skip-marks C H)
+      | true ↦ skip-marks C H
+      | false ↦ ap (λ l. c ∷ l) (skip-marks C H)
     ]
 
 -- ---- what is gathered
@@ -43,19 +43,22 @@ gather-In : (C W : List ChangeParts) (h : Hash) (ds F : List Hash) → In h (gat
 gather-In C W h [] F i = inr i
 gather-In C W h (d ∷ ds) F i =
     elim (gather-In C W h ds (cond (has C d || has W d) F (put hash_cmp d F)) i) [
-      inl w ↦ inl (inr w.0, w.1)
-    | inr j ↦ one (truth (has C d || has W d)) j
+      | inl w ↦ inl (inr w.0, w.1)
+      | inr j ↦ one (truth (has C d || has W d)) j
     ] where
-  one : (((has C d || has W d) ≡ true) ⊎ ((has C d || has W d) ≡ false)) → In h (cond (has C d || has W d) F (put hash_cmp d F)) → (In h (d ∷ ds) × Lacks C W h) ⊎ In h F
-  one (inl t) j = inr (subst (λ b. In h (cond b F (put hash_cmp d F))) t j)
-  one (inr f) j =
-      elim (put-In hash_cmp h d F (subst (λ b. In h (cond b F (put hash_cmp d F))) f j)) [
-        inl e ↦ inl (inl e, record {
-          applied = subst (λ g. has C g ≡ false) (sym e) (neither_left (has C d) (has W d) f);
-          waiting = subst (λ g. has W g ≡ false) (sym e) (neither_right (has C d) (has W d) f);
-        })
-      | inr k ↦ inr k
-      ]
+      one : (((has C d || has W d) ≡ true) ⊎ ((has C d || has W d) ≡ false)) → In h (cond (has C d || has W d) F (put hash_cmp d F)) → (In h (d ∷ ds) × Lacks C W h) ⊎ In h F
+      one (inl t) j = inr (subst (λ b. In h (cond b F (put hash_cmp d F))) t j)
+      one (inr f) j =
+          elim (put-In hash_cmp h d F (subst (λ b. In h (cond b F (put hash_cmp d F))) f j)) [
+            | inl e ↦ inl (
+              inl e,
+              record {
+                applied = subst (λ g. has C g ≡ false) (sym e) (neither_left (has C d) (has W d) f);
+                waiting = subst (λ g. has W g ≡ false) (sym e) (neither_right (has C d) (has W d) f);
+              },
+            )
+            | inr k ↦ inr k
+          ]
 
 In-gather_old : (C W : List ChangeParts) (h : Hash) (ds F : List Hash) → In h F → In h (gather C W ds F)
 In-gather_old C W h [] F i = i
@@ -75,10 +78,10 @@ gather_all-In : (C W D : List ChangeParts) (h : Hash) (F : List Hash) → In h (
 gather_all-In C W [] h F i = inr i
 gather_all-In C W (c ∷ D) h F i =
     elim (gather_all-In C W D h (gather C W c.deps F) i) [
-      inl w ↦ inl (or_right (among c.deps h) (is_wanted D h) w.0, w.1)
-    | inr j ↦ elim (gather-In C W h c.deps F j) [
-        inl w ↦ inl (or_left (among c.deps h) (is_wanted D h) (In-among c.deps h w.0), w.1)
-      | inr k ↦ inr k
+      | inl w ↦ inl (or_right (among c.deps h) (is_wanted D h) w.0, w.1)
+      | inr j ↦ elim (gather-In C W h c.deps F j) [
+        | inl w ↦ inl (or_left (among c.deps h) (is_wanted D h) (In-among c.deps h w.0), w.1)
+        | inr k ↦ inr k
       ]
     ]
 
@@ -90,8 +93,8 @@ In-gather_all : (C W D : List ChangeParts) (h : Hash) (F : List Hash) → is_wan
 In-gather_all C W [] h F e l = cc
 In-gather_all C W (c ∷ D) h F e l =
     elim (or_cases (among c.deps h) (is_wanted D h) e) [
-      inl a ↦ In-gather_all_old C W D h (gather C W c.deps F) (In-gather C W h c.deps F (among-In c.deps h a) l)
-    | inr w ↦ In-gather_all C W D h (gather C W c.deps F) w l
+      | inl a ↦ In-gather_all_old C W D h (gather C W c.deps F) (In-gather C W h c.deps F (among-In c.deps h a) l)
+      | inr w ↦ In-gather_all C W D h (gather C W c.deps F) w l
     ]
 
 pub missing-rises : (C W : List ChangeParts) → IsRising hash_cmp (gather_all C W W [])
@@ -100,8 +103,8 @@ missing-rises C W = gather_all-rises C W W [] tt
 pub missing-In : (C W : List ChangeParts) (h : Hash) → In h (gather_all C W W []) ↔ IsMissing C W h
 missing-In C W h = (
   λ i. elim (gather_all-In C W W h [] i) [
-    inl w ↦ record { wanted = w.0; not_applied = w.1.applied; not_waiting = w.1.waiting }
-  | inr n ↦ absurd n
+    | inl w ↦ record { wanted = w.0; not_applied = w.1.applied; not_waiting = w.1.waiting }
+    | inr n ↦ absurd n
   ],
   λ m. In-gather_all C W W h [] m.wanted (record { applied = m.not_applied; waiting = m.not_waiting }),
 )

@@ -1,5 +1,5 @@
 -- Laws of sound lists: fronts and pushes, induction, hashes apart, dependencies first.
-use Rattle.std.proofs.Common.{◌≡◌, ℕ, ◌+◌, ◌==◌, ◌⊎◌, inl, inr, List, [], ◌∷◌, ◌++◌, length, Bool, true, false, ◌||◌, cond, Option, Some, None, refl, sym, ap, ◌∙◌, subst, append_assoc, append-nil}
+use Rattle.std.proofs.Common.{◌≡◌, ◌+◌, ◌==◌, inl, inr, List, [], ◌∷◌, ◌++◌, Bool, true, false, ◌||◌, cond, Option, Some, None, refl, sym, ap, ◌∙◌, subst, append_assoc, append-nil}
 use Rattle.std.proofs.lemmas.Bool.{eqb-true, eq-eqb}
 use Rattle.tp_list.specs.Members.{In, AllIn}
 use Rattle.tp_opid.specs.declared.hash.Hash.{Hash}
@@ -7,14 +7,14 @@ use Rattle.tp_change.specs.declared.parts.ChangeParts.{ChangeParts}
 use Rattle.tp_change.specs.ChangeHash.{hash_of}
 use Rattle.tp_change.specs.Operations.{ops_of}
 use Rattle.tp_graph.specs.declared.error.GraphError.{GraphError}
-use Rattle.tp_graph.specs.declared.error.GraphError.TheVariants.{Known, MissingDeps, BadSeq, BadStart, BadReference, SeqClash, Full}
+use Rattle.tp_graph.specs.declared.error.GraphError.TheVariants.{Known, MissingDeps, BadSeq, BadStart, BadReference, SeqClash}
 use Rattle.tp_graph.specs.Named.{names, has, has_all, is_needed}
-use Rattle.tp_graph.specs.Past.{past, with_reached}
+use Rattle.tp_graph.specs.Past.{past}
 use Rattle.tp_change.specs.Elements.{inserts, refers, next_counter}
-use Rattle.tp_graph.specs.Fit.{misfit, misfit_behind, or_clash, or_full, cause, most_changes, clashes, count_by}
+use Rattle.tp_graph.specs.Fit.{misfit, misfit_behind, or_clash, clashes, count_by}
 use Rattle.tp_graph.specs.Sound.{SoundAfter, Sound, Fits}
-use Rattle.tp_graph.proofs.Tests.{truth, never, not_true, neither, neither_left, neither_right, both_left, both_right}
-use Rattle.tp_graph.proofs.NamedLaws.{In-left, In-right, In-cases, In-last, names-In, In-names, names-append, has-In, In-has, has-left, has-more, lacks-fewer, has_all-In, In-has_all, has_all-more, In-is_needed, is_needed-In}
+use Rattle.tp_graph.proofs.Tests.{truth, never, not_true}
+use Rattle.tp_graph.proofs.NamedLaws.{In-left, In-right, In-cases, names-In, In-names, has-In, In-has, lacks-fewer, has_all-In, In-has_all, has_all-more, In-is_needed}
 use Rattle.tp_graph.proofs.PastLaws.{past-In, past-push, past-push_other, past-of_part, past-named, with_reached-In, In-with_reached, kept-In}
 
 -- ---- fitting, part by part
@@ -91,17 +91,17 @@ In-split x (y ∷ xs) (inr i) = let w = In-split x xs i in (y ∷ w.0, w.1, ap (
 
 -- what holds of no changes, and is kept where a change enters that fits, holds of each sound list
 induct_after : (P : List ChangeParts → Type 0)
-  → ((C : List ChangeParts) (c : ChangeParts) → Sound C → P C → Fits C c → P (C ++ c ∷ []))
-  → (B C : List ChangeParts) → Sound B → P B → SoundAfter B C → P (B ++ C)
+    → ((C : List ChangeParts) (c : ChangeParts) → Sound C → P C → Fits C c → P (C ++ c ∷ []))
+    → (B C : List ChangeParts) → Sound B → P B → SoundAfter B C → P (B ++ C)
 induct_after P step B [] s p t = subst P (sym (append-nil B)) p
 induct_after P step B (c ∷ C) s p t =
     let f = Fits-from_misfit B c t.0 in
     subst P (append_assoc B (c ∷ []) C) (induct_after P step (B ++ c ∷ []) C (Sound-push B c s f) (step B c s p f) t.1)
 
 pub sound-induct : (P : List ChangeParts → Type 0)
-  → P []
-  → ((C : List ChangeParts) (c : ChangeParts) → Sound C → P C → Fits C c → P (C ++ c ∷ []))
-  → (C : List ChangeParts) → Sound C → P C
+    → P []
+    → ((C : List ChangeParts) (c : ChangeParts) → Sound C → P C → Fits C c → P (C ++ c ∷ []))
+    → (C : List ChangeParts) → Sound C → P C
 sound-induct P none step C s = induct_after P step [] C tt none s
 
 -- ---- hashes apart, dependencies there
@@ -113,16 +113,16 @@ HashesApart C = (c d : ChangeParts) → In c C → In d C → hash_of c ≡ hash
 hashes_step : (C : List ChangeParts) (x : ChangeParts) → Sound C → HashesApart C → Fits C x → HashesApart (C ++ x ∷ [])
 hashes_step C x s p f c d i j e =
     elim (In-cases c C (x ∷ []) i) [
-      inl ic ↦ elim (In-cases d C (x ∷ []) j) [
-        inl jd ↦ p c d ic jd e
-      | inr jx ↦ elim jx [ inl dx ↦ never (In-has C c (hash_of x) ic (e ∙ ap hash_of dx)) f.new | inr n0 ↦ absurd n0 ]
+      | inl ic ↦ elim (In-cases d C (x ∷ []) j) [
+        | inl jd ↦ p c d ic jd e
+        | inr jx ↦ elim jx [ inl dx ↦ never (In-has C c (hash_of x) ic (e ∙ ap hash_of dx)) f.new | inr n0 ↦ absurd n0 ]
       ]
-    | inr ix ↦ elim ix [
-        inl cx ↦ elim (In-cases d C (x ∷ []) j) [
-          inl jd ↦ never (In-has C d (hash_of x) jd (sym e ∙ ap hash_of cx)) f.new
-        | inr jx ↦ elim jx [ inl dx ↦ cx ∙ sym dx | inr n0 ↦ absurd n0 ]
+      | inr ix ↦ elim ix [
+        | inl cx ↦ elim (In-cases d C (x ∷ []) j) [
+          | inl jd ↦ never (In-has C d (hash_of x) jd (sym e ∙ ap hash_of cx)) f.new
+          | inr jx ↦ elim jx [ inl dx ↦ cx ∙ sym dx | inr n0 ↦ absurd n0 ]
         ]
-      | inr n0 ↦ absurd n0
+        | inr n0 ↦ absurd n0
       ]
     ]
 
@@ -137,8 +137,8 @@ closed_step : (C : List ChangeParts) (x : ChangeParts) → Sound C → IsClosed 
 closed_step C x s p f c i =
     let more : AllIn C (C ++ x ∷ []) = λ d j. In-left d C (x ∷ []) j in
     elim (In-cases c C (x ∷ []) i) [
-      inl ic ↦ has_all-more C (C ++ x ∷ []) c.deps more (p c ic)
-    | inr ix ↦ elim ix [ inl e ↦ rw e (has_all-more C (C ++ x ∷ []) x.deps more f.deps) | inr n0 ↦ absurd n0 ]
+      | inl ic ↦ has_all-more C (C ++ x ∷ []) c.deps more (p c ic)
+      | inr ix ↦ elim ix [ inl e ↦ rw e (has_all-more C (C ++ x ∷ []) x.deps more f.deps) | inr n0 ↦ absurd n0 ]
     ]
 
 pub deps_there : (C : List ChangeParts) → Sound C → IsClosed C
@@ -150,12 +150,12 @@ DepsFirst [] = Unit {0}
 DepsFirst (c ∷ C) = ((d : ChangeParts) → In d (c ∷ C) → names c.deps d ≡ false) × DepsFirst C
 
 pub DepsFirst-push : (C : List ChangeParts) (x : ChangeParts)
-  → DepsFirst C → ((c : ChangeParts) → In c C → names c.deps x ≡ false) → names x.deps x ≡ false → DepsFirst (C ++ x ∷ [])
+    → DepsFirst C → ((c : ChangeParts) → In c C → names c.deps x ≡ false) → names x.deps x ≡ false → DepsFirst (C ++ x ∷ [])
 DepsFirst-push [] x o f g = (λ d i. elim i [ inl e ↦ rw e g | inr n0 ↦ absurd n0 ], tt)
 DepsFirst-push (c ∷ C) x o f g = (
   λ d i. elim (In-cases d (c ∷ C) (x ∷ []) i) [
-    inl j ↦ o.0 d j
-  | inr j ↦ elim j [ inl e ↦ rw e (f c (inl refl)) | inr n0 ↦ absurd n0 ]
+    | inl j ↦ o.0 d j
+    | inr j ↦ elim j [ inl e ↦ rw e (f c (inl refl)) | inr n0 ↦ absurd n0 ]
   ],
   DepsFirst-push C x o.1 (λ d i. f d (inr i)) g,
 )
@@ -177,16 +177,16 @@ pub past-closed : (C : List ChangeParts) (H : List Hash) → DepsFirst C → (c 
 past-closed [] H o c d i j n = absurd j
 past-closed (x ∷ C) H o c d i (inl e) n =
     elim (with_reached-In H x d (past C H) i) [
-      inl w ↦ never (In-names x.deps c (rw (← w.0) n)) (o.0 c (inl e))
-    | inr k ↦ rw e (kept-In H x (past C H) (needed (names H x) (is_needed (past C H) x) (In-is_needed (past C H) x d k (rw (← e) n))))
+      | inl w ↦ never (In-names x.deps c (rw (← w.0) n)) (o.0 c (inl e))
+      | inr k ↦ rw e (kept-In H x (past C H) (needed (names H x) (is_needed (past C H) x) (In-is_needed (past C H) x d k (rw (← e) n))))
     ] where
-  needed : (a b : Bool) → b ≡ true → (a || b) ≡ true
-  needed true b h = refl
-  needed false b h = h
+      needed : (a b : Bool) → b ≡ true → (a || b) ≡ true
+      needed true b h = refl
+      needed false b h = h
 past-closed (x ∷ C) H o c d i (inr j) n =
     elim (with_reached-In H x d (past C H) i) [
-      inl w ↦ never (In-names x.deps c (rw (← w.0) n)) (o.0 c (inr j))
-    | inr k ↦ In-with_reached H x c (past C H) (past-closed C H o.1 c d k j n)
+      | inl w ↦ never (In-names x.deps c (rw (← w.0) n)) (o.0 c (inr j))
+      | inr k ↦ In-with_reached H x c (past C H) (past-closed C H o.1 c d k j n)
     ]
 
 -- later changes don't enter a past
@@ -208,12 +208,12 @@ clashes-In : (C : List ChangeParts) (c : ChangeParts) → clashes C c ≡ true �
 clashes-In [] c e = cc
 clashes-In (d ∷ C) c e =
     elim (clashes (d ∷ []) c) as (λ b. clashes (d ∷ []) c ≡ b → (x : ChangeParts) × In x (d ∷ C) × (clashes (x ∷ []) c ≡ true)) [
-      true ↦ λ t. (d, inl refl, t)
-    | false ↦ λ f. let w = clashes-In C c (later_one _ _ e f) in (w.0, inr w.1, w.2)
+      | true ↦ λ t. (d, inl refl, t)
+      | false ↦ λ f. let w = clashes-In C c (later_one _ _ e f) in (w.0, inr w.1, w.2)
     ] refl where
-  later_one : (a b : Bool) → (a || b) ≡ true → (a || false) ≡ false → b ≡ true
-  later_one true b h k = cc
-  later_one false b h k = h
+      later_one : (a b : Bool) → (a || b) ≡ true → (a || false) ≡ false → b ≡ true
+      later_one true b h k = cc
+      later_one false b h k = h
 
 In-clashes : (C : List ChangeParts) (c d : ChangeParts) → In d C → clashes (d ∷ []) c ≡ true → clashes C c ≡ true
 In-clashes [] c d i e = absurd i
@@ -237,7 +237,7 @@ Fits-past C c H more f =
     record {
       new = lacks-fewer (past C H) C (hash_of c) (past-In C H) f.new;
       deps = In-has_all (past C H) c.deps
-        (λ h i. let w = has-In C h (has_all-In C c.deps f.deps h i) in
+          (λ h i. let w = has-In C h (has_all-In C c.deps f.deps h i) in
           In-has (past C H) w.0 h (past-named C H w.0 w.1 (more (hash_of w.0) (rw w.2 i))) w.2);
       seq = f.seq ∙ ap (λ l. count_by c.actor l + 1) (sym same);
       start = f.start ∙ ap next_counter (sym same);
@@ -251,10 +251,10 @@ HasSoundPasts C = (H : List Hash) → Sound (past C H)
 sound_pasts_step : (C : List ChangeParts) (x : ChangeParts) → Sound C → HasSoundPasts C → Fits C x → HasSoundPasts (C ++ x ∷ [])
 sound_pasts_step C x s p f H =
     elim (truth (names H x)) [
-      inl t ↦
-        subst Sound (sym (past-push C H x t))
-        (Sound-push (past C (H ++ x.deps)) x (p (H ++ x.deps)) (Fits-past C x (H ++ x.deps) (λ h i. In-right h H x.deps i) f))
-    | inr e ↦ subst Sound (sym (past-push_other C H x e)) (p H)
+      | inl t ↦
+          subst Sound (sym (past-push C H x t))
+          (Sound-push (past C (H ++ x.deps)) x (p (H ++ x.deps)) (Fits-past C x (H ++ x.deps) (λ h i. In-right h H x.deps i) f))
+      | inr e ↦ subst Sound (sym (past-push_other C H x e)) (p H)
     ]
 
 -- the past of any hashes of a sound list is sound

@@ -1,9 +1,8 @@
 -- The inserts of a sound list are a tree, and so is each front of what a change adds.
-use Rattle.std.proofs.Common.{◌≡◌, ℕ, suc, zero, ◌+◌, ◌<◌, ◌≤◌, ◌⊎◌, inl, inr, List, [], ◌∷◌, ◌++◌, length, Bool, true, false, ◌||◌, ◌&&◌, refl, sym, ap, ◌∙◌, subst, arith, append_assoc, length-append}
+use Rattle.std.proofs.Common.{◌≡◌, ℕ, suc, ◌+◌, ◌<◌, ◌≤◌, inl, inr, List, [], ◌∷◌, ◌++◌, length, true, ◌||◌, refl, sym, ap, ◌∙◌, subst, arith, length-append}
 use Rattle.std.specs.Ordering.{nat_cmp, ordering_then}
 use Rattle.std.specs.Cmp.{nat_cmp_is}
-use Rattle.std.specs.declared.cmp.Ordering.{Ordering}
-use Rattle.std.specs.declared.cmp.Ordering.TheVariants.{Less, Equal, Greater}
+use Rattle.std.specs.declared.cmp.Ordering.TheVariants.{Less}
 use Rattle.std.specs.Cmp.Lexicographic.{slice_cmp}
 use Rattle.std.proofs.lemmas.List.{append-nil}
 use Rattle.tp_list.specs.Members.{In, AllIn}
@@ -24,11 +23,11 @@ use Rattle.tp_change.specs.Operations.{ops_of, ops_from, ops_in, run, id_of, cou
 use Rattle.tp_graph.specs.Past.{past}
 use Rattle.tp_change.specs.Elements.{element, inserts_in, inserts, is_inserted, is_place, refers, next_counter}
 use Rattle.tp_graph.specs.Sound.{Sound, Fits}
-use Rattle.tp_graph.specs.Tree.{IsThere, IsNew, IsPlaceBelow, IsTree, CanInsert}
+use Rattle.tp_graph.specs.Tree.{IsThere, IsPlaceBelow, IsTree, CanInsert}
 use Rattle.tp_graph.proofs.Tests.{not_true, both_left, both_right, or_cases}
 use Rattle.tp_graph.proofs.NamedLaws.{In-left, In-right, In-cases}
 use Rattle.tp_graph.proofs.PastLaws.{past-In}
-use Rattle.tp_graph.proofs.InsertLaws.{inserts_in-append, inserts-append, is_inserted-In, is_inserted-append, grown, grown-ids, refers-append, is_place-same}
+use Rattle.tp_graph.proofs.InsertLaws.{inserts_in-append, inserts-append, is_inserted-In, grown, grown-ids, refers-append}
 use Rattle.tp_graph.proofs.SoundLaws.{sound-induct}
 use Rattle.tp_graph.proofs.CountLaws.{next_counter-above, inserts-In, inserts-more, own_past}
 
@@ -131,22 +130,22 @@ Numbered-once a n [] h x y i j e = absurd i
 Numbered-once a n (op_of.Delete id target ∷ ops) h x y i j e = Numbered-once a (n + 1) ops h.1 x y i j e
 Numbered-once a n (op_of.Insert id after ch ∷ ops) h x y i j e =
     elim i [
-      inl s ↦ elim j [
-        inl t ↦ s ∙ sym t
-      | inr k ↦ later x y s k e
+      | inl s ↦ elim j [
+        | inl t ↦ s ∙ sym t
+        | inr k ↦ later x y s k e
       ]
-    | inr k ↦ elim j [
-        inl t ↦ later y x t k (sym e)
-      | inr m ↦ Numbered-once a (n + 1) ops h.1 x y k m e
+      | inr k ↦ elim j [
+        | inl t ↦ later y x t k (sym e)
+        | inr m ↦ Numbered-once a (n + 1) ops h.1 x y k m e
       ]
     ] where
-  later : (x y : element_of.Insert) → x ≡ element id after ch → In y (inserts_in ops) → x.id ≡ y.id → {A : Type 0} → A
-  later x y s k e =
-      let w = Numbered-In a (n + 1) ops y h.1 k in
-      let low : n + 1 ≤ y.id.counter = w.low in
-      let at : x.id.counter ≡ n = ap (λ (z : element_of.Insert). z.id.counter) s ∙ ap (λ (z : OpId). z.counter) h.0 in
-      let same : x.id.counter ≡ y.id.counter = ap (λ (z : OpId). z.counter) e in
-      absurd (omega arith)
+      later : (x y : element_of.Insert) → x ≡ element id after ch → In y (inserts_in ops) → x.id ≡ y.id → {A : Type 0} → A
+      later x y s k e =
+          let w = Numbered-In a (n + 1) ops y h.1 k in
+          let low : n + 1 ≤ y.id.counter = w.low in
+          let at : x.id.counter ≡ n = ap (λ (z : element_of.Insert). z.id.counter) s ∙ ap (λ (z : OpId). z.counter) h.0 in
+          let same : x.id.counter ≡ y.id.counter = ap (λ (z : OpId). z.counter) e in
+          absurd (omega arith)
 
 pub inserts-within : (c : ChangeParts) (x : element_of.Insert) → In x (inserts_in (ops_of c)) → IsWithin c.actor c.start (c.start + op_count c) x.id
 inserts-within c x i = subst (λ k. IsWithin c.actor c.start (c.start + k) x.id) (length-ops c) (Numbered-In c.actor c.start (ops_of c) x (Numbered-ops c) i)
@@ -179,22 +178,22 @@ there_by S r y i e = (y.after, (y.ch, subst (λ id. In (element id y.after y.ch)
 
 -- The reference of an operation is there and smaller, among the list and what the change inserts before it.
 place_there : (C : List ChangeParts) (c : ChangeParts) → Fits C c → (xs : List Op) → Numbered c.actor c.start xs → (n : ℕ) → c.start + length xs ≤ n
-  → (id : OpId) → id.counter ≡ n → (p : Place) → is_place (grown (inserts (past C c.deps)) xs) p ≡ true → IsPlaceBelow (inserts C ++ inserts_in xs) id p
+    → (id : OpId) → id.counter ≡ n → (p : Place) → is_place (grown (inserts (past C c.deps)) xs) p ≡ true → IsPlaceBelow (inserts C ++ inserts_in xs) id p
 place_there C c f xs num n at id here Start e = tt
 place_there C c f xs num n at id here (After r) e =
     let split : (is_inserted (inserts_in xs) r || is_inserted (inserts (past C c.deps)) r) ≡ true = sym (grown-ids (inserts (past C c.deps)) xs r) ∙ e in
     elim (or_cases (is_inserted (inserts_in xs) r) (is_inserted (inserts (past C c.deps)) r) split) [
-      inl own ↦
-        let w = is_inserted-In (inserts_in xs) r own in
-        let q = Numbered-In c.actor c.start xs w.0 num w.1 in
-        let high : w.0.id.counter < c.start + length xs = q.high in
-        let same : w.0.id.counter ≡ r.counter = ap (λ (z : OpId). z.counter) w.2 in
-        (there_by (inserts C ++ inserts_in xs) r w.0 (In-right w.0 (inserts C) (inserts_in xs) w.1) w.2, Below-counter r id (omega arith))
-    | inr older ↦
-        let w = is_inserted-In (inserts (past C c.deps)) r older in
-        let low : w.0.id.counter < c.start = past-below C c f w.0 w.1 in
-        let same : w.0.id.counter ≡ r.counter = ap (λ (z : OpId). z.counter) w.2 in
-        (there_by (inserts C ++ inserts_in xs) r w.0 (In-left w.0 (inserts C) (inserts_in xs) (inserts-more (past C c.deps) C (past-In C c.deps) w.0 w.1)) w.2, Below-counter r id (omega arith))
+      | inl own ↦
+          let w = is_inserted-In (inserts_in xs) r own in
+          let q = Numbered-In c.actor c.start xs w.0 num w.1 in
+          let high : w.0.id.counter < c.start + length xs = q.high in
+          let same : w.0.id.counter ≡ r.counter = ap (λ (z : OpId). z.counter) w.2 in
+          (there_by (inserts C ++ inserts_in xs) r w.0 (In-right w.0 (inserts C) (inserts_in xs) w.1) w.2, Below-counter r id (omega arith))
+      | inr older ↦
+          let w = is_inserted-In (inserts (past C c.deps)) r older in
+          let low : w.0.id.counter < c.start = past-below C c f w.0 w.1 in
+          let same : w.0.id.counter ≡ r.counter = ap (λ (z : OpId). z.counter) w.2 in
+          (there_by (inserts C ++ inserts_in xs) r w.0 (In-left w.0 (inserts C) (inserts_in xs) (inserts-more (past C c.deps) C (past-In C c.deps) w.0 w.1)) w.2, Below-counter r id (omega arith))
     ]
 
 rest_refers : (C : List ChangeParts) (c : ChangeParts) → Fits C c → (xs ys : List Op) → ops_of c ≡ xs ++ ys → refers (grown (inserts (past C c.deps)) xs) ys ≡ true
@@ -204,7 +203,7 @@ rest_refers C c f xs ys e =
 
 -- Each insert of a change that fits can be made behind the list's inserts and those that stand before it in the change.
 pub can_insert : (C : List ChangeParts) (c : ChangeParts) → Sound C → Fits C c → (xs : List Op) (id : OpId) (after : Place) (ch : ℕ) (ys : List Op)
-  → ops_of c ≡ xs ++ op_of.Insert id after ch ∷ ys → CanInsert (inserts C ++ inserts_in xs) id after
+    → ops_of c ≡ xs ++ op_of.Insert id after ch ∷ ys → CanInsert (inserts C ++ inserts_in xs) id after
 can_insert C c s f xs id after ch ys e =
     let num : Numbered c.actor c.start (xs ++ op_of.Insert id after ch ∷ ys) = subst (λ l. Numbered c.actor c.start l) e (Numbered-ops c) in
     let front = Numbered-front c.actor c.start xs (op_of.Insert id after ch ∷ ys) num in
@@ -213,33 +212,33 @@ can_insert C c s f xs id after ch ys e =
     let actor : id.actor ≡ c.actor = ap (λ (z : OpId). z.actor) own in
     record {
       new = λ y i. not_true (id_eq y.id id)
-        (λ t.
+          (λ t.
           let same : y.id ≡ id = id_eq-same y.id id t in
           let counted : y.id.counter ≡ id.counter = ap (λ (z : OpId). z.counter) same in
           elim (In-cases y (inserts C) (inserts_in xs) i) [
-            inl l ↦ let low : y.id.counter < c.start = own-below C c s f y l (ap (λ (z : OpId). z.actor) same ∙ actor) in absurd (omega arith)
-          | inr r ↦
-              let q = Numbered-In c.actor c.start xs y front r in
-              let high : y.id.counter < c.start + length xs = q.high in absurd (omega arith)
+            | inl l ↦ let low : y.id.counter < c.start = own-below C c s f y l (ap (λ (z : OpId). z.actor) same ∙ actor) in absurd (omega arith)
+            | inr r ↦
+                let q = Numbered-In c.actor c.start xs y front r in
+                let high : y.id.counter < c.start + length xs = q.high in absurd (omega arith)
           ]);
       place = place_there C c f xs front (c.start + length xs) (omega arith) id counter after
-        (both_left (is_place (grown (inserts (past C c.deps)) xs) after) _ (rest_refers C c f xs (op_of.Insert id after ch ∷ ys) e));
+          (both_left (is_place (grown (inserts (past C c.deps)) xs) after) _ (rest_refers C c f xs (op_of.Insert id after ch ∷ ys) e));
     }
 
 -- The target of each delete of a change that fits is among the list's inserts and those that stand before it in the change.
 pub can_delete : (C : List ChangeParts) (c : ChangeParts) → Fits C c → (xs : List Op) (id target : OpId) (ys : List Op)
-  → ops_of c ≡ xs ++ op_of.Delete id target ∷ ys → IsThere (inserts C ++ inserts_in xs) target
+    → ops_of c ≡ xs ++ op_of.Delete id target ∷ ys → IsThere (inserts C ++ inserts_in xs) target
 can_delete C c f xs id target ys e =
     let t : is_inserted (grown (inserts (past C c.deps)) xs) target ≡ true =
-        both_left (is_inserted (grown (inserts (past C c.deps)) xs) target) _ (rest_refers C c f xs (op_of.Delete id target ∷ ys) e) in
+    both_left (is_inserted (grown (inserts (past C c.deps)) xs) target) _ (rest_refers C c f xs (op_of.Delete id target ∷ ys) e) in
     let split : (is_inserted (inserts_in xs) target || is_inserted (inserts (past C c.deps)) target) ≡ true = sym (grown-ids (inserts (past C c.deps)) xs target) ∙ t in
     elim (or_cases (is_inserted (inserts_in xs) target) (is_inserted (inserts (past C c.deps)) target) split) [
-      inl own ↦
-        let w = is_inserted-In (inserts_in xs) target own in
-        there_by (inserts C ++ inserts_in xs) target w.0 (In-right w.0 (inserts C) (inserts_in xs) w.1) w.2
-    | inr older ↦
-        let w = is_inserted-In (inserts (past C c.deps)) target older in
-        there_by (inserts C ++ inserts_in xs) target w.0 (In-left w.0 (inserts C) (inserts_in xs) (inserts-more (past C c.deps) C (past-In C c.deps) w.0 w.1)) w.2
+      | inl own ↦
+          let w = is_inserted-In (inserts_in xs) target own in
+          there_by (inserts C ++ inserts_in xs) target w.0 (In-right w.0 (inserts C) (inserts_in xs) w.1) w.2
+      | inr older ↦
+          let w = is_inserted-In (inserts (past C c.deps)) target older in
+          there_by (inserts C ++ inserts_in xs) target w.0 (In-left w.0 (inserts C) (inserts_in xs) (inserts-more (past C c.deps) C (past-In C c.deps) w.0 w.1)) w.2
     ]
 
 -- ---- the whole
@@ -259,35 +258,35 @@ tree_step : (C : List ChangeParts) (c : ChangeParts) → Sound C → IsTree (ins
 tree_step C c s t f =
     subst IsTree (sym (inserts-append C (c ∷ []) ∙ ap (λ l. inserts C ++ l) (append-nil (inserts_in (ops_of c))))) (record {
       once = λ a b i j e. elim (In-cases a (inserts C) (inserts_in (ops_of c)) i) [
-          inl ia ↦ elim (In-cases b (inserts C) (inserts_in (ops_of c)) j) [
-            inl jb ↦ t.once a b ia jb e
+        | inl ia ↦ elim (In-cases b (inserts C) (inserts_in (ops_of c)) j) [
+          | inl jb ↦ t.once a b ia jb e
           | inr jb ↦ apart a b ia jb e
-          ]
+        ]
         | inr ia ↦ elim (In-cases b (inserts C) (inserts_in (ops_of c)) j) [
-            inl jb ↦ apart b a jb ia (sym e)
+          | inl jb ↦ apart b a jb ia (sym e)
           | inr jb ↦ Numbered-once c.actor c.start (ops_of c) (Numbered-ops c) a b ia jb e
-          ]
-        ];
+        ]
+      ];
       placed = λ x i. elim (In-cases x (inserts C) (inserts_in (ops_of c)) i) [
-          inl l ↦ place-more (inserts C) (inserts C ++ inserts_in (ops_of c)) x.id x.after (λ y k. In-left y (inserts C) (inserts_in (ops_of c)) k) (t.placed x l)
+        | inl l ↦ place-more (inserts C) (inserts C ++ inserts_in (ops_of c)) x.id x.after (λ y k. In-left y (inserts C) (inserts_in (ops_of c)) k) (t.placed x l)
         | inr r ↦
             let w = insert_at (ops_of c) x r in
             let can = can_insert C c s f w.0 x.id x.after x.ch w.1 w.2 in
             let parts : inserts_in (ops_of c) ≡ inserts_in w.0 ++ (x ∷ inserts_in w.1) = ap inserts_in w.2 ∙ inserts_in-append w.0 (op_of.Insert x.id x.after x.ch ∷ w.1) in
             place-more (inserts C ++ inserts_in w.0) (inserts C ++ inserts_in (ops_of c)) x.id x.after
             (λ y k. elim (In-cases y (inserts C) (inserts_in w.0) k) [
-              inl l ↦ In-left y (inserts C) (inserts_in (ops_of c)) l
-            | inr m ↦ In-right y (inserts C) (inserts_in (ops_of c)) (subst (λ l. In y l) (sym parts) (In-left y (inserts_in w.0) (x ∷ inserts_in w.1) m))
+              | inl l ↦ In-left y (inserts C) (inserts_in (ops_of c)) l
+              | inr m ↦ In-right y (inserts C) (inserts_in (ops_of c)) (subst (λ l. In y l) (sym parts) (In-left y (inserts_in w.0) (x ∷ inserts_in w.1) m))
             ]) can.place
-        ];
+      ];
     }) where
-  apart : (a b : element_of.Insert) → In a (inserts C) → In b (inserts_in (ops_of c)) → a.id ≡ b.id → {A : Type 0} → A
-  apart a b i j e =
-      let w = inserts-within c b j in
-      let low : c.start ≤ b.id.counter = w.low in
-      let below : a.id.counter < c.start = own-below C c s f a i (ap (λ (z : OpId). z.actor) e ∙ w.actor) in
-      let same : a.id.counter ≡ b.id.counter = ap (λ (z : OpId). z.counter) e in
-      absurd (omega arith)
+      apart : (a b : element_of.Insert) → In a (inserts C) → In b (inserts_in (ops_of c)) → a.id ≡ b.id → {A : Type 0} → A
+      apart a b i j e =
+          let w = inserts-within c b j in
+          let low : c.start ≤ b.id.counter = w.low in
+          let below : a.id.counter < c.start = own-below C c s f a i (ap (λ (z : OpId). z.actor) e ∙ w.actor) in
+          let same : a.id.counter ≡ b.id.counter = ap (λ (z : OpId). z.counter) e in
+          absurd (omega arith)
 
 -- the inserts of a sound list are a tree
 pub inserts_tree : (C : List ChangeParts) → Sound C → IsTree (inserts C)

@@ -1,5 +1,5 @@
 -- Whether a change fits behind the changes of a list, and why not.
-use Rattle.std.specs.Prelude.{◌≡◌, ℕ, ◌+◌, ◌==◌, List, [], ◌∷◌, length, Bool, true, false, not, cond, ◌||◌, ◌&&◌, Option, Some, None, nat_lt}
+use Rattle.std.specs.Prelude.{ℕ, ◌+◌, ◌==◌, List, [], ◌∷◌, length, Bool, false, cond, ◌||◌, ◌&&◌, Option, Some, None, nat_lt}
 use Rattle.tp_opid.specs.declared.actor.Actor.{Actor}
 use Rattle.tp_opid.specs.Same.{same_actor}
 use Rattle.tp_change.specs.declared.parts.ChangeParts.{ChangeParts}

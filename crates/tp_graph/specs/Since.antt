@@ -1,6 +1,5 @@
 -- What stands outside a past, and what waiting changes want.
 use Rattle.std.specs.Prelude.{◌≡◌, ℕ, List, [], ◌∷◌, Bool, true, false, ◌||◌, cond}
-use Rattle.tp_list.specs.Members.{In}
 use Rattle.tp_list.specs.Rising.{put}
 use Rattle.tp_opid.specs.declared.hash.Hash.{Hash}
 use Rattle.tp_opid.specs.Order.{hash_cmp}

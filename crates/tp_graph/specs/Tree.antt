@@ -1,6 +1,6 @@
 -- Inserts as a tree: each element stands after the start, or after an element with a smaller identifier (RGA, Roh and
 -- others 2011). The words are those of the sequence layer.
-use Rattle.std.specs.Prelude.{◌≡◌, ℕ, Bool, false, List, [], ◌∷◌, ◌++◌}
+use Rattle.std.specs.Prelude.{◌≡◌, ℕ, false, List}
 use Rattle.tp_list.specs.Members.{In}
 use Rattle.tp_opid.specs.declared.op_id.OpId.{OpId}
 use Rattle.tp_opid.specs.declared.op_id.Place.{Place}

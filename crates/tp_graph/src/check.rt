@@ -21,7 +21,12 @@ pub(crate) const MOST_CHANGES: usize = 4294967295;
 
 // The numbers and references of the change behind the marked changes.
 #[tactic(auto, unfolding(crate::specs::Fit::misfit_behind))]
-fn check_behind(applied: &[Change], ends: &[u64], marks: &[bool], change: &Change) -> Result<(), GraphError>
+fn check_behind(
+    applied: &[Change],
+    ends: &[u64],
+    marks: &[bool],
+    change: &Change,
+) -> Result<(), GraphError>
     requires few { length applied.now ≤ fit.most_changes }
     requires ends { ends.now ≡ ends_of applied.now }
     requires marks { length marks.now ≡ length applied.now }

@@ -16,13 +16,11 @@ ghost use Rattle.tp_list.specs.Rising.{IsRising};
 ghost use Rattle.tp_opid.specs.Order.{hash_cmp};
 ghost use Rattle.tp_opid.specs.declared.hash.Hash.{Hash};
 
-use crate::check;
 use crate::error::GraphError;
-use crate::heads;
 use crate::index::Index;
 use crate::past::{Past, places_of};
 use crate::since::{missing, unmarked};
-use crate::walk;
+use crate::{check, heads, walk};
 use std::alloc::{AllocError, Global};
 use std::marker::Model;
 use tp_change::Change;
@@ -66,7 +64,11 @@ pub struct Rejected {
 }
 
 // Makes room for one more of each.
-fn grow(applied: &mut Vec<Change>, heads: &mut Vec<Hash>, ends: &mut Vec<u64>) -> Result<(), AllocError>
+fn grow(
+    applied: &mut Vec<Change>,
+    heads: &mut Vec<Hash>,
+    ends: &mut Vec<u64>,
+) -> Result<(), AllocError>
     ensures applied { applied.new.items ≡ applied.old.items }
     ensures heads { heads.new.items ≡ heads.old.items }
     ensures ends { ends.new.items ≡ ends.old.items }
@@ -160,7 +162,13 @@ impl Graph {
     pub fn check(&self, change: &Change) -> Result<(), GraphError>
         ensures { Answers result (cause self.now.applied change.now) }
     {
-        check::check(self.alloc, self.applied.as_slice(), self.ends.as_slice(), &self.index, change)
+        check::check(
+            self.alloc,
+            self.applied.as_slice(),
+            self.ends.as_slice(),
+            &self.index,
+            change,
+        )
     }
 
     /// Checks as [`check`](Graph::check) does, and makes every growth that the entry of the change takes, so that
@@ -281,6 +289,11 @@ impl Graph {
         ensures there { IfOk result (λ v. (h : Hash) → In h v.items ↔ IsMissing self.now.applied self.now.waiting h) }
         ensures err { IsOkUnless result GraphError.OutOfMemory }
     {
-        Ok(missing(self.alloc, self.applied.as_slice(), &self.index, self.waiting.as_slice())?)
+        Ok(missing(
+            self.alloc,
+            self.applied.as_slice(),
+            &self.index,
+            self.waiting.as_slice(),
+        )?)
     }
 }

@@ -69,7 +69,11 @@ fn count_at(applied: &[Change], marks: &[bool], place: usize, actor: &Actor) -> 
     if !marks[place] {
         return 0;
     }
-    if applied[place].actor().is(actor) { 1 } else { 0 }
+    if applied[place].actor().is(actor) {
+        1
+    } else {
+        0
+    }
 }
 
 /// How many of the marked changes the actor made.
@@ -208,7 +212,15 @@ pub(crate) fn refers(applied: &[Change], ends: &[u64], marks: &[bool], change: &
     let first = change.start();
     let records = change.records();
     for i in 0..records.len() {
-        if !is_there(applied, ends, marks, &actor, first, &records[..i], &records[i]) {
+        if !is_there(
+            applied,
+            ends,
+            marks,
+            &actor,
+            first,
+            &records[..i],
+            &records[i],
+        ) {
             return false;
         }
     }

@@ -30,7 +30,11 @@ fn copy_of(change: &Change) -> Result<Change, GraphError>
 }
 
 /// Copies of the changes that aren't marked.
-pub(crate) fn unmarked(alloc: Global, applied: &[Change], marks: &[bool]) -> Result<Vec<Change>, GraphError>
+pub(crate) fn unmarked(
+    alloc: Global,
+    applied: &[Change],
+    marks: &[bool],
+) -> Result<Vec<Change>, GraphError>
     requires { length marks.now ≡ length applied.now }
     ensures copied { IfOk result (λ v. v.items ≡ skip marks.now applied.now) }
     ensures err { IsOkUnless result OutOfMemory }
@@ -57,7 +61,13 @@ fn has(changes: &[Change], hash: &Hash) -> bool
 }
 
 // Puts the hash at its place, where neither the applied nor the waiting changes have it.
-fn gather_one(found: &mut Vec<Hash>, applied: &[Change], index: &Index, waiting: &[Change], hash: &Hash) -> Result<(), AllocError>
+fn gather_one(
+    found: &mut Vec<Hash>,
+    applied: &[Change],
+    index: &Index,
+    waiting: &[Change],
+    hash: &Hash,
+) -> Result<(), AllocError>
     requires { NotesFrom 0 applied.now index.now }
     ensures { OnOk result (found.new.items ≡ cond (named.has applied.now hash.now || named.has waiting.now hash.now) found.old.items (list.put hash_cmp hash.now found.old.items)) }
 {
@@ -73,7 +83,13 @@ fn gather_one(found: &mut Vec<Hash>, applied: &[Change], index: &Index, waiting:
 }
 
 // Puts those of the hashes that neither the applied nor the waiting changes have.
-fn gather_deps(found: &mut Vec<Hash>, applied: &[Change], index: &Index, waiting: &[Change], deps: &[Hash]) -> Result<(), AllocError>
+fn gather_deps(
+    found: &mut Vec<Hash>,
+    applied: &[Change],
+    index: &Index,
+    waiting: &[Change],
+    deps: &[Hash],
+) -> Result<(), AllocError>
     requires { NotesFrom 0 applied.now index.now }
     ensures { OnOk result (found.new.items ≡ gather applied.now waiting.now deps.now found.old.items) }
 {
@@ -84,7 +100,12 @@ fn gather_deps(found: &mut Vec<Hash>, applied: &[Change], index: &Index, waiting
 }
 
 /// The dependencies of the waiting changes that are neither applied nor waiting, rising.
-pub(crate) fn missing(alloc: Global, applied: &[Change], index: &Index, waiting: &[Change]) -> Result<Vec<Hash>, AllocError>
+pub(crate) fn missing(
+    alloc: Global,
+    applied: &[Change],
+    index: &Index,
+    waiting: &[Change],
+) -> Result<Vec<Hash>, AllocError>
     requires { NotesFrom 0 applied.now index.now }
     ensures rising { IfOk result (λ v. IsRising hash_cmp v.items) }
     ensures there { IfOk result (λ v. (h : Hash) → In h v.items ↔ IsMissing applied.now waiting.now h) }

@@ -117,7 +117,12 @@ fn follow(applied: &[Change], index: &Index, marks: &mut [bool], place: usize, h
 }
 
 /// Marks for the past of the hashes: one walk back over the changes.
-pub(crate) fn marks_of(alloc: Global, applied: &[Change], index: &Index, hashes: &[Hash]) -> Result<Vec<bool>, AllocError>
+pub(crate) fn marks_of(
+    alloc: Global,
+    applied: &[Change],
+    index: &Index,
+    hashes: &[Hash],
+) -> Result<Vec<bool>, AllocError>
     requires sound { Sound applied.now }
     requires notes { NotesFrom 0 applied.now index.now }
     ensures marks { IfOk result (λ v. v.items ≡ marks applied.now hashes.now) }

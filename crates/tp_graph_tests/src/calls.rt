@@ -22,7 +22,10 @@ fn two_changes(rt: HostRuntime) -> Result<(), Fail> {
     assert_eq!(rt; graph.get(&b).map(|change| change.hash()), Some(b));
     assert!(rt; have(graph.changes(), &[a, b]));
     assert!(rt; graph.past(&[b])?.places().first() == Some(&1));
-    assert_eq!(rt; graph.past(&[unknown()]).err(), Some(GraphError::UnknownHead));
+    assert_eq!(rt;
+        graph.past(&[unknown()]).err(),
+        Some(GraphError::UnknownHead)
+    );
     assert!(rt; have(&graph.since(&[a])?, &[b]));
     Ok(())
 }
@@ -31,16 +34,41 @@ fn two_changes(rt: HostRuntime) -> Result<(), Fail> {
 fn waits_and_enters(rt: HostRuntime) -> Result<(), Fail> {
     let alloc = rt.alloc();
     let one = first(alloc, 1, "abc")?;
-    let two = change(alloc, 1, 2, 4, Some(one.hash()), insert(alloc, Place::Start, "x")?)?;
-    let three = change(alloc, 1, 3, 5, Some(two.hash()), insert(alloc, Place::Start, "y")?)?;
-    let other = change(alloc, 2, 1, 1, Some(unknown()), insert(alloc, Place::Start, "z")?)?;
+    let two = change(
+        alloc,
+        1,
+        2,
+        4,
+        Some(one.hash()),
+        insert(alloc, Place::Start, "x")?,
+    )?;
+    let three = change(
+        alloc,
+        1,
+        3,
+        5,
+        Some(two.hash()),
+        insert(alloc, Place::Start, "y")?,
+    )?;
+    let other = change(
+        alloc,
+        2,
+        1,
+        1,
+        Some(unknown()),
+        insert(alloc, Place::Start, "z")?,
+    )?;
     let (a, b, c, d) = (one.hash(), two.hash(), three.hash(), other.hash());
     let mut graph = Graph::new(alloc);
     assert!(rt; graph.hold(three).is_ok());
     assert!(rt; graph.hold(two).is_ok());
     assert!(rt; graph.hold(other).is_ok());
     assert!(rt; have(graph.pending(), &[c, b, d]));
-    let (low, high) = if a < unknown() { (a, unknown()) } else { (unknown(), a) };
+    let (low, high) = if a < unknown() {
+        (a, unknown())
+    } else {
+        (unknown(), a)
+    };
     assert!(rt; same(&graph.missing()?, &[low, high]));
     assert!(rt; graph.ready(&one).is_ok());
     graph.enter(one);

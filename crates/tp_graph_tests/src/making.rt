@@ -29,7 +29,14 @@ pub fn insert(alloc: Global, after: Place, text: &str) -> Result<Record, Fail> {
 }
 
 /// A change with one record, which depends on one change or on none.
-pub fn change(alloc: Global, n: u8, seq: u64, start: u64, dep: Option<Hash>, entry: Record) -> Result<Change, Fail> {
+pub fn change(
+    alloc: Global,
+    n: u8,
+    seq: u64,
+    start: u64,
+    dep: Option<Hash>,
+    entry: Record,
+) -> Result<Change, Fail> {
     let mut deps = Vec::new(alloc);
     if let Some(hash) = dep {
         deps.push(hash)?;
@@ -71,5 +78,8 @@ pub fn same(hashes: &[Hash], wanted: &[Hash]) -> bool {
 /// Whether the changes have these hashes, in order.
 pub fn have(changes: &[Change], wanted: &[Hash]) -> bool {
     changes.len() == wanted.len()
-        && changes.iter().zip(wanted).all(|(change, hash)| change.hash().is(hash))
+        && changes
+            .iter()
+            .zip(wanted)
+            .all(|(change, hash)| change.hash().is(hash))
 }

@@ -42,13 +42,62 @@ fn refuses_by_cause(rt: HostRuntime) -> Result<(), Fail> {
     assert!(rt; graph.add(one).is_ok());
     let dep = Some(hash);
     let rows = [
-        Row { actor: 1, seq: 1, start: 1, dep: None, what: What::Text("abc"), error: GraphError::Known },
-        Row { actor: 1, seq: 2, start: 4, dep: Some(unknown()), what: What::Text("x"), error: GraphError::MissingDeps },
-        Row { actor: 1, seq: 3, start: 9, dep, what: What::Text("x"), error: GraphError::BadSeq },
-        Row { actor: 1, seq: 2, start: 5, dep, what: What::Text("x"), error: GraphError::BadStart },
-        Row { actor: 1, seq: 2, start: 4, dep, what: What::DeleteFourth, error: GraphError::BadReference },
-        Row { actor: 2, seq: 1, start: 1, dep: None, what: What::AfterFirst, error: GraphError::BadReference },
-        Row { actor: 1, seq: 1, start: 1, dep: None, what: What::Text("z"), error: GraphError::SeqClash },
+        Row {
+            actor: 1,
+            seq: 1,
+            start: 1,
+            dep: None,
+            what: What::Text("abc"),
+            error: GraphError::Known,
+        },
+        Row {
+            actor: 1,
+            seq: 2,
+            start: 4,
+            dep: Some(unknown()),
+            what: What::Text("x"),
+            error: GraphError::MissingDeps,
+        },
+        Row {
+            actor: 1,
+            seq: 3,
+            start: 9,
+            dep,
+            what: What::Text("x"),
+            error: GraphError::BadSeq,
+        },
+        Row {
+            actor: 1,
+            seq: 2,
+            start: 5,
+            dep,
+            what: What::Text("x"),
+            error: GraphError::BadStart,
+        },
+        Row {
+            actor: 1,
+            seq: 2,
+            start: 4,
+            dep,
+            what: What::DeleteFourth,
+            error: GraphError::BadReference,
+        },
+        Row {
+            actor: 2,
+            seq: 1,
+            start: 1,
+            dep: None,
+            what: What::AfterFirst,
+            error: GraphError::BadReference,
+        },
+        Row {
+            actor: 1,
+            seq: 1,
+            start: 1,
+            dep: None,
+            what: What::Text("z"),
+            error: GraphError::SeqClash,
+        },
     ];
     for row in &rows {
         let change = made(alloc, row)?;

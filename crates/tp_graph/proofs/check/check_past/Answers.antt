@@ -1,7 +1,4 @@
-use Rattle.std.proofs.Common.{◌≡◌, ◌∙◌, ap, sym, length, subst}
-use Rattle.tp_change.specs.declared.parts.ChangeParts.{ChangeParts}
-use Rattle.tp_graph.specs.Answers.{Answers}
-use Rattle.tp_graph.specs.Fit as fit
+use Rattle.std.proofs.Common.{◌≡◌, ◌∙◌, ap, length}
 use Rattle.tp_graph.specs.Marks.{pick}
 use Rattle.tp_graph.specs.Past.{past}
 use Rattle.tp_graph.proofs.check.check_past.Goals as goal
@@ -12,5 +9,5 @@ check_behind-requires-clause-marks c = ap length c.deref.ensures.value ∙ c.in_
 pub returns : goal.returns
 returns c =
     let same : pick c.deref.result.now c.args.applied.now ≡ past c.args.applied.now c.args.change.now.deps =
-        ap (λ m. pick m c.args.applied.now) c.deref.ensures.value ∙ c.in_ok-marks.ensures.past ∙ ap (past c.args.applied.now) c.deps.ensures in
+    ap (λ m. pick m c.args.applied.now) c.deref.ensures.value ∙ c.in_ok-marks.ensures.past ∙ ap (past c.args.applied.now) c.deps.ensures in
     rw same at c.check_behind.ensures

@@ -1,7 +1,6 @@
 use Rattle.std.proofs.Common.{◌≡◌, ◌∙◌, ap, sym, length, get_or, arith, ◌+◌}
 use Rattle.tp_change.specs.Elements as elements
 use Rattle.tp_graph.specs.Marks.{rest_of}
-use Rattle.tp_graph.specs.Places.{ends_of}
 use Rattle.tp_graph.proofs.MarksLaws.{place_in}
 use Rattle.tp_graph.proofs.PickLaws.{end_kept, end_left, length-ends_of}
 use Rattle.tp_graph.proofs.judge.end_at.Goals as goal

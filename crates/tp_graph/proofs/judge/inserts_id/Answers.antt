@@ -1,4 +1,4 @@
-use Rattle.std.proofs.Common.{◌≡◌, ◌∙◌, ap, sym, true, false}
+use Rattle.std.proofs.Common.{◌≡◌, ◌∙◌, ap, true, false}
 use Rattle.tp_opid.specs.Same.{same_actor}
 use Rattle.tp_graph.specs.Covers.{covers}
 use Rattle.tp_graph.proofs.InsertLaws.{inserts_id-other, inserts_id-low, inserts_id-high, inserts_id-at}

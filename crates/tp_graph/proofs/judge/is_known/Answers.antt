@@ -1,4 +1,4 @@
-use Rattle.std.proofs.Common.{◌≡◌, ◌∙◌, ap, sym, true, false}
+use Rattle.std.proofs.Common.{◌≡◌, true, false}
 use Rattle.tp_opid.specs.Same.{same_actor}
 use Rattle.tp_change.specs.Elements as made
 use Rattle.tp_graph.specs.Covers as cover

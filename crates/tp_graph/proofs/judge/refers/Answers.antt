@@ -1,5 +1,5 @@
-use Rattle.std.proofs.Common.{◌≡◌, ◌≤◌, ◌+◌, ◌^◌, ◌∙◌, ap, sym, arith, true, false, take, drop, []}
-use Rattle.tp_change.specs.Operations.{count_of, ops_of}
+use Rattle.std.proofs.Common.{◌≡◌, ◌≤◌, ◌+◌, ◌^◌, ◌∙◌, ap, sym, arith, false, take, []}
+use Rattle.tp_change.specs.Operations.{count_of}
 use Rattle.tp_graph.specs.Covers as cover
 use Rattle.tp_change.specs.Elements as made
 use Rattle.tp_graph.specs.Marks.{pick}
@@ -19,21 +19,21 @@ returns-then-not-is_there c =
     let S = made.inserts (pick c.args.marks.now c.args.applied.now) in
     let no : c.is_there.result ≡ false = c.if-not-is_there.true in
     sym (refers-all_there S c.args.change.now c.hash-hash.ensures.limits
-      ∙ ap (λ r. cover.all_there c.args.change.now.actor c.args.change.now.start S [] r) (sym c.records-records.ensures)
-      ∙ ap (λ a. cover.all_there a c.args.change.now.start S [] c.records-records.result.now) (sym c.actor-actor.ensures)
-      ∙ ap (λ n. cover.all_there c.actor-actor.result n S [] c.records-records.result.now) (sym c.start-first.ensures)
-      ∙ sym c.loop-i.invariant
-      ∙ all_there-stop c.actor-actor.result c.start-first.result S c.records-records.result.now c.loop-i.i c.index-records-i.result c.loop-i-test.true c.index-records-i.is (sym c.is_there.ensures ∙ no))
+    ∙ ap (λ r. cover.all_there c.args.change.now.actor c.args.change.now.start S [] r) (sym c.records-records.ensures)
+    ∙ ap (λ a. cover.all_there a c.args.change.now.start S [] c.records-records.result.now) (sym c.actor-actor.ensures)
+    ∙ ap (λ n. cover.all_there c.actor-actor.result n S [] c.records-records.result.now) (sym c.start-first.ensures)
+    ∙ sym c.loop-i.invariant
+    ∙ all_there-stop c.actor-actor.result c.start-first.result S c.records-records.result.now c.loop-i.i c.index-records-i.result c.loop-i-test.true c.index-records-i.is (sym c.is_there.ensures ∙ no))
 
 pub returns : goal.returns
 returns c =
     let S = made.inserts (pick c.args.marks.now c.args.applied.now) in
     sym (refers-all_there S c.args.change.now c.hash-hash.ensures.limits
-      ∙ ap (λ r. cover.all_there c.args.change.now.actor c.args.change.now.start S [] r) (sym c.records-records.ensures)
-      ∙ ap (λ a. cover.all_there a c.args.change.now.start S [] c.records-records.result.now) (sym c.actor-actor.ensures)
-      ∙ ap (λ n. cover.all_there c.actor-actor.result n S [] c.records-records.result.now) (sym c.start-first.ensures)
-      ∙ sym c.loop-i.invariant
-      ∙ all_there-end c.actor-actor.result c.start-first.result S c.records-records.result.now c.loop-i.i c.loop-i-test.false)
+    ∙ ap (λ r. cover.all_there c.args.change.now.actor c.args.change.now.start S [] r) (sym c.records-records.ensures)
+    ∙ ap (λ a. cover.all_there a c.args.change.now.start S [] c.records-records.result.now) (sym c.actor-actor.ensures)
+    ∙ ap (λ n. cover.all_there c.actor-actor.result n S [] c.records-records.result.now) (sym c.start-first.ensures)
+    ∙ sym c.loop-i.invariant
+    ∙ all_there-end c.actor-actor.result c.start-first.result S c.records-records.result.now c.loop-i.i c.loop-i-test.false)
 
 pub loop-i-preserved : goal.loop-i-preserved
 loop-i-preserved c =

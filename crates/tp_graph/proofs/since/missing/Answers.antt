@@ -11,11 +11,11 @@ use Rattle.tp_graph.proofs.since.missing.Goals as goal
 pub returns-clause-rising : goal.returns-clause-rising
 returns-clause-rising c =
     let all : c.loop-change.found.items ≡ gather_all c.args.applied.now c.args.waiting.now c.args.waiting.now [] =
-        ap (λ l. gather_all c.args.applied.now c.args.waiting.now l c.loop-change.found.items) (sym (drop_all c.loop-change.change-index c.args.waiting.now c.loop-change-test.false)) ∙ c.loop-change.invariant in
+    ap (λ l. gather_all c.args.applied.now c.args.waiting.now l c.loop-change.found.items) (sym (drop_all c.loop-change.change-index c.args.waiting.now c.loop-change-test.false)) ∙ c.loop-change.invariant in
     subst (λ l. IsRising hash_cmp l) (sym all) (missing-rises c.args.applied.now c.args.waiting.now)
 
 pub returns-clause-there : goal.returns-clause-there
 returns-clause-there c =
     let all : c.loop-change.found.items ≡ gather_all c.args.applied.now c.args.waiting.now c.args.waiting.now [] =
-        ap (λ l. gather_all c.args.applied.now c.args.waiting.now l c.loop-change.found.items) (sym (drop_all c.loop-change.change-index c.args.waiting.now c.loop-change-test.false)) ∙ c.loop-change.invariant in
+    ap (λ l. gather_all c.args.applied.now c.args.waiting.now l c.loop-change.found.items) (sym (drop_all c.loop-change.change-index c.args.waiting.now c.loop-change-test.false)) ∙ c.loop-change.invariant in
     λ h. subst (λ (l : List Hash). In h l ↔ IsMissing c.args.applied.now c.args.waiting.now h) (sym all) (missing-In c.args.applied.now c.args.waiting.now h)

@@ -1,6 +1,5 @@
-use Rattle.std.proofs.Common.{◌≡◌, ◌∙◌, ap, refl, get_or, Some}
-use Rattle.std.specs.List.{slice_get}
-use Rattle.std.proofs.lemmas.Option.{slice_get_read, slice_get-get_or}
+use Rattle.std.proofs.Common.{◌∙◌, ap, refl}
+use Rattle.std.proofs.lemmas.Option.{slice_get_read}
 use Rattle.tp_graph.specs.Marks.{marked_more}
 use Rattle.tp_graph.proofs.SoundLaws.{deps_first}
 use Rattle.tp_graph.proofs.MarksLaws.{followed, passed_by, place_in}

@@ -1,4 +1,4 @@
-use Rattle.std.proofs.Common.{refl, arith}
+use Rattle.std.proofs.Common.{refl}
 use Rattle.std.proofs.lemmas.Option.{slice_get_read}
 use Rattle.tp_graph.proofs.PlacesLaws.{has_at_by, has_at_past}
 use Rattle.tp_graph.proofs.walk.has_at.Goals as goal

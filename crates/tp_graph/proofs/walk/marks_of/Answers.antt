@@ -1,4 +1,4 @@
-use Rattle.std.proofs.Common.{◌≡◌, ◌∙◌, sym, ap, length, arith, ◌-◌}
+use Rattle.std.proofs.Common.{◌≡◌, ◌∙◌, ap, length, arith, ◌-◌}
 use Rattle.tp_graph.specs.Marks.{marked_more, pick, walked}
 use Rattle.tp_graph.specs.Since.{skip}
 use Rattle.tp_graph.proofs.SinceLaws.{skip-marks}

@@ -1,6 +1,4 @@
-use Rattle.std.proofs.Common.{◌≡◌, ◌∙◌, ap, sym, subst, Some, None, false, length, arith, ◌<◌}
-use Rattle.std.specs.Vec.{vec_len, vec_capacity}
-use Rattle.tp_change.specs.ChangeHash.{hash_of}
+use Rattle.std.proofs.Common.{◌≡◌, ◌∙◌, ap, sym, Some, None, false}
 use Rattle.tp_graph.specs.Fit.{cause}
 use Rattle.tp_graph.specs.Named.{has}
 use Rattle.tp_graph.specs.GraphState.{GraphState}
@@ -14,6 +12,7 @@ invariant_of-self-2 c =
     let lacks : has g.applied.items c.hash-hash.result ≡ false = ap (has g.applied.items) c.hash-hash.ensures.hash ∙ (Fits-from_cause g.applied.items c.args.change.now none).new in
     let kept = IsKept-noted g.applied.items g.waiting.items g.heads.items g.index c.note.new.self g.ends.items c.hash-hash.result c.len-place.result c.self.invariant.0 lacks c.in_ok-note.ensures.ok in
     let grown = c.grow.ensures in
-    let room = c.in_ok-grow.ensures.room in
-    (rw (grown.applied, grown.heads, grown.ends) kept,
-      (noted_itself g.index c.note.new.self c.hash-hash.result c.len-place.result c.in_ok-note.ensures.ok ∙ ap Some (c.len-place.ensures ∙ sym grown.lens.0), room.0, room.1, room.2))
+    let room = c.in_ok-grow.ensures.room in (
+      rw (grown.applied, grown.heads, grown.ends) kept,
+      (noted_itself g.index c.note.new.self c.hash-hash.result c.len-place.result c.in_ok-note.ensures.ok ∙ ap Some (c.len-place.ensures ∙ sym grown.lens.0), room.0, room.1, room.2),
+    )
