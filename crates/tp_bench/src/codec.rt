@@ -16,7 +16,13 @@ const LARGE_ROUNDS: u64 = 16;
 
 /// Over 100,000 changes of 60 bytes, and over 16 of 4 megabytes.
 pub fn run<R: Clock + Print + AllocGlobal>(rt: &R) -> anyhow::Result<()> {
-    let small = change(rt.alloc(), 1, 1, Vec::new(rt.alloc()), run_after(rt.alloc(), Place::Start, "abcde")?)?;
+    let small = change(
+        rt.alloc(),
+        1,
+        1,
+        Vec::new(rt.alloc()),
+        run_after(rt.alloc(), Place::Start, "abcde")?,
+    )?;
     measure_all(rt, "small", &small, SMALL_ROUNDS)?;
     let large = large_change(rt.alloc())?;
     measure_all(rt, "large", &large, LARGE_ROUNDS)
@@ -46,11 +52,21 @@ fn large_change(alloc: Global) -> anyhow::Result<Change> {
     change(alloc, 1, 1, deps, records)
 }
 
-fn measure_all<R: Clock + Print + AllocGlobal>(rt: &R, size: &str, change: &Change, rounds: u64) -> anyhow::Result<()> {
+fn measure_all<R: Clock + Print + AllocGlobal>(
+    rt: &R,
+    size: &str,
+    change: &Change,
+    rounds: u64,
+) -> anyhow::Result<()> {
     let bytes = change.encode().map_err(refused)?;
     let total = (bytes.len() as u64).saturating_mul(rounds);
     println!(rt; "{size}: {rounds} changes of {} bytes", bytes.len())?;
-    report(rt, "digest alone", total, digest(rt, bytes.as_slice(), rounds)?)?;
+    report(
+        rt,
+        "digest alone",
+        total,
+        digest(rt, bytes.as_slice(), rounds)?,
+    )?;
     report(rt, "decode", total, decode(rt, bytes.as_slice(), rounds)?)?;
     report(rt, "encode", total, encode(rt, change, rounds)?)
 }

@@ -8,7 +8,11 @@ use std::time::Instant;
 pub fn micros_since(rt: &impl Clock, start: &Instant) -> anyhow::Result<u64> {
     let elapsed = start.elapsed(rt)?;
     let seconds = elapsed.as_secs().saturating_mul(1_000_000);
-    Ok(seconds.saturating_add(u64::from(elapsed.subsec_micros())).max(1))
+    Ok(
+        seconds
+            .saturating_add(u64::from(elapsed.subsec_micros()))
+            .max(1),
+    )
 }
 
 /// Prints how long something took with so many bytes, and how many megabytes a second that is.

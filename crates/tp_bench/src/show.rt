@@ -18,7 +18,11 @@ pub fn run_typed<R: Files + Clock + Print + AllocGlobal>(rt: &R) -> anyhow::Resu
 
 /// 2,000 changes of 10 characters, each behind an element that chance picks.
 pub fn run_random<R: Files + Clock + Print + AllocGlobal>(rt: &R) -> anyhow::Result<()> {
-    let log = log_of(rt.alloc(), 2_000, |n, chance| if n == 0 { 0 } else { chance % n + 1 })?;
+    let log = log_of(
+        rt.alloc(),
+        2_000,
+        |n, chance| if n == 0 { 0 } else { chance % n + 1 },
+    )?;
     measure(rt, "show-random", log.as_slice())
 }
 
@@ -31,7 +35,9 @@ fn log_of<F: Fn(u64, u64) -> u64>(alloc: Global, count: u64, pick: F) -> anyhow:
     let mut chance = 1u64;
     for number in 0..count {
         let made = number.saturating_mul(10);
-        chance = chance.wrapping_mul(6_364_136_223_846_793_005).wrapping_add(1_442_695_040_888_963_407);
+        chance = chance
+            .wrapping_mul(6_364_136_223_846_793_005)
+            .wrapping_add(1_442_695_040_888_963_407);
         let counter = pick(made, chance >> 33);
         let after = if counter == 0 {
             Place::Start
@@ -57,12 +63,18 @@ fn log_of<F: Fn(u64, u64) -> u64>(alloc: Global, count: u64, pick: F) -> anyhow:
     Ok(log)
 }
 
-fn measure<R: Files + Clock + Print + AllocGlobal>(rt: &R, name: &str, log: &[u8]) -> anyhow::Result<()> {
+fn measure<R: Files + Clock + Print + AllocGlobal>(
+    rt: &R,
+    name: &str,
+    log: &[u8],
+) -> anyhow::Result<()> {
     let size = log.len();
     let start = Instant::now(rt)?;
     let mut reader = log;
     let mut out = Vec::new(rt.alloc());
-    tp_textpeer::show(rt.alloc(), &mut reader, &mut out).map_err(|error| anyhow!("refused: {error}"))?;
+    tp_textpeer::show(rt.alloc(), &mut reader, &mut out).map_err(|error| anyhow!(
+        "refused: {error}"
+    ))?;
     report(rt, name, size as u64, micros_since(rt, &start)?)?;
     println!(rt; "{size} bytes of log, {} bytes of text", out.len())?;
     report_memory(rt)

@@ -5,6 +5,5 @@
 mod items;
 mod text;
 
-
 pub use items::Items;
 pub use text::Text;

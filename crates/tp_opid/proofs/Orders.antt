@@ -146,9 +146,9 @@ unfolding Below
 Below-cases a b =
     let back : id_cmp b a ≡ ordering_reverse (id_cmp a b) = id_total.antisymm b a in
     elim (id_cmp a b) as (λ o. id_cmp a b ≡ o → id_cmp b a ≡ ordering_reverse o → (id_cmp a b ≡ Less) ⊎ ((a ≡ b) ⊎ (id_cmp b a ≡ Less))) [
-      Less ↦ λ e r. inl e
-    | Equal ↦ λ e r. inr (inl (id_exact a b e))
-    | Greater ↦ λ e r. inr (inr r)
+      | Less ↦ λ e r. inl e
+      | Equal ↦ λ e r. inr (inl (id_exact a b e))
+      | Greater ↦ λ e r. inr (inr r)
     ] refl back
 
 pub Below-asym : (a b : OpId) → Below a b → Below b a → ⊥

@@ -1,16 +1,16 @@
 -- What operations leave, one after another.
-use Rattle.std.proofs.Common.{◌≡◌, ℕ, ◌≤◌, List, [], ◌∷◌, ◌++◌, length, ◌⊎◌, inl, inr, refl, sym, ap, ◌∙◌, subst, append_assoc, append-nil, take, drop, take-append-drop}
+use Rattle.std.proofs.Common.{◌≡◌, ℕ, List, [], ◌∷◌, ◌++◌, inl, inr, refl, sym, ap, ◌∙◌, subst, append_assoc, append-nil, take, drop, take-append-drop}
 use Rattle.std.specs.Prelude.{insert}
-use Rattle.tp_list.specs.Members.{In, AllIn, SameMembers}
+use Rattle.tp_list.specs.Members.{SameMembers}
 use Rattle.tp_opid.specs.declared.op_id.OpId.{OpId}
 use Rattle.tp_opid.specs.declared.op_id.Place.{Place}
 use Rattle.tp_opid.specs.Insert.{Insert}
 use Rattle.tp_change.specs.declared.op.Op.{Op}
 use Rattle.tp_change.specs.declared.op.Op.TheVariants as op_of
 use Rattle.tp_change.specs.Elements.{element, inserts_in, deletes_in}
-use Rattle.tp_rga.specs.Tree.{IsTree, IsThere, CanInsert}
+use Rattle.tp_rga.specs.Tree.{IsTree, CanInsert}
 use Rattle.tp_rga.specs.Order.{IsInOrder, IsInserted}
-use Rattle.tp_rga.proofs.Sets.{In-left, In-right, In-append, In-push, In-last, SameMembers-sym, IsThere-grow, CanInsert-same, IsTree-push}
+use Rattle.tp_rga.proofs.Sets.{In-left, In-right, In-append, In-push, SameMembers-sym, IsThere-grow, CanInsert-same, IsTree-push}
 use Rattle.tp_text.specs.Applying.{CanApply, Extends}
 
 SameMembers-refl : {X : Type 0} (xs : List X) → SameMembers xs xs
@@ -79,12 +79,12 @@ pub Extends-join : (old mid new : List Insert) (xs ys : List Op) → Extends old
 Extends-join old mid new xs ys p q =
     let joined = inserts_in-append xs ys in record {
       members =
-        subst (λ l. SameMembers l new) (append_assoc old (inserts_in xs) (inserts_in ys) ∙ ap (λ l. old ++ l) (sym joined))
-        (SameMembers-trans ((old ++ inserts_in xs) ++ inserts_in ys) (mid ++ inserts_in ys) new (SameMembers-append (old ++ inserts_in xs) mid (inserts_in ys) p.members) q.members);
+          subst (λ l. SameMembers l new) (append_assoc old (inserts_in xs) (inserts_in ys) ∙ ap (λ l. old ++ l) (sym joined))
+          (SameMembers-trans ((old ++ inserts_in xs) ++ inserts_in ys) (mid ++ inserts_in ys) new (SameMembers-append (old ++ inserts_in xs) mid (inserts_in ys) p.members) q.members);
       order = λ T tree order.
-        let first = p.order T tree order in
-        let second = q.order (T ++ inserts_in xs) first.0 first.1 in
-        subst (λ l. IsTree l × IsInOrder l new) (append_assoc T (inserts_in xs) (inserts_in ys) ∙ ap (λ l. T ++ l) (sym joined)) second;
+          let first = p.order T tree order in
+          let second = q.order (T ++ inserts_in xs) first.0 first.1 in
+          subst (λ l. IsTree l × IsInOrder l new) (append_assoc T (inserts_in xs) (inserts_in ys) ∙ ap (λ l. T ++ l) (sym joined)) second;
     }
 
 pub deletes_in-append : (xs ys : List Op) → deletes_in (xs ++ ys) ≡ deletes_in xs ++ deletes_in ys

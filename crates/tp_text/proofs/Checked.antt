@@ -1,5 +1,5 @@
 -- References that are looked up as the operations go in, one after another.
-use Rattle.std.proofs.Common.{◌≡◌, ℕ, ◌+◌, ◌<◌, ◌≤◌, Bool, true, false, ◌||◌, ◌&&◌, List, [], ◌∷◌, ◌++◌, length, ◌⊎◌, inl, inr, refl, sym, ap, ◌∙◌, subst, append-nil, arith}
+use Rattle.std.proofs.Common.{◌≡◌, ℕ, ◌+◌, ◌<◌, Bool, true, false, ◌&&◌, List, [], ◌∷◌, ◌++◌, inl, inr, refl, sym, ap, ◌∙◌, subst, append-nil, arith}
 use Rattle.tp_list.specs.Members.{In, AllIn, SameMembers}
 use Rattle.tp_opid.specs.declared.actor.Actor.{Actor}
 use Rattle.tp_opid.specs.declared.op_id.OpId.{OpId}
@@ -11,7 +11,7 @@ use Rattle.tp_opid.proofs.Orders.{Below-trans, Below-counter}
 use Rattle.tp_change.specs.declared.op.Op.{Op}
 use Rattle.tp_change.specs.declared.op.Op.TheVariants as op_of
 use Rattle.tp_change.specs.Operations.{id_of}
-use Rattle.tp_change.specs.Elements.{element, inserts_in, is_inserted, is_place, refers}
+use Rattle.tp_change.specs.Elements.{element, is_inserted, is_place, refers}
 use Rattle.tp_rga.proofs.Sets.{In-append, In-left, In-right}
 use Rattle.tp_text.specs.Applying.{CanApply, Extends, AllUnder}
 use Rattle.tp_text.proofs.Numbered.{Numbered, is_inserted-there, is_inserted-member, both_ways, CanApply-refers, IsFresh-under}

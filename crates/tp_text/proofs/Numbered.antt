@@ -2,7 +2,7 @@
 use Rattle.std.proofs.Common.{◌≡◌, ℕ, ◌+◌, ◌<◌, ◌≤◌, Bool, true, false, ◌||◌, ◌&&◌, List, [], ◌∷◌, ◌++◌, length, ◌⊎◌, inl, inr, refl, sym, ap, ◌∙◌, subst, append_assoc, append-nil, arith}
 use Rattle.std.proofs.lemmas.Bool.{and_parts, cases_lt}
 use Rattle.std.proofs.lemmas.List.{length-append}
-use Rattle.tp_list.specs.Members.{In, AllIn, SameMembers}
+use Rattle.tp_list.specs.Members.{In, AllIn}
 use Rattle.tp_opid.specs.declared.actor.Actor.{Actor}
 use Rattle.tp_opid.specs.declared.op_id.OpId.{OpId}
 use Rattle.tp_opid.specs.declared.op_id.Place.{Place}
@@ -18,8 +18,8 @@ use Rattle.tp_change.specs.declared.record.Record.TheVariants as record_of
 use Rattle.tp_change.specs.declared.parts.ChangeParts.{ChangeParts}
 use Rattle.tp_change.specs.Operations.{id_of, run, ops_in, ops_from, ops_of, op_count, count_in, count_of}
 use Rattle.tp_change.specs.Elements.{element, inserts_in, inserts, deletes_in, deletes, is_inserted, is_place, refers}
-use Rattle.tp_rga.specs.Tree.{IsThere, IsNew, IsPlaceBelow, CanInsert}
-use Rattle.tp_rga.proofs.Sets.{In-push, In-left, In-right, In-append, IsThere-grow, IsThere-member}
+use Rattle.tp_rga.specs.Tree.{IsThere, IsPlaceBelow}
+use Rattle.tp_rga.proofs.Sets.{In-push, In-left, In-right, IsThere-member}
 use Rattle.tp_text.specs.Applying.{CanApply, AllUnder}
 
 -- The operations have the identifiers of the actor from the counter n on, in turn.
@@ -142,33 +142,31 @@ CanApply-refers [] P S a n num sub under fresh h = tt
 CanApply-refers (op_of.Insert id after ch ∷ ops) P S a n num sub under fresh h =
     let parts = and_parts (is_place P after) (refers (element id after ch ∷ P) ops) h in
     let e = element id after ch in
-    let own : id ≡ id_of a n = num.0 in
-    (
+    let own : id ≡ id_of a n = num.0 in (
       record {
         new = λ y there. subst (λ x. id_eq y.id x ≡ false) (sym own) (fresh y there n (omega arith));
         place = subst (λ x. IsPlaceBelow S x after) (sym own) (place_below P S (id_of a n) after sub under parts.0);
       },
       CanApply-refers ops (e ∷ P) (S ++ e ∷ []) a (n + 1) num.1
-      (λ y there. elim there [ inl same ↦ In-right y S (e ∷ []) (inl same) | inr old ↦ In-left y S (e ∷ []) (sub y old) ])
-      (λ y there. elim there [
-        | inl same ↦ subst (λ z. Below z (id_of a (n + 1))) (sym own ∙ sym (ap (λ (z : Insert). z.id) same)) (Below-next a n (n + 1) (omega arith))
-        | inr old ↦ Below-trans y.id (id_of a n) (id_of a (n + 1)) (under y old) (Below-next a n (n + 1) (omega arith))
-      ])
-      (λ y there k le. elim (In-push y S e there) [
-        | inl old ↦ fresh y old k (omega arith)
-        | inr same ↦ subst (λ z. id_eq z (id_of a k) ≡ false) (sym own ∙ sym (ap (λ (z : Insert). z.id) same))
-            (apart (id_of a n) (id_of a k) (λ one. let counters : n ≡ k = ap (λ (z : OpId). z.counter) one in absurd (omega arith)))
-      ])
-      parts.1,
+          (λ y there. elim there [ inl same ↦ In-right y S (e ∷ []) (inl same) | inr old ↦ In-left y S (e ∷ []) (sub y old) ])
+          (λ y there. elim there [
+            | inl same ↦ subst (λ z. Below z (id_of a (n + 1))) (sym own ∙ sym (ap (λ (z : Insert). z.id) same)) (Below-next a n (n + 1) (omega arith))
+            | inr old ↦ Below-trans y.id (id_of a n) (id_of a (n + 1)) (under y old) (Below-next a n (n + 1) (omega arith))
+          ])
+          (λ y there k le. elim (In-push y S e there) [
+            | inl old ↦ fresh y old k (omega arith)
+            | inr same ↦ subst (λ z. id_eq z (id_of a k) ≡ false) (sym own ∙ sym (ap (λ (z : Insert). z.id) same))
+                (apart (id_of a n) (id_of a k) (λ one. let counters : n ≡ k = ap (λ (z : OpId). z.counter) one in absurd (omega arith)))
+          ])
+          parts.1,
     )
 CanApply-refers (op_of.Delete id target ∷ ops) P S a n num sub under fresh h =
-    let parts = and_parts (is_inserted P target) (refers P ops) h in
-    (
+    let parts = and_parts (is_inserted P target) (refers P ops) h in (
       there-of P S target sub parts.0,
       CanApply-refers ops P S a (n + 1) num.1 sub
-      (λ y there. Below-trans y.id (id_of a n) (id_of a (n + 1)) (under y there) (Below-next a n (n + 1) (omega arith)))
-      (λ y there k le. fresh y there k (omega arith))
-      parts.1,
+          (λ y there. Below-trans y.id (id_of a n) (id_of a (n + 1)) (under y there) (Below-next a n (n + 1) (omega arith)))
+          (λ y there k le. fresh y there k (omega arith))
+          parts.1,
     )
 
 -- the inserts of operations stand below every identifier with the counter that comes after them

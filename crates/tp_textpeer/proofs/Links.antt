@@ -1,12 +1,11 @@
 -- Why a change may follow the changes of a log or not, by what is kept of these.
-use Rattle.std.proofs.Common.{◌≡◌, ℕ, ◌+◌, ◌<◌, ◌≤◌, Bool, true, false, ◌&&◌, cond, eqb, List, [], ◌∷◌, ◌++◌, length, Option, Some, None, inl, inr, refl, sym, ap, ◌∙◌, subst, append-nil, arith}
+use Rattle.std.proofs.Common.{◌≡◌, ℕ, ◌+◌, ◌≤◌, Bool, true, false, ◌&&◌, cond, eqb, List, [], ◌∷◌, ◌++◌, length, Option, Some, None, inl, inr, refl, sym, ap, ◌∙◌, subst, arith}
 use Rattle.std.proofs.lemmas.Bool.Decides.{nat_tests}
 use Rattle.tp_list.specs.Members.{In}
 use Rattle.tp_opid.specs.declared.actor.Actor.{Actor}
 use Rattle.tp_opid.specs.declared.hash.Hash.{Hash}
 use Rattle.tp_opid.specs.declared.op_id.OpId.{OpId}
 use Rattle.tp_opid.specs.Insert.{Insert}
-use Rattle.tp_opid.specs.Same.{same_actor}
 use Rattle.tp_opid.proofs.Orders.{same_actor-same}
 use Rattle.tp_change.specs.declared.parts.ChangeParts.{ChangeParts}
 use Rattle.tp_change.specs.ChangeHash.{hash_of}
@@ -18,7 +17,6 @@ use Rattle.tp_rga.proofs.Sets.{In-append}
 use Rattle.tp_text.specs.Applying.{Extends, AllUnder}
 use Rattle.tp_text.proofs.Numbered.{AllUnder-ops, AllUnder-up, Numbered-ops_of, length-ops_of, inserts-push, deletes-push}
 use Rattle.tp_text.proofs.Checked.{refers-same}
-use Rattle.tp_textpeer.specs.declared.error.ShowFault.{ShowFault}
 use Rattle.tp_textpeer.specs.declared.error.ShowFault.TheVariants.{NotChain, BadSeq, BadStart, BadReference}
 use Rattle.tp_textpeer.specs.Log.{first_actor, last_hash, is_by, depends_on, link_fault}
 use Rattle.tp_textpeer.specs.Chain.{Remembers, AllBelowCounter}

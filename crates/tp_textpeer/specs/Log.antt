@@ -55,10 +55,10 @@ unfoldable pub link_fault : List ChangeParts → ChangeParts → Option ShowFaul
 link_fault C c =
     cond (is_by (first_actor C) c.actor && depends_on (last_hash C) c.deps)
     (cond (c.seq == length C + 1)
-     (cond (c.start == next_counter C)
-      (cond (refers (inserts C) (ops_of c)) None (Some BadReference))
-      (Some BadStart))
-     (Some BadSeq))
+    (cond (c.start == next_counter C)
+    (cond (refers (inserts C) (ops_of c)) None (Some BadReference))
+    (Some BadStart))
+    (Some BadSeq))
     (Some NotChain)
 
 -- Each change may follow those of `before` and those of the list that stand before it.

@@ -51,7 +51,11 @@ fn is_chained(author: Option<Actor>, last: Option<Hash>, change: &Change) -> boo
 }
 
 // Puts in the next change, where it may follow those that came before it, of which there are `count`.
-pub(crate) fn admit<S: Sequence>(chain: &mut Chain<S>, count: u64, change: &Change) -> Result<(), ShowFault>
+pub(crate) fn admit<S: Sequence>(
+    chain: &mut Chain<S>,
+    count: u64,
+    change: &Change,
+) -> Result<(), ShowFault>
     requires below { AllBelowCounter (S.placed chain.old.sequence) chain.old.next }
     requires count { count + 1 < 2 ^ 64 }
     ensures below { OnOk result (AllBelowCounter (S.placed chain.new.sequence) chain.new.next) }

@@ -36,7 +36,7 @@ fn step<S: Sequence, R: Read>(
         → Stands whole (R.remaining reader.old) count C
         → Remembers C (S.placed chain.old.sequence) (S.removals chain.old.sequence) chain.old.author chain.old.last chain.old.next
         → (c : ChangeParts) × Stands whole (R.remaining reader.new) (count + 1) (C ++ c ∷ [])
-          × Remembers (C ++ c ∷ []) (S.placed chain.new.sequence) (S.removals chain.new.sequence) chain.new.author chain.new.last chain.new.next) }
+        × Remembers (C ++ c ∷ []) (S.placed chain.new.sequence) (S.removals chain.new.sequence) chain.new.author chain.new.last chain.new.next) }
     ensures ended { IfOk result (λ more. more ≡ false → IsAtEnd (R.remaining reader.old) × (chain.new ≡ chain.old)) }
     ensures err { IfErr result (λ f. IsOutside f ⊎ ((whole : Option (List ℕ)) (C : List ChangeParts)
         → Stands whole (R.remaining reader.old) count C
@@ -124,7 +124,11 @@ fn text_of_log<S: Sequence, R: Read>(alloc: Global, reader: &mut R) -> Result<St
 /// reader or the writer failed) say nothing of the log, and have the number 0. After `Io` the writer may hold a part.
 ///
 /// The log is read once, change by change, and of each change only its elements are kept.
-pub fn show<R: Read, W: Write>(alloc: Global, reader: &mut R, writer: &mut W) -> Result<(), ShowError>
+pub fn show<R: Read, W: Write>(
+    alloc: Global,
+    reader: &mut R,
+    writer: &mut W,
+) -> Result<(), ShowError>
     // What is shown is the text of the changes whose log the reader had.
     ensures shown { OnOk result (IfSome (R.remaining reader.old)
         (λ bytes. Shows bytes (W.contents writer.old) (W.contents writer.new))) }

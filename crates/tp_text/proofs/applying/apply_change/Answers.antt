@@ -1,6 +1,5 @@
-use Rattle.std.proofs.Common.{◌≡◌, ◌+◌, ◌≤◌, ◌∙◌, ◌++◌, [], ◌∷◌, List, length, ap, sym, subst, arith, append_assoc}
+use Rattle.std.proofs.Common.{◌≡◌, ◌+◌, ◌∙◌, ◌++◌, [], ◌∷◌, length, ap, sym, subst, arith, append_assoc}
 use Rattle.std.proofs.lemmas.List.{length-append}
-use Rattle.tp_change.specs.declared.op.Op.{Op}
 use Rattle.tp_change.specs.Elements.{deletes_in}
 use Rattle.tp_text.specs.Applying.{CanApply}
 use Rattle.tp_text.proofs.Applied.{CanApply-rest, Extends-join, deletes_in-append}
@@ -24,8 +23,8 @@ loop-op-preserved g c =
       enough = let a = c.loop-op.invariant.enough in let b = c.apply_op.ensures.room in omega arith;
       elements = Extends-join start before after done (op ∷ []) c.loop-op.invariant.elements c.apply_op.ensures.elements;
       deletes =
-        c.apply_op.ensures.removals ∙ ap (λ l. l ++ deletes_in (op ∷ [])) c.loop-op.invariant.deletes
-        ∙ append_assoc (g.S.Sequence.removals c.args.sequence.now) (deletes_in done) (deletes_in (op ∷ []))
-        ∙ ap (λ l. g.S.Sequence.removals c.args.sequence.now ++ l) (sym (deletes_in-append done (op ∷ [])));
+          c.apply_op.ensures.removals ∙ ap (λ l. l ++ deletes_in (op ∷ [])) c.loop-op.invariant.deletes
+          ∙ append_assoc (g.S.Sequence.removals c.args.sequence.now) (deletes_in done) (deletes_in (op ∷ []))
+          ∙ ap (λ l. g.S.Sequence.removals c.args.sequence.now ++ l) (sym (deletes_in-append done (op ∷ [])));
       used = let a = c.loop-op.invariant.used in let b = c.apply_op.ensures.room in omega arith;
     }

@@ -1,4 +1,4 @@
-use Rattle.std.proofs.Common.{◌≡◌, ◌+◌, ◌∙◌, ◌++◌, [], ◌∷◌, ℕ, true, List, length, ap, sym, subst, arith, append_assoc, append-nil}
+use Rattle.std.proofs.Common.{◌≡◌, ◌+◌, ◌∙◌, ◌++◌, [], ◌∷◌, true, length, ap, sym, subst, arith, append_assoc, append-nil}
 use Rattle.std.proofs.lemmas.List.{length-append}
 use Rattle.tp_change.specs.Operations.{ops_of, id_of}
 use Rattle.tp_change.specs.Elements.{deletes_in, refers}
@@ -56,7 +56,7 @@ loop-op-preserved g c =
       refers_left = c.loop-op.invariant.refers_left ∙ ap (refers before) left ∙ refers-next before after op rest there grown;
       elements = Extends-join start before after done (op ∷ []) c.loop-op.invariant.elements grown;
       deletes =
-        c.apply_op.ensures.removals ∙ ap (λ l. l ++ deletes_in (op ∷ [])) (c.reserve.ensures.removals ∙ c.loop-op.invariant.deletes)
-        ∙ append_assoc (removals c.args.sequence.now) (deletes_in done) (deletes_in (op ∷ []))
-        ∙ ap (λ l. removals c.args.sequence.now ++ l) (sym (deletes_in-append done (op ∷ [])));
+          c.apply_op.ensures.removals ∙ ap (λ l. l ++ deletes_in (op ∷ [])) (c.reserve.ensures.removals ∙ c.loop-op.invariant.deletes)
+          ∙ append_assoc (removals c.args.sequence.now) (deletes_in done) (deletes_in (op ∷ []))
+          ∙ ap (λ l. removals c.args.sequence.now ++ l) (sym (deletes_in-append done (op ∷ [])));
     }

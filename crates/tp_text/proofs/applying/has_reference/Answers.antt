@@ -1,5 +1,5 @@
-use Rattle.std.proofs.Common.{◌≡◌, ◌∙◌, sym}
-use Rattle.tp_change.specs.Elements.{refers, is_inserted}
+use Rattle.std.proofs.Common.{◌∙◌}
+use Rattle.tp_change.specs.Elements.{is_inserted}
 use Rattle.tp_text.proofs.Numbered.{is_inserted-test, and_last}
 use Rattle.tp_text.proofs.applying.has_reference.Goals as goal
 

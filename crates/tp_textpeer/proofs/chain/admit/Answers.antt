@@ -1,8 +1,6 @@
-use Rattle.std.proofs.Common.{◌≡◌, ◌+◌, ◌≤◌, ◌&&◌, ℕ, true, false, cond, eqb, length, Some, None, inr, sym, ap, ◌∙◌, subst, arith}
-use Rattle.tp_change.specs.Operations.{ops_of}
-use Rattle.tp_change.specs.Elements.{inserts, refers, next_counter}
+use Rattle.std.proofs.Common.{◌≡◌, ◌+◌, true, false, cond, length, Some, None, inr, sym, ap, ◌∙◌}
+use Rattle.tp_change.specs.Elements.{next_counter}
 use Rattle.tp_textpeer.specs.declared.error.ShowFault.TheVariants.{BadReference}
-use Rattle.tp_textpeer.specs.Log.{is_by, depends_on, link_fault}
 use Rattle.tp_textpeer.proofs.Links.{not_equal, are_equal, link_not_chain, link_bad_seq, link_bad_start, link_refers, Remembers-push, AllBelowCounter-push, chain_test, by_chain, refers_test}
 use Rattle.tp_textpeer.proofs.chain.admit.Goals as goal
 
@@ -44,11 +42,10 @@ returns-clause-ok g c C count kept =
     let chained = sym c.if-not-is_chained.ensures in
     let start : change.start ≡ c.args.chain.now.next = sym c.start.ensures ∙ c.if-start-chain.false in
     let grown = c.in_ok-apply_checked.ensures.elements c.if-not-branch.false in
-    let removed = c.in_ok-apply_checked.ensures.removals c.if-not-branch.false in
-    (
+    let removed = c.in_ok-apply_checked.ensures.removals c.if-not-branch.false in (
       link_refers C change (chain_test C change _ _ _ _ _ true kept chained)
-      (are_equal change.seq (length C + 1) (sym c.seq.ensures ∙ c.if-seq-count.false ∙ ap (λ n. n + 1) (sym count)))
-      (are_equal change.start (next_counter C) (start ∙ kept.next))
-      ∙ ap (λ b. cond b None (Some BadReference)) (refers_test C change _ _ _ _ _ c.in_ok-apply_checked.field-0 kept c.in_ok-apply_checked.ensures.refers ∙ c.if-not-branch.false),
+          (are_equal change.seq (length C + 1) (sym c.seq.ensures ∙ c.if-seq-count.false ∙ ap (λ n. n + 1) (sym count)))
+          (are_equal change.start (next_counter C) (start ∙ kept.next))
+          ∙ ap (λ b. cond b None (Some BadReference)) (refers_test C change _ _ _ _ _ c.in_ok-apply_checked.field-0 kept c.in_ok-apply_checked.ensures.refers ∙ c.if-not-branch.false),
       rw (c.next_start-chain.ensures, c.actor.ensures, c.hash.ensures.hash) (Remembers-push C change _ _ _ _ _ _ _ c.hash.ensures.limits.start_from (by_chain _ _ chained) start kept grown removed),
     )

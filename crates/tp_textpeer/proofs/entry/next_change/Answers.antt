@@ -1,7 +1,5 @@
 use Rattle.std.proofs.Common.{inl, inr}
-use Rattle.std.specs.Prelude.{IfSome}
-use Rattle.tp_textpeer.specs.Log.{HasLength}
-use Rattle.tp_textpeer.proofs.Entries.{bad_behind, entry_joined}
+use Rattle.tp_textpeer.proofs.Entries.{bad_behind}
 use Rattle.tp_textpeer.proofs.entry.next_change.Goals as goal
 
 pub returns-in-Err-clause-err : goal.returns-in-Err-clause-err

@@ -1,4 +1,4 @@
-use Rattle.std.proofs.Common.{◌≡◌, ◌<◌, ◌≤◌, ◌∙◌, ap, length, inr, sym, arith}
+use Rattle.std.proofs.Common.{◌∙◌, ap, inr, sym, arith}
 use Rattle.std.specs.Int.{w32, from_be_bytes}
 use Rattle.tp_textpeer.proofs.Entries.{bad_short, bad_sized, bad_zero, bad_limit, some_by_test}
 use Rattle.tp_textpeer.proofs.entry.next_len.Goals as goal

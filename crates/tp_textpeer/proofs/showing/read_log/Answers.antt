@@ -1,6 +1,4 @@
-use Rattle.std.proofs.Common.{◌≡◌, List, [], Some, None, refl, sym, subst, inl, inr, ap}
-use Rattle.std.specs.Prelude.{IfSome}
-use Rattle.std.proofs.lemmas.List.{nil_from_length}
+use Rattle.std.proofs.Common.{List, [], sym, subst, inl, inr}
 use Rattle.tp_change.specs.declared.parts.ChangeParts.{ChangeParts}
 use Rattle.tp_textpeer.specs.ShowFault.{IsOutside}
 use Rattle.tp_textpeer.specs.Log.{IsLog, IsFault}
@@ -35,8 +33,8 @@ returns-in-Err-clause-err g c =
     elim c.at_change.ensures.inside [
       | inl outside ↦ inl (subst IsOutside (sym same) outside, c.at_change.ensures.outside outside)
       | inr number ↦ elim c.in-Err.ensures.err [
-          | inl outside ↦ inl (subst IsOutside (sym same) outside, c.at_change.ensures.outside outside)
-          | inr bad ↦ inr (IfSome-map known (λ b. IsFault b c.loop-count.count c.in-Err.fault) (λ b. IsFault b c.at_change.result.change c.at_change.result.fault)
-              (λ b is. rw (number, same) is) (bad known log.0 log.1 log.2))
-        ]
+        | inl outside ↦ inl (subst IsOutside (sym same) outside, c.at_change.ensures.outside outside)
+        | inr bad ↦ inr (IfSome-map known (λ b. IsFault b c.loop-count.count c.in-Err.fault) (λ b. IsFault b c.at_change.result.change c.at_change.result.fault)
+            (λ b is. rw (number, same) is) (bad known log.0 log.1 log.2))
+      ]
     ]

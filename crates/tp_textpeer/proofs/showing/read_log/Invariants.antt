@@ -12,5 +12,5 @@ invariant-loop-count g l =
     record {
       below : AllBelowCounter placed l.chain.next;
       log : (C : List ChangeParts) × Stands (g.R.Read.remaining l.fn.reader) (g.R.Read.remaining l.reader) l.count C
-        × Remembers C placed removals l.chain.author l.chain.last l.chain.next;
+          × Remembers C placed removals l.chain.author l.chain.last l.chain.next;
     }

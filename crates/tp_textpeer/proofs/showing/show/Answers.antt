@@ -1,5 +1,4 @@
 use Rattle.std.proofs.Common.{List, inl, inr}
-use Rattle.std.specs.Prelude.{IfSome}
 use Rattle.tp_change.specs.declared.parts.ChangeParts.{ChangeParts}
 use Rattle.tp_textpeer.specs.ShowFault.{IsOutside}
 use Rattle.tp_textpeer.specs.Log.{IsLog, IsFault}
