@@ -133,7 +133,7 @@ pub record SeqsRun (C : List ChangeParts) : Type 0 where
   pub bounded : (c : ChangeParts) → In c C → c.seq ≤ count_by c.actor C
   pub there : (a : Actor) (s : ℕ) → 1 ≤ s → s ≤ count_by a C → (c : ChangeParts) × In c C × (same_actor c.actor a ≡ true) × (c.seq ≡ s)
 
-In-clashes : (C : List ChangeParts) (c d : ChangeParts) → In d C → same_actor d.actor c.actor ≡ true → d.seq ≡ c.seq → clashes C c ≡ true
+pub In-clashes : (C : List ChangeParts) (c d : ChangeParts) → In d C → same_actor d.actor c.actor ≡ true → d.seq ≡ c.seq → clashes C c ≡ true
 In-clashes [] c d i s e = absurd i
 In-clashes (x ∷ C) c d (inl z) s e =
     or_left (same_actor x.actor c.actor && (x.seq == c.seq)) (clashes C c)

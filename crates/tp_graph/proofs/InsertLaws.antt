@@ -244,7 +244,7 @@ pub inserts_id-is : (c : ChangeParts) (id : OpId) → is_inserted (inserts_in (o
 unfolding ops_of
 inserts_id-is c id = is_inserted-covers c.actor c.start c.records id
 
-covers-low : (n : ℕ) (rs : List Record) (k : ℕ) → k < n → covers n rs k ≡ false
+pub covers-low : (n : ℕ) (rs : List Record) (k : ℕ) → k < n → covers n rs k ≡ false
 covers-low n [] k h = refl
 covers-low n (Insert after text ∷ rs) k h = let rest = covers-low (n + length text) rs k (omega arith) in grind (arith, nat_tests)
 covers-low n (Delete target ∷ rs) k h = covers-low (n + 1) rs k (omega arith)

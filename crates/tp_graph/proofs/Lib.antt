@@ -17,3 +17,6 @@ pub mod CountLaws
 pub mod TreeLaws
 pub mod SetLaws
 pub mod PlaceLists
+pub mod FirstFaults
+pub mod LatestLaws
+pub mod BackLaws

@@ -20,7 +20,9 @@ use Rattle.tp_graph.proofs.Tests.{truth, never, not_true, neither_left, neither_
 use Rattle.tp_graph.proofs.NamedLaws.{In-has, has-In, names-append, names-In}
 use Rattle.tp_graph.proofs.PastLaws.{kept, left_out}
 use Rattle.tp_graph.proofs.PlacesLaws.{place_from-low}
-use Rattle.tp_graph.proofs.SoundLaws.{sound-induct, DepsFirst}
+use Rattle.tp_graph.specs.Heads.{heads}
+use Rattle.tp_graph.proofs.HeadsLaws.{past-heads}
+use Rattle.tp_graph.proofs.SoundLaws.{sound-induct, DepsFirst, deps_first}
 
 pub length-marks : (C : List ChangeParts) (H : List Hash) → length (marks C H) ≡ length C
 length-marks [] H = refl
@@ -224,7 +226,7 @@ follow_on A c D H o e =
 
 -- ---- the same by places
 
-split_at : (C : List ChangeParts) (m : ℕ) (c : ChangeParts) → slice_get C m ≡ Some c → (A : List ChangeParts) × (D : List ChangeParts) × (C ≡ A ++ c ∷ D) × (take m C ≡ A) × (take (suc m) C ≡ A ++ c ∷ []) × (drop m C ≡ c ∷ D) × (drop (suc m) C ≡ D)
+pub split_at : (C : List ChangeParts) (m : ℕ) (c : ChangeParts) → slice_get C m ≡ Some c → (A : List ChangeParts) × (D : List ChangeParts) × (C ≡ A ++ c ∷ D) × (take m C ≡ A) × (take (suc m) C ≡ A ++ c ∷ []) × (drop m C ≡ c ∷ D) × (drop (suc m) C ≡ D)
 split_at [] m c e = cc
 split_at (x ∷ C) zero c e = let s : x ≡ c = cc in rw s ([], C, refl, refl, refl, refl, refl)
 split_at (x ∷ C) (suc m) c e =
@@ -302,3 +304,30 @@ walk_starts C H xs ys n e f g =
     let back : take n (xs ++ drop (length xs) ys) ≡ xs = written_back xs ys n (whole ∙ sym long) e in
     let none : length C ≡ length C - 0 = omega arith in
     (back ∙ walked-start C H xs (g ∙ ap (marked_more H C) f) ∙ ap (walked C H) none, ap length back ∙ whole)
+
+-- ---- the past of the heads
+
+length-past : (C : List ChangeParts) (H : List Hash) → length (past C H) ≤ length C
+length-past [] H = omega arith
+length-past (c ∷ C) H =
+    let h = length-past C H in
+    elim (names H c || is_needed (past C H) c) as (λ b. length (cond b (c ∷ past C H) (past C H)) ≤ length (c ∷ C)) [ true ↦ omega arith | false ↦ omega arith ]
+
+-- where the past is the whole, every change is marked
+all_marked : (C : List ChangeParts) (H : List Hash) → past C H ≡ C → marks C H ≡ replicate (length C) true
+all_marked [] H e = refl
+all_marked (c ∷ C) H e =
+    elim (truth (names H c || is_needed (past C H) c)) [
+      | inl t ↦
+          let rest : past C H ≡ C = tail_of (past C H) C (sym (kept H c (past C H) t) ∙ e) in
+          ap (λ b. b ∷ marks C H) t ∙ ap (λ l. true ∷ l) (all_marked C H rest)
+      | inr f ↦
+          let longer : length (past C H) ≡ suc (length C) = ap length (sym (left_out H c (past C H) f) ∙ e) in
+          let fewer : length (past C H) ≤ length C = length-past C H in
+          absurd (omega arith)
+    ] where
+      tail_of : (xs ys : List ChangeParts) → (c ∷ xs) ≡ (c ∷ ys) → xs ≡ ys
+      tail_of xs ys h = cc
+
+pub marks-heads : (C : List ChangeParts) → Sound C → marks C (heads C) ≡ replicate (length C) true
+marks-heads C s = all_marked C (heads C) (past-heads C (deps_first C s))

@@ -291,3 +291,12 @@ tree_step C c s t f =
 -- the inserts of a sound list are a tree
 pub inserts_tree : (C : List ChangeParts) → Sound C → IsTree (inserts C)
 inserts_tree = sound-induct (λ C. IsTree (inserts C)) (record { once = λ a b i j e. absurd i; placed = λ e i. absurd i }) tree_step
+
+-- each insert of a list stands below the next counter
+pub inserts-below_next : (C : List ChangeParts) (x : element_of.Insert) → In x (inserts C) → x.id.counter < next_counter C
+inserts-below_next C x i =
+    let w = inserts-In C x i in
+    let r = inserts-within w.0 x w.2 in
+    let high : x.id.counter < w.0.start + op_count w.0 = r.high in
+    let above : w.0.start + op_count w.0 ≤ next_counter C = next_counter-above C w.0 w.1 in
+    omega arith

@@ -6,12 +6,13 @@ ghost use Rattle.tp_list.specs.Members.{In};
 ghost use Rattle.tp_change.specs.ChangeHash.{hash_of};
 ghost use Rattle.tp_graph.specs.Named as named;
 ghost use Rattle.tp_graph.specs.Heads as head;
-ghost use Rattle.tp_graph.specs.Fit.{cause};
+ghost use Rattle.tp_graph.specs.Fit.{cause, most_changes};
+ghost use Rattle.tp_graph.specs.Marks.{marks};
 ghost use Rattle.tp_graph.specs.Places.{place_from};
 ghost use Rattle.tp_graph.specs.Sound.{Sound};
 ghost use Rattle.tp_graph.specs.Answers.{Answers, IsCause};
 ghost use Rattle.tp_graph.specs.GraphState.{most_waiting};
-ghost use Rattle.tp_graph.specs.Since.{past_places, since, IsMissing};
+ghost use Rattle.tp_graph.specs.Since.{past_places, since, skip, IsMissing};
 ghost use Rattle.tp_list.specs.Rising.{IsRising};
 ghost use Rattle.tp_opid.specs.Order.{hash_cmp};
 ghost use Rattle.tp_opid.specs.declared.hash.Hash.{Hash};
@@ -158,7 +159,8 @@ impl Graph {
 
     /// Whether the change can enter: `Ok`, or why not. It may be refused as `OutOfMemory` whatever the change.
     ///
-    /// One walk back over the applied changes, with a byte for each.
+    /// A byte for each applied change. Where the dependencies are the heads, some passes over the applied changes;
+    /// elsewhere one walk back over them as well, with a look-up for each dependency.
     pub fn check(&self, change: &Change) -> Result<(), GraphError>
         ensures { Answers result (cause self.now.applied change.now) }
     {
@@ -166,6 +168,7 @@ impl Graph {
             self.alloc,
             self.applied.as_slice(),
             self.ends.as_slice(),
+            self.heads.as_slice(),
             &self.index,
             change,
         )
@@ -252,10 +255,26 @@ impl Graph {
         self.waiting.remove(i)
     }
 
+    // Marks for the past of those of the hashes that are known.
+    fn marks(&self, hashes: &[Hash]) -> Result<Vec<bool>, AllocError>
+        ensures marks { IfOk result (λ v. v.items ≡ marks self.now.applied hashes.now) }
+        ensures len { IfOk result (λ v. length v.items ≡ length self.now.applied) }
+        ensures few { length self.now.applied ≤ most_changes }
+        ensures since { IfOk result (λ v. skip v.items self.now.applied ≡ since self.now.applied hashes.now) }
+    {
+        walk::marks_of(
+            self.alloc,
+            self.applied.as_slice(),
+            &self.index,
+            self.heads.as_slice(),
+            hashes,
+        )
+    }
+
     /// The past of the hashes: the changes that have them and all that these depend on, as places. A hash that no
     /// applied change has is refused as `UnknownHead`, and the only other refusal is `OutOfMemory`.
     ///
-    /// One walk back over the applied changes, with a byte for each.
+    /// One walk back over the applied changes, with a byte for each; none where the hashes are the heads.
     pub fn past(&self, hashes: &[Hash]) -> Result<Past, GraphError>
         ensures places { IfOk result (λ places. places ≡ past_places self.now.applied hashes.now) }
         ensures unknown { (result ≡ Err GraphError.UnknownHead) ↔ (named.has_all self.now.applied hashes.now ≡ false) }
@@ -264,19 +283,19 @@ impl Graph {
         if !walk::has_all(self.applied.as_slice(), &self.index, hashes) {
             return Err(GraphError::UnknownHead);
         }
-        let marks = walk::marks_of(self.alloc, self.applied.as_slice(), &self.index, hashes)?;
+        let marks = self.marks(hashes)?;
         Ok(Past::new(places_of(self.alloc, &marks)?))
     }
 
     /// Copies of the applied changes outside the past of those hashes that are known, in applied order. The only
     /// refusal is `OutOfMemory`.
     ///
-    /// One walk back over the applied changes, with a byte for each.
+    /// One walk back over the applied changes, with a byte for each; none where the hashes are the heads.
     pub fn since(&self, hashes: &[Hash]) -> Result<Vec<Change>, GraphError>
         ensures changes { IfOk result (λ v. v.items ≡ since self.now.applied hashes.now) }
         ensures err { IsOkUnless result GraphError.OutOfMemory }
     {
-        let marks = walk::marks_of(self.alloc, self.applied.as_slice(), &self.index, hashes)?;
+        let marks = self.marks(hashes)?;
         unmarked(self.alloc, self.applied.as_slice(), &marks)
     }
 

@@ -46,13 +46,13 @@ fn inserts_id(change: &Change, end: u64, id: &OpId) -> bool
     ensures { result ≡ made.is_inserted (made.inserts_in (ops_of change.now)) id.now }
 {
     let _hash = change.hash();
-    if !change.actor().is(&id.actor) {
+    if end <= id.counter {
         return false;
     }
     if id.counter < change.start() {
         return false;
     }
-    if end <= id.counter {
+    if !change.actor().is(&id.actor) {
         return false;
     }
     covers(change.records(), change.start(), id.counter)
@@ -134,14 +134,16 @@ fn inserts_at(applied: &[Change], ends: &[u64], marks: &[bool], place: usize, id
     inserts_id(&applied[place], ends[place], id)
 }
 
-// Whether one of the marked changes inserts the element with the identifier.
+// Whether one of the marked changes inserts the element with the identifier. One pass from the end, as far as that
+// change.
 fn is_inserted(applied: &[Change], ends: &[u64], marks: &[bool], id: &OpId) -> bool
     requires ends { ends.now ≡ ends_of applied.now }
     requires marks { length marks.now ≡ length applied.now }
     ensures { result ≡ made.is_inserted (made.inserts (pick marks.now applied.now)) id.now }
 {
-    for place in 0..applied.len() {
-        if inserts_at(applied, ends, marks, place, id) {
+    let count = applied.len();
+    for passed in 0..count {
+        if inserts_at(applied, ends, marks, count - 1 - passed, id) {
             return true;
         }
     }
@@ -166,6 +168,9 @@ fn is_known(
         ≡ made.is_inserted (made.inserts_in (ops_from actor.now first before.now) ++ made.inserts (pick marks.now applied.now)) id.now }
 {
     if !actor.is(&id.actor) {
+        return is_inserted(applied, ends, marks, id);
+    }
+    if id.counter < first {
         return is_inserted(applied, ends, marks, id);
     }
     if covers(before, first, id.counter) {

@@ -17,6 +17,7 @@ ghost use Rattle.tp_change.specs.declared.parts.ChangeParts.{ChangeParts};
 ghost use Rattle.tp_change.specs.ChangeHash.{hash_of};
 ghost use Rattle.tp_change.specs.Operations.{ops_of};
 ghost use Rattle.tp_graph.specs.declared.error.GraphError.{GraphError};
+ghost use Rattle.tp_graph.specs.declared.error.GraphError.TheVariants.{Known, MissingDeps};
 ghost use Rattle.tp_graph.specs.Named.{has, has_all};
 ghost use Rattle.tp_graph.specs.Reach.{InPast};
 ghost use Rattle.tp_graph.specs.Past.{past};
@@ -24,8 +25,38 @@ ghost use Rattle.tp_graph.specs.Heads.{heads, without};
 ghost use Rattle.tp_change.specs.Elements.{inserts_in, inserts, refers, next_counter};
 ghost use Rattle.tp_graph.specs.Fit.{misfit, cause, most_changes, clashes, count_by};
 ghost use Rattle.tp_graph.specs.Since.{since, past_places};
-ghost use Rattle.tp_graph.specs.Sound.{Sound, Fits};
+ghost use Rattle.tp_graph.specs.Sound.{SoundAfter, Sound, Fits};
 ghost use Rattle.tp_graph.specs.Tree.{IsTree, IsThere, CanInsert};
+
+/// The rest of a sound list is sound behind its front.
+pub fn rest_is_sound()
+    ensures { (C D : List ChangeParts) → Sound (C ++ D) → SoundAfter C D }
+{}
+
+/// A sound list with a list that is sound behind it is sound.
+pub fn front_and_rest_are_sound()
+    ensures { (C D : List ChangeParts) → Sound C → SoundAfter C D → Sound (C ++ D) }
+{}
+
+/// A change is known exactly where one of the list has its hash.
+pub fn known_where_there()
+    ensures { (C : List ChangeParts) (c : ChangeParts) → (misfit C c ≡ Some Known) ↔ (has C (hash_of c) ≡ true) }
+{}
+
+/// A change lacks dependencies exactly where it is new and one of them isn't there.
+pub fn waits_where_a_dependency_lacks()
+    ensures { (C : List ChangeParts) (c : ChangeParts) → (misfit C c ≡ Some MissingDeps) ↔ ((has C (hash_of c) ≡ false) × (has_all C c.deps ≡ false)) }
+{}
+
+/// Inserts depend on the changes as a set.
+pub fn inserts_of_a_set()
+    ensures { (C D : List ChangeParts) → AllIn C D → AllIn (inserts C) (inserts D) }
+{}
+
+/// Each insert of a list has a counter below the next one.
+pub fn inserts_stand_below_the_next_counter()
+    ensures { (C : List ChangeParts) (x : element_of.Insert) → In x (inserts C) → x.id.counter < next_counter C }
+{}
 
 /// A front of a sound list is sound.
 pub fn front_is_sound()

@@ -4,6 +4,7 @@ ghost use Rattle.std.specs.Prelude.{◌≡◌, ◌↔◌, ◌+◌, ◌<◌, [], 
 ghost use Rattle.tp_list.specs.Members.{In};
 ghost use Rattle.tp_change.specs.ChangeHash.{hash_of};
 ghost use Rattle.tp_graph.specs.Named as named;
+ghost use Rattle.tp_graph.specs.Heads as head;
 ghost use Rattle.tp_graph.specs.Places.{place_from, NotesFrom, HasAt};
 ghost use Rattle.tp_graph.specs.Marks.{marks, marked_more, pick, walked};
 ghost use Rattle.tp_graph.specs.Past.{past};
@@ -116,8 +117,8 @@ fn follow(applied: &[Change], index: &Index, marks: &mut [bool], place: usize, h
     }
 }
 
-/// Marks for the past of the hashes: one walk back over the changes.
-pub(crate) fn marks_of(
+// Marks for the past of the hashes, by one walk back over the changes.
+fn walk_back(
     alloc: Global,
     applied: &[Change],
     index: &Index,
@@ -137,4 +138,43 @@ pub(crate) fn marks_of(
         follow(applied, index, &mut marks, count - 1 - passed, hashes);
     }
     Ok(marks)
+}
+
+/// Whether the two lists of hashes are one.
+pub(crate) fn same_hashes(xs: &[Hash], ys: &[Hash]) -> bool
+    ensures { IsTrue result → xs.now ≡ ys.now }
+{
+    if xs.len() != ys.len() {
+        return false;
+    }
+    for i in 0..xs.len() {
+        if !xs[i].is(&ys[i]) {
+            return false;
+        }
+    }
+    true
+}
+
+/// Marks for the past of the hashes. Where they are the heads, every change is marked, with no walk.
+pub(crate) fn marks_of(
+    alloc: Global,
+    applied: &[Change],
+    index: &Index,
+    heads: &[Hash],
+    hashes: &[Hash],
+) -> Result<Vec<bool>, AllocError>
+    requires sound { Sound applied.now }
+    requires notes { NotesFrom 0 applied.now index.now }
+    requires heads { heads.now ≡ head.heads applied.now }
+    ensures marks { IfOk result (λ v. v.items ≡ marks applied.now hashes.now) }
+    ensures len { IfOk result (λ v. length v.items ≡ length applied.now) }
+    ensures past { IfOk result (λ v. pick v.items applied.now ≡ past applied.now hashes.now) }
+    ensures since { IfOk result (λ v. skip v.items applied.now ≡ since applied.now hashes.now) }
+{
+    if same_hashes(hashes, heads) {
+        let count = applied.len();
+        let marks = vec![in alloc; true; count]?;
+        return Ok(marks);
+    }
+    walk_back(alloc, applied, index, hashes)
 }

@@ -173,3 +173,12 @@ IsThere-test L x false h = (λ e. cc, λ there. absurd (IsThere-not_new L x ther
 -- what a look-up says, by its answer
 pub IsFirst-position : (L : List Insert) (x : OpId) (r : Option ℕ) → position (λ (e : Insert). id_eq e.id x) L ≡ r → IsFirst (λ (e : Insert). id_eq e.id x) L r
 IsFirst-position L x r e = subst (IsFirst (λ (w : Insert). id_eq w.id x) L) e (position-first (λ (w : Insert). id_eq w.id x) L)
+
+-- what stands at a place and has the identifier
+pub IsThere-held : (L : List Insert) (x : OpId) (i : ℕ) → i < length L → HoldsAt (λ (e : Insert). id_eq e.id x ≡ true) L i → IsThere L x
+IsThere-held [] x i lt held = absurd (omega arith)
+IsThere-held (d ∷ L) x i lt held = IsThere-found (d ∷ L) x (get_or (d ∷ L) i d) (In-get_or (d ∷ L) i d lt) (held d)
+
+-- each element has another identifier
+pub IsNew-all : (L : List Insert) (x : OpId) → All (λ (e : Insert). id_eq e.id x ≡ false) L → IsNew L x
+IsNew-all L x all e there = All-member (λ (y : Insert). id_eq y.id x ≡ false) L all e there

@@ -45,11 +45,14 @@ fn past_greater(elements: &[Insertion], from: usize, id: &OpId) -> usize
     elements.len()
 }
 
-/// Whether an element has an identifier.
+/// Whether an element has an identifier, searched from the end.
 pub fn contains(elements: &[Insertion], id: &OpId) -> bool
     ensures { MatchBool result (IsThere elements.now id.now) (IsNew elements.now id.now) }
 {
-    place_of(elements, id).is_some()
+    match last_place_of(elements, id) {
+        Some(_) => true,
+        None => false,
+    }
 }
 
 /// Whether a place is the start, or an element that is there and stands below an identifier.

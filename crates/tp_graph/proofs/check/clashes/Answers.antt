@@ -1,16 +1,10 @@
-use Rattle.std.proofs.Common.{◌∙◌, sym, ap}
-use Rattle.std.proofs.lemmas.List.{drop_all}
+use Rattle.std.proofs.Common.{◌≡◌, ◌∙◌, ap}
 use Rattle.tp_graph.specs.Fit as fit
-use Rattle.tp_graph.proofs.PickLaws.{clashes-found, clashes-on}
+use Rattle.tp_graph.proofs.LatestLaws.{clashes-reached}
 use Rattle.tp_graph.proofs.check.clashes.Goals as goal
 
-pub returns-then-clash : goal.returns-then-clash
-returns-then-clash c =
-    clashes-found c.args.applied.now c.loop-other.other-index _ c.args.change.now c.loop-other-test.true c.other-item.is c.loop-other.invariant (sym c.clash.ensures ∙ c.if-clash.true)
-
-pub loop-other-preserved : goal.loop-other-preserved
-loop-other-preserved c =
-    clashes-on c.args.applied.now c.loop-other.other-index _ c.args.change.now c.loop-other-test.true c.other-item.is c.loop-other.invariant (sym c.clash.ensures ∙ c.if-clash.false)
-
 pub returns : goal.returns
-returns c = sym (sym c.loop-other.invariant ∙ ap (λ l. fit.clashes l c.args.change.now) (drop_all c.loop-other.other-index c.args.applied.now c.loop-other-test.false))
+returns c =
+    let seq : c.seq.result ≡ c.args.change.now.seq = c.seq.ensures in
+    let count : c.count_all.result ≡ fit.count_by c.args.change.now.actor c.args.applied.now = c.count_all.ensures.count ∙ ap (λ a. fit.count_by a c.args.applied.now) c.actor.ensures in
+    rw (seq, count) (clashes-reached c.args.applied.now c.args.change.now c.requires c.hash-hash.ensures.limits.seq_from)

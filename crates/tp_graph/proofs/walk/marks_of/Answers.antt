@@ -1,23 +1,21 @@
-use Rattle.std.proofs.Common.{◌≡◌, ◌∙◌, ap, length, arith, ◌-◌}
-use Rattle.tp_graph.specs.Marks.{marked_more, pick, walked}
+use Rattle.std.proofs.Common.{◌≡◌, ◌∙◌, ap, sym, length, true}
+use Rattle.std.proofs.lemmas.List.{length-replicate}
+use Rattle.tp_graph.specs.Heads as head
+use Rattle.tp_graph.specs.Marks.{marks, pick}
 use Rattle.tp_graph.specs.Since.{skip}
+use Rattle.tp_graph.proofs.MarksLaws.{pick-marks, marks-heads}
 use Rattle.tp_graph.proofs.SinceLaws.{skip-marks}
-use Rattle.tp_graph.proofs.MarksLaws.{walk_starts, pick-marks}
 use Rattle.tp_graph.proofs.walk.marks_of.Goals as goal
 
-pub loop-passed-init : goal.loop-passed-init
-loop-passed-init c =
+pub returns-then-same_hashes : goal.returns-then-same_hashes
+returns-then-same_hashes c =
     let made = c.in_ok-marks.ensures.items_if_clones_equal (λ y e. e) in
-    let whole : c.in_ok-marks.marks.len ≡ length c.in_ok-marks.marks.items = omega (arith, c.in_ok-marks.marks.ok.0) in
-    walk_starts c.args.applied.now c.args.hashes.now c.mark.new.marks c.in_ok-marks.marks.items c.in_ok-marks.marks.len
-    whole made (c.mark.ensures ∙ ap (marked_more c.args.hashes.now c.args.applied.now) c.deref_mut.ensures.value)
-
-pub returns-clause-past : goal.returns-clause-past
-returns-clause-past c =
-    let whole : length c.args.applied.now - c.loop-passed.passed ≡ 0 = omega arith in
-    ap (λ m. pick m c.args.applied.now) (c.loop-passed.invariant.0 ∙ ap (walked c.args.applied.now c.args.hashes.now) whole) ∙ pick-marks c.args.applied.now c.args.hashes.now
-
-pub returns-clause-since : goal.returns-clause-since
-returns-clause-since c =
-    let whole : length c.args.applied.now - c.loop-passed.passed ≡ 0 = omega arith in
-    ap (λ m. skip m c.args.applied.now) (c.loop-passed.invariant.0 ∙ ap (walked c.args.applied.now c.args.hashes.now) whole) ∙ skip-marks c.args.applied.now c.args.hashes.now
+    let named : c.args.hashes.now ≡ head.heads c.args.applied.now = c.same_hashes.ensures c.if-same_hashes.true ∙ c.requires.heads in
+    let all : c.in_ok-marks.marks.items ≡ marks c.args.applied.now c.args.hashes.now =
+    made ∙ sym (ap (marks c.args.applied.now) named ∙ marks-heads c.args.applied.now c.requires.sound) in
+    record {
+      marks = all;
+      len = ap length made ∙ length-replicate (length c.args.applied.now) true;
+      past = ap (λ m. pick m c.args.applied.now) all ∙ pick-marks c.args.applied.now c.args.hashes.now;
+      since = ap (λ m. skip m c.args.applied.now) all ∙ skip-marks c.args.applied.now c.args.hashes.now;
+    }

@@ -1,0 +1,5 @@
+use Rattle.tp_graph.proofs.CountLaws.{inserts-more}
+use Rattle.tp_graph.proofs.laws.inserts_of_a_set.Goals as goal
+
+pub returns : goal.returns
+returns c = λ C D f. inserts-more C D f
