@@ -1,0 +1,104 @@
+-- What an edit answers, exit by exit.
+use Rattle.std.proofs.Common.{◌≡◌, ℕ, zero, suc, ◌+◌, ◌<◌, ◌≤◌, inr, List, length, refl, sym, ap, ◌∙◌, subst, arith}
+use Rattle.std.proofs.lemmas.List.{length-map}
+use Rattle.tp_opid.specs.declared.hash.Hash.{Hash}
+use Rattle.tp_opid.specs.declared.op_id.OpId.{OpId}
+use Rattle.tp_opid.specs.Insert.{Insert}
+use Rattle.tp_change.specs.declared.parts.ChangeParts.{ChangeParts}
+use Rattle.tp_change.specs.Elements.{next_counter}
+use Rattle.tp_rga.specs.Shown.{shown}
+use Rattle.tp_text.specs.Text.{chars_of}
+use Rattle.tp_graph.specs.Heads as head
+use Rattle.tp_graph.specs.Fit.{count_by}
+use Rattle.tp_edit.specs.declared.splice.Splice.{Splice}
+use Rattle.tp_edit.specs.Splices.{AllInRange, total_count}
+use Rattle.tp_edit.specs.EditRecords.{records_of, visible_ids}
+use Rattle.tp_document.specs.declared.error.DocError.{DocError}
+use Rattle.tp_document.specs.declared.error.DocError.TheVariants.{OutOfRange, CounterLimit, TooManyOps, TooManyHeads, UnknownHead, UnknownElement, PendingFull, HashTaken, OutOfMemory, OtherDocument, TooLong, Full, NotKept}
+use Rattle.tp_document.specs.DocState.{Holds}
+use Rattle.tp_document.specs.Editing.{Asked, AreInRange, IsEdit, AsksSome, HasCounters, HasSize, IsRefused}
+use Rattle.tp_document.specs.Making.{IsBad, IsLong, IsShut, parts_made}
+use Rattle.tp_document.proofs.ShowingLaws.{Holds-text}
+
+-- the length that the sequence knows is that of the text
+pub in_range_of : (C : List ChangeParts) (L : List Insert) (R : List (OpId × OpId)) (n : ℕ) (ss : List Splice) → Holds C L R → n ≡ length (shown R L) → AllInRange n ss → AreInRange C ss
+in_range_of C L R n ss h len range =
+    (chars_of (shown R L), Holds-text C L R h, subst (λ k. AllInRange k ss) (len ∙ sym (length-map (shown R L) (λ (x : Insert). x.ch))) range)
+
+-- refused splices are a refused edit
+pub bad_refused : (C : List ChangeParts) (L : List Insert) (R : List (OpId × OpId)) (n : ℕ) (asked : Asked) (e : DocError) → Holds C L R → n ≡ length (shown R L) → IsBad n asked.splices e → IsRefused C asked e
+bad_refused C L R n asked OutOfRange h len bad =
+    (chars_of (shown R L), Holds-text C L R h, λ range. bad (subst (λ k. AllInRange k asked.splices) (length-map (shown R L) (λ (x : Insert). x.ch) ∙ sym len) range))
+bad_refused C L R n asked TooManyOps h len bad = (in_range_of C L R n asked.splices h len bad.0, bad.1)
+bad_refused C L R n asked OutOfMemory h len bad = tt
+bad_refused C L R n asked TooManyHeads h len bad = absurd bad
+bad_refused C L R n asked CounterLimit h len bad = absurd bad
+bad_refused C L R n asked TooLong h len bad = absurd bad
+bad_refused C L R n asked Full h len bad = absurd bad
+bad_refused C L R n asked HashTaken h len bad = absurd bad
+bad_refused C L R n asked UnknownHead h len bad = bad
+bad_refused C L R n asked UnknownElement h len bad = bad
+bad_refused C L R n asked PendingFull h len bad = bad
+bad_refused C L R n asked OtherDocument h len bad = bad
+bad_refused C L R n asked NotKept h len bad = bad
+
+-- the parts that are made are those of the edit
+pub edit_made : (C : List ChangeParts) (L : List Insert) (R : List (OpId × OpId)) (asked : Asked) (seq start : ℕ) (H : List Hash) (p : ChangeParts) → Holds C L R → seq ≡ count_by asked.actor C + 1 → start ≡ next_counter C → H ≡ head.heads C → p ≡ parts_made asked seq start H (visible_ids R L) → IsEdit C asked p
+edit_made C L R asked seq start H p h numbered counted heads is = record {
+  actor = ap (λ (c : ChangeParts). c.actor) is;
+  seq = ap (λ (c : ChangeParts). c.seq) is ∙ numbered;
+  start = ap (λ (c : ChangeParts). c.start) is ∙ counted;
+  time = ap (λ (c : ChangeParts). c.time) is;
+  message = ap (λ (c : ChangeParts). c.message) is;
+  deps = ap (λ (c : ChangeParts). c.deps) is ∙ heads;
+  elements = L;
+  order = h.order;
+  records =
+      ap (λ (c : ChangeParts). c.records) is
+      ∙ ap (λ n. records_of asked.actor n (visible_ids R L) asked.splices) counted
+      ∙ ap (λ D. records_of asked.actor (next_counter C) (visible_ids D L) asked.splices) h.deletes;
+}
+
+-- a change that is too long is a refused edit
+pub long_refused : (C : List ChangeParts) (asked : Asked) (p : ChangeParts) (e : DocError) → HasCounters C asked → IsEdit C asked p → IsLong p e → IsRefused C asked e
+long_refused C asked p TooLong h is long = (h, inr (p, is, long))
+long_refused C asked p OutOfMemory h is long = tt
+long_refused C asked p OutOfRange h is long = absurd long
+long_refused C asked p TooManyOps h is long = absurd long
+long_refused C asked p TooManyHeads h is long = absurd long
+long_refused C asked p CounterLimit h is long = absurd long
+long_refused C asked p Full h is long = absurd long
+long_refused C asked p HashTaken h is long = absurd long
+long_refused C asked p UnknownHead h is long = long
+long_refused C asked p UnknownElement h is long = long
+long_refused C asked p PendingFull h is long = long
+long_refused C asked p OtherDocument h is long = long
+long_refused C asked p NotKept h is long = long
+
+-- ---- within limits, one after another
+
+pub asks_some : (C : List ChangeParts) (L : List Insert) (R : List (OpId × OpId)) (n k : ℕ) (asked : Asked) → Holds C L R → n ≡ length (shown R L) → AllInRange n asked.splices → total_count asked.splices ≡ k → k ≤ 65536 → (k ≡ 0 → ⊥) → AsksSome C asked
+asks_some C L R n k asked h len range count few some = record {
+  range = in_range_of C L R n asked.splices h len range;
+  some = above (total_count asked.splices) k count some;
+  few = subst (λ m. m ≤ 65536) (sym count) few;
+} where
+  above : (t k : ℕ) → t ≡ k → (k ≡ 0 → ⊥) → 0 < t
+  above t zero e some = absurd (some refl)
+  above t (suc k) e some = omega arith
+
+-- a graph that has no place refuses the edit
+pub shut_refused : (C : List ChangeParts) (asked : Asked) (c : ChangeParts) (e : DocError) → HasSize C asked → IsEdit C asked c → IsShut C c e → IsRefused C asked e
+shut_refused C asked c Full h is shut = (h, shut)
+shut_refused C asked c HashTaken h is shut = (h, shut.0, (c, is, shut.1))
+shut_refused C asked c OutOfMemory h is shut = tt
+shut_refused C asked c OutOfRange h is shut = absurd shut
+shut_refused C asked c TooManyOps h is shut = absurd shut
+shut_refused C asked c TooManyHeads h is shut = absurd shut
+shut_refused C asked c CounterLimit h is shut = absurd shut
+shut_refused C asked c TooLong h is shut = absurd shut
+shut_refused C asked c UnknownHead h is shut = shut
+shut_refused C asked c UnknownElement h is shut = shut
+shut_refused C asked c PendingFull h is shut = shut
+shut_refused C asked c OtherDocument h is shut = shut
+shut_refused C asked c NotKept h is shut = shut

@@ -1,0 +1,198 @@
+-- The change of an edit fits behind the changes that it is made of, and does the splices.
+use Rattle.std.proofs.Common.{take, drop, get_or, add-one, drop-cons, ◌≡◌, ℕ, ◌+◌, ◌<◌, ◌≤◌, ◌==◌, inl, inr, List, [], ◌∷◌, ◌++◌, length, true, false, ◌&&◌, cond, Option, Some, None, refl, sym, ap, ◌∙◌, subst, arith}
+use Rattle.std.proofs.lemmas.Bool.{eqb-true}
+use Rattle.std.proofs.lemmas.Bool.Decides.{nat_tests}
+use Rattle.std.proofs.lemmas.List.{length-map, take-append-drop, length-take-le}
+use Rattle.tp_list.specs.Members.{In}
+use Rattle.tp_opid.specs.declared.actor.Actor.{Actor}
+use Rattle.tp_opid.specs.declared.hash.Hash.{Hash}
+use Rattle.tp_opid.specs.Insert.{Insert}
+use Rattle.tp_opid.specs.Same.{same_actor}
+use Rattle.tp_opid.proofs.Orders.{same_actor-same}
+use Rattle.tp_change.specs.declared.record.Record.{Record}
+use Rattle.tp_change.specs.declared.parts.ChangeParts.{ChangeParts}
+use Rattle.tp_change.specs.ChangeHash.{hash_of}
+use Rattle.tp_change.specs.Elements.{inserts_in, inserts, deletes_in, deletes, refers, next_counter}
+use Rattle.tp_change.specs.Operations.{ops_of, ops_from}
+use Rattle.tp_rga.specs.Order.{IsInOrder}
+use Rattle.tp_rga.specs.Shown.{shown}
+use Rattle.tp_rga.proofs.OneOrder.{order_exists, one_order}
+use Rattle.tp_text.specs.Text.{chars_of, IsTextOf}
+use Rattle.tp_text.proofs.Numbered.{inserts-push, deletes-push}
+use Rattle.tp_graph.specs.declared.error.GraphError.TheVariants.{Full}
+use Rattle.tp_graph.specs.Named.{has, has_all}
+use Rattle.tp_graph.specs.Past.{past}
+use Rattle.tp_graph.specs.Fit.{misfit, or_full, cause, most_changes, clashes, count_by}
+use Rattle.tp_graph.specs.Sound.{Sound, Fits}
+use Rattle.tp_graph.proofs.Tests.{not_true, or_cases, both_left, both_right}
+use Rattle.tp_graph.proofs.SoundLaws.{Fits-at, misfit-from_Fits, deps_first, Sound-push}
+use Rattle.tp_graph.proofs.HeadsLaws.{has_all-heads, past-heads}
+use Rattle.tp_graph.proofs.CountLaws.{seqs_run}
+use Rattle.tp_edit.specs.declared.splice.Splice.{Splice}
+use Rattle.tp_edit.specs.Splices.{AllInRange, total_count, all_spliced, inserted, spliced}
+use Rattle.tp_edit.specs.EditRecords.{records_of, visible_ids}
+use Rattle.tp_edit.specs.EditLaw.{IsReady, DoesItsSplices, ops_of_edit}
+use Rattle.tp_edit.proofs.Edited.{edit_law}
+use Rattle.tp_document.specs.Editing.{Asked, AreInRange, IsEdit, Edited, IsDone, DoesSplices}
+use Rattle.tp_document.proofs.SoundText.{Fits-from_cause, AllUnder-inserts, IsTree-inserts, targets_there}
+use Rattle.tp_document.proofs.ShowingLaws.{one_text}
+
+-- a text to edit
+ready_of : (C : List ChangeParts) (L : List Insert) (a : Actor) → Sound C → IsInOrder (inserts C) L → IsReady (inserts C) L (deletes C) a (next_counter C)
+ready_of C L a s order = record {
+  tree = IsTree-inserts C s;
+  order = order;
+  above = AllUnder-inserts C a;
+  targets = targets_there C s;
+}
+
+-- what is in range of the text is in range of what any list of its elements shows
+pub range_of : (C : List ChangeParts) (L : List Insert) (ss : List Splice) → Sound C → IsInOrder (inserts C) L → AreInRange C ss → AllInRange (length (shown (deletes C) L)) ss
+range_of C L ss s order range =
+    let W = shown (deletes C) L in
+    let same : range.0 ≡ chars_of W = one_text C range.0 (chars_of W) s range.1 (record { elements = L; order = order; spells = refl }) in
+    subst (λ n. AllInRange n ss) (ap length same ∙ length-map W (λ (x : Insert). x.ch)) range.2
+
+does : (C : List ChangeParts) (L : List Insert) (a : Actor) (ss : List Splice) → Sound C → IsInOrder (inserts C) L → AreInRange C ss → DoesItsSplices (inserts C) L (deletes C) a (next_counter C) ss
+does C L a ss s order range = edit_law (inserts C) L (deletes C) a (next_counter C) ss (ready_of C L a s order) (range_of C L ss s order range)
+
+-- the operations of the change of an edit are those of the edit
+ops_are : (C : List ChangeParts) (asked : Asked) (c : ChangeParts) (e : IsEdit C asked c) → ops_of c ≡ ops_of_edit asked.actor (next_counter C) e.elements (deletes C) asked.splices
+unfolding ops_of
+ops_are C asked c e =
+    ap (λ a. ops_from a c.start c.records) e.actor
+    ∙ ap (λ n. ops_from asked.actor n c.records) e.start
+    ∙ ap (λ r. ops_from asked.actor (next_counter C) r) e.records
+
+-- a change with a sequence number past all of its actor's clashes with none
+clash_found : (C : List ChangeParts) (c : ChangeParts) → clashes C c ≡ true → (d : ChangeParts) × In d C × (same_actor d.actor c.actor ≡ true) × (d.seq ≡ c.seq)
+clash_found [] c h = cc
+clash_found (d ∷ C) c h =
+    elim (or_cases (same_actor d.actor c.actor && (d.seq == c.seq)) (clashes C c) h) [
+      | inl t ↦ (d, inl refl, both_left (same_actor d.actor c.actor) (d.seq == c.seq) t, eqb-true d.seq c.seq (both_right (same_actor d.actor c.actor) (d.seq == c.seq) t))
+      | inr t ↦ let w = clash_found C c t in (w.0, inr w.1, w.2, w.3)
+    ]
+
+no_clash : (C : List ChangeParts) (c : ChangeParts) → Sound C → c.seq ≡ count_by c.actor C + 1 → clashes C c ≡ false
+no_clash C c s e =
+    not_true (clashes C c) (λ t.
+    let w = clash_found C c t in
+    let who : w.0.actor ≡ c.actor = same_actor-same w.0.actor c.actor w.2 in
+    let few : w.0.seq ≤ count_by w.0.actor C = (seqs_run C s).bounded w.0 w.1 in
+    let few2 : w.0.seq ≤ count_by c.actor C = subst (λ a. w.0.seq ≤ count_by a C) who few in
+    let same : w.0.seq ≡ c.seq = w.3 in
+    absurd (omega arith))
+
+-- the change of an edit fits
+pub edit_fits : (C : List ChangeParts) (asked : Asked) (c : ChangeParts) → Sound C → IsEdit C asked c → AreInRange C asked.splices → has C (hash_of c) ≡ false → Fits C c
+edit_fits C asked c s e range new =
+    let whole : past C c.deps ≡ C = ap (past C) e.deps ∙ past-heads C (deps_first C s) in
+    let seq : c.seq ≡ count_by c.actor C + 1 = e.seq ∙ ap (λ a. count_by a C + 1) (sym e.actor) in
+    record {
+      new = new;
+      deps = ap (has_all C) e.deps ∙ has_all-heads C;
+      seq = seq ∙ ap (λ P. count_by c.actor P + 1) (sym whole);
+      start = e.start ∙ ap next_counter (sym whole);
+      refs =
+          ap (λ P. refers (inserts P) (ops_of c)) whole
+          ∙ ap (refers (inserts C)) (ops_are C asked c e)
+          ∙ (does C e.elements asked.actor asked.splices s e.order range).refers;
+      free = no_clash C c s seq;
+    }
+
+pub edit_enters : (C : List ChangeParts) (asked : Asked) (c : ChangeParts) → Sound C → IsEdit C asked c → AreInRange C asked.splices → has C (hash_of c) ≡ false → length C < most_changes → cause C c ≡ None
+unfolding cause
+edit_enters C asked c s e range new few =
+    let none : misfit C c ≡ None = misfit-from_Fits C c (edit_fits C asked c s e range new) in
+    let room : (length C == most_changes) ≡ false = below (length C) few in
+    ap (λ o. or_full o (length C == most_changes)) none ∙ ap (λ b. cond b (Some Full) None) room where
+      below : (n : ℕ) → n < most_changes → (n == most_changes) ≡ false
+      below n lt = grind (arith, nat_tests)
+
+-- the text after the change of an edit is the text before with each splice done in turn
+pub edit_text : (C : List ChangeParts) (asked : Asked) (c : ChangeParts) (t : List ℕ) → Sound C → Edited C asked c → IsTextOf C t → IsTextOf (C ++ c ∷ []) (all_spliced t asked.splices)
+edit_text C asked c t s edited text =
+    let e = edited.edit in
+    let a = asked.actor in
+    let n = next_counter C in
+    let L = e.elements in
+    let ss = asked.splices in
+    let ops = ops_of_edit a n L (deletes C) ss in
+    let done = does C L a ss s e.order edited.range in
+    let sound : Sound (C ++ c ∷ []) = Sound-push C c s (Fits-from_cause C c edited.enters) in
+    let there : inserts (C ++ c ∷ []) ≡ inserts C ++ inserts_in ops = inserts-push C c ∙ ap (λ o. inserts C ++ inserts_in o) (ops_are C asked c e) in
+    let gone : deletes (C ++ c ∷ []) ≡ deletes C ++ deletes_in ops = deletes-push C c ∙ ap (λ o. deletes C ++ deletes_in o) (ops_are C asked c e) in
+    let found = order_exists (inserts (C ++ c ∷ [])) (IsTree-inserts (C ++ c ∷ []) sound) in
+    let M = found.0 in
+    let shows : chars_of (shown (deletes C ++ deletes_in ops) M) ≡ all_spliced (chars_of (shown (deletes C) L)) ss = done.text M (subst (λ S. IsInOrder S M) there found.1) in
+    let before : t ≡ chars_of (shown (deletes C) L) = one_text C t (chars_of (shown (deletes C) L)) s text (record { elements = L; order = e.order; spells = refl }) in
+    record {
+      elements = M;
+      order = found.1;
+      spells = ap (λ u. all_spliced u ss) before ∙ sym shows ∙ ap (λ R. chars_of (shown R M)) (sym gone);
+    }
+
+-- ---- splices that ask nothing
+
+no_text : (text : List ℕ) → length text ≡ 0 → text ≡ []
+no_text [] e = refl
+no_text (x ∷ xs) e = absurd (omega arith)
+
+pub nothing_spliced : (ss : List Splice) (t : List ℕ) → total_count ss ≡ 0 → all_spliced t ss ≡ t
+nothing_spliced [] t e = refl
+nothing_spliced (s ∷ ss) t e =
+    let del : s.del ≡ 0 = omega arith in
+    let none : inserted s ≡ [] = no_text (inserted s) (omega arith) in
+    let rest : total_count ss ≡ 0 = omega arith in
+    let at : s.at + s.del ≡ s.at = omega arith in
+    let same : spliced t s.at s.del (inserted s) ≡ t =
+    ap (λ n. take s.at t ++ (inserted s ++ drop n t)) at
+    ∙ ap (λ new. take s.at t ++ (new ++ drop s.at t)) none
+    ∙ take-append-drop s.at t in
+    ap (λ u. all_spliced u ss) same ∙ nothing_spliced ss t rest
+
+pub done_text : (C D : List ChangeParts) (asked : Asked) (made : Option Hash) → Sound C → IsDone C asked D made → DoesSplices C D asked.splices
+done_text C D asked None s done t text =
+    subst (λ E. IsTextOf E (all_spliced t asked.splices)) (sym done.1) (subst (IsTextOf C) (sym (nothing_spliced asked.splices t done.0.1)) text)
+done_text C D asked (Some h) s done t text =
+    subst (λ E. IsTextOf E (all_spliced t asked.splices)) (sym done.2) (edit_text C asked done.0 t s done.1 text)
+
+-- ---- what an edit asks determines its change
+
+made_of : Actor → ℕ → ℕ → ℕ → List ℕ → List Hash → List Record → ChangeParts
+made_of a seq start time message deps records = record { actor = a; seq = seq; start = start; time = time; message = message; deps = deps; records = records }
+
+same_parts : (c d : ChangeParts) → c.actor ≡ d.actor → c.seq ≡ d.seq → c.start ≡ d.start → c.time ≡ d.time → c.message ≡ d.message → c.deps ≡ d.deps → c.records ≡ d.records → c ≡ d
+unfolding made_of
+same_parts c d a s n t m h r =
+    let one : c ≡ made_of d.actor c.seq c.start c.time c.message c.deps c.records = ap (λ x. made_of x c.seq c.start c.time c.message c.deps c.records) a in
+    let two : made_of d.actor c.seq c.start c.time c.message c.deps c.records ≡ made_of d.actor d.seq d.start c.time c.message c.deps c.records =
+    ap (λ x. made_of d.actor x c.start c.time c.message c.deps c.records) s ∙ ap (λ x. made_of d.actor d.seq x c.time c.message c.deps c.records) n in
+    let three : made_of d.actor d.seq d.start c.time c.message c.deps c.records ≡ made_of d.actor d.seq d.start d.time d.message c.deps c.records =
+    ap (λ x. made_of d.actor d.seq d.start x c.message c.deps c.records) t ∙ ap (λ x. made_of d.actor d.seq d.start d.time x c.deps c.records) m in
+    let four : made_of d.actor d.seq d.start d.time d.message c.deps c.records ≡ d =
+    ap (λ x. made_of d.actor d.seq d.start d.time d.message x c.records) h ∙ ap (λ x. made_of d.actor d.seq d.start d.time d.message d.deps x) r in
+    one ∙ two ∙ three ∙ four
+
+pub edit_determined : (C : List ChangeParts) (asked : Asked) (c d : ChangeParts) → Sound C → Edited C asked c → Edited C asked d → c ≡ d
+edit_determined C asked c d s x y =
+    let e = x.edit in
+    let f = y.edit in
+    let same = one_order (inserts C) e.elements f.elements (IsTree-inserts C s) e.order f.order in
+    same_parts c d (e.actor ∙ sym f.actor) (e.seq ∙ sym f.seq) (e.start ∙ sym f.start) (e.time ∙ sym f.time) (e.message ∙ sym f.message) (e.deps ∙ sym f.deps)
+    (e.records ∙ ap (λ L. records_of asked.actor (next_counter C) (visible_ids (deletes C) L) asked.splices) same ∙ sym f.records)
+
+-- ---- each change of a sound list enters behind those before it
+
+pub front_enters : (C : List ChangeParts) (i : ℕ) (x : ChangeParts) → Sound C → length C ≤ most_changes → i < length C → x ≡ get_or C i x → cause (take i C) x ≡ None
+unfolding cause
+front_enters C i x s few lt is =
+    let split : C ≡ take i C ++ x ∷ drop (i + 1) C =
+    sym (take-append-drop i C) ∙ ap (λ l. take i C ++ l) (rw (add-one) (drop-cons C i x lt) ∙ ap (λ (y : ChangeParts). y ∷ drop (i + 1) C) (sym is)) in
+    let none : misfit (take i C) x ≡ None = misfit-from_Fits (take i C) x (Fits-at (take i C) x (drop (i + 1) C) (subst Sound split s)) in
+    let within : i ≤ length C = omega arith in
+    let size : length (take i C) ≡ i = length-take-le i C within in
+    let room : (length (take i C) == most_changes) ≡ false = below (length (take i C)) (length C) i few lt (omega arith) in
+    ap (λ o. or_full o (length (take i C) == most_changes)) none ∙ ap (λ b. cond b (Some Full) None) room where
+      below : (n m i : ℕ) → m ≤ most_changes → i < m → n ≤ i → (n == most_changes) ≡ false
+      below n m i few lt le = grind (arith, nat_tests)

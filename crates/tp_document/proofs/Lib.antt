@@ -1,0 +1,5 @@
+pub mod SoundText
+pub mod ShowingLaws
+pub mod EditFits
+pub mod EditSizes
+pub mod EditAnswers

@@ -1,0 +1,103 @@
+-- The text that a document shows.
+use Rattle.std.proofs.Common.{◌≡◌, ℕ, ◌+◌, inl, inr, List, [], ◌∷◌, length, Bool, true, false, not, ◌&&◌, cond, Option, refl, sym, ap, ◌∙◌, subst}
+use Rattle.std.specs.Prelude.{encode_utf8_all}
+use Rattle.std.specs.List.{AllByRecursion, slice_get}
+use Rattle.std.specs.Option.{option_map}
+use Rattle.std.specs.Str.{chars, all_scalars}
+use Rattle.std.proofs.lemmas.Str.{chars-encodes}
+use Rattle.std.proofs.lemmas.Option.{slice_get-map}
+use Rattle.std.proofs.lemmas.List.{length-map}
+use Rattle.tp_list.specs.Members.{In}
+use Rattle.tp_opid.specs.declared.actor.Actor.{Actor}
+use Rattle.tp_opid.specs.declared.op_id.OpId.{OpId}
+use Rattle.tp_opid.specs.declared.op_id.Place.{Place}
+use Rattle.tp_opid.specs.declared.op_id.Place.TheVariants.{After}
+use Rattle.tp_opid.specs.Insert.{Insert}
+use Rattle.tp_change.specs.declared.record.Record.{Record}
+use Rattle.tp_change.specs.declared.record.Record.TheVariants as record_of
+use Rattle.tp_change.specs.declared.parts.ChangeParts.{ChangeParts}
+use Rattle.tp_change.specs.Operations.{id_of, run, ops_from, ops_of}
+use Rattle.tp_change.specs.Elements.{inserts_in, inserts, deletes}
+use Rattle.tp_change.specs.Limits.{IsRecord}
+use Rattle.tp_rga.specs.Shown.{is_removed, shown, shown_before}
+use Rattle.tp_rga.proofs.Sets.{In-append}
+use Rattle.tp_rga.proofs.OneOrder.{one_order}
+use Rattle.tp_text.specs.Text.{chars_of, IsTextOf}
+use Rattle.tp_text.proofs.Applied.{inserts_in-append}
+use Rattle.tp_graph.specs.Sound.{Sound}
+use Rattle.tp_graph.proofs.CountLaws.{inserts-In}
+use Rattle.tp_document.specs.DocState.{Holds, AllChanges}
+use Rattle.tp_document.specs.Showing.{HasLength, HasCharAt, HasElementAt, HasPosition}
+use Rattle.tp_document.proofs.SoundText.{IsTree-inserts}
+
+-- ---- characters are Unicode scalar values
+
+abbrev IsScalar : ℕ → Type 0
+IsScalar ch = all_scalars (ch ∷ []) ≡ true
+
+both_of : (b c : Bool) → (b && true) ≡ true → c ≡ true → (b && c) ≡ true
+both_of true c h k = k
+both_of false c h k = h
+
+first_of_two : (b c : Bool) → (b && c) ≡ true → (b && true) ≡ true
+first_of_two true c h = refl
+first_of_two false c h = h
+
+rest_of_two : (b c : Bool) → (b && c) ≡ true → c ≡ true
+rest_of_two true c h = h
+rest_of_two false c h = cc
+
+scalar_run : (a : Actor) (n : ℕ) (after : Place) (text : List ℕ) → all_scalars text ≡ true → (e : Insert) → In e (inserts_in (run a n after text)) → IsScalar e.ch
+scalar_run a n after [] all e i = absurd i
+scalar_run a n after (ch ∷ text) all e (inl same) = subst (λ (x : Insert). IsScalar x.ch) (sym same) (first_of_two _ (all_scalars text) all)
+scalar_run a n after (ch ∷ text) all e (inr i) = scalar_run a (n + 1) (After (id_of a n)) text (rest_of_two _ (all_scalars text) all) e i
+
+scalar_from : (a : Actor) (n : ℕ) (rs : List Record) → AllByRecursion IsRecord rs → (e : Insert) → In e (inserts_in (ops_from a n rs)) → IsScalar e.ch
+scalar_from a n [] is e i = absurd i
+scalar_from a n (record_of.Insert after text ∷ rs) is e i =
+    elim (In-append e (inserts_in (run a n after text)) (inserts_in (ops_from a (n + length text) rs)) (subst (λ l. In e l) (inserts_in-append (run a n after text) (ops_from a (n + length text) rs)) i)) [
+      | inl j ↦ scalar_run a n after text is.0.1.scalars e j
+      | inr j ↦ scalar_from a (n + length text) rs is.1 e j
+    ]
+scalar_from a n (record_of.Delete target ∷ rs) is e i = scalar_from a (n + 1) rs is.1 e i
+
+scalar_inserts : (C : List ChangeParts) → AllChanges C → (e : Insert) → In e (inserts C) → IsScalar e.ch
+unfolding ops_of
+scalar_inserts C all e i = let w = inserts-In C e i in scalar_from w.0.actor w.0.start w.0.records (all w.0 w.1).records e w.2
+
+scalars_shown : (R : List (OpId × OpId)) (L : List Insert) → ((e : Insert) → In e L → IsScalar e.ch) → all_scalars (chars_of (shown R L)) ≡ true
+scalars_shown R [] f = refl
+scalars_shown R (e ∷ L) f =
+    let rest = scalars_shown R L (λ x i. f x (inr i)) in
+    elim (not (is_removed R e.id)) as (λ b. all_scalars (chars_of (cond b (e ∷ shown R L) (shown R L))) ≡ true) [
+      | true ↦ both_of _ (all_scalars (chars_of (shown R L))) (f e (inl refl)) rest
+      | false ↦ rest
+    ]
+
+-- ---- what the sequence shows is the text
+
+pub Holds-text : (C : List ChangeParts) (L : List Insert) (R : List (OpId × OpId)) → Holds C L R → IsTextOf C (chars_of (shown R L))
+Holds-text C L R h = record { elements = L; order = h.order; spells = ap (λ D. chars_of (shown D L)) h.deletes }
+
+pub Holds-bytes : (C : List ChangeParts) (L : List Insert) (R : List (OpId × OpId)) (bytes : List ℕ) → Holds C L R → bytes ≡ encode_utf8_all (chars_of (shown R L)) → IsTextOf C (chars bytes)
+Holds-bytes C L R bytes h e =
+    let spelled : chars bytes ≡ chars_of (shown R L) = ap chars e ∙ chars-encodes (chars_of (shown R L)) (scalars_shown R L (λ x i. scalar_inserts C h.limits x (h.order.same.back x i))) in
+    subst (IsTextOf C) (sym spelled) (Holds-text C L R h)
+
+pub Holds-length : (C : List ChangeParts) (L : List Insert) (R : List (OpId × OpId)) (n : ℕ) → Holds C L R → n ≡ length (shown R L) → HasLength C n
+Holds-length C L R n h e = (chars_of (shown R L), Holds-text C L R h, e ∙ sym (length-map (shown R L) (λ (x : Insert). x.ch)))
+
+pub Holds-char : (C : List ChangeParts) (L : List Insert) (R : List (OpId × OpId)) (at : ℕ) (o : Option ℕ) → Holds C L R → o ≡ option_map (λ (e : Insert). e.ch) (slice_get (shown R L) at) → HasCharAt C at o
+Holds-char C L R at o h e = (chars_of (shown R L), Holds-text C L R h, e ∙ sym (slice_get-map (λ (x : Insert). x.ch) (shown R L) at))
+
+-- sound changes have one text
+pub one_text : (C : List ChangeParts) (s t : List ℕ) → Sound C → IsTextOf C s → IsTextOf C t → s ≡ t
+one_text C s t sound a b =
+    let same = one_order (inserts C) a.elements b.elements (IsTree-inserts C sound) a.order b.order in
+    a.spells ∙ ap (λ L. chars_of (shown (deletes C) L)) same ∙ sym b.spells
+
+pub Holds-element : (C : List ChangeParts) (L : List Insert) (R : List (OpId × OpId)) (at : ℕ) (o : Option OpId) → Holds C L R → o ≡ option_map (λ (e : Insert). e.id) (slice_get (shown R L) at) → HasElementAt C at o
+Holds-element C L R at o h e = (L, h.order, e ∙ ap (λ D. option_map (λ (x : Insert). x.id) (slice_get (shown D L) at)) h.deletes)
+
+pub Holds-position : (C : List ChangeParts) (L : List Insert) (R : List (OpId × OpId)) (x : OpId) (o : Option ℕ) → Holds C L R → o ≡ shown_before R L x → HasPosition C x o
+Holds-position C L R x o h e = (L, h.order, e ∙ ap (λ D. shown_before D L x) h.deletes)

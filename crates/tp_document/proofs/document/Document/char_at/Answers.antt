@@ -1,0 +1,11 @@
+use Rattle.tp_document.specs.DocState.{DocState}
+use Rattle.tp_document.specs.Showing.{HasCharAt}
+use Rattle.tp_document.proofs.ShowingLaws.{Holds-char}
+use Rattle.std.proofs.Common.{subst}
+use Rattle.tp_document.proofs.document.Document.char_at.Goals as goal
+
+pub returns : goal.returns
+returns g c =
+    let S = g.S.Sequence in
+    subst (λ (d : DocState). HasCharAt d.applied c.args.at c.char_at.result) c.self.view_is
+    (Holds-char c.self.inside.graph.applied (S.placed c.self.inside.sequence) (S.removals c.self.inside.sequence) c.args.at c.char_at.result c.self.invariant.holds c.char_at.ensures)

@@ -1,0 +1,39 @@
+use Rattle.std.proofs.Common.{Ok, subst, sym}
+use Rattle.std.specs.Str.{chars}
+use Rattle.tp_change.specs.declared.parts.ChangeParts.{ChangeParts}
+use Rattle.tp_document.specs.DocState.{DocState}
+use Rattle.tp_document.specs.Editing.{asking, IsRefused, AsksNothing, Edited, AreInRange}
+use Rattle.tp_document.specs.Making.{IsAllowed, IsWithinSize}
+use Rattle.tp_document.proofs.EditFits.{edit_enters}
+use Rattle.tp_document.proofs.document.Document.make_edit.Goals as goal
+
+pub returns-in-Ok-false : goal.returns-in-Ok-false
+returns-in-Ok-false g c =
+    subst (λ (d : DocState). AsksNothing d.applied (asking c.args.actor c.args.splices.now c.args.time (chars c.args.message.now))) c.self.view_is
+    ((subst (λ b. IsAllowed c.self.inside.graph.applied c.args.splices.now (chars c.args.message.now) (Ok b)) c.in-Ok-false.field-0-test c.in-Ok-false.ensures) c.args.actor c.args.time)
+
+pub returns-in-Err : goal.returns-in-Err
+returns-in-Err g c =
+    subst (λ (d : DocState). IsRefused d.applied (asking c.args.actor c.args.splices.now c.args.time (chars c.args.message.now)) c.in-Err.error) c.self.view_is
+    (c.in-Err.ensures c.args.actor c.args.time)
+
+pub change_of-requires-clause-within : goal.change_of-requires-clause-within
+change_of-requires-clause-within g c =
+    (subst (λ b. IsAllowed c.self.inside.graph.applied c.args.splices.now (chars c.args.message.now) (Ok b)) c.in-Ok-true.field-0-test c.in-Ok-true.ensures) c.args.actor c.args.time
+
+pub returns-in-Ok-judge_change : goal.returns-in-Ok-judge_change
+returns-in-Ok-judge_change g c =
+    let C = c.self.inside.graph.applied in
+    let asked = asking c.args.actor c.args.splices.now c.args.time (chars c.args.message.now) in
+    let w : IsWithinSize C asked c.in-Ok.change = c.in-Ok.ensures in
+    let range : AreInRange C c.args.splices.now = w.size.before.before.asks.range in
+    let h = c.self.invariant.holds in
+    subst (λ (d : DocState). Edited d.applied asked c.in-Ok-judge_change.change) c.self.view_is
+    (subst (λ (y : ChangeParts). Edited C asked y) (sym c.in-Ok-judge_change.ensures.0)
+    (record {
+      edit = w.edit;
+      range = range;
+      some = w.size.before.before.asks.some;
+      limits = w.limits;
+      enters = edit_enters C asked c.in-Ok.change h.sound w.edit range c.in-Ok-judge_change.ensures.2 c.in-Ok-judge_change.ensures.1;
+    }))

@@ -1,0 +1,13 @@
+use Rattle.std.proofs.Common.{subst}
+use Rattle.std.specs.Str.{chars}
+use Rattle.std.specs.String.{string_bytes}
+use Rattle.tp_text.specs.Text.{IsTextOf}
+use Rattle.tp_document.specs.DocState.{DocState}
+use Rattle.tp_document.proofs.ShowingLaws.{Holds-bytes}
+use Rattle.tp_document.proofs.document.Document.text.Goals as goal
+
+pub returns-in-Ok-clause-text : goal.returns-in-Ok-clause-text
+returns-in-Ok-clause-text g c =
+    let S = g.S.Sequence in
+    subst (λ (d : DocState). IsTextOf d.applied (chars (string_bytes c.in-Ok.text))) c.self.view_is
+    (Holds-bytes c.self.inside.graph.applied (S.placed c.self.inside.sequence) (S.removals c.self.inside.sequence) (string_bytes c.in-Ok.text) c.self.invariant.holds c.in-Ok.ensures)

@@ -1,0 +1,5 @@
+use Rattle.tp_document.proofs.ShowingLaws as laws
+use Rattle.tp_document.proofs.laws.one_text.Goals as goal
+
+pub returns : goal.returns
+returns c = laws.one_text

@@ -1,0 +1,19 @@
+-- The numbers of the refusals, and what stands for the refusals of a graph.
+use Rattle.std.specs.Prelude.{ℕ}
+use Rattle.tp_document.specs.declared.error.DocError.{DocError}
+use Rattle.tp_document.specs.declared.error.DocError.TheVariants.{OutOfRange, CounterLimit, TooManyOps, TooManyHeads, UnknownHead, UnknownElement, PendingFull, HashTaken, OutOfMemory, OtherDocument, TooLong, Full, NotKept}
+
+abbrev pub code_of : DocError → ℕ
+code_of OutOfRange = 1
+code_of CounterLimit = 2
+code_of TooManyOps = 3
+code_of TooManyHeads = 4
+code_of UnknownHead = 5
+code_of UnknownElement = 6
+code_of PendingFull = 7
+code_of HashTaken = 8
+code_of OutOfMemory = 9
+code_of OtherDocument = 10
+code_of TooLong = 11
+code_of Full = 12
+code_of NotKept = 13

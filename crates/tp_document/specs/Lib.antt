@@ -1,0 +1,5 @@
+pub mod DocError
+pub mod DocState
+pub mod Showing
+pub mod Editing
+pub mod Making

@@ -1,0 +1,27 @@
+-- What is seen of the text of changes.
+use Rattle.std.specs.Prelude.{◌≡◌, ℕ, List, length, Option}
+use Rattle.std.specs.List.{slice_get}
+use Rattle.std.specs.Option.{option_map}
+use Rattle.tp_opid.specs.declared.op_id.OpId.{OpId}
+use Rattle.tp_opid.specs.Insert.{Insert}
+use Rattle.tp_change.specs.declared.parts.ChangeParts.{ChangeParts}
+use Rattle.tp_change.specs.Elements.{inserts, deletes}
+use Rattle.tp_rga.specs.Order.{IsInOrder}
+use Rattle.tp_rga.specs.Shown.{shown, shown_before}
+use Rattle.tp_text.specs.Text.{IsTextOf}
+
+-- The text of the changes has so many characters.
+abbrev pub HasLength : List ChangeParts → ℕ → Type 0
+HasLength C n = (t : List ℕ) × IsTextOf C t × (n ≡ length t)
+
+-- The text of the changes has this character at the place, or none past its end.
+abbrev pub HasCharAt : List ChangeParts → ℕ → Option ℕ → Type 0
+HasCharAt C at o = (t : List ℕ) × IsTextOf C t × (o ≡ slice_get t at)
+
+-- The visible element at the place in the text of the changes, or none past its end.
+abbrev pub HasElementAt : List ChangeParts → ℕ → Option OpId → Type 0
+HasElementAt C at o = (L : List Insert) × IsInOrder (inserts C) L × (o ≡ option_map (λ (e : Insert). e.id) (slice_get (shown (deletes C) L) at))
+
+-- How many visible elements stand before the element in the text of the changes, or none where it isn't there.
+abbrev pub HasPosition : List ChangeParts → OpId → Option ℕ → Type 0
+HasPosition C x o = (L : List Insert) × IsInOrder (inserts C) L × (o ≡ shown_before (deletes C) L x)

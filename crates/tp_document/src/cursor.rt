@@ -1,0 +1,58 @@
+//! Cursors: places of a text that stay with their element while the text changes.
+
+ghost use Rattle.std.specs.Prelude.{◌≡◌, Some, None, MatchResult, IfOk, IsOkUnless};
+ghost use Rattle.tp_document.specs.Showing.{HasElementAt, HasPosition};
+ghost use Rattle.tp_graph.specs.Since.{since};
+ghost use Rattle.tp_document.specs.declared.error.DocError.TheVariants.{OutOfMemory};
+
+use crate::document::Document;
+use crate::error::DocError;
+use tp_change::Change;
+use tp_opid::{Hash, OpId};
+use tp_rga::Sequence;
+
+/// A place of a text, as Automerge's cursor: the element that it stands at, whatever comes before it later.
+#[derive(Clone, Copy, Debug, PartialEq, Eq)]
+pub struct Cursor {
+    /// The element.
+    pub element: OpId,
+}
+
+impl<S: Sequence> Document<S> {
+    /// A cursor at the visible character at a place, from 0. `OutOfRange` where the text ends before it.
+    pub fn cursor(&self, at: usize) -> Result<Cursor, DocError>
+        ensures { MatchResult result (λ cursor. HasElementAt self.now.applied at (Some cursor.element))
+            (λ e. HasElementAt self.now.applied at None × (e ≡ DocError.OutOfRange)) }
+    {
+        let found = self.sequence.id_at(at);
+        match found {
+            Some(element) => Ok(Cursor { element }),
+            None => Err(DocError::OutOfRange),
+        }
+    }
+
+    /// How many visible characters stand before the cursor's element, which may have been deleted since.
+    /// `UnknownElement` where the document hasn't the element.
+    pub fn cursor_position(&self, cursor: &Cursor) -> Result<usize, DocError>
+        ensures { MatchResult result (λ at. HasPosition self.now.applied cursor.now.element (Some at))
+            (λ e. HasPosition self.now.applied cursor.now.element None × (e ≡ DocError.UnknownElement)) }
+    {
+        let found = self.sequence.position(&cursor.element);
+        match found {
+            Some(at) => Ok(at),
+            None => Err(DocError::UnknownElement),
+        }
+    }
+
+    /// Copies of the applied changes outside the past of those of the hashes that are known, in applied order. The
+    /// only refusal is `OutOfMemory`.
+    pub fn changes_since(&self, hashes: &[Hash]) -> Result<Vec<Change>, DocError>
+        ensures changes { IfOk result (λ v. v.items ≡ since self.now.applied hashes.now) }
+        ensures err { IsOkUnless result OutOfMemory }
+    {
+        match self.graph.since(hashes) {
+            Ok(changes) => Ok(changes),
+            Err(_) => Err(DocError::OutOfMemory),
+        }
+    }
+}

@@ -1,0 +1,256 @@
+//! The document: applied changes with the elements that they insert, and changes that wait.
+
+ghost use Rattle.std.specs.Prelude.{◌≡◌, ◌↔◌, ◌<◌, ◌≤◌, [], ◌∷◌, ◌++◌, length, None, Some, is_ok, if◌then◌else◌, IfOk, IfErr, IsOkUnless, OnOk, OnErr};
+ghost use Rattle.std.specs.List.{slice_get, remove};
+ghost use Rattle.std.specs.Str.{chars};
+ghost use Rattle.std.specs.String.{string_bytes};
+ghost use Rattle.tp_list.specs.Members.{In};
+ghost use Rattle.tp_list.specs.Rising.{IsRising};
+ghost use Rattle.tp_opid.specs.declared.hash.Hash.{Hash as HashOf};
+ghost use Rattle.tp_opid.specs.Order.{hash_cmp};
+ghost use Rattle.tp_text.specs.Text.{IsTextOf};
+ghost use Rattle.tp_graph.specs.Named as named;
+ghost use Rattle.tp_graph.specs.Heads as head;
+ghost use Rattle.tp_graph.specs.Fit.{cause, most_changes};
+ghost use Rattle.tp_graph.specs.Sound.{Sound};
+ghost use Rattle.tp_graph.specs.Since.{IsMissing};
+ghost use Rattle.tp_graph.specs.Answers.{Answers};
+ghost use Rattle.tp_graph.specs.GraphState.{most_waiting};
+ghost use Rattle.tp_document.specs.DocState.{HasRoomFor, AllChanges};
+ghost use Rattle.tp_change.specs.Elements.{later};
+ghost use Rattle.tp_document.specs.Showing.{HasLength, HasCharAt};
+ghost use Rattle.tp_document.specs.declared.error.DocError.TheVariants.{OutOfMemory};
+
+use crate::error::DocError;
+use std::alloc::Global;
+use std::marker::Model;
+use tp_change::Change;
+use tp_graph::{Graph, GraphError, Rejected};
+use tp_opid::{DocId, Hash};
+use tp_rga::Sequence;
+use tp_text::apply_change;
+
+/// One text with its history: the changes that are applied, those that wait, and the sequence of elements.
+///
+/// Contracts see its identifier, the two lists of changes and for which change room was made. The sequence of
+/// elements, in which deleted ones stay as tombstones, is kept beside them: it has the elements that the applied
+/// changes insert, in the order of the text, and their deletes.
+#[derive(Drop)]
+pub struct Document<S: Sequence> {
+    pub(crate) alloc: Global,
+    pub(crate) id: DocId,
+    pub(crate) graph: Graph,
+    pub(crate) sequence: S,
+    pub(crate) next: u64,
+}
+
+impl<S: Sequence> Model for Document<S> {
+    ghost use Rattle.tp_document.specs.DocState.{DocState, IsKept};
+
+    ghost Value = { DocState };
+
+    ghost view = { λ d. record { id = d.id; applied = d.graph.applied; waiting = d.graph.waiting; room = d.graph.room; space = S.room d.sequence } };
+
+    ghost invariant = { λ d. IsKept d.graph.applied d.next (S.placed d.sequence) (S.removals d.sequence) };
+}
+
+// The greater of two counters.
+fn later_of(a: u64, b: u64) -> u64
+    ensures { result ≡ later a b }
+{
+    if a < b { b } else { a }
+}
+
+// Drops the changes that wait.
+fn drop_waiting(graph: &mut Graph)
+    ensures applied { graph.new.applied ≡ graph.old.applied }
+    ensures waiting { graph.new.waiting ≡ [] }
+    ensures room { graph.new.room ≡ graph.old.room }
+{
+    let mut left = graph.pending().len();
+    while left > 0 {
+        left -= 1;
+        let _dropped = graph.release(left);
+    }
+}
+
+impl<S: Sequence> Document<S> {
+    /// A document with no changes. It takes no memory.
+    pub fn new(alloc: Global, id: DocId) -> Document<S>
+        ensures id { result.id ≡ id }
+        ensures applied { result.applied ≡ [] }
+        ensures waiting { result.waiting ≡ [] }
+    {
+        Document {
+            alloc,
+            id,
+            graph: Graph::new(alloc),
+            sequence: S::new(alloc),
+            next: 1,
+        }
+    }
+
+    /// The identifier that the document was made with.
+    pub fn id(&self) -> DocId
+        ensures { result ≡ self.now.id }
+    {
+        self.id
+    }
+
+    /// The text: the visible characters in order. The only refusal is `OutOfMemory`.
+    ///
+    /// One pass over the elements, deleted ones among them.
+    pub fn text(&self) -> Result<String, DocError>
+        ensures text { IfOk result (λ t. IsTextOf self.now.applied (chars (string_bytes t))) }
+        ensures err { IsOkUnless result OutOfMemory }
+    {
+        match tp_text::text(self.alloc, &self.sequence) {
+            Ok(text) => Ok(text),
+            Err(_) => Err(DocError::OutOfMemory),
+        }
+    }
+
+    /// How many characters (Unicode scalar values) the text has.
+    pub fn len(&self) -> usize
+        ensures { HasLength self.now.applied result }
+    {
+        self.sequence.len()
+    }
+
+    /// The character at a place of the text, from 0; `None` past its end.
+    pub fn char_at(&self, at: usize) -> Option<char>
+        ensures { HasCharAt self.now.applied at result }
+    {
+        self.sequence.char_at(at)
+    }
+
+    /// The applied changes, in the order in which they entered: dependencies stand before dependents.
+    pub fn changes(&self) -> &[Change]
+        ensures changes { result.now ≡ self.now.applied }
+        ensures sound { Sound self.now.applied }
+        ensures limits { AllChanges self.now.applied }
+        ensures few { length self.now.applied ≤ most_changes }
+    {
+        self.graph.changes()
+    }
+
+    /// The hashes of the applied changes on which no applied change depends, rising.
+    pub fn heads(&self) -> &[Hash]
+        ensures { result.now ≡ head.heads self.now.applied }
+    {
+        self.graph.heads()
+    }
+
+    /// Whether an applied change has the hash.
+    pub fn contains(&self, hash: &Hash) -> bool
+        ensures { result ≡ named.has self.now.applied hash.now }
+    {
+        self.graph.contains(hash)
+    }
+
+    /// The changes that wait for others, in the order in which they came: at most 1,024.
+    pub fn pending(&self) -> &[Change]
+        ensures pending { result.now ≡ self.now.waiting }
+        ensures few { length self.now.waiting ≤ most_waiting }
+    {
+        self.graph.pending()
+    }
+
+    /// How many changes wait.
+    pub fn pending_len(&self) -> usize
+        ensures { result ≡ length self.now.waiting }
+    {
+        self.graph.pending().len()
+    }
+
+    /// The hashes of changes that those that wait depend on, and that are neither applied nor waiting: rising, each
+    /// once. The only refusal is `OutOfMemory`.
+    pub fn missing(&self) -> Result<Vec<Hash>, DocError>
+        ensures rising { IfOk result (λ v. IsRising hash_cmp v.items) }
+        ensures there { IfOk result (λ v. (h : HashOf) → In h v.items ↔ IsMissing self.now.applied self.now.waiting h) }
+        ensures err { IsOkUnless result OutOfMemory }
+    {
+        match self.graph.missing() {
+            Ok(hashes) => Ok(hashes),
+            Err(_) => Err(DocError::OutOfMemory),
+        }
+    }
+
+    /// Drops the changes that wait. No memory.
+    pub fn forget_pending(&mut self)
+        ensures id { self.new.id ≡ self.old.id }
+        ensures applied { self.new.applied ≡ self.old.applied }
+        ensures waiting { self.new.waiting ≡ [] }
+        ensures room { self.new.room ≡ self.old.room }
+        ensures space { self.new.space ≡ self.old.space }
+    {
+        drop_waiting(&mut self.graph);
+    }
+
+    /// Whether the change can enter: `Ok`, or why not. It may be refused as `OutOfMemory` whatever the change.
+    pub fn check(&self, change: &Change) -> Result<(), GraphError>
+        ensures { Answers result (cause self.now.applied change.now) }
+    {
+        self.graph.check(change)
+    }
+
+    /// Checks as [`check`](Document::check) does, and makes every growth that the entry of the change takes, so that
+    /// [`enter`](Document::enter) takes no memory. What a caller sees stays as it was.
+    pub fn ready(&mut self, change: &Change) -> Result<(), GraphError>
+        ensures answers { Answers result (cause self.old.applied change.now) }
+        ensures id { self.new.id ≡ self.old.id }
+        ensures applied { self.new.applied ≡ self.old.applied }
+        ensures waiting { self.new.waiting ≡ self.old.waiting }
+        ensures room { OnOk result (HasRoomFor self.new change.now) }
+        ensures err { OnErr result (self.new.room ≡ self.old.room) }
+        ensures space { self.old.space ≤ self.new.space }
+    {
+        match self.sequence.reserve(change.op_count()) {
+            Ok(()) => self.graph.ready(change),
+            Err(_) => Err(GraphError::OutOfMemory),
+        }
+    }
+
+    /// Enters a change that can enter and that was made [`ready`](Document::ready) for, as the last applied one: its
+    /// operations go into the sequence. No memory.
+    pub fn enter(&mut self, change: Change)
+        requires enters { cause self.old.applied change ≡ None }
+        requires room { HasRoomFor self.old change }
+        ensures id { self.new.id ≡ self.old.id }
+        ensures applied { self.new.applied ≡ self.old.applied ++ change ∷ [] }
+        ensures waiting { self.new.waiting ≡ self.old.waiting }
+    {
+        let _hash = change.hash();
+        self.next = later_of(self.next, change.next_start());
+        apply_change(&mut self.sequence, &change);
+        self.graph.enter(change);
+    }
+
+    /// Keeps a change that waits, behind those that wait already. There are fewer than 1,024 of them. The only
+    /// refusal is `OutOfMemory`, which gives the change back and leaves the document as it was.
+    pub fn hold(&mut self, change: Change) -> Result<(), Rejected>
+        requires { length self.old.waiting < most_waiting }
+        ensures waiting { self.new.waiting ≡ (if is_ok result then self.old.waiting ++ change ∷ [] else self.old.waiting) }
+        ensures err { IfErr result (λ rejected. (rejected.change ≡ change) × (rejected.error ≡ GraphError.OutOfMemory)) }
+        ensures id { self.new.id ≡ self.old.id }
+        ensures applied { self.new.applied ≡ self.old.applied }
+        ensures room { self.new.room ≡ self.old.room }
+        ensures space { self.new.space ≡ self.old.space }
+    {
+        self.graph.hold(change)
+    }
+
+    /// Takes out the waiting change with the number `i`, from 0 in the order in which they came. The others keep
+    /// their order. No memory.
+    pub fn release(&mut self, i: usize) -> Change
+        requires { i < length self.old.waiting }
+        ensures change { slice_get self.old.waiting i ≡ Some result }
+        ensures waiting { self.new.waiting ≡ remove self.old.waiting i }
+        ensures id { self.new.id ≡ self.old.id }
+        ensures applied { self.new.applied ≡ self.old.applied }
+        ensures room { self.new.room ≡ self.old.room }
+        ensures space { self.new.space ≡ self.old.space }
+    {
+        self.graph.release(i)
+    }
+}

@@ -1,0 +1,232 @@
+//! Edits of a document.
+
+ghost use Rattle.std.specs.Prelude.{◌≡◌, ◌+◌, ◌≤◌, ◌<◌, ◌^◌, ◌++◌, ◌∷◌, [], false, true, length, Ok, Err, Some, None, encode_utf8_all, MatchResult, MatchOption, IfOk, IfErr, OnErr};
+ghost use Rattle.std.specs.Str.{chars, all_scalars};
+ghost use Rattle.tp_change.specs.declared.parts.ChangeParts.{ChangeParts as Parts};
+ghost use Rattle.tp_change.specs.Elements.{next_counter};
+ghost use Rattle.tp_graph.specs.Heads as head;
+ghost use Rattle.tp_graph.specs.Fit.{most_changes};
+ghost use Rattle.tp_edit.specs.Splices.{AllInRange, total_count};
+ghost use Rattle.tp_edit.specs.EditRecords.{records_of, visible_ids};
+ghost use Rattle.tp_rga.specs.Shown.{shown};
+ghost use Rattle.tp_document.specs.Editing.{asking, IsRefused, AsksNothing, Edited, IsDone, DoesSplices};
+ghost use Rattle.tp_document.specs.Making.{parts_made, IsAllowed, IsWithin, IsWithinSize, IsShut};
+ghost use Rattle.tp_document.specs.DocState.{IsKept};
+ghost use Rattle.tp_graph.specs.Named.{has};
+ghost use Rattle.tp_change.specs.ChangeHash.{hash_of};
+
+use crate::document::Document;
+use crate::error::DocError;
+use crate::making::{actor_len, judge_splices, make_change, next_seq};
+use std::alloc::{AllocError, Global};
+use tp_change::{Change, ChangeParts};
+use tp_edit::{Splice, records};
+use tp_graph::Graph;
+use tp_list::{Items, Text};
+use tp_opid::{Actor, Hash};
+use tp_rga::Sequence;
+
+// How many bytes a text has.
+fn byte_count(text: &str) -> usize
+    ensures count { result ≡ length (encode_utf8_all (chars text.now)) }
+    ensures scalars { all_scalars (chars text.now) ≡ true }
+{
+    text.len()
+}
+
+// The parts of the change of an edit.
+fn parts_of<S: Sequence>(
+    alloc: Global,
+    sequence: &S,
+    deps: &[Hash],
+    actor: Actor,
+    seq: u64,
+    start: u64,
+    splices: &[Splice],
+    time: u64,
+    message: &str,
+) -> Result<ChangeParts, AllocError>
+    requires in_range { AllInRange (length (shown (S.removals sequence.now) (S.placed sequence.now))) splices.now }
+    requires counters { start + total_count splices.now < 2 ^ 64 }
+    ensures { IfOk result (λ parts. parts
+        ≡ parts_made (asking actor splices.now time (chars message.now)) seq start deps.now
+        (visible_ids (S.removals sequence.now) (S.placed sequence.now))) }
+{
+    let records = records(alloc, sequence, actor, start, splices)?;
+    let message = Text::new(String::from_str(alloc, message)?);
+    let deps = Vec::from_slice(alloc, deps)?;
+    Ok(ChangeParts {
+        actor,
+        seq,
+        start,
+        time,
+        message,
+        deps: Items::new(deps),
+        records: Items::new(records),
+    })
+}
+
+// Whether an edit asks for some operations, which are within all limits that are judged before its records are made.
+fn judge_edit<S: Sequence>(
+    graph: &Graph,
+    sequence: &S,
+    next: u64,
+    splices: &[Splice],
+    message: &str,
+) -> Result<bool, DocError>
+    requires { IsKept graph.now.applied next (S.placed sequence.now) (S.removals sequence.now) }
+    ensures { IsAllowed graph.now.applied splices.now (chars message.now) result }
+{
+    let count = match judge_splices(splices, sequence.len()) {
+        Ok(count) => count,
+        Err(error) => return Err(error),
+    };
+    if count == 0 {
+        return Ok(false);
+    }
+    if graph.heads().len() > 65535 {
+        return Err(DocError::TooManyHeads);
+    }
+    if next as u128 + count as u128 > 281474976710656 {
+        return Err(DocError::CounterLimit);
+    }
+    if byte_count(message) > 65535 {
+        return Err(DocError::TooLong);
+    }
+    Ok(true)
+}
+
+// The change of an edit that is within the limits judged before.
+fn change_of<S: Sequence>(
+    alloc: Global,
+    graph: &Graph,
+    sequence: &S,
+    next: u64,
+    actor: Actor,
+    splices: &[Splice],
+    time: u64,
+    message: &str,
+) -> Result<Change, DocError>
+    requires kept { IsKept graph.now.applied next (S.placed sequence.now) (S.removals sequence.now) }
+    requires within { IsWithin graph.now.applied (asking actor splices.now time (chars message.now)) }
+    ensures { MatchResult result
+        (λ c. IsWithinSize graph.now.applied (asking actor splices.now time (chars message.now)) c)
+        (λ e. IsRefused graph.now.applied (asking actor splices.now time (chars message.now)) e) }
+{
+    let _actor = actor_len(actor);
+    let seq = next_seq(graph.changes(), actor);
+    match parts_of(
+        alloc,
+        sequence,
+        graph.heads(),
+        actor,
+        seq,
+        next,
+        splices,
+        time,
+        message,
+    ) {
+        Ok(parts) => match make_change(alloc, parts) {
+            Ok(change) => Ok(change),
+            Err(error) => Err(error),
+        },
+        Err(_) => Err(DocError::OutOfMemory),
+    }
+}
+
+// The change, unless the graph is full or has a change with its hash.
+fn judge_change(graph: &Graph, change: Change) -> Result<Change, DocError>
+    requires { length graph.now.applied ≤ most_changes }
+    ensures { MatchResult result
+        (λ c. (c ≡ change) × (length graph.now.applied < most_changes) × (has graph.now.applied (hash_of change) ≡ false))
+        (λ e. IsShut graph.now.applied change e) }
+{
+    if graph.changes().len() == 4294967295 {
+        return Err(DocError::Full);
+    }
+    if graph.contains(&change.hash()) {
+        return Err(DocError::HashTaken);
+    }
+    Ok(change)
+}
+
+impl<S: Sequence> Document<S> {
+    /// The change that an edit would make, on the heads; `None` where the splices are in range and change nothing.
+    /// The document stays as it is.
+    ///
+    /// A splice counts characters, each on the text that the ones before it leave. The edit is refused at the first
+    /// of these that holds: `OutOfRange` where a splice reaches past its text; `TooManyOps` where it deletes and
+    /// inserts more than 65,536 characters; `TooManyHeads` past 65,535 heads; `CounterLimit` where its last counter
+    /// would be past 2^48 - 1; `TooLong` where the message has more than 65,535 bytes or the change more than
+    /// 4,194,304; `Full` at 4,294,967,295 changes; `HashTaken` where a change that is there has its hash. It may be
+    /// refused as `OutOfMemory` at any time.
+    ///
+    /// One pass over the actors of the changes; one splice makes no pass over the text.
+    pub fn make_edit(
+        &self,
+        actor: Actor,
+        splices: &[Splice],
+        time: u64,
+        message: &str,
+    ) -> Result<Option<Change>, DocError>
+        ensures { MatchResult result
+            (λ made. MatchOption made
+            (AsksNothing self.now.applied (asking actor splices.now time (chars message.now)))
+            (λ c. Edited self.now.applied (asking actor splices.now time (chars message.now)) c))
+            (λ e. IsRefused self.now.applied (asking actor splices.now time (chars message.now)) e) }
+    {
+        match judge_edit(&self.graph, &self.sequence, self.next, splices, message) {
+            Ok(true) => {}
+            Ok(false) => return Ok(None),
+            Err(error) => return Err(error),
+        }
+        match change_of(
+            self.alloc,
+            &self.graph,
+            &self.sequence,
+            self.next,
+            actor,
+            splices,
+            time,
+            message,
+        ) {
+            Ok(change) => match judge_change(&self.graph, change) {
+                Ok(change) => Ok(Some(change)),
+                Err(error) => Err(error),
+            },
+            Err(error) => Err(error),
+        }
+    }
+
+    /// Edits the text: makes the change of the edit and enters it. Answers its hash; `None` where the splices are in
+    /// range and change nothing. The refusals are those of [`make_edit`](Document::make_edit), and each leaves the
+    /// document as it was.
+    pub fn edit(
+        &mut self,
+        actor: Actor,
+        splices: &[Splice],
+        time: u64,
+        message: &str,
+    ) -> Result<Option<Hash>, DocError>
+        ensures done { IfOk result (λ made. IsDone self.old.applied (asking actor splices.now time (chars message.now)) self.new.applied made) }
+        ensures text { IfOk result (λ _. DoesSplices self.old.applied self.new.applied splices.now) }
+        ensures refused { IfErr result (λ e. IsRefused self.old.applied (asking actor splices.now time (chars message.now)) e) }
+        ensures err { OnErr result (self.new.applied ≡ self.old.applied) }
+        ensures id { self.new.id ≡ self.old.id }
+        ensures waiting { self.new.waiting ≡ self.old.waiting }
+    {
+        let _count = self.changes().len();
+        match self.make_edit(actor, splices, time, message) {
+            Ok(Some(change)) => match self.ready(&change) {
+                Ok(()) => {
+                    let hash = change.hash();
+                    self.enter(change);
+                    Ok(Some(hash))
+                }
+                Err(_) => Err(DocError::OutOfMemory),
+            },
+            Ok(None) => Ok(None),
+            Err(error) => Err(error),
+        }
+    }
+}

@@ -1,0 +1,19 @@
+//! A document: the changes of one text, its visible characters, and edits of it.
+//!
+//! A document keeps the changes of one text as a graph, and beside it the elements that they insert, in the order of
+//! the text, with deleted ones as tombstones (RGA: Roh and others 2011). Edits count visible characters and become
+//! changes.
+#![tactic(auto)]
+
+mod cursor;
+mod document;
+mod editing;
+mod error;
+mod forking;
+mod laws;
+mod making;
+
+pub use cursor::Cursor;
+pub use document::Document;
+pub use error::DocError;
+pub use laws::{edit_is_determined, one_text};

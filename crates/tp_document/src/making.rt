@@ -1,0 +1,68 @@
+//! From an edit to its change.
+
+ghost use Rattle.std.specs.Prelude.{◌≡◌, ◌+◌, ◌<◌, ◌≤◌, ◌^◌, length, encode_utf8_all, IfOk, MatchResult};
+ghost use Rattle.std.specs.Str.{chars};
+ghost use Rattle.tp_change.specs.Limits.{IsActor, IsChange};
+ghost use Rattle.tp_change.specs.Spelling.{spelling};
+ghost use Rattle.tp_graph.specs.Fit.{count_by, most_changes};
+ghost use Rattle.tp_rga.specs.Shown.{shown};
+ghost use Rattle.tp_edit.specs.Splices.{AllInRange, total_count};
+ghost use Rattle.tp_edit.specs.EditRecords.{records_of, visible_ids};
+ghost use Rattle.tp_document.specs.Making.{IsJudged, IsLong};
+
+use crate::error::DocError;
+use std::alloc::{AllocError, Global};
+use tp_change::{Change, ChangeError, ChangeParts};
+use tp_edit::{Splice, in_range, operation_count, records};
+use tp_list::{Items, Text};
+use tp_opid::{Actor, Hash};
+use tp_rga::Sequence;
+
+// What the type of an actor says: it has 16 bytes. Answers their number.
+pub(crate) fn actor_len(actor: Actor) -> usize
+    ensures { IsActor actor }
+{
+    let bytes = actor.0;
+    bytes.len()
+}
+
+// How many operations an edit of a text of `len` characters has: none where it asks nothing.
+pub(crate) fn judge_splices(splices: &[Splice], len: usize) -> Result<usize, DocError>
+    ensures { IsJudged len splices.now result }
+{
+    if !in_range(splices, len) {
+        return Err(DocError::OutOfRange);
+    }
+    let count = operation_count(splices);
+    if count > 65536 {
+        return Err(DocError::TooManyOps);
+    }
+    Ok(count)
+}
+
+// The sequence number of the actor's next change.
+pub(crate) fn next_seq(changes: &[Change], actor: Actor) -> u64
+    requires { length changes.now ≤ most_changes }
+    ensures seq { result ≡ count_by actor changes.now + 1 }
+    ensures small { result < 2 ^ 64 }
+{
+    let mut count: u64 = 0;
+    for change in changes {
+        if change.actor().is(&actor) {
+            count += 1;
+        }
+    }
+    count + 1
+}
+
+// Makes a change of parts that are within all limits but, perhaps, that of the bytes.
+pub(crate) fn make_change(alloc: Global, parts: ChangeParts) -> Result<Change, DocError>
+    requires { length (spelling parts) ≤ 4194304 → IsChange parts }
+    ensures { MatchResult result (λ c. (c ≡ parts) × IsChange c) (IsLong parts) }
+{
+    match Change::new(alloc, parts) {
+        Ok(change) => Ok(change),
+        Err(ChangeError::OutOfMemory) => Err(DocError::OutOfMemory),
+        Err(_) => Err(DocError::TooLong),
+    }
+}

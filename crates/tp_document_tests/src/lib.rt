@@ -1,0 +1,5 @@
+//! Documents on worked examples.
+#![tactic(auto)]
+
+#[cfg(test)]
+mod tests;

@@ -1,0 +1,7 @@
+pub mod StaysLaws
+pub mod GrowsLaws
+pub mod GoesLaws
+pub mod WaitLaws
+pub mod SettleLaws
+pub mod TakeLaws
+pub mod ReplyLaws

@@ -1,0 +1,61 @@
+use Rattle.std.proofs.Common.{◌++◌, ◌∷◌, [], inl, sym, ap, subst, append_assoc, ◌∙◌, length, ◌≤◌, ◌<◌, ◌+◌, List, arith, append-nil}
+use Rattle.tp_receive.specs.declared.error.ReceiveError.{ReceiveError}
+use Rattle.tp_receive.specs.Going.{Goes, Stops}
+use Rattle.tp_change.specs.declared.parts.ChangeParts.{ChangeParts}
+use Rattle.tp_receive.proofs.GoesLaws.{Goes-then, Stops-then, Stops-members}
+use Rattle.tp_graph.proofs.NamedLaws.{In-left}
+use Rattle.tp_receive.proofs.SettleLaws.{IfErr-residual}
+use Rattle.tp_receive.proofs.TakeLaws.{AllIn-grown, AllIn-fresh, cover_grown, AllIn-yielded, drops_on, space_in, count_on}
+use Rattle.tp_graph.specs.GraphState.{most_waiting}
+use Rattle.tp_receive.proofs.intake.take_all.Goals as goal
+
+pub returns-in_err-settle-clause-err : goal.returns-in_err-settle-clause-err
+returns-in_err-settle-clause-err g c =
+    IfErr-residual
+    (λ (e : ReceiveError). Stops g.K.Keeper.keeps g.K.Keeper.refuses c.args.keeper.now c.settle.new.keeper (g.R.Replica.waiting c.args.replica.now ++ c.args.changes.items) (g.R.Replica.applied c.args.replica.now) (g.R.Replica.applied c.settle.new.replica) (g.R.Replica.waiting c.settle.new.replica) e)
+    c.from_residual.result c.in_err-settle.field-0.0
+    (Stops-members g.K.Keeper.keeps g.K.Keeper.refuses c.args.keeper.now c.settle.new.keeper (g.R.Replica.waiting c.args.replica.now) (g.R.Replica.waiting c.args.replica.now ++ c.args.changes.items) (g.R.Replica.applied c.args.replica.now) (g.R.Replica.applied c.settle.new.replica) (g.R.Replica.waiting c.settle.new.replica) c.in_err-settle.field-0.0
+    c.in_err-settle.ensures.err (λ d i. In-left d (g.R.Replica.waiting c.args.replica.now) c.args.changes.items i))
+    c.from_residual.ensures.1
+
+pub loop-change-preserved : goal.loop-change-preserved
+loop-change-preserved g c = record {
+  goes = Goes-then g.K.Keeper.keeps c.args.keeper.now c.loop-change.keeper c.take.new.keeper (g.R.Replica.waiting c.args.replica.now ++ c.loop-change.yielded) (g.R.Replica.waiting c.loop-change.replica ++ c.in-Some.change ∷ []) (g.R.Replica.waiting c.args.replica.now ++ (c.loop-change.yielded ++ c.in-Some.change ∷ [])) (g.R.Replica.applied c.args.replica.now) (g.R.Replica.applied c.loop-change.replica) (g.R.Replica.applied c.take.new.replica) (g.R.Replica.waiting c.loop-change.replica) (g.R.Replica.waiting c.take.new.replica)
+      c.args.told.now.applied.items c.loop-change.told.applied.items c.take.new.told.applied.items c.args.told.now.refused.items c.loop-change.told.refused.items c.take.new.told.refused.items
+      c.loop-change.invariant.goes c.in_ok-take.ensures.ok
+      (AllIn-grown (g.R.Replica.waiting c.args.replica.now) c.loop-change.yielded c.in-Some.change)
+      (AllIn-fresh (g.R.Replica.waiting c.args.replica.now) c.loop-change.yielded (g.R.Replica.waiting c.loop-change.replica) c.in-Some.change c.loop-change.invariant.goes.waits)
+      (λ d i. In-left d (g.R.Replica.waiting c.loop-change.replica) (c.in-Some.change ∷ []) i)
+      (cover_grown (g.R.Replica.waiting c.args.replica.now) c.loop-change.yielded (g.R.Replica.waiting c.loop-change.replica) c.in-Some.change);
+  settled = c.in_ok-take.ensures.settled;
+  rest = append_assoc c.loop-change.yielded (c.in-Some.change ∷ []) c.next.new.self.rest.items ∙ ap (λ l. c.loop-change.yielded ++ l) (sym c.in-Some.ensures.steps.0) ∙ c.loop-change.invariant.rest;
+  spare = drops_on c.args.told.now.refused.items c.loop-change.told.refused.items c.take.new.told.refused.items (most_waiting ≤ length (g.R.Replica.waiting c.loop-change.replica) + 0) (most_waiting < length (g.R.Replica.waiting c.args.replica.now) + length c.args.changes.items)
+      (space_in (g.R.Replica.waiting c.args.replica.now) (g.R.Replica.waiting c.loop-change.replica) c.args.changes.items c.loop-change.yielded c.loop-change.change-iterator.rest.items c.next.new.self.rest.items c.in-Some.change
+      c.loop-change.invariant.rest c.in-Some.ensures.steps.0 c.loop-change.invariant.count)
+      c.loop-change.invariant.spare c.in_ok-take.ensures.spare;
+  count = count_on (g.R.Replica.waiting c.args.replica.now) (g.R.Replica.waiting c.loop-change.replica) (g.R.Replica.waiting c.take.new.replica) c.loop-change.yielded c.in-Some.change c.loop-change.invariant.count c.in_ok-take.ensures.count;
+}
+
+pub returns-in_err-take-clause-err : goal.returns-in_err-take-clause-err
+returns-in_err-take-clause-err g c =
+    IfErr-residual
+    (λ (e : ReceiveError). Stops g.K.Keeper.keeps g.K.Keeper.refuses c.args.keeper.now c.take.new.keeper (g.R.Replica.waiting c.args.replica.now ++ c.args.changes.items) (g.R.Replica.applied c.args.replica.now) (g.R.Replica.applied c.take.new.replica) (g.R.Replica.waiting c.take.new.replica) e)
+    c.from_residual-in_err-take.result c.in_err-take.field-0.0
+    (Stops-members g.K.Keeper.keeps g.K.Keeper.refuses c.args.keeper.now c.take.new.keeper (g.R.Replica.waiting c.args.replica.now ++ (c.loop-change.yielded ++ c.in-Some.change ∷ [])) (g.R.Replica.waiting c.args.replica.now ++ c.args.changes.items) (g.R.Replica.applied c.args.replica.now) (g.R.Replica.applied c.take.new.replica) (g.R.Replica.waiting c.take.new.replica) c.in_err-take.field-0.0
+    (Stops-then g.K.Keeper.keeps g.K.Keeper.refuses c.args.keeper.now c.loop-change.keeper c.take.new.keeper (g.R.Replica.waiting c.args.replica.now ++ c.loop-change.yielded) (g.R.Replica.waiting c.loop-change.replica ++ c.in-Some.change ∷ []) (g.R.Replica.waiting c.args.replica.now ++ (c.loop-change.yielded ++ c.in-Some.change ∷ [])) (g.R.Replica.applied c.args.replica.now) (g.R.Replica.applied c.loop-change.replica) (g.R.Replica.applied c.take.new.replica) (g.R.Replica.waiting c.loop-change.replica) (g.R.Replica.waiting c.take.new.replica)
+    c.args.told.now.applied.items c.loop-change.told.applied.items c.args.told.now.refused.items c.loop-change.told.refused.items c.in_err-take.field-0.0
+    c.loop-change.invariant.goes c.in_err-take.ensures.err
+    (AllIn-grown (g.R.Replica.waiting c.args.replica.now) c.loop-change.yielded c.in-Some.change)
+    (AllIn-fresh (g.R.Replica.waiting c.args.replica.now) c.loop-change.yielded (g.R.Replica.waiting c.loop-change.replica) c.in-Some.change c.loop-change.invariant.goes.waits))
+    (AllIn-yielded (g.R.Replica.waiting c.args.replica.now) c.loop-change.yielded c.loop-change.change-iterator.rest.items c.next.new.self.rest.items c.args.changes.items c.in-Some.change c.loop-change.invariant.rest c.in-Some.ensures.steps.0))
+    c.from_residual-in_err-take.ensures.1
+
+pub loop-change-init : goal.loop-change-init
+loop-change-init g c = record {
+  goes = subst (λ (l : List ChangeParts). Goes g.K.Keeper.keeps c.args.keeper.now c.settle.new.keeper l (g.R.Replica.applied c.args.replica.now) (g.R.Replica.applied c.settle.new.replica) (g.R.Replica.waiting c.settle.new.replica) c.args.told.now.applied.items c.settle.new.told.applied.items c.args.told.now.refused.items c.settle.new.told.refused.items)
+      (sym (append-nil (g.R.Replica.waiting c.args.replica.now))) c.in_ok-settle.ensures.ok;
+  spare = λ h i. inl (c.in_ok-settle.ensures.undropped h i);
+  count = omega (arith, c.settle.ensures.fewer);
+  settled = c.in_ok-settle.ensures.settled;
+  rest = c.into_iter-change-iterator.ensures.into_iter_gives.0;
+}

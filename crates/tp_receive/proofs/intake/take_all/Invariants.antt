@@ -1,0 +1,15 @@
+use Rattle.std.proofs.Common.{◌≡◌, ◌++◌, ◌+◌, ◌<◌, ◌≤◌, length}
+use Rattle.tp_receive.specs.Receiving.{AllWait}
+use Rattle.tp_receive.specs.Going.{Goes, DropsWhere}
+use Rattle.tp_graph.specs.GraphState.{most_waiting}
+use Rattle.tp_receive.proofs.intake.take_all.Given as goal
+
+abbrev pub invariant-loop-change : goal.invariant-loop-change
+invariant-loop-change g l = record {
+  goes : Goes g.K.Keeper.keeps l.fn.keeper l.keeper (g.R.Replica.waiting l.fn.replica ++ l.yielded) (g.R.Replica.applied l.fn.replica)
+      (g.R.Replica.applied l.replica) (g.R.Replica.waiting l.replica) l.fn.told.applied.items l.told.applied.items l.fn.told.refused.items l.told.refused.items;
+  spare : DropsWhere l.fn.told.refused.items l.told.refused.items (most_waiting < length (g.R.Replica.waiting l.fn.replica) + length l.fn.changes.items);
+  count : length (g.R.Replica.waiting l.replica) ≤ length (g.R.Replica.waiting l.fn.replica) + length l.yielded;
+  settled : AllWait (g.R.Replica.applied l.replica) (g.R.Replica.waiting l.replica);
+  rest : l.yielded ++ l.change-iterator.rest.items ≡ l.fn.changes.items;
+}

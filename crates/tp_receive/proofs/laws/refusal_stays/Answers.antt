@@ -1,0 +1,5 @@
+use Rattle.tp_receive.proofs.StaysLaws.{refused-stays}
+use Rattle.tp_receive.proofs.laws.refusal_stays.Goals as goal
+
+pub returns : goal.returns
+returns c = refused-stays

@@ -1,0 +1,85 @@
+-- Receiving changes in any order, as a relation between applied lists.
+use Rattle.std.specs.Prelude.{◌≡◌, List, [], ◌∷◌, ◌++◌, Bool, true, false, Option, Some, None, IsSome, cond}
+use Rattle.tp_list.specs.Members.{In, AllIn}
+use Rattle.tp_opid.specs.declared.hash.Hash.{Hash}
+use Rattle.tp_change.specs.declared.parts.ChangeParts.{ChangeParts}
+use Rattle.tp_change.specs.ChangeHash.{hash_of}
+use Rattle.tp_graph.specs.declared.error.GraphError.{GraphError}
+use Rattle.tp_graph.specs.declared.error.GraphError.TheVariants.{Known, MissingDeps, BadSeq, BadStart, BadReference, SeqClash, UnknownHead, Full, OutOfMemory}
+use Rattle.tp_graph.specs.Named.{among}
+use Rattle.tp_graph.specs.Fit.{cause}
+use Rattle.tp_graph.specs.Sound.{Sound}
+
+-- The changes enter behind `before` one after another: none has a cause at its turn.
+abbrev pub EntersAfter : List ChangeParts → List ChangeParts → Type 0
+EntersAfter before [] = Unit {0}
+EntersAfter before (c ∷ new) = (cause before c ≡ None) × EntersAfter (before ++ c ∷ []) new
+
+-- The list `long` begins with C.
+abbrev pub Begins : List ChangeParts → List ChangeParts → Type 0
+Begins C long = (new : List ChangeParts) × (long ≡ C ++ new)
+
+-- Two changes of K with one hash are one.
+abbrev pub HashesApart : List ChangeParts → Type 0
+HashesApart K = (c d : ChangeParts) → In c K → In d K → hash_of c ≡ hash_of d → c ≡ d
+
+-- The list `long` is C and behind it the new changes, which are of K and entered one after another.
+pub record Grows (C K long new : List ChangeParts) : Type 0 where
+  pub begins : long ≡ C ++ new
+  pub fits : EntersAfter C new
+  pub came : AllIn new K
+
+-- The list `long` comes of C where the changes K are received: it is sound, it is C and then changes of K that
+-- entered one after another, and every other change of K can't enter.
+pub record Receives (C K long : List ChangeParts) : Type 0 where
+  pub sound : Sound long
+  pub new : List ChangeParts
+  pub entered : Grows C K long new
+  pub closed : (c : ChangeParts) → In c K → IsSome (cause long c)
+
+-- The list `long` stands between C and a result of receiving K.
+pub record Between (C K long : List ChangeParts) : Type 0 where
+  pub begins : Begins C long
+  pub whole : List ChangeParts
+  pub goes_on : Begins long whole
+  pub receives : Receives C K whole
+
+-- a dependency isn't there
+abbrev pub lacks_deps : Option GraphError → Bool
+lacks_deps None = false
+lacks_deps (Some MissingDeps) = true
+lacks_deps (Some Known) = false
+lacks_deps (Some BadSeq) = false
+lacks_deps (Some BadStart) = false
+lacks_deps (Some BadReference) = false
+lacks_deps (Some SeqClash) = false
+lacks_deps (Some UnknownHead) = false
+lacks_deps (Some Full) = false
+lacks_deps (Some OutOfMemory) = false
+
+-- a cause that stays whatever enters later: any but that a dependency isn't there
+abbrev pub is_refusal : Option GraphError → Bool
+is_refusal None = false
+is_refusal (Some MissingDeps) = false
+is_refusal (Some Known) = true
+is_refusal (Some BadSeq) = true
+is_refusal (Some BadStart) = true
+is_refusal (Some BadReference) = true
+is_refusal (Some SeqClash) = true
+is_refusal (Some UnknownHead) = true
+is_refusal (Some Full) = true
+is_refusal (Some OutOfMemory) = true
+
+-- each change of W waits for a dependency behind C
+abbrev pub AllWait : List ChangeParts → List ChangeParts → Type 0
+AllWait C W = (c : ChangeParts) → In c W → lacks_deps (cause C c) ≡ true
+
+-- the hashes of the changes, in their order
+abbrev pub hashes : List ChangeParts → List Hash
+hashes [] = []
+hashes (c ∷ C) = hash_of c ∷ hashes C
+
+-- the hashes of those changes of W that are among H, in the order of W
+abbrev pub held_of : List Hash → List ChangeParts → List Hash
+held_of H [] = []
+held_of H (c ∷ W) = cond (among H (hash_of c)) (hash_of c ∷ held_of H W) (held_of H W)

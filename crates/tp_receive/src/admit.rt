@@ -1,0 +1,87 @@
+//! Trying one change: it enters, is refused, or must wait.
+
+ghost use Rattle.std.specs.Prelude.{◌≡◌, ◌++◌, ◌∷◌, [], Some, None, OnOk, OnErr, IfOk, IfErr};
+ghost use Rattle.tp_change.specs.ChangeHash.{hash_of};
+ghost use Rattle.tp_graph.specs.Fit.{cause};
+ghost use Rattle.tp_receive.specs.Going.{Leaves};
+ghost use Rattle.tp_receive.specs.Admits.{Admits};
+
+use crate::error::ReceiveError;
+use crate::keeper::{KeepError, Keeper};
+use crate::replica::Replica;
+use crate::told::Told;
+use crate::verdict::{Verdict, judge};
+use tp_change::Change;
+
+/// What became of a change that was tried.
+#[derive(Drop)]
+pub(crate) enum Outcome {
+    /// It entered.
+    Entered,
+    /// It was refused and told.
+    Refused,
+    /// A dependency isn't there: it is given back.
+    Waits(Change),
+}
+
+// Keeps a change, with the refusal as this crate's.
+fn keep<K: Keeper>(keeper: &mut K, change: &Change) -> Result<(), ReceiveError>
+    ensures ok { OnOk result (K.keeps keeper.old change.now keeper.new) }
+    ensures err { IfErr result (λ e. Leaves K.refuses e (change.now ∷ []) keeper.old keeper.new) }
+{
+    match keeper.keep(change) {
+        Ok(()) => Ok(()),
+        Err(KeepError::NotKept) => Err(ReceiveError::NotKept),
+        Err(KeepError::OutOfMemory) => Err(ReceiveError::OutOfMemory),
+    }
+}
+
+// Keeps a change and then enters it.
+fn enter_kept<R: Replica, K: Keeper>(
+    replica: &mut R,
+    keeper: &mut K,
+    change: Change,
+    told: &mut Told,
+) -> Result<(), ReceiveError>
+    requires enters { cause (R.applied replica.old) change ≡ None }
+    requires room { R.room replica.old ≡ Some (hash_of change) }
+    ensures waiting { R.waiting replica.new ≡ R.waiting replica.old }
+    ensures kept { OnOk result (K.keeps keeper.old change keeper.new) }
+    ensures applied { OnOk result (R.applied replica.new ≡ R.applied replica.old ++ change ∷ []) }
+    ensures told { OnOk result (told.new.applied.items ≡ told.old.applied.items ++ hash_of change ∷ []) }
+    ensures refused { OnOk result (told.new.refused.items ≡ told.old.refused.items) }
+    ensures err { IfErr result (λ e. Leaves K.refuses e (change ∷ []) keeper.old keeper.new) }
+    ensures stays { OnErr result (R.applied replica.new ≡ R.applied replica.old) }
+{
+    told.applied.push(change.hash())?;
+    keep(keeper, &change)?;
+    replica.enter(change);
+    Ok(())
+}
+
+/// Tries a change: where it can enter it is kept and enters, where it can't it is told, where it must wait it is
+/// given back. An error leaves what is applied and what waits as they were; the change is let go.
+pub(crate) fn admit<R: Replica, K: Keeper>(
+    replica: &mut R,
+    keeper: &mut K,
+    change: Change,
+    told: &mut Told,
+) -> Result<Outcome, ReceiveError>
+    ensures waiting { R.waiting replica.new ≡ R.waiting replica.old }
+    ensures ok { IfOk result (λ o. Admits K.keeps keeper.old keeper.new change (R.applied replica.old) (R.applied replica.new)
+        told.old.applied.items told.new.applied.items told.old.refused.items told.new.refused.items o) }
+    ensures err { IfErr result (λ e. Leaves K.refuses e (change ∷ []) keeper.old keeper.new) }
+    ensures stays { OnErr result (R.applied replica.new ≡ R.applied replica.old) }
+{
+    match judge(replica.ready(&change))? {
+        Verdict::Enters => {
+            enter_kept(replica, keeper, change, told)?;
+            Ok(Outcome::Entered)
+        }
+        Verdict::Waits => Ok(Outcome::Waits(change)),
+        Verdict::Refused(error) => {
+            told.refused.push((change.hash(), error))?;
+            Ok(Outcome::Refused)
+        }
+    }
+}

@@ -1,0 +1,100 @@
+//! Receiving changes in any order.
+
+ghost use Rattle.std.specs.Prelude.{◌≡◌, ◌+◌, ◌<◌, ◌≤◌, ◌++◌, [], length, OnOk, IfOk, IfErr};
+ghost use Rattle.tp_receive.specs.Receiving.{AllWait, HashesApart, Receives};
+ghost use Rattle.tp_receive.specs.Receiving as receiving;
+ghost use Rattle.tp_receive.specs.Going.{Goes, Stops, DropsWhere};
+ghost use Rattle.tp_graph.specs.GraphState.{most_waiting};
+ghost use Rattle.tp_receive.specs.Loose as loose;
+ghost use Rattle.tp_receive.specs.Replies.{NoneDropped, Fails};
+
+use crate::error::ReceiveError;
+use crate::hashes::{hashes_of, held_of};
+use crate::keeper::Keeper;
+use crate::loose::is_full;
+use crate::replica::Replica;
+use crate::settle::settle;
+use crate::take::take;
+use crate::told::Told;
+use std::alloc::Global;
+use tp_change::Change;
+use tp_graph::GraphError;
+use tp_opid::Hash;
+
+// Takes the changes in the given order, after the pending ones were tried.
+fn take_all<R: Replica, K: Keeper>(
+    replica: &mut R,
+    keeper: &mut K,
+    changes: Vec<Change>,
+    told: &mut Told,
+) -> Result<(), ReceiveError>
+    ensures ok { OnOk result (Goes K.keeps keeper.old keeper.new (R.waiting replica.old ++ changes.items) (R.applied replica.old) (R.applied replica.new)
+        (R.waiting replica.new) told.old.applied.items told.new.applied.items told.old.refused.items told.new.refused.items) }
+    ensures spare { OnOk result (DropsWhere told.old.refused.items told.new.refused.items (most_waiting < length (R.waiting replica.old) + length changes.items)) }
+    ensures settled { OnOk result (AllWait (R.applied replica.new) (R.waiting replica.new)) }
+    ensures err { IfErr result (λ e. Stops K.keeps K.refuses keeper.old keeper.new (R.waiting replica.old ++ changes.items) (R.applied replica.old)
+        (R.applied replica.new) (R.waiting replica.new) e) }
+{
+    settle(replica, keeper, told)?;
+    for change in changes {
+        take(replica, keeper, change, 0, told)?;
+    }
+    Ok(())
+}
+
+/// What became of the changes that were received.
+#[derive(Drop)]
+pub struct Received {
+    /// The hashes of the changes that entered, in order, also of those that waited before.
+    pub applied: Vec<Hash>,
+    /// The hashes of those that came and wait now, in the order in which they wait.
+    pub held: Vec<Hash>,
+    /// The hashes of those that were refused, each with the cause that it had at its turn. `MissingDeps` stands
+    /// with those that had to wait and were dropped for want of space.
+    pub refused: Vec<(Hash, GraphError)>,
+}
+
+/// Receives changes. They are taken in the given order: each is refused, waits where a dependency is missing, or
+/// enters after the keeper kept it. First, and after each entry, the pending changes whose dependencies are all
+/// there are tried, from the earliest that came.
+///
+/// A change that is pending already doesn't wait twice. A change that enters twice in the list is refused as
+/// `Known` at its second turn. A change that must wait while 1,024 wait is dropped and told as `MissingDeps`.
+///
+/// A change of the list is loose where one of its dependencies is neither applied, as the list begins, nor an
+/// earlier change of the list that isn't loose. `PendingFull` comes exactly where the pending changes and the
+/// loose ones, each hash once, are more than 1,024, and changes nothing.
+///
+/// `NotKept` and `OutOfMemory` leave the replica between: what entered until then stays, and what waits is of
+/// what waited and came. Each entry costs a check of each pending change: at most 1,024.
+pub fn receive<R: Replica, K: Keeper>(
+    alloc: Global,
+    replica: &mut R,
+    keeper: &mut K,
+    changes: Vec<Change>,
+) -> Result<Received, ReceiveError>
+    ensures goes { IfOk result (λ r. Goes K.keeps keeper.old keeper.new (R.waiting replica.old ++ changes.items) (R.applied replica.old) (R.applied replica.new)
+        (R.waiting replica.new) [] r.applied.items [] r.refused.items) }
+    ensures receives { IfOk result (λ r. HashesApart (R.waiting replica.old ++ changes.items) → NoneDropped r.refused.items
+        → Receives (R.applied replica.old) (R.waiting replica.old ++ changes.items) (R.applied replica.new)) }
+    ensures none_dropped { IfOk result (λ r. length (R.waiting replica.old) + length changes.items ≤ most_waiting → NoneDropped r.refused.items) }
+    ensures waits { OnOk result (AllWait (R.applied replica.new) (R.waiting replica.new)) }
+    ensures held { IfOk result (λ r. r.held.items ≡ receiving.held_of (receiving.hashes changes.items) (R.waiting replica.new)) }
+    ensures full { loose.IsFullOnly result (loose.is_full (R.applied replica.old) (R.waiting replica.old) changes.items) }
+    ensures err { IfErr result (λ e. Fails K.keeps K.refuses keeper.old keeper.new (R.waiting replica.old ++ changes.items) (R.applied replica.old)
+        (R.applied replica.new) (R.waiting replica.old) (R.waiting replica.new) e) }
+{
+    let _applied = replica.changes();
+    if is_full(alloc, replica, &changes)? {
+        return Err(ReceiveError::PendingFull);
+    }
+    let came = hashes_of(alloc, &changes)?;
+    let mut told = Told::new(alloc);
+    take_all(replica, keeper, changes, &mut told)?;
+    let held = held_of(alloc, &came, replica.pending())?;
+    Ok(Received {
+        applied: told.applied,
+        held,
+        refused: told.refused,
+    })
+}

@@ -1,0 +1,23 @@
+//! Receiving changes in any order: each that can enter enters, once a keeper kept it; those whose dependencies
+//! are missing wait; the others are refused, each with its cause.
+//!
+//! It goes over whatever holds applied and waiting changes, as a graph or a document does: see [`Replica`].
+#![tactic(auto)]
+
+mod admit;
+mod error;
+mod hashes;
+mod intake;
+mod keeper;
+pub mod laws;
+mod loose;
+mod replica;
+mod settle;
+mod take;
+mod told;
+mod verdict;
+
+pub use error::ReceiveError;
+pub use intake::{Received, receive};
+pub use keeper::{KeepError, Keeper, NoKeeper};
+pub use replica::Replica;

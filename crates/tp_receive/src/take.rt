@@ -1,0 +1,89 @@
+//! Taking one change that came.
+
+ghost use Rattle.std.specs.Prelude.{◌≡◌, ◌++◌, ◌∷◌, [], ◌+◌, ◌≤◌, ℕ, Some, length, OnOk, OnErr, IfOk, IfErr};
+ghost use Rattle.tp_change.specs.declared.parts.ChangeParts.{ChangeParts};
+ghost use Rattle.tp_graph.specs.Named as named;
+ghost use Rattle.tp_graph.specs.Fit.{cause};
+ghost use Rattle.tp_receive.specs.Receiving.{AllWait, lacks_deps};
+ghost use Rattle.tp_receive.specs.Going.{Goes, Stops, IsHeld, DropsWhere};
+ghost use Rattle.tp_graph.specs.GraphState.{most_waiting};
+
+use crate::admit::{Outcome, admit};
+use crate::error::ReceiveError;
+use crate::keeper::Keeper;
+use crate::replica::Replica;
+use crate::settle::settle;
+use crate::told::Told;
+use tp_change::Change;
+use tp_graph::GraphError;
+use tp_opid::Hash;
+
+/// How many changes wait at most.
+pub(crate) const MOST_WAITING: usize = 1024;
+
+/// Whether one of the changes has the hash.
+pub(crate) fn has_hash(changes: &[Change], hash: &Hash) -> bool
+    ensures { result ≡ named.has changes.now hash.now }
+{
+    for change in changes {
+        if change.hash().is(hash) {
+            return true;
+        }
+    }
+    false
+}
+
+// Lets a change wait, where one with its hash doesn't wait already. Where there is no space beside the reserved
+// places it is dropped and told.
+fn let_wait<R: Replica>(
+    replica: &mut R,
+    change: Change,
+    reserved: usize,
+    told: &mut Told,
+) -> Result<(), ReceiveError>
+    ensures applied { R.applied replica.new ≡ R.applied replica.old }
+    ensures told { told.new.applied.items ≡ told.old.applied.items }
+    ensures ok { OnOk result (IsHeld (R.waiting replica.old) change reserved (R.waiting replica.new) told.old.refused.items told.new.refused.items) }
+    ensures err { IfErr result (λ e. e ≡ ReceiveError.OutOfMemory) }
+    ensures stays { OnErr result (R.waiting replica.new ≡ R.waiting replica.old) }
+{
+    let hash = change.hash();
+    if has_hash(replica.pending(), &hash) {
+        return Ok(());
+    }
+    let free = MOST_WAITING - replica.pending().len();
+    if reserved < free {
+        match replica.hold(change) {
+            Ok(()) => Ok(()),
+            Err(_) => Err(ReceiveError::OutOfMemory),
+        }
+    } else {
+        told.refused.push((hash, GraphError::MissingDeps))?;
+        Ok(())
+    }
+}
+
+/// Takes a change that came: it enters, and what it lets enter of those that wait; or it is refused and told, or
+/// waits.
+pub(crate) fn take<R: Replica, K: Keeper>(
+    replica: &mut R,
+    keeper: &mut K,
+    change: Change,
+    reserved: usize,
+    told: &mut Told,
+) -> Result<(), ReceiveError>
+    requires settled { AllWait (R.applied replica.old) (R.waiting replica.old) }
+    ensures ok { OnOk result (Goes K.keeps keeper.old keeper.new (R.waiting replica.old ++ change ∷ []) (R.applied replica.old) (R.applied replica.new)
+        (R.waiting replica.new) told.old.applied.items told.new.applied.items told.old.refused.items told.new.refused.items) }
+    ensures spare { OnOk result (DropsWhere told.old.refused.items told.new.refused.items (most_waiting ≤ length (R.waiting replica.old) + reserved)) }
+    ensures count { OnOk result (length (R.waiting replica.new) ≤ length (R.waiting replica.old) + 1) }
+    ensures settled { OnOk result (AllWait (R.applied replica.new) (R.waiting replica.new)) }
+    ensures err { IfErr result (λ e. Stops K.keeps K.refuses keeper.old keeper.new (R.waiting replica.old ++ change ∷ []) (R.applied replica.old)
+        (R.applied replica.new) (R.waiting replica.new) e) }
+{
+    match admit(replica, keeper, change, told)? {
+        Outcome::Entered => settle(replica, keeper, told),
+        Outcome::Refused => Ok(()),
+        Outcome::Waits(change) => let_wait(replica, change, reserved, told),
+    }
+}
