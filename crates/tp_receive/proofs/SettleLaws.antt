@@ -28,34 +28,34 @@ pub Goes-at : {S : Type 0} (keeps : S → ChangeParts → S → Type 0) (k k' l 
 Goes-at keeps k k' l F C0 C C' D W X t t' u r r' q g a b c d e f = rw (← a, b, c, d, e, f) g
 
 -- A change that waited entered.
-pub settle_entered : {S : Type 0} (keeps : S → ChangeParts → S → Type 0) (k k' : S) (W0 : List ChangeParts) (i : ℕ) (c : ChangeParts)
-    (C0 C C' W1 W2 : List ChangeParts) (t t' : List Hash) (r r' : List (Hash × GraphError))
-    → slice_get W0 i ≡ Some c → W1 ≡ remove W0 i → C ≡ C0 → W2 ≡ W1 → Admits keeps k k' c C C' t t' r r' outcome.Entered
-    → Goes keeps k k' W0 C0 C' W2 t t' r r'
-settle_entered keeps k k' W0 i c C0 C C' W1 W2 t t' r r' get out same left a =
-    Goes-at keeps k k' k' W0 C0 C (C ++ c ∷ []) C' (remove W0 i) W2 t (t ++ hash_of c ∷ []) t' r r r'
-    (Goes-entered keeps k k' W0 C (remove W0 i) c t r a.0 a.1 (slice_get-In W0 i c get) (λ d j. removed-In W0 i d j) (λ d j. In-removed W0 i c get d j))
+pub settle_entered : {S : Type 0} (keeps : S → ChangeParts → S → Type 0) (k k' : S) (Wold : List ChangeParts) (i : ℕ) (c : ChangeParts)
+    (C0 C C' Wmid Wend : List ChangeParts) (t t' : List Hash) (r r' : List (Hash × GraphError))
+    → slice_get Wold i ≡ Some c → Wmid ≡ remove Wold i → C ≡ C0 → Wend ≡ Wmid → Admits keeps k k' c C C' t t' r r' outcome.Entered
+    → Goes keeps k k' Wold C0 C' Wend t t' r r'
+settle_entered keeps k k' Wold i c C0 C C' Wmid Wend t t' r r' get out same left a =
+    Goes-at keeps k k' k' Wold C0 C (C ++ c ∷ []) C' (remove Wold i) Wend t (t ++ hash_of c ∷ []) t' r r r'
+    (Goes-entered keeps k k' Wold C (remove Wold i) c t r a.0 a.1 (slice_get-In Wold i c get) (λ d j. removed-In Wold i d j) (λ d j. In-removed Wold i c get d j))
     same refl a.2 (left ∙ out) a.3 a.4
 
 -- A change that waited was refused.
-pub settle_refused : {S : Type 0} (keeps : S → ChangeParts → S → Type 0) (k k' : S) (W0 : List ChangeParts) (i : ℕ) (c : ChangeParts)
-    (C0 C C' W1 W2 : List ChangeParts) (t t' : List Hash) (r r' : List (Hash × GraphError))
-    → slice_get W0 i ≡ Some c → W1 ≡ remove W0 i → C ≡ C0 → W2 ≡ W1 → Admits keeps k k' c C C' t t' r r' outcome.Refused
-    → Goes keeps k k' W0 C0 C' W2 t t' r r'
-settle_refused keeps k k' W0 i c C0 C C' W1 W2 t t' r r' get out same left a =
-    Goes-at keeps k k k' W0 C0 C C C' (remove W0 i) W2 t t t' r (r ++ (hash_of c, a.1) ∷ []) r'
-    (Goes-refused keeps k W0 C (remove W0 i) c a.1 t r a.2 a.3 (slice_get-In W0 i c get) (λ d j. removed-In W0 i d j) (λ d j. In-removed W0 i c get d j))
+pub settle_refused : {S : Type 0} (keeps : S → ChangeParts → S → Type 0) (k k' : S) (Wold : List ChangeParts) (i : ℕ) (c : ChangeParts)
+    (C0 C C' Wmid Wend : List ChangeParts) (t t' : List Hash) (r r' : List (Hash × GraphError))
+    → slice_get Wold i ≡ Some c → Wmid ≡ remove Wold i → C ≡ C0 → Wend ≡ Wmid → Admits keeps k k' c C C' t t' r r' outcome.Refused
+    → Goes keeps k k' Wold C0 C' Wend t t' r r'
+settle_refused keeps k k' Wold i c C0 C C' Wmid Wend t t' r r' get out same left a =
+    Goes-at keeps k k k' Wold C0 C C C' (remove Wold i) Wend t t t' r (r ++ (hash_of c, a.1) ∷ []) r'
+    (Goes-refused keeps k Wold C (remove Wold i) c a.1 t r a.2 a.3 (slice_get-In Wold i c get) (λ d j. removed-In Wold i d j) (λ d j. In-removed Wold i c get d j))
     same a.0.keeper a.0.applied (left ∙ out) a.0.told a.4
 
 -- Trying a change that waited stopped.
-pub settle_stopped : {S : Type 0} (keeps : S → ChangeParts → S → Type 0) (refuses : S → ChangeParts → KeepError → S → Type 0) (k k' : S) (W0 : List ChangeParts) (i : ℕ) (c : ChangeParts)
-    (C0 C C' W1 W2 : List ChangeParts) (e : ReceiveError)
-    → slice_get W0 i ≡ Some c → W1 ≡ remove W0 i → C ≡ C0 → W2 ≡ W1 → C' ≡ C → Leaves refuses e (c ∷ []) k k'
-    → Stops keeps refuses k k' W0 C0 C' W2 e
-settle_stopped keeps refuses k k' W0 i c C0 C C' W1 W2 e get out same left stays l =
+pub settle_stopped : {S : Type 0} (keeps : S → ChangeParts → S → Type 0) (refuses : S → ChangeParts → KeepError → S → Type 0) (k k' : S) (Wold : List ChangeParts) (i : ℕ) (c : ChangeParts)
+    (C0 C C' Wmid Wend : List ChangeParts) (e : ReceiveError)
+    → slice_get Wold i ≡ Some c → Wmid ≡ remove Wold i → C ≡ C0 → Wend ≡ Wmid → C' ≡ C → Leaves refuses e (c ∷ []) k k'
+    → Stops keeps refuses k k' Wold C0 C' Wend e
+settle_stopped keeps refuses k k' Wold i c C0 C C' Wmid Wend e get out same left stays l =
     rw (stays, same, left, out)
-    (Stops-left keeps refuses k k' W0 C0 (remove W0 i) e (λ d j. removed-In W0 i d j)
-    (Leaves-more refuses e (c ∷ []) W0 k k' (λ d j. elim j [ inl s ↦ rw s (slice_get-In W0 i c get) | inr n ↦ absurd n ]) l))
+    (Stops-left keeps refuses k k' Wold C0 (remove Wold i) e (λ d j. removed-In Wold i d j)
+    (Leaves-more refuses e (c ∷ []) Wold k k' (λ d j. elim j [ inl s ↦ rw s (slice_get-In Wold i c get) | inr n ↦ absurd n ]) l))
 
 pub OnOk-at : {T E : Type 0} (P : Type 0) (r : Result T E) (x : T) → OnOk r P → r ≡ Ok x → P
 OnOk-at P (Ok y) x h e = h

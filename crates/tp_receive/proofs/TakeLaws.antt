@@ -32,44 +32,44 @@ pub In-pushed : (W : List ChangeParts) (c d : ChangeParts) → In d (W ++ c ∷ 
 In-pushed W c d i = elim (In-cases d W (c ∷ []) i) [ inl j ↦ inr j | inr j ↦ elim j [ inl e ↦ inl e | inr n ↦ absurd n ] ]
 
 -- A change that came entered.
-pub take_entered : {S : Type 0} (keeps : S → ChangeParts → S → Type 0) (k k' : S) (c : ChangeParts) (C C' W0 W1 : List ChangeParts) (t t' : List Hash) (r r' : List (Hash × GraphError))
-    → W1 ≡ W0 → Admits keeps k k' c C C' t t' r r' outcome.Entered → Goes keeps k k' (W0 ++ c ∷ []) C C' W1 t t' r r'
-take_entered keeps k k' c C C' W0 W1 t t' r r' w a =
-    Goes-at keeps k k' k' (W0 ++ c ∷ []) C C (C ++ c ∷ []) C' W0 W1 t (t ++ hash_of c ∷ []) t' r r r'
-    (Goes-entered keeps k k' (W0 ++ c ∷ []) C W0 c t r a.0 a.1 (In-last c W0) (λ d j. In-left d W0 (c ∷ []) j) (In-pushed W0 c))
+pub take_entered : {S : Type 0} (keeps : S → ChangeParts → S → Type 0) (k k' : S) (c : ChangeParts) (C C' Wold Wmid : List ChangeParts) (t t' : List Hash) (r r' : List (Hash × GraphError))
+    → Wmid ≡ Wold → Admits keeps k k' c C C' t t' r r' outcome.Entered → Goes keeps k k' (Wold ++ c ∷ []) C C' Wmid t t' r r'
+take_entered keeps k k' c C C' Wold Wmid t t' r r' w a =
+    Goes-at keeps k k' k' (Wold ++ c ∷ []) C C (C ++ c ∷ []) C' Wold Wmid t (t ++ hash_of c ∷ []) t' r r r'
+    (Goes-entered keeps k k' (Wold ++ c ∷ []) C Wold c t r a.0 a.1 (In-last c Wold) (λ d j. In-left d Wold (c ∷ []) j) (In-pushed Wold c))
     refl refl a.2 w a.3 a.4
 
 -- A change that came was refused.
-pub take_refused : {S : Type 0} (keeps : S → ChangeParts → S → Type 0) (k k' : S) (c : ChangeParts) (C C' W0 W1 : List ChangeParts) (t t' : List Hash) (r r' : List (Hash × GraphError))
-    → W1 ≡ W0 → Admits keeps k k' c C C' t t' r r' outcome.Refused → Goes keeps k k' (W0 ++ c ∷ []) C C' W1 t t' r r'
-take_refused keeps k k' c C C' W0 W1 t t' r r' w a =
-    Goes-at keeps k k k' (W0 ++ c ∷ []) C C C C' W0 W1 t t t' r (r ++ (hash_of c, a.1) ∷ []) r'
-    (Goes-refused keeps k (W0 ++ c ∷ []) C W0 c a.1 t r a.2 a.3 (In-last c W0) (λ d j. In-left d W0 (c ∷ []) j) (In-pushed W0 c))
+pub take_refused : {S : Type 0} (keeps : S → ChangeParts → S → Type 0) (k k' : S) (c : ChangeParts) (C C' Wold Wmid : List ChangeParts) (t t' : List Hash) (r r' : List (Hash × GraphError))
+    → Wmid ≡ Wold → Admits keeps k k' c C C' t t' r r' outcome.Refused → Goes keeps k k' (Wold ++ c ∷ []) C C' Wmid t t' r r'
+take_refused keeps k k' c C C' Wold Wmid t t' r r' w a =
+    Goes-at keeps k k k' (Wold ++ c ∷ []) C C C C' Wold Wmid t t t' r (r ++ (hash_of c, a.1) ∷ []) r'
+    (Goes-refused keeps k (Wold ++ c ∷ []) C Wold c a.1 t r a.2 a.3 (In-last c Wold) (λ d j. In-left d Wold (c ∷ []) j) (In-pushed Wold c))
     refl a.0.keeper a.0.applied w a.0.told a.4
 
 -- Trying a change that came stopped.
 pub take_stopped : {S : Type 0} (keeps : S → ChangeParts → S → Type 0) (refuses : S → ChangeParts → KeepError → S → Type 0) (k k' : S) (c : ChangeParts)
-    (C C' W0 W1 : List ChangeParts) (e : ReceiveError)
-    → W1 ≡ W0 → C' ≡ C → Leaves refuses e (c ∷ []) k k' → Stops keeps refuses k k' (W0 ++ c ∷ []) C C' W1 e
-take_stopped keeps refuses k k' c C C' W0 W1 e w stays l =
+    (C C' Wold Wmid : List ChangeParts) (e : ReceiveError)
+    → Wmid ≡ Wold → C' ≡ C → Leaves refuses e (c ∷ []) k k' → Stops keeps refuses k k' (Wold ++ c ∷ []) C C' Wmid e
+take_stopped keeps refuses k k' c C C' Wold Wmid e w stays l =
     rw (stays, w)
-    (Stops-left keeps refuses k k' (W0 ++ c ∷ []) C W0 e (λ d j. In-left d W0 (c ∷ []) j)
-    (Leaves-more refuses e (c ∷ []) (W0 ++ c ∷ []) k k' (λ d j. In-right d W0 (c ∷ []) j) l))
+    (Stops-left keeps refuses k k' (Wold ++ c ∷ []) C Wold e (λ d j. In-left d Wold (c ∷ []) j)
+    (Leaves-more refuses e (c ∷ []) (Wold ++ c ∷ []) k k' (λ d j. In-right d Wold (c ∷ []) j) l))
 
 -- A change that came must wait.
-pub take_held : {S : Type 0} (keeps : S → ChangeParts → S → Type 0) (k k' : S) (c d : ChangeParts) (n : ℕ) (C C1 C2 W0 W1 W2 : List ChangeParts) (t t1 t2 : List Hash) (r r1 r2 : List (Hash × GraphError))
-    → W1 ≡ W0 → Admits keeps k k' c C C1 t t1 r r1 (outcome.Waits d) → C2 ≡ C1 → t2 ≡ t1 → IsHeld W1 d n W2 r1 r2 → Goes keeps k k' (W0 ++ c ∷ []) C C2 W2 t t2 r r2
-take_held keeps k k' c d n C C1 C2 W0 W1 W2 t t1 t2 r r1 r2 w a cs ts (inl h) =
-    Goes-at keeps k k k' (W0 ++ c ∷ []) C C C C2 (W0 ++ c ∷ []) W2 t t t2 r r r2
-    (Goes-held keeps k C W0 c t r)
-    refl a.0.keeper (cs ∙ a.0.applied) (h.0 ∙ ap (λ l. l ++ d ∷ []) w ∙ ap (λ (x : ChangeParts). W0 ++ x ∷ []) a.2) (ts ∙ a.0.told) (h.2 ∙ a.3)
-take_held keeps k k' c d n C C1 C2 W0 W1 W2 t t1 t2 r r1 r2 w a cs ts (inr (inl h)) =
-    Goes-at keeps k k k' (W0 ++ c ∷ []) C C C C2 W0 W2 t t t2 r r r2
-    (Goes-waiting keeps k C W0 c t r (sym (ap (λ l. has l (hash_of d)) w ∙ ap (λ (x : ChangeParts). has W0 (hash_of x)) a.2) ∙ h.1))
+pub take_held : {S : Type 0} (keeps : S → ChangeParts → S → Type 0) (k k' : S) (c d : ChangeParts) (n : ℕ) (C C1 C2 Wold Wmid Wend : List ChangeParts) (t t1 t2 : List Hash) (r r1 r2 : List (Hash × GraphError))
+    → Wmid ≡ Wold → Admits keeps k k' c C C1 t t1 r r1 (outcome.Waits d) → C2 ≡ C1 → t2 ≡ t1 → IsHeld Wmid d n Wend r1 r2 → Goes keeps k k' (Wold ++ c ∷ []) C C2 Wend t t2 r r2
+take_held keeps k k' c d n C C1 C2 Wold Wmid Wend t t1 t2 r r1 r2 w a cs ts (inl h) =
+    Goes-at keeps k k k' (Wold ++ c ∷ []) C C C C2 (Wold ++ c ∷ []) Wend t t t2 r r r2
+    (Goes-held keeps k C Wold c t r)
+    refl a.0.keeper (cs ∙ a.0.applied) (h.0 ∙ ap (λ l. l ++ d ∷ []) w ∙ ap (λ (x : ChangeParts). Wold ++ x ∷ []) a.2) (ts ∙ a.0.told) (h.2 ∙ a.3)
+take_held keeps k k' c d n C C1 C2 Wold Wmid Wend t t1 t2 r r1 r2 w a cs ts (inr (inl h)) =
+    Goes-at keeps k k k' (Wold ++ c ∷ []) C C C C2 Wold Wend t t t2 r r r2
+    (Goes-waiting keeps k C Wold c t r (sym (ap (λ l. has l (hash_of d)) w ∙ ap (λ (x : ChangeParts). has Wold (hash_of x)) a.2) ∙ h.1))
     refl a.0.keeper (cs ∙ a.0.applied) (h.0 ∙ w) (ts ∙ a.0.told) (h.2 ∙ a.3)
-take_held keeps k k' c d n C C1 C2 W0 W1 W2 t t1 t2 r r1 r2 w a cs ts (inr (inr h)) =
-    Goes-at keeps k k k' (W0 ++ c ∷ []) C C C C2 W0 W2 t t t2 r (r ++ (hash_of c, MissingDeps) ∷ []) r2
-    (Goes-dropped keeps k C W0 c t r a.1)
+take_held keeps k k' c d n C C1 C2 Wold Wmid Wend t t1 t2 r r1 r2 w a cs ts (inr (inr h)) =
+    Goes-at keeps k k k' (Wold ++ c ∷ []) C C C C2 Wold Wend t t t2 r (r ++ (hash_of c, MissingDeps) ∷ []) r2
+    (Goes-dropped keeps k C Wold c t r a.1)
     refl a.0.keeper (cs ∙ a.0.applied) (h.0 ∙ w) (ts ∙ a.0.told)
     (h.2 ∙ ap (λ l. l ++ (hash_of d, MissingDeps) ∷ []) a.3 ∙ ap (λ (x : ChangeParts). r ++ (hash_of x, MissingDeps) ∷ []) a.2)
 
@@ -77,20 +77,20 @@ AllWait-pushed : (C W : List ChangeParts) (c : ChangeParts) → lacks_deps (caus
 AllWait-pushed C W c h all d i = elim (In-pushed W c d i) [ inl e ↦ ap (λ (x : ChangeParts). lacks_deps (cause C x)) e ∙ h | inr j ↦ all d j ]
 
 -- Those that wait still do.
-pub wait_held : {S : Type 0} (keeps : S → ChangeParts → S → Type 0) (k k' : S) (c d : ChangeParts) (n : ℕ) (C C1 C2 W0 W1 W2 : List ChangeParts) (t t1 : List Hash) (r r1 r2 : List (Hash × GraphError))
-    → AllWait C W0 → W1 ≡ W0 → Admits keeps k k' c C C1 t t1 r r1 (outcome.Waits d) → C2 ≡ C1 → IsHeld W1 d n W2 r1 r2 → AllWait C2 W2
-wait_held keeps k k' c d n C C1 C2 W0 W1 W2 t t1 r r1 r2 all w a cs (inl h) =
-    rw (cs, a.0.applied, h.0, w, a.2) (AllWait-pushed C W0 c (ap lacks_deps a.1) all)
-wait_held keeps k k' c d n C C1 C2 W0 W1 W2 t t1 r r1 r2 all w a cs (inr (inl h)) = rw (cs, a.0.applied, h.0, w) all
-wait_held keeps k k' c d n C C1 C2 W0 W1 W2 t t1 r r1 r2 all w a cs (inr (inr h)) = rw (cs, a.0.applied, h.0, w) all
+pub wait_held : {S : Type 0} (keeps : S → ChangeParts → S → Type 0) (k k' : S) (c d : ChangeParts) (n : ℕ) (C C1 C2 Wold Wmid Wend : List ChangeParts) (t t1 : List Hash) (r r1 r2 : List (Hash × GraphError))
+    → AllWait C Wold → Wmid ≡ Wold → Admits keeps k k' c C C1 t t1 r r1 (outcome.Waits d) → C2 ≡ C1 → IsHeld Wmid d n Wend r1 r2 → AllWait C2 Wend
+wait_held keeps k k' c d n C C1 C2 Wold Wmid Wend t t1 r r1 r2 all w a cs (inl h) =
+    rw (cs, a.0.applied, h.0, w, a.2) (AllWait-pushed C Wold c (ap lacks_deps a.1) all)
+wait_held keeps k k' c d n C C1 C2 Wold Wmid Wend t t1 r r1 r2 all w a cs (inr (inl h)) = rw (cs, a.0.applied, h.0, w) all
+wait_held keeps k k' c d n C C1 C2 Wold Wmid Wend t t1 r r1 r2 all w a cs (inr (inr h)) = rw (cs, a.0.applied, h.0, w) all
 
 -- Memory was refused where a change was to wait.
 pub wait_stopped : {S : Type 0} (keeps : S → ChangeParts → S → Type 0) (refuses : S → ChangeParts → KeepError → S → Type 0) (k k' : S) (c d : ChangeParts)
-    (C C1 C2 W0 W1 W2 : List ChangeParts) (t t1 : List Hash) (r r1 : List (Hash × GraphError)) (e : ReceiveError)
-    → W1 ≡ W0 → Admits keeps k k' c C C1 t t1 r r1 (outcome.Waits d) → C2 ≡ C1 → W2 ≡ W1 → e ≡ error.OutOfMemory → Stops keeps refuses k k' (W0 ++ c ∷ []) C C2 W2 e
-wait_stopped {S} keeps refuses k k' c d C C1 C2 W0 W1 W2 t t1 r r1 e w a cs ws is =
+    (C C1 C2 Wold Wmid Wend : List ChangeParts) (t t1 : List Hash) (r r1 : List (Hash × GraphError)) (e : ReceiveError)
+    → Wmid ≡ Wold → Admits keeps k k' c C C1 t t1 r r1 (outcome.Waits d) → C2 ≡ C1 → Wend ≡ Wmid → e ≡ error.OutOfMemory → Stops keeps refuses k k' (Wold ++ c ∷ []) C C2 Wend e
+wait_stopped {S} keeps refuses k k' c d C C1 C2 Wold Wmid Wend t t1 r r1 e w a cs ws is =
     rw (is, cs, a.0.applied, ws, w)
-    (Stops-left keeps refuses k k' (W0 ++ c ∷ []) C W0 error.OutOfMemory (λ x j. In-left x W0 (c ∷ []) j) (inl (sym a.0.keeper)))
+    (Stops-left keeps refuses k k' (Wold ++ c ∷ []) C Wold error.OutOfMemory (λ x j. In-left x Wold (c ∷ []) j) (inl (sym a.0.keeper)))
 
 -- what was yielded and the next are among all
 pub AllIn-yielded : (W ys xs zs all : List ChangeParts) (x : ChangeParts) → ys ++ xs ≡ all → xs ≡ x ∷ zs → AllIn (W ++ (ys ++ x ∷ [])) (W ++ all)
@@ -123,17 +123,17 @@ IfErr-stays P Q (Ok v) f h s = h
 IfErr-stays P Q (Err v) f h s = f v h s
 
 -- Where a change that must wait was dropped, there was no space.
-pub spare_held : (W1 W0 W2 : List ChangeParts) (d : ChangeParts) (n : ℕ) (r r1 r2 : List (Hash × GraphError))
-    → W1 ≡ W0 → r1 ≡ r → IsHeld W1 d n W2 r1 r2 → DropsWhere r r2 (most_waiting ≤ length W0 + n)
-spare_held W1 W0 W2 d n r r1 r2 w e (inl h) g i = inl (subst (λ l. In (g, MissingDeps) l) (h.2 ∙ e) i)
-spare_held W1 W0 W2 d n r r1 r2 w e (inr (inl h)) g i = inl (subst (λ l. In (g, MissingDeps) l) (h.2 ∙ e) i)
-spare_held W1 W0 W2 d n r r1 r2 w e (inr (inr h)) g i = inr (subst (λ (l : List ChangeParts). most_waiting ≤ length l + n) w h.1)
+pub spare_held : (Wmid Wold Wend : List ChangeParts) (d : ChangeParts) (n : ℕ) (r r1 r2 : List (Hash × GraphError))
+    → Wmid ≡ Wold → r1 ≡ r → IsHeld Wmid d n Wend r1 r2 → DropsWhere r r2 (most_waiting ≤ length Wold + n)
+spare_held Wmid Wold Wend d n r r1 r2 w e (inl h) g i = inl (subst (λ l. In (g, MissingDeps) l) (h.2 ∙ e) i)
+spare_held Wmid Wold Wend d n r r1 r2 w e (inr (inl h)) g i = inl (subst (λ l. In (g, MissingDeps) l) (h.2 ∙ e) i)
+spare_held Wmid Wold Wend d n r r1 r2 w e (inr (inr h)) g i = inr (subst (λ (l : List ChangeParts). most_waiting ≤ length l + n) w h.1)
 
-pub count_held : (W1 W0 W2 : List ChangeParts) (d : ChangeParts) (n : ℕ) (r1 r2 : List (Hash × GraphError))
-    → W1 ≡ W0 → IsHeld W1 d n W2 r1 r2 → length W2 ≤ length W0 + 1
-count_held W1 W0 W2 d n r1 r2 w (inl h) = omega (arith, ap length h.0, ap length w, length-append W1 (d ∷ []))
-count_held W1 W0 W2 d n r1 r2 w (inr (inl h)) = omega (arith, ap length h.0, ap length w)
-count_held W1 W0 W2 d n r1 r2 w (inr (inr h)) = omega (arith, ap length h.0, ap length w)
+pub count_held : (Wmid Wold Wend : List ChangeParts) (d : ChangeParts) (n : ℕ) (r1 r2 : List (Hash × GraphError))
+    → Wmid ≡ Wold → IsHeld Wmid d n Wend r1 r2 → length Wend ≤ length Wold + 1
+count_held Wmid Wold Wend d n r1 r2 w (inl h) = omega (arith, ap length h.0, ap length w, length-append Wmid (d ∷ []))
+count_held Wmid Wold Wend d n r1 r2 w (inr (inl h)) = omega (arith, ap length h.0, ap length w)
+count_held Wmid Wold Wend d n r1 r2 w (inr (inr h)) = omega (arith, ap length h.0, ap length w)
 
 pub drops_where : (r q r' : List (Hash × GraphError)) (full : Type 0) → q ≡ r → DropsNone q r' → DropsWhere r r' full
 drops_where r q r' full e f h i = inl (subst (λ l. In (h, MissingDeps) l) e (f h i))
