@@ -66,7 +66,8 @@ pub struct Received {
 /// loose ones, each hash once, are more than 1,024, and changes nothing.
 ///
 /// `NotKept` and `OutOfMemory` leave the replica between: what entered until then stays, and what waits is of
-/// what waited and came. Each entry costs a check of each pending change: at most 1,024.
+/// what waited and came. The change that was being tried, also one that waited, and those of the list behind it are
+/// let go: they have to come again. Each entry costs a check of each pending change: at most 1,024.
 pub fn receive<R: Replica, K: Keeper>(
     alloc: Global,
     replica: &mut R,
