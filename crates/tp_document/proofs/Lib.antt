@@ -3,3 +3,4 @@ pub mod ShowingLaws
 pub mod EditFits
 pub mod EditSizes
 pub mod EditAnswers
+pub mod ForkLaws

@@ -1,15 +1,21 @@
 //! Copies of documents.
 
-ghost use Rattle.std.specs.Prelude.{◌≡◌, ◌≤◌, [], ◌∷◌, ◌++◌, None, length, IfOk, IsOkUnless, OnOk};
+ghost use Rattle.std.specs.Prelude.{◌≡◌, ◌↔◌, ◌⊎◌, ◌≤◌, [], ◌∷◌, ◌++◌, None, Some, false, length, IfOk, IfErr, IsOkUnless, OnOk};
+ghost use Rattle.std.specs.List.{slice_get};
+ghost use Rattle.tp_change.specs.declared.parts.ChangeParts.{ChangeParts};
 ghost use Rattle.tp_graph.specs.Fit.{cause, most_changes};
+ghost use Rattle.tp_graph.specs.Named.{has_all};
+ghost use Rattle.tp_graph.specs.Past as pasts;
 ghost use Rattle.tp_graph.specs.Sound.{Sound};
+ghost use Rattle.tp_document.specs.Forking.{found, at_places};
 ghost use Rattle.tp_document.specs.declared.error.DocError.TheVariants.{OutOfMemory};
 
 use crate::document::Document;
 use crate::error::DocError;
 use std::alloc::Global;
 use tp_change::Change;
-use tp_opid::DocId;
+use tp_graph::GraphError;
+use tp_opid::{DocId, Hash};
 use tp_rga::Sequence;
 
 // Enters a copy of a change that can enter.
@@ -52,6 +58,46 @@ fn document_of<S: Sequence>(
     Ok(document)
 }
 
+// Enters a copy of the change at the place, which can enter.
+fn enter_at<S: Sequence>(
+    document: &mut Document<S>,
+    changes: &[Change],
+    place: usize,
+) -> Result<(), DocError>
+    requires { (c : ChangeParts) → slice_get changes.now place ≡ Some c → cause document.old.applied c ≡ None }
+    ensures ok { OnOk result (document.new.applied ≡ document.old.applied ++ found (slice_get changes.now place)) }
+    ensures id { document.new.id ≡ document.old.id }
+    ensures waiting { document.new.waiting ≡ document.old.waiting }
+    ensures err { IsOkUnless result OutOfMemory }
+{
+    if place < changes.len() {
+        enter_copy(document, &changes[place])
+    } else {
+        Ok(())
+    }
+}
+
+// A document with copies of the changes at the places, entered one after another.
+fn document_at<S: Sequence>(
+    alloc: Global,
+    id: DocId,
+    changes: &[Change],
+    places: &[u32],
+) -> Result<Document<S>, DocError>
+    requires sound { Sound (at_places changes.now places.now) }
+    requires few { length (at_places changes.now places.now) ≤ most_changes }
+    ensures id { IfOk result (λ d. d.id ≡ id) }
+    ensures applied { IfOk result (λ d. d.applied ≡ at_places changes.now places.now) }
+    ensures waiting { IfOk result (λ d. d.waiting ≡ []) }
+    ensures err { IsOkUnless result OutOfMemory }
+{
+    let mut document = Document::new(alloc, id);
+    for place in places {
+        enter_at(&mut document, changes, *place as usize)?;
+    }
+    Ok(document)
+}
+
 impl<S: Sequence> Document<S> {
     /// A document with the same identifier and copies of the applied changes; nothing waits in it. The only refusal
     /// is `OutOfMemory`. It enters each change anew, with one walk back over the changes for each.
@@ -62,5 +108,23 @@ impl<S: Sequence> Document<S> {
         ensures err { IsOkUnless result OutOfMemory }
     {
         document_of(self.alloc, self.id, self.changes())
+    }
+
+    /// A document with the same identifier and copies of the past of the hashes: the changes that have them and all
+    /// that these depend on, in applied order; nothing waits in it. Any order, repeats allowed; no hash gives a
+    /// document with no changes. `UnknownHead` where a hash isn't that of an applied change; the only other refusal is
+    /// `OutOfMemory`. It enters each of the changes anew.
+    pub fn fork_at(&self, hashes: &[Hash]) -> Result<Document<S>, DocError>
+        ensures id { IfOk result (λ d. d.id ≡ self.now.id) }
+        ensures applied { IfOk result (λ d. d.applied ≡ pasts.past self.now.applied hashes.now) }
+        ensures waiting { IfOk result (λ d. d.waiting ≡ []) }
+        ensures unknown { (result ≡ Err DocError.UnknownHead) ↔ (has_all self.now.applied hashes.now ≡ false) }
+        ensures err { IfErr result (λ e. (e ≡ DocError.UnknownHead) ⊎ (e ≡ OutOfMemory)) }
+    {
+        match self.graph.past(hashes) {
+            Ok(past) => document_at(self.alloc, self.id, self.changes(), past.places()),
+            Err(GraphError::UnknownHead) => Err(DocError::UnknownHead),
+            Err(_) => Err(DocError::OutOfMemory),
+        }
     }
 }
