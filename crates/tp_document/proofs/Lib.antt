@@ -4,3 +4,4 @@ pub mod EditFits
 pub mod EditSizes
 pub mod EditAnswers
 pub mod ForkLaws
+pub mod MergeLaws

@@ -4,3 +4,4 @@ pub mod Showing
 pub mod Editing
 pub mod Making
 pub mod Forking
+pub mod Merging

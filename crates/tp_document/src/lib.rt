@@ -12,6 +12,7 @@ mod error;
 mod forking;
 mod laws;
 mod making;
+mod merging;
 
 pub use cursor::Cursor;
 pub use document::Document;
