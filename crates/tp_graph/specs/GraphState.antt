@@ -1,7 +1,9 @@
 -- What contracts see of a graph, and what it keeps.
-use Rattle.std.specs.Prelude.{◌≡◌, ℕ, ◌<◌, ◌≤◌, List, length, Option, Some, None}
+use Rattle.std.specs.Prelude.{◌≡◌, ℕ, ◌<◌, ◌≤◌, List, [], ◌∷◌, length, false, Option, Some, None}
 use Rattle.tp_opid.specs.declared.hash.Hash.{Hash}
 use Rattle.tp_change.specs.declared.parts.ChangeParts.{ChangeParts}
+use Rattle.tp_change.specs.ChangeHash.{hash_of}
+use Rattle.tp_graph.specs.Named.{has}
 use Rattle.tp_graph.specs.Fit.{most_changes}
 use Rattle.tp_graph.specs.Heads as head
 use Rattle.tp_graph.specs.Places.{noted, NotesFrom, ends_of}
@@ -17,6 +19,11 @@ pub record GraphState : Type 0 where
 -- how many changes wait at most
 abbrev pub most_waiting : ℕ
 most_waiting = 1024
+
+-- no two of the changes have one hash
+abbrev pub HashesOnce : List ChangeParts → Type 0
+HashesOnce [] = Unit {0}
+HashesOnce (c ∷ W) = (has W (hash_of c) ≡ false) × HashesOnce W
 
 -- What a graph keeps: its changes are sound, and heads, places and ends are theirs.
 pub record IsKept (applied waiting : List ChangeParts) (heads : List Hash) (entries : List (Hash × ℕ)) (ends : List ℕ) : Type 0 where

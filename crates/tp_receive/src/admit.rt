@@ -44,7 +44,7 @@ fn enter_kept<R: Replica, K: Keeper>(
     told: &mut Told,
 ) -> Result<(), ReceiveError>
     requires enters { cause (R.applied replica.old) change ≡ None }
-    requires room { R.room replica.old ≡ Some (hash_of change) }
+    requires room { R.has_room replica.old change }
     ensures waiting { R.waiting replica.new ≡ R.waiting replica.old }
     ensures kept { OnOk result (K.keeps keeper.old change keeper.new) }
     ensures applied { OnOk result (R.applied replica.new ≡ R.applied replica.old ++ change ∷ []) }

@@ -44,7 +44,7 @@ fn take_all<R: Replica, K: Keeper>(
 
 /// What became of the changes that were received.
 #[derive(Drop)]
-pub struct Received {
+pub struct Applied {
     /// The hashes of the changes that entered, in order, also of those that waited before.
     pub applied: Vec<Hash>,
     /// The hashes of those that came and wait now, in the order in which they wait.
@@ -73,7 +73,7 @@ pub fn receive<R: Replica, K: Keeper>(
     replica: &mut R,
     keeper: &mut K,
     changes: Vec<Change>,
-) -> Result<Received, ReceiveError>
+) -> Result<Applied, ReceiveError>
     ensures goes { IfOk result (λ r. Goes K.keeps keeper.old keeper.new (R.waiting replica.old ++ changes.items) (R.applied replica.old) (R.applied replica.new)
         (R.waiting replica.new) [] r.applied.items [] r.refused.items) }
     ensures receives { IfOk result (λ r. HashesApart (R.waiting replica.old ++ changes.items) → NoneDropped r.refused.items
@@ -93,7 +93,7 @@ pub fn receive<R: Replica, K: Keeper>(
     let mut told = Told::new(alloc);
     take_all(replica, keeper, changes, &mut told)?;
     let held = held_of(alloc, &came, replica.pending())?;
-    Ok(Received {
+    Ok(Applied {
         applied: told.applied,
         held,
         refused: told.refused,

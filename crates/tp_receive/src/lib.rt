@@ -18,6 +18,6 @@ mod told;
 mod verdict;
 
 pub use error::ReceiveError;
-pub use intake::{Received, receive};
+pub use intake::{Applied, receive};
 pub use keeper::{KeepError, Keeper, NoKeeper};
 pub use replica::Replica;

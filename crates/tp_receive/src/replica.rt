@@ -1,18 +1,17 @@
 //! What receives changes: applied changes, and changes that wait.
 
-ghost use Rattle.std.specs.Prelude.{◌≡◌, ◌<◌, ◌≤◌, ◌++◌, ◌∷◌, [], ℕ, List, Option, Some, None, length, is_ok, if◌then◌else◌, IfErr, OnOk, OnErr};
+ghost use Rattle.std.specs.Prelude.{◌≡◌, ◌<◌, ◌≤◌, ◌++◌, ◌∷◌, [], ℕ, List, Some, None, false, length, is_ok, if◌then◌else◌, IfErr, OnOk, OnErr};
 ghost use Rattle.std.specs.List.{slice_get, remove};
-ghost use Rattle.tp_opid.specs.declared.hash.Hash.{Hash};
 ghost use Rattle.tp_change.specs.declared.parts.ChangeParts.{ChangeParts};
 ghost use Rattle.tp_change.specs.ChangeHash.{hash_of};
 ghost use Rattle.tp_graph.specs.Named as named;
 ghost use Rattle.tp_graph.specs.Fit.{cause};
 ghost use Rattle.tp_graph.specs.Sound.{Sound};
 ghost use Rattle.tp_graph.specs.Answers.{Answers};
-ghost use Rattle.tp_graph.specs.GraphState.{most_waiting};
+ghost use Rattle.tp_graph.specs.GraphState.{most_waiting, HashesOnce};
 
 use tp_change::Change;
-use tp_graph::{Graph, GraphError, Rejected};
+use tp_graph::{GraphError, Rejected};
 use tp_opid::Hash;
 
 /// Applied changes in the order in which they entered, and changes that wait for others. A graph is one, and so
@@ -24,18 +23,19 @@ pub trait Replica: Drop {
     /// The changes that wait, in the order in which they came.
     ghost waiting: { Self → List ChangeParts };
 
-    /// The hash of the change for whose entry every growth is made.
-    ghost room: { Self → Option Hash };
+    /// Every growth that the entry of the change takes is made.
+    ghost has_room: { Self → ChangeParts → Type 0 };
 
     /// The applied changes: dependencies stand before dependents.
     fn changes(&self) -> &[Change]
         ensures changes { result.now ≡ applied self.now }
         ensures sound { Sound (applied self.now) };
 
-    /// The changes that wait: at most 1,024.
+    /// The changes that wait, at most 1,024, each hash once.
     fn pending(&self) -> &[Change]
         ensures pending { result.now ≡ waiting self.now }
-        ensures few { length (waiting self.now) ≤ most_waiting };
+        ensures few { length (waiting self.now) ≤ most_waiting }
+        ensures once { HashesOnce (waiting self.now) };
 
     /// Whether an applied change has the hash.
     fn contains(&self, hash: &Hash) -> bool
@@ -50,67 +50,39 @@ pub trait Replica: Drop {
         ensures answers { Answers result (cause (applied self.old) change.now) }
         ensures applied { applied self.new ≡ applied self.old }
         ensures waiting { waiting self.new ≡ waiting self.old }
-        ensures room { OnOk result (room self.new ≡ Some (hash_of change.now)) };
+        ensures room { OnOk result (has_room self.new change.now) };
+
+    /// Checks the waiting change with the number `i`, from 0, and makes every growth that its entry takes. It goes
+    /// on waiting.
+    fn ready_waiting(&mut self, i: usize) -> Result<(), GraphError>
+        requires { i < length (waiting self.old) }
+        ensures answers { (c : ChangeParts) → slice_get (waiting self.old) i ≡ Some c → Answers result (cause (applied self.old) c) }
+        ensures applied { applied self.new ≡ applied self.old }
+        ensures waiting { waiting self.new ≡ waiting self.old }
+        ensures room { (c : ChangeParts) → slice_get (waiting self.old) i ≡ Some c → OnOk result (has_room self.new c) };
 
     /// Enters a change that can enter and that was made ready for, as the last applied one. No memory.
     fn enter(&mut self, change: Change)
         requires enters { cause (applied self.old) change ≡ None }
-        requires room { room self.old ≡ Some (hash_of change) }
+        requires room { has_room self.old change }
         ensures applied { applied self.new ≡ applied self.old ++ change ∷ [] }
         ensures waiting { waiting self.new ≡ waiting self.old };
 
-    /// Keeps a change that waits, behind those that wait already, of which there are fewer than 1,024. The only
-    /// refusal is for want of memory, and leaves what waits as it was.
+    /// Keeps a change that waits, behind those that wait already, of which there are fewer than 1,024, none with
+    /// its hash. The only refusal is for want of memory, and leaves what waits as it was.
     fn hold(&mut self, change: Change) -> Result<(), Rejected>
-        requires { length (waiting self.old) < most_waiting }
+        requires few { length (waiting self.old) < most_waiting }
+        requires apart { named.has (waiting self.old) (hash_of change) ≡ false }
         ensures waiting { waiting self.new ≡ (if is_ok result then waiting self.old ++ change ∷ [] else waiting self.old) }
         ensures err { IfErr result (λ rejected. (rejected.change ≡ change) × (rejected.error ≡ GraphError.OutOfMemory)) }
         ensures applied { applied self.new ≡ applied self.old };
 
-    /// Takes out the waiting change with the number `i`, from 0. The others keep their order. No memory.
+    /// Takes out the waiting change with the number `i`, from 0. The others keep their order, and growths that were
+    /// made stay. No memory.
     fn release(&mut self, i: usize) -> Change
         requires { i < length (waiting self.old) }
         ensures change { slice_get (waiting self.old) i ≡ Some result }
         ensures waiting { waiting self.new ≡ remove (waiting self.old) i }
-        ensures applied { applied self.new ≡ applied self.old };
-}
-
-impl Replica for Graph {
-    ghost applied = { λ g. g.applied };
-
-    ghost waiting = { λ g. g.waiting };
-
-    ghost room = { λ g. g.room };
-
-    fn changes(&self) -> &[Change] {
-        Graph::changes(self)
-    }
-
-    fn pending(&self) -> &[Change] {
-        Graph::pending(self)
-    }
-
-    fn contains(&self, hash: &Hash) -> bool {
-        Graph::contains(self, hash)
-    }
-
-    fn check(&self, change: &Change) -> Result<(), GraphError> {
-        Graph::check(self, change)
-    }
-
-    fn ready(&mut self, change: &Change) -> Result<(), GraphError> {
-        Graph::ready(self, change)
-    }
-
-    fn enter(&mut self, change: Change) {
-        Graph::enter(self, change)
-    }
-
-    fn hold(&mut self, change: Change) -> Result<(), Rejected> {
-        Graph::hold(self, change)
-    }
-
-    fn release(&mut self, i: usize) -> Change {
-        Graph::release(self, i)
-    }
+        ensures applied { applied self.new ≡ applied self.old }
+        ensures room { (c : ChangeParts) → has_room self.old c → has_room self.new c };
 }

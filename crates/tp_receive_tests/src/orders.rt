@@ -6,10 +6,10 @@ use std::test::Fail;
 use tp_change::Change;
 use tp_graph::{Graph, GraphError};
 use tp_opid::{Hash, Place};
-use tp_receive::{NoKeeper, Received, receive};
+use tp_receive::{Applied, NoKeeper, receive};
 
 /// The graph receives the changes.
-fn received(alloc: Global, graph: &mut Graph, changes: Vec<Change>) -> Result<Received, Fail> {
+fn received(alloc: Global, graph: &mut Graph, changes: Vec<Change>) -> Result<Applied, Fail> {
     let mut keeper = NoKeeper;
     Ok(receive(alloc, graph, &mut keeper, changes)?)
 }
