@@ -5,3 +5,4 @@ pub mod Editing
 pub mod Making
 pub mod Forking
 pub mod Merging
+pub mod Applying

@@ -15,7 +15,9 @@ ghost use Rattle.tp_graph.specs.Fit.{cause, most_changes};
 ghost use Rattle.tp_graph.specs.Sound.{Sound};
 ghost use Rattle.tp_graph.specs.Since.{IsMissing};
 ghost use Rattle.tp_graph.specs.Answers.{Answers};
-ghost use Rattle.tp_graph.specs.GraphState.{most_waiting};
+ghost use Rattle.tp_graph.specs.GraphState.{most_waiting, HashesOnce};
+ghost use Rattle.tp_change.specs.ChangeHash.{hash_of};
+ghost use Rattle.tp_change.specs.declared.parts.ChangeParts.{ChangeParts};
 ghost use Rattle.tp_document.specs.DocState.{HasRoomFor, AllChanges};
 ghost use Rattle.tp_change.specs.Elements.{later};
 ghost use Rattle.tp_document.specs.Showing.{HasLength, HasCharAt};
@@ -148,10 +150,11 @@ impl<S: Sequence> Document<S> {
         self.graph.contains(hash)
     }
 
-    /// The changes that wait for others, in the order in which they came: at most 1,024.
+    /// The changes that wait for others, in the order in which they came: at most 1,024, each hash once.
     pub fn pending(&self) -> &[Change]
         ensures pending { result.now ≡ self.now.waiting }
         ensures few { length self.now.waiting ≤ most_waiting }
+        ensures once { HashesOnce self.now.waiting }
     {
         self.graph.pending()
     }
@@ -211,6 +214,23 @@ impl<S: Sequence> Document<S> {
         }
     }
 
+    /// Makes ready for the waiting change with the number `i`, from 0, as [`ready`](Document::ready) does. It goes on
+    /// waiting.
+    pub(crate) fn ready_waiting(&mut self, i: usize) -> Result<(), GraphError>
+        requires { i < length self.old.waiting }
+        ensures answers { (c : ChangeParts) → slice_get self.old.waiting i ≡ Some c → Answers result (cause self.old.applied c) }
+        ensures id { self.new.id ≡ self.old.id }
+        ensures applied { self.new.applied ≡ self.old.applied }
+        ensures waiting { self.new.waiting ≡ self.old.waiting }
+        ensures room { (c : ChangeParts) → slice_get self.old.waiting i ≡ Some c → OnOk result (HasRoomFor self.new c) }
+    {
+        let count = self.graph.pending()[i].op_count();
+        match self.sequence.reserve(count) {
+            Ok(()) => self.graph.ready_waiting(i),
+            Err(_) => Err(GraphError::OutOfMemory),
+        }
+    }
+
     /// Enters a change that can enter and that was made [`ready`](Document::ready) for, as the last applied one: its
     /// operations go into the sequence. No memory.
     pub fn enter(&mut self, change: Change)
@@ -226,10 +246,11 @@ impl<S: Sequence> Document<S> {
         self.graph.enter(change);
     }
 
-    /// Keeps a change that waits, behind those that wait already. There are fewer than 1,024 of them. The only
-    /// refusal is `OutOfMemory`, which gives the change back and leaves the document as it was.
-    pub fn hold(&mut self, change: Change) -> Result<(), Rejected>
-        requires { length self.old.waiting < most_waiting }
+    /// Keeps a change that waits, behind those that wait already. There are fewer than 1,024 of them, and none has its
+    /// hash. The only refusal is `OutOfMemory`, which gives the change back and leaves the document as it was.
+    pub(crate) fn hold(&mut self, change: Change) -> Result<(), Rejected>
+        requires few { length self.old.waiting < most_waiting }
+        requires apart { named.has self.old.waiting (hash_of change) ≡ false }
         ensures waiting { self.new.waiting ≡ (if is_ok result then self.old.waiting ++ change ∷ [] else self.old.waiting) }
         ensures err { IfErr result (λ rejected. (rejected.change ≡ change) × (rejected.error ≡ GraphError.OutOfMemory)) }
         ensures id { self.new.id ≡ self.old.id }
@@ -242,7 +263,7 @@ impl<S: Sequence> Document<S> {
 
     /// Takes out the waiting change with the number `i`, from 0 in the order in which they came. The others keep
     /// their order. No memory.
-    pub fn release(&mut self, i: usize) -> Change
+    pub(crate) fn release(&mut self, i: usize) -> Change
         requires { i < length self.old.waiting }
         ensures change { slice_get self.old.waiting i ≡ Some result }
         ensures waiting { self.new.waiting ≡ remove self.old.waiting i }

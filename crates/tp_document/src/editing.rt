@@ -114,7 +114,7 @@ fn change_of<S: Sequence>(
         (λ e. IsRefused graph.now.applied (asking actor splices.now time (chars message.now)) e) }
 {
     let _actor = actor_len(actor);
-    let seq = next_seq(graph.changes(), actor);
+    let seq = next_seq(graph, &actor);
     match parts_of(
         alloc,
         sequence,

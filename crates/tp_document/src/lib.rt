@@ -5,6 +5,7 @@
 //! changes.
 #![tactic(auto)]
 
+mod applying;
 mod cursor;
 mod document;
 mod editing;
@@ -13,8 +14,10 @@ mod forking;
 mod laws;
 mod making;
 mod merging;
+mod replica;
 
 pub use cursor::Cursor;
 pub use document::Document;
 pub use error::DocError;
 pub use laws::{edit_is_determined, one_text};
+pub use tp_receive::{Applied, KeepError, Keeper, NoKeeper};

@@ -14,6 +14,7 @@ use crate::error::DocError;
 use std::alloc::{AllocError, Global};
 use tp_change::{Change, ChangeError, ChangeParts};
 use tp_edit::{Splice, in_range, operation_count, records};
+use tp_graph::Graph;
 use tp_list::{Items, Text};
 use tp_opid::{Actor, Hash};
 use tp_rga::Sequence;
@@ -41,18 +42,12 @@ pub(crate) fn judge_splices(splices: &[Splice], len: usize) -> Result<usize, Doc
 }
 
 // The sequence number of the actor's next change.
-pub(crate) fn next_seq(changes: &[Change], actor: Actor) -> u64
-    requires { length changes.now ≤ most_changes }
-    ensures seq { result ≡ count_by actor changes.now + 1 }
+pub(crate) fn next_seq(graph: &Graph, actor: &Actor) -> u64
+    ensures seq { result ≡ count_by actor.now graph.now.applied + 1 }
     ensures small { result < 2 ^ 64 }
 {
-    let mut count: u64 = 0;
-    for change in changes {
-        if change.actor().is(&actor) {
-            count += 1;
-        }
-    }
-    count + 1
+    let _changes = graph.changes().len();
+    graph.count_by(actor) + 1
 }
 
 // Makes a change of parts that are within all limits but, perhaps, that of the bytes.

@@ -27,8 +27,8 @@ fn note_absent<S: Sequence>(
     }
 }
 
-// Copies of the changes whose hashes the document hasn't, in their order.
-fn absent<S: Sequence>(
+/// Copies of the changes whose hashes the document hasn't, in their order.
+pub(crate) fn absent<S: Sequence>(
     document: &Document<S>,
     changes: &[Change],
 ) -> Result<Vec<Change>, DocError>

@@ -2,4 +2,6 @@
 #![tactic(auto)]
 
 #[cfg(test)]
+mod receiving;
+#[cfg(test)]
 mod tests;

@@ -1,0 +1,135 @@
+//! Receiving changes, in a list or from another document.
+
+ghost use Rattle.std.specs.Prelude.{◌≡◌, ◌+◌, ◌≤◌, ◌++◌, [], length, OnOk, IfOk, IfErr};
+ghost use Rattle.tp_graph.specs.GraphState.{most_waiting};
+ghost use Rattle.tp_receive.specs.Receiving.{AllWait, HashesApart, Receives, hashes, held_of};
+ghost use Rattle.tp_receive.specs.Going.{Goes};
+ghost use Rattle.tp_receive.specs.Loose as loose;
+ghost use Rattle.tp_receive.specs.Replies.{NoneDropped};
+ghost use Rattle.tp_document.specs.Applying.{refusal_of, keeps_nothing, refuses_nothing, ApplyFails, MergeFails, IsFullAlone, IsOtherAlone};
+ghost use Rattle.tp_document.specs.Merging as merging;
+
+use crate::document::Document;
+use crate::error::DocError;
+use crate::merging::absent;
+use tp_change::Change;
+use tp_receive::{Applied, Keeper, NoKeeper, ReceiveError, receive};
+use tp_rga::Sequence;
+
+// The refusal as one of a document.
+fn refusal(error: ReceiveError) -> DocError
+    ensures { result ≡ refusal_of error }
+{
+    match error {
+        ReceiveError::PendingFull => DocError::PendingFull,
+        ReceiveError::NotKept => DocError::NotKept,
+        ReceiveError::OutOfMemory => DocError::OutOfMemory,
+    }
+}
+
+impl<S: Sequence> Document<S> {
+    /// Receives changes, as [`apply`](Document::apply) does, and asks the keeper to keep each before it enters.
+    ///
+    /// The refusals are those of `apply`, and `NotKept` where the keeper refused a change: it leaves the document as
+    /// `OutOfMemory` does.
+    pub fn apply_with<K: Keeper>(
+        &mut self,
+        changes: Vec<Change>,
+        keeper: &mut K,
+    ) -> Result<Applied, DocError>
+        ensures id { self.new.id ≡ self.old.id }
+        ensures goes { IfOk result (λ r. Goes K.keeps keeper.old keeper.new (self.old.waiting ++ changes.items) self.old.applied self.new.applied
+            self.new.waiting [] r.applied.items [] r.refused.items) }
+        ensures receives { IfOk result (λ r. HashesApart (self.old.waiting ++ changes.items) → NoneDropped r.refused.items
+            → Receives self.old.applied (self.old.waiting ++ changes.items) self.new.applied) }
+        ensures none_dropped { IfOk result (λ r. length self.old.waiting + length changes.items ≤ most_waiting → NoneDropped r.refused.items) }
+        ensures waits { OnOk result (AllWait self.new.applied self.new.waiting) }
+        ensures held { IfOk result (λ r. r.held.items ≡ held_of (hashes changes.items) self.new.waiting) }
+        ensures full { IsFullAlone result (loose.is_full self.old.applied self.old.waiting changes.items) }
+        ensures err { IfErr result (λ e. ApplyFails K.keeps K.refuses keeper.old keeper.new (self.old.waiting ++ changes.items) self.old.applied
+            self.new.applied self.old.waiting self.new.waiting e) }
+    {
+        let alloc = self.alloc;
+        match receive(alloc, self, keeper, changes) {
+            Ok(applied) => Ok(applied),
+            Err(error) => Err(refusal(error)),
+        }
+    }
+
+    /// Receives changes in any order, as Automerge's call `apply_changes` does: each is refused, waits where a
+    /// dependency is missing, or enters. They are taken in the given order. First, and after each entry, the pending
+    /// changes whose dependencies are all there are tried, from the earliest that came; one that doesn't fit is
+    /// dropped and told. A change that is pending already doesn't wait twice. See [`receive`] for the rules in full.
+    ///
+    /// `PendingFull` where more than 1,024 changes would have to wait: nothing changes. `OutOfMemory` leaves the
+    /// document between: it holds a beginning of the changes that it would have entered, each whole, and what waits
+    /// is of what waited and came.
+    ///
+    /// An applied change costs its check and its operations. The pending ones are looked at again only where
+    /// something entered.
+    pub fn apply(&mut self, changes: Vec<Change>) -> Result<Applied, DocError>
+        ensures id { self.new.id ≡ self.old.id }
+        ensures goes { IfOk result (λ r. Goes keeps_nothing tt tt (self.old.waiting ++ changes.items) self.old.applied self.new.applied
+            self.new.waiting [] r.applied.items [] r.refused.items) }
+        ensures receives { IfOk result (λ r. HashesApart (self.old.waiting ++ changes.items) → NoneDropped r.refused.items
+            → Receives self.old.applied (self.old.waiting ++ changes.items) self.new.applied) }
+        ensures none_dropped { IfOk result (λ r. length self.old.waiting + length changes.items ≤ most_waiting → NoneDropped r.refused.items) }
+        ensures waits { OnOk result (AllWait self.new.applied self.new.waiting) }
+        ensures held { IfOk result (λ r. r.held.items ≡ held_of (hashes changes.items) self.new.waiting) }
+        ensures full { IsFullAlone result (loose.is_full self.old.applied self.old.waiting changes.items) }
+        ensures err { IfErr result (λ e. ApplyFails keeps_nothing refuses_nothing tt tt (self.old.waiting ++ changes.items) self.old.applied
+            self.new.applied self.old.waiting self.new.waiting e) }
+    {
+        let mut keeper = NoKeeper;
+        self.apply_with(changes, &mut keeper)
+    }
+
+    /// Receives the other's applied changes that are absent here, as [`apply_with`](Document::apply_with) does.
+    ///
+    /// `OtherDocument` where the identifiers differ: nothing changes. The other refusals are `OutOfMemory` and
+    /// `NotKept`, which leave the document as they do there. One look-up for each of the other's changes.
+    pub fn merge_with<K: Keeper>(
+        &mut self,
+        other: &Document<S>,
+        keeper: &mut K,
+    ) -> Result<Applied, DocError>
+        ensures id { self.new.id ≡ self.old.id }
+        ensures goes { IfOk result (λ r. Goes K.keeps keeper.old keeper.new (self.old.waiting ++ merging.absent self.old.applied other.now.applied)
+            self.old.applied self.new.applied self.new.waiting [] r.applied.items [] r.refused.items) }
+        ensures receives { IfOk result (λ r. HashesApart (self.old.waiting ++ merging.absent self.old.applied other.now.applied) → NoneDropped r.refused.items
+            → Receives self.old.applied (self.old.waiting ++ merging.absent self.old.applied other.now.applied) self.new.applied) }
+        ensures waits { OnOk result (AllWait self.new.applied self.new.waiting) }
+        ensures held { IfOk result (λ r. r.held.items ≡ held_of (hashes (merging.absent self.old.applied other.now.applied)) self.new.waiting) }
+        ensures other { IsOtherAlone result self.old.id other.now.id }
+        ensures err { IfErr result (λ e. MergeFails K.keeps K.refuses keeper.old keeper.new (self.old.waiting ++ merging.absent self.old.applied other.now.applied)
+            self.old.applied self.new.applied self.old.waiting self.new.waiting e) }
+    {
+        let _pending = self.pending().len();
+        if !self.id.is(&other.id) {
+            return Err(DocError::OtherDocument);
+        }
+        let changes = absent(self, other.changes())?;
+        self.apply_with(changes, keeper)
+    }
+
+    /// Receives the other's applied changes that are absent here, as [`apply`](Document::apply) does and as
+    /// Automerge's call of that name.
+    ///
+    /// `OtherDocument` where the identifiers differ: nothing changes. The only other refusal is `OutOfMemory`, which
+    /// leaves the document as it does there. One look-up for each of the other's changes.
+    pub fn merge(&mut self, other: &Document<S>) -> Result<Applied, DocError>
+        ensures id { self.new.id ≡ self.old.id }
+        ensures goes { IfOk result (λ r. Goes keeps_nothing tt tt (self.old.waiting ++ merging.absent self.old.applied other.now.applied)
+            self.old.applied self.new.applied self.new.waiting [] r.applied.items [] r.refused.items) }
+        ensures receives { IfOk result (λ r. HashesApart (self.old.waiting ++ merging.absent self.old.applied other.now.applied) → NoneDropped r.refused.items
+            → Receives self.old.applied (self.old.waiting ++ merging.absent self.old.applied other.now.applied) self.new.applied) }
+        ensures waits { OnOk result (AllWait self.new.applied self.new.waiting) }
+        ensures held { IfOk result (λ r. r.held.items ≡ held_of (hashes (merging.absent self.old.applied other.now.applied)) self.new.waiting) }
+        ensures other { IsOtherAlone result self.old.id other.now.id }
+        ensures err { IfErr result (λ e. MergeFails keeps_nothing refuses_nothing tt tt (self.old.waiting ++ merging.absent self.old.applied other.now.applied)
+            self.old.applied self.new.applied self.old.waiting self.new.waiting e) }
+    {
+        let mut keeper = NoKeeper;
+        self.merge_with(other, &mut keeper)
+    }
+}

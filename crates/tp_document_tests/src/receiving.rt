@@ -1,0 +1,266 @@
+//! Documents that receive changes: from each other, in any order, and more than may wait. The texts and the answers
+//! are what the rules give by hand.
+
+use std::alloc::Global;
+use std::test::Fail;
+use tp_change::{Change, ChangeParts, Record};
+use tp_document::{Applied, DocError, Document};
+use tp_edit::Splice;
+use tp_graph::GraphError;
+use tp_list::{Items, Text};
+use tp_opid::{Actor, DocId, Place};
+use tp_rga::PlainSequence;
+
+const A: Actor = Actor([0, 0, 0, 0, 0, 0, 0, 0, 0, 0, 0, 0, 0, 0, 0, 1]);
+
+const B: Actor = Actor([0, 0, 0, 0, 0, 0, 0, 0, 0, 0, 0, 0, 0, 0, 0, 2]);
+
+/// A document with no changes.
+fn empty(alloc: Global) -> Document<PlainSequence> {
+    Document::new(alloc, DocId([7; 16]))
+}
+
+/// Edits with one splice.
+fn splice(
+    document: &mut Document<PlainSequence>,
+    actor: Actor,
+    at: usize,
+    del: usize,
+    text: &str,
+) -> Result<(), DocError> {
+    document.edit(actor, &[Splice { at, del, text }], 0, "")?;
+    Ok(())
+}
+
+/// What two peers do with one text.
+enum Step<'a> {
+    /// A splices.
+    ByA(usize, usize, &'a str),
+    /// B splices.
+    ByB(usize, usize, &'a str),
+    /// A merges what B has, and then B what A has.
+    Meet,
+}
+
+fn play(
+    a: &mut Document<PlainSequence>,
+    b: &mut Document<PlainSequence>,
+    step: &Step,
+) -> Result<(), DocError> {
+    match step {
+        Step::ByA(at, del, text) => splice(a, A, *at, *del, text),
+        Step::ByB(at, del, text) => splice(b, B, *at, *del, text),
+        Step::Meet => {
+            a.merge(b)?;
+            b.merge(a)?;
+            Ok(())
+        }
+    }
+}
+
+#[test]
+fn both_read_one_text(rt: HostRuntime) -> Result<(), Fail> {
+    let alloc = rt.alloc();
+    let rows: [(&[Step], &str); 7] = [
+        (&[Step::ByA(0, 0, "abc"), Step::Meet], "abc"),
+        (
+            &[
+                Step::ByA(0, 0, "abc"),
+                Step::Meet,
+                Step::ByA(1, 0, "X"),
+                Step::ByB(1, 0, "Y"),
+                Step::Meet,
+            ],
+            "aYXbc",
+        ),
+        (
+            &[Step::ByA(0, 0, "12"), Step::ByB(0, 0, "34"), Step::Meet],
+            "3412",
+        ),
+        (
+            &[
+                Step::ByA(0, 0, "abc"),
+                Step::Meet,
+                Step::ByA(1, 1, ""),
+                Step::ByB(1, 1, ""),
+                Step::Meet,
+            ],
+            "ac",
+        ),
+        (
+            &[
+                Step::ByA(0, 0, "abc"),
+                Step::Meet,
+                Step::ByA(1, 1, ""),
+                Step::ByB(2, 0, "Z"),
+                Step::Meet,
+            ],
+            "aZc",
+        ),
+        (
+            &[
+                Step::ByB(0, 0, "q"),
+                Step::ByA(0, 0, "abc"),
+                Step::Meet,
+                Step::ByB(0, 0, "r"),
+                Step::Meet,
+            ],
+            "rqabc",
+        ),
+        (
+            &[
+                Step::ByA(0, 0, "abc"),
+                Step::Meet,
+                Step::ByA(1, 0, "XP"),
+                Step::ByB(1, 0, "YQ"),
+                Step::Meet,
+            ],
+            "aYQXPbc",
+        ),
+    ];
+    for (steps, text) in rows {
+        let mut a = empty(alloc);
+        let mut b = empty(alloc);
+        for step in steps {
+            play(&mut a, &mut b, step)?;
+        }
+        assert_eq!(rt; a.text()?.as_str(), text);
+        assert_eq!(rt; b.text()?.as_str(), text);
+        assert!(rt; a.heads() == b.heads());
+    }
+    Ok(())
+}
+
+/// The first change of an actor that has seen nothing: it inserts a text.
+fn alone(alloc: Global, actor: Actor, text: &str) -> Result<Change, Fail> {
+    let mut records = Vec::new(alloc);
+    records.push(Record::Insert {
+        after: Place::Start,
+        text: Text::new(String::from_str(alloc, text)?),
+    })?;
+    Ok(Change::new(
+        alloc,
+        ChangeParts {
+            actor,
+            seq: 1,
+            start: 1,
+            time: 0,
+            message: Text::new(String::new(alloc)),
+            deps: Items::new(Vec::new(alloc)),
+            records: Items::new(records),
+        },
+    )?)
+}
+
+/// How many changes an answer has applied, held and refused.
+fn counts(applied: &Applied) -> [usize; 3] {
+    [
+        applied.applied.len(),
+        applied.held.len(),
+        applied.refused.len(),
+    ]
+}
+
+#[test]
+fn a_later_change_waits_for_the_earlier(rt: HostRuntime) -> Result<(), Fail> {
+    let alloc = rt.alloc();
+    let mut a = empty(alloc);
+    splice(&mut a, A, 0, 0, "abc")?;
+    splice(&mut a, A, 1, 1, "X")?;
+    let mut b = empty(alloc);
+    let answer = b.apply(piece(alloc, &a, 1, 2)?)?;
+    assert_eq!(rt; counts(&answer), [0, 1, 0]);
+    assert!(rt; answer.held[0].is(&a.changes()[1].hash()));
+    assert_eq!(rt; b.text()?.as_str(), "");
+    assert_eq!(rt; b.missing()?.len(), 1);
+    let answer = b.apply(piece(alloc, &a, 0, 1)?)?;
+    assert_eq!(rt; counts(&answer), [2, 0, 0]);
+    assert_eq!(rt; b.text()?.as_str(), "aXc");
+    let answer = b.apply(piece(alloc, &a, 0, 1)?)?;
+    assert_eq!(rt; counts(&answer), [0, 0, 1]);
+    assert!(rt; answer.refused[0].1 == GraphError::Known);
+    assert_eq!(rt; b.changes().len(), 2);
+    Ok(())
+}
+
+#[test]
+fn a_clash_stays_out(rt: HostRuntime) -> Result<(), Fail> {
+    let alloc = rt.alloc();
+    let mut a = empty(alloc);
+    splice(&mut a, A, 0, 0, "abc")?;
+    let mut changes = Vec::new(alloc);
+    changes.push(alone(alloc, A, "z")?)?;
+    changes.push(alone(alloc, B, "q")?)?;
+    let answer = a.apply(changes)?;
+    assert_eq!(rt; counts(&answer), [1, 0, 1]);
+    assert!(rt; answer.refused[0].1 == GraphError::SeqClash);
+    assert_eq!(rt; a.text()?.as_str(), "qabc");
+    Ok(())
+}
+
+#[test]
+fn an_earlier_state_is_forked(rt: HostRuntime) -> Result<(), Fail> {
+    let alloc = rt.alloc();
+    let mut a = empty(alloc);
+    splice(&mut a, A, 0, 0, "abc")?;
+    let mut b = a.fork()?;
+    splice(&mut a, A, 1, 0, "XP")?;
+    splice(&mut b, B, 1, 0, "YQ")?;
+    a.merge(&b)?;
+    let first = a.changes()[0].hash();
+    let earlier = a.fork_at(&[first])?;
+    assert_eq!(rt; earlier.text()?.as_str(), "abc");
+    let answer = a.merge(&earlier)?;
+    assert_eq!(rt; counts(&answer), [0, 0, 0]);
+    assert_eq!(rt; a.text()?.as_str(), "aYQXPbc");
+    assert_eq!(rt; a.fork_at(&[])?.text()?.as_str(), "");
+    assert!(rt; matches!(earlier.fork_at(a.heads()), Err(DocError::UnknownHead)));
+    let mut other: Document<PlainSequence> = Document::new(alloc, DocId([8; 16]));
+    assert!(rt; matches!(other.merge(&a), Err(DocError::OtherDocument)));
+    assert_eq!(rt; other.changes().len(), 0);
+    Ok(())
+}
+
+/// A document with a chain of 1,026 changes of one character each.
+fn chain(alloc: Global) -> Result<Document<PlainSequence>, DocError> {
+    let mut document = empty(alloc);
+    for _ in 0..1026 {
+        splice(&mut document, A, 0, 0, "x")?;
+    }
+    Ok(document)
+}
+
+/// Copies of the document's changes from the place `first` up to, but without, the place `end`.
+fn piece(
+    alloc: Global,
+    document: &Document<PlainSequence>,
+    first: usize,
+    end: usize,
+) -> Result<Vec<Change>, Fail> {
+    let mut found = Vec::new(alloc);
+    let changes = document.changes();
+    for place in first..end {
+        if let Some(change) = changes.get(place) {
+            found.push(change.copy()?)?;
+        }
+    }
+    Ok(found)
+}
+
+#[test]
+fn no_more_than_1024_wait(rt: HostRuntime) -> Result<(), Fail> {
+    let alloc = rt.alloc();
+    let whole = chain(alloc)?;
+    let mut a = empty(alloc);
+    let full = a.apply(piece(alloc, &whole, 1, 1026)?);
+    assert!(rt; matches!(full, Err(DocError::PendingFull)));
+    assert_eq!(rt; a.pending_len(), 0);
+    let answer = a.apply(piece(alloc, &whole, 1, 1025)?)?;
+    assert_eq!(rt; counts(&answer), [0, 1024, 0]);
+    let answer = a.apply(piece(alloc, &whole, 0, 1)?)?;
+    assert_eq!(rt; counts(&answer), [1025, 0, 0]);
+    assert_eq!(rt; a.len(), 1025);
+    a.apply(piece(alloc, &whole, 1025, 1026)?)?;
+    assert!(rt; a.heads() == whole.heads());
+    Ok(())
+}
