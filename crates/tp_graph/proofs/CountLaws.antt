@@ -23,7 +23,8 @@ use Rattle.tp_graph.proofs.NamedLaws.{In-left, In-right, In-cases, In-last, In-h
 use Rattle.tp_graph.proofs.PastLaws.{past-In, kept, left_out, kept-In, In-with_reached}
 use Rattle.tp_graph.proofs.InsertLaws.{is_inserted-more, refers-same}
 use Rattle.tp_graph.proofs.SoundLaws.{In-split, sound-induct, sound_pasts}
-use Rattle.tp_graph.proofs.MarksLaws.{HashesOnce, hashes_once}
+use Rattle.tp_graph.specs.GraphState.{HashesOnce}
+use Rattle.tp_graph.proofs.MarksLaws.{hashes_once}
 
 -- ---- counts depend on the set alone
 

@@ -8,6 +8,7 @@ use Rattle.tp_opid.specs.Same.{same_hash}
 use Rattle.tp_opid.proofs.Orders.{same_hash-same, same_hash-itself}
 use Rattle.tp_change.specs.declared.parts.ChangeParts.{ChangeParts}
 use Rattle.tp_change.specs.ChangeHash.{hash_of}
+use Rattle.tp_change.specs.Elements.{later, next_counter}
 use Rattle.tp_change.specs.Operations.{op_count}
 use Rattle.tp_graph.specs.declared.error.GraphError.{GraphError}
 use Rattle.tp_graph.specs.Named.{has}
@@ -15,13 +16,13 @@ use Rattle.tp_graph.specs.Heads as head
 use Rattle.tp_graph.specs.Fit.{misfit, cause, or_full, most_changes}
 use Rattle.tp_graph.specs.Places.{noted}
 use Rattle.tp_graph.specs.Sound.{Fits}
-use Rattle.tp_graph.specs.GraphState.{IsKept}
+use Rattle.tp_graph.specs.AppliedState.{IsKept}
 use Rattle.tp_graph.proofs.Tests.{not_true, never}
 use Rattle.tp_graph.proofs.NamedLaws.{In-has}
 use Rattle.tp_graph.proofs.SoundLaws.{Fits-from_misfit, misfit-from_Fits, Sound-push}
 use Rattle.tp_graph.proofs.HeadsLaws.{heads-push}
 use Rattle.tp_graph.proofs.PlacesLaws.{NotesFrom-more, NotesFrom-push}
-use Rattle.tp_graph.proofs.PickLaws.{ends_of-push}
+use Rattle.tp_graph.proofs.PickLaws.{ends_of-push, next_counter-push}
 
 no_cause : (o : Option GraphError) (b : Bool) → or_full o b ≡ None → (o ≡ None) × (b ≡ false)
 no_cause (Some e) b h = cc
@@ -44,9 +45,9 @@ cause-from_Fits C c f small =
     ap (λ o. or_full o (length C == most_changes)) (misfit-from_Fits C c f) ∙ ap (or_full None) room
 
 -- a new note for a hash that isn't there
-pub IsKept-noted : (C W : List ChangeParts) (heads : List Hash) (old new : List (Hash × ℕ)) (ends : List ℕ) (h : Hash) (p : ℕ)
-    → IsKept C W heads old ends → has C h ≡ false → ((other : Hash) → noted new other ≡ cond (same_hash h other) (Some p) (noted old other)) → IsKept C W heads new ends
-IsKept-noted C W heads old new ends h p k lacks notes = record {
+pub IsKept-noted : (C : List ChangeParts) (heads : List Hash) (old new : List (Hash × ℕ)) (ends : List ℕ) (next : ℕ) (h : Hash) (p : ℕ)
+    → IsKept C heads old ends next → has C h ≡ false → ((other : Hash) → noted new other ≡ cond (same_hash h other) (Some p) (noted old other)) → IsKept C heads new ends next
+IsKept-noted C heads old new ends next h p k lacks notes = record {
   sound = k.sound;
   few = k.few;
   heads_are = k.heads_are;
@@ -56,17 +57,17 @@ IsKept-noted C W heads old new ends h p k lacks notes = record {
       notes (hash_of c) ∙ ap (λ b. cond b (Some p) (noted old (hash_of c))) apart)
       k.noted_are;
   ends_are = k.ends_are;
-  few_wait = k.few_wait;
+  next_is = k.next_is;
 }
 
 pub noted_itself : (old new : List (Hash × ℕ)) (h : Hash) (p : ℕ) → ((other : Hash) → noted new other ≡ cond (same_hash h other) (Some p) (noted old other)) → noted new h ≡ Some p
 noted_itself old new h p notes = notes h ∙ ap (λ b. cond b (Some p) (noted old h)) (same_hash-itself h)
 
 -- a change that enters
-pub IsKept-push : (C W : List ChangeParts) (c : ChangeParts) (heads : List Hash) (entries : List (Hash × ℕ)) (ends : List ℕ)
-    → IsKept C W heads entries ends → cause C c ≡ None → noted entries (hash_of c) ≡ Some (length C)
-    → IsKept (C ++ c ∷ []) W (list.put hash_cmp (hash_of c) (head.without c.deps heads)) entries (ends ++ (c.start + op_count c) ∷ [])
-IsKept-push C W c heads entries ends k none at =
+pub IsKept-push : (C : List ChangeParts) (c : ChangeParts) (heads : List Hash) (entries : List (Hash × ℕ)) (ends : List ℕ) (next : ℕ)
+    → IsKept C heads entries ends next → cause C c ≡ None → noted entries (hash_of c) ≡ Some (length C)
+    → IsKept (C ++ c ∷ []) (list.put hash_cmp (hash_of c) (head.without c.deps heads)) entries (ends ++ (c.start + op_count c) ∷ []) (later next (c.start + op_count c))
+IsKept-push C c heads entries ends next k none at =
     let f = Fits-from_cause C c none in
     let one = (enters C c none).1 in
     let small = k.few in
@@ -78,17 +79,17 @@ IsKept-push C W c heads entries ends k none at =
       heads_are = ap (λ l. list.put hash_cmp (hash_of c) (head.without c.deps l)) k.heads_are ∙ sym (heads-push C c k.sound f);
       noted_are = NotesFrom-push 0 C c entries k.noted_are (at ∙ ap Some (counted (length C)));
       ends_are = ap (λ l. l ++ (c.start + op_count c) ∷ []) k.ends_are ∙ sym (ends_of-push C c);
-      few_wait = k.few_wait;
+      next_is = ap (λ n. later n (c.start + op_count c)) k.next_is ∙ sym (next_counter-push C c);
     } where
       counted : (n : ℕ) → n ≡ 0 + n
       counted n = omega arith
 
 -- the same, of vectors that were changed so
-pub IsKept-entered : (C W : List ChangeParts) (c : ChangeParts) (heads : List Hash) (entries : List (Hash × ℕ)) (ends : List ℕ)
-    (D : List ChangeParts) (heads_after : List Hash) (ends_after : List ℕ) (h : Hash) (deps : List Hash) (end : ℕ)
-    → IsKept C W heads entries ends → cause C c ≡ None → noted entries (hash_of c) ≡ Some (length C)
+pub IsKept-entered : (C : List ChangeParts) (c : ChangeParts) (heads : List Hash) (entries : List (Hash × ℕ)) (ends : List ℕ) (next : ℕ)
+    (D : List ChangeParts) (heads_after : List Hash) (ends_after : List ℕ) (next_after : ℕ) (h : Hash) (deps : List Hash) (end : ℕ)
+    → IsKept C heads entries ends next → cause C c ≡ None → noted entries (hash_of c) ≡ Some (length C)
     → h ≡ hash_of c → deps ≡ c.deps → end ≡ c.start + op_count c
-    → D ≡ C ++ c ∷ [] → heads_after ≡ list.put hash_cmp h (head.without deps heads) → ends_after ≡ ends ++ end ∷ []
-    → IsKept D W heads_after entries ends_after
-IsKept-entered C W c heads entries ends D heads_after ends_after h deps end k none at hash_is deps_are end_is all heads_are ends_are =
-    rw (all, heads_are, ends_are, hash_is, deps_are, end_is) (IsKept-push C W c heads entries ends k none at)
+    → D ≡ C ++ c ∷ [] → heads_after ≡ list.put hash_cmp h (head.without deps heads) → ends_after ≡ ends ++ end ∷ [] → next_after ≡ later next end
+    → IsKept D heads_after entries ends_after next_after
+IsKept-entered C c heads entries ends next D heads_after ends_after next_after h deps end k none at hash_is deps_are end_is all heads_are ends_are next_is =
+    rw (all, heads_are, ends_are, next_is, hash_is, deps_are, end_is) (IsKept-push C c heads entries ends next k none at)

@@ -20,3 +20,4 @@ pub mod PlaceLists
 pub mod FirstFaults
 pub mod LatestLaws
 pub mod BackLaws
+pub mod WaitingLaws

@@ -16,6 +16,7 @@ use Rattle.tp_graph.specs.Past.{past}
 use Rattle.tp_graph.specs.Places.{place_from}
 use Rattle.tp_graph.specs.Marks.{marks, pick, marked_more, marks_for, walked}
 use Rattle.tp_graph.specs.Sound.{Sound}
+use Rattle.tp_graph.specs.GraphState.{HashesOnce}
 use Rattle.tp_graph.proofs.Tests.{truth, never, not_true, neither_left, neither_right}
 use Rattle.tp_graph.proofs.NamedLaws.{In-has, has-In, names-append, names-In}
 use Rattle.tp_graph.proofs.PastLaws.{kept, left_out}
@@ -39,12 +40,7 @@ pick-marks (c ∷ C) H =
 
 -- ---- no hash twice in a list
 
--- no two places of the list have one hash
-abbrev pub HashesOnce : List ChangeParts → Type 0
-HashesOnce [] = Unit {0}
-HashesOnce (c ∷ C) = (has C (hash_of c) ≡ false) × HashesOnce C
-
-HashesOnce-push : (C : List ChangeParts) (x : ChangeParts) → HashesOnce C → has C (hash_of x) ≡ false → HashesOnce (C ++ x ∷ [])
+pub HashesOnce-push : (C : List ChangeParts) (x : ChangeParts) → HashesOnce C → has C (hash_of x) ≡ false → HashesOnce (C ++ x ∷ [])
 HashesOnce-push [] x o e = (refl, tt)
 HashesOnce-push (c ∷ C) x o e = (
   not_true (has (C ++ x ∷ []) (hash_of c)) (λ t. at_end t),

@@ -70,6 +70,18 @@ later-one C = let h = one_first C in grind (arith, nat_tests)
 pub later-end : (a : ℕ) → 1 ≤ a → later a 1 ≡ a
 later-end a h = grind (arith, nat_tests)
 
+next_counter-append : (C D : List ChangeParts) → next_counter (C ++ D) ≡ later (next_counter C) (next_counter D)
+next_counter-append [] D = sym (later-one D)
+next_counter-append (c ∷ C) D =
+    ap (λ n. later (c.start + op_count c) n) (next_counter-append C D) ∙ sym (later-assoc (c.start + op_count c) (next_counter C) (next_counter D))
+
+later-both : (a b : ℕ) → 1 ≤ a → later a (later b 1) ≡ later a b
+later-both a b h = grind (arith, nat_tests)
+
+-- the next counter where a change entered
+pub next_counter-push : (C : List ChangeParts) (c : ChangeParts) → next_counter (C ++ c ∷ []) ≡ later (next_counter C) (c.start + op_count c)
+next_counter-push C c = next_counter-append C (c ∷ []) ∙ later-both (next_counter C) (c.start + op_count c) (one_first C)
+
 pub counted_one : (a : Actor) (bs : List Bool) (C : List ChangeParts) (i : ℕ) (c : ChangeParts) (same : Bool)
     → length bs ≡ length C → slice_get C i ≡ Some c → get_or bs i false ≡ true → same_actor c.actor a ≡ same
     → cond same 1 0 + count_by a (rest_of bs C (i + 1)) ≡ count_by a (rest_of bs C i)

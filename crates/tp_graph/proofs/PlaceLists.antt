@@ -18,7 +18,8 @@ use Rattle.tp_graph.proofs.Tests.{truth, never}
 use Rattle.tp_graph.proofs.NamedLaws.{In-has}
 use Rattle.tp_graph.proofs.PastLaws.{past-In, with_reached-In, In-with_reached, kept-In}
 use Rattle.tp_graph.proofs.PlacesLaws.{slice_get-In}
-use Rattle.tp_graph.proofs.MarksLaws.{HashesOnce, hashes_once}
+use Rattle.tp_graph.specs.GraphState.{HashesOnce}
+use Rattle.tp_graph.proofs.MarksLaws.{hashes_once}
 
 -- ---- places rise
 

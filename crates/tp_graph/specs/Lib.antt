@@ -9,6 +9,7 @@ pub mod Places
 pub mod Marks
 pub mod Covers
 pub mod GraphState
+pub mod AppliedState
 pub mod Answers
 pub mod Since
 pub mod Tree

@@ -20,9 +20,9 @@ use tp_opid::{Actor, Hash};
 /// How many changes a graph has at most.
 pub(crate) const MOST_CHANGES: usize = 4294967295;
 
-// How many of the changes the actor made: the sequence number of its latest change. One pass from the end, as far
-// as that change.
-fn count_all(applied: &[Change], actor: &Actor) -> u64
+/// How many of the changes the actor made: the sequence number of its latest change. One pass from the end, as far
+/// as that change.
+pub(crate) fn count_all(applied: &[Change], actor: &Actor) -> u64
     requires { Sound applied.now }
     ensures count { result ≡ fit.count_by actor.now applied.now }
     ensures few { result ≤ length applied.now }

@@ -89,7 +89,8 @@ pub(crate) fn count_by(applied: &[Change], marks: &[bool], actor: &Actor) -> usi
     count
 }
 
-fn later(a: u64, b: u64) -> u64
+/// The greater of the two.
+pub(crate) fn later(a: u64, b: u64) -> u64
     ensures { result ≡ made.later a b }
 {
     if a < b { b } else { a }

@@ -5,6 +5,7 @@
 //! changes is a directed graph without cycles. A change enters only where it fits: see [`GraphError`].
 #![tactic(auto)]
 
+mod applied;
 mod check;
 mod error;
 mod graph;

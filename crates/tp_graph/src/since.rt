@@ -48,8 +48,8 @@ pub(crate) fn unmarked(
     Ok(found)
 }
 
-// Whether one of the changes has the hash.
-fn has(changes: &[Change], hash: &Hash) -> bool
+/// Whether one of the changes has the hash.
+pub(crate) fn has(changes: &[Change], hash: &Hash) -> bool
     ensures { result ≡ named.has changes.now hash.now }
 {
     for change in changes {

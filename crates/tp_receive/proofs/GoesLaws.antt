@@ -29,14 +29,20 @@ KeepsAll-then {S} keeps k m k' (c ∷ A) B a b = (a.0, a.1, KeepsAll-then keeps 
 pub HashesApart-less : (F G : List ChangeParts) → AllIn F G → HashesApart G → HashesApart F
 HashesApart-less F G f h c d i j e = h c d (f c i) (f d j) e
 
-has-grows : (C K D new : List ChangeParts) (c : ChangeParts) → Grows C K D new → has C (hash_of c) ≡ true → has D (hash_of c) ≡ true
-has-grows C K D new c g h = subst (λ l. has l (hash_of c) ≡ true) (sym g.begins) (has-left C new (hash_of c) h)
-
-IsDone-grows : (C K D new : List ChangeParts) (r r' : List (Hash × GraphError)) (c : ChangeParts) → Grows C K D new → AllIn r r' → IsDone C r c → IsDone D r' c
-IsDone-grows C K D new r r' c g more d = record {
+IsDone-grows : (old C K D new : List ChangeParts) (r r' : List (Hash × GraphError)) (c : ChangeParts) → Grows C K D new → AllIn r r' → IsDone old C r c → IsDone (old ++ new) D r' c
+IsDone-grows old C K D new r r' c g more d = record {
   refused = refused-grows C K D new c g d.refused;
-  known = elim d.known [ inl h ↦ inl (has-grows C K D new c g h) | inr w ↦ inr (w.0, more (hash_of c, w.0) w.1) ];
+  known = elim d.known [ inl h ↦ inl (In-left c old new h) | inr w ↦ inr (w.0, more (hash_of c, w.0) w.1) ];
 }
+
+IsPlaced-later : (old new C W : List ChangeParts) (r : List (Hash × GraphError)) (c : ChangeParts) → IsPlaced new C W r c → IsPlaced (old ++ new) C W r c
+IsPlaced-later old new C W r c p = elim p [
+  | inl wait ↦ inl wait
+  | inr rest ↦ elim rest [
+    | inl done ↦ inr (inl (record { refused = done.refused; known = elim done.known [ inl h ↦ inl (In-right c old new h) | inr w ↦ inr w ] }))
+    | inr dropped ↦ inr (inr dropped)
+  ]
+]
 
 Begins-then : (A B C : List ChangeParts) → Begins A B → Begins B C → Begins A C
 Begins-then A B C f g = (f.0 ++ g.0, g.1 ∙ ap (λ l. l ++ g.0) f.1 ∙ append_assoc A f.0 g.0)
@@ -54,12 +60,12 @@ Goes-then {S} keeps k m k' F G H C D E W X t u t' r q r' a b f g w cover = recor
   told = b.told ∙ ap (λ l. l ++ hashes b.new) a.told ∙ append_assoc t (hashes a.new) (hashes b.new) ∙ ap (λ l. t ++ l) (sym (hashes-append a.new b.new));
   waits = λ c i. g c (b.waits c i);
   placed = λ apart c i.
-      let later : In c G → IsPlaced E X r' c = λ j. b.placed (HashesApart-less G H g apart) c j in
+      let later : In c G → IsPlaced (a.new ++ b.new) E X r' c = λ j. IsPlaced-later a.new b.new E X r' c (b.placed (HashesApart-less G H g apart) c j) in
       elim (cover c i) [
         | inl j ↦ elim (a.placed (HashesApart-less F H f apart) c j) [
           | inl wait ↦ later (w c wait)
           | inr rest ↦ elim rest [
-            | inl done ↦ inr (inl (IsDone-grows D G E b.new q r' c b.grows b.more done))
+            | inl done ↦ inr (inl (IsDone-grows a.new D G E b.new q r' c b.grows b.more done))
             | inr dropped ↦ inr (inr (b.more (hash_of c, MissingDeps) dropped))
           ]
         ]
@@ -145,7 +151,7 @@ Goes-entered {S} keeps k k' F C W c t r none keep i w cover = record {
   placed = λ apart d j. elim (cover d j) [
     | inl e ↦
         let there : has (C ++ c ∷ []) (hash_of d) ≡ true = In-has (C ++ c ∷ []) c (hash_of d) (In-right c C (c ∷ []) (inl refl)) (ap hash_of (sym e)) in
-        inr (inl (record { refused = refused-known (C ++ c ∷ []) d there; known = inl there }))
+        inr (inl (record { refused = refused-known (C ++ c ∷ []) d there; known = inl (inl e) }))
     | inr wait ↦ inl wait
   ];
   more = λ p i. i;

@@ -16,9 +16,10 @@ use Rattle.tp_receive.specs.declared.keeper.KeepError.{KeepError}
 use Rattle.tp_receive.specs.declared.admit.Outcome.TheVariants as outcome
 use Rattle.tp_receive.specs.Admits.{Admits}
 use Rattle.tp_receive.specs.Receiving.{AllWait, lacks_deps}
-use Rattle.tp_receive.specs.Going.{Goes, Leaves, Stops, IsHeld, DropsNone, DropsWhere}
+use Rattle.tp_receive.specs.Going.{Goes, Leaves, Stops, LosesNone, IsHeld, DropsNone, DropsWhere}
 use Rattle.tp_receive.proofs.GoesLaws.{Goes-entered, Goes-refused, Goes-held, Goes-waiting, Goes-dropped, Stops-left, Leaves-more}
 use Rattle.tp_receive.proofs.SettleLaws.{Goes-at}
+use Rattle.tp_receive.proofs.LosesLaws.{LosesNone-held, LosesNone-still, LosesNone-at, either}
 
 pub OnOk-map : {T E P Q : Type 0} (r : Result T E) → (P → Q) → OnOk r P → OnOk r Q
 OnOk-map (Ok x) f h = f h
@@ -141,9 +142,22 @@ drops_where r q r' full e f h i = inl (subst (λ l. In (h, MissingDeps) l) e (f 
 pub drops_on : (r q r' : List (Hash × GraphError)) (P Q : Type 0) → (P → Q) → DropsWhere r q Q → DropsWhere q r' P → DropsWhere r r' Q
 drops_on r q r' P Q f a b h i = elim (b h i) [ inl j ↦ a h j | inr p ↦ inr (f p) ]
 
-pub OnOk-all : {T E P : Type 0} (r : Result T E) → P → OnOk r P
-OnOk-all (Ok x) p = p
-OnOk-all (Err x) p = tt
+pub count_on_one : (Wold Wmid Wend : List ChangeParts) → Wmid ≡ Wold → length Wend ≤ length Wmid → length Wend ≤ length Wold + 1
+count_on_one Wold Wmid Wend w h = omega (arith, ap length w)
+
+held_more : (Wmid Wend : List ChangeParts) (d : ChangeParts) (n : ℕ) (r1 r2 : List (Hash × GraphError)) → IsHeld Wmid d n Wend r1 r2 → AllIn Wmid Wend
+held_more Wmid Wend d n r1 r2 (inl h) x i = rw (h.0) (In-left x Wmid (d ∷ []) i)
+held_more Wmid Wend d n r1 r2 (inr (inl h)) x i = rw (h.0) i
+held_more Wmid Wend d n r1 r2 (inr (inr h)) x i = rw (h.0) i
+
+-- Where a change that must wait is held or not, those that waited still wait.
+pub stays_held : {T : Type 0} (C C2 Wold Wmid Wend : List ChangeParts) (d : ChangeParts) (n : ℕ) (r1 r2 : List (Hash × GraphError)) (res : Result T ReceiveError)
+    → C2 ≡ C → Wmid ≡ Wold → OnOk res (IsHeld Wmid d n Wend r1 r2) → OnErr res (Wend ≡ Wmid) → LosesNone C C2 Wold Wend
+stays_held C C2 Wold Wmid Wend d n r1 r2 res same w ok still =
+    either (LosesNone C C2 Wold Wend) res
+    (λ h. LosesNone-at C C C2 Wold Wend Wend (LosesNone-held C Wold Wend (λ x i. held_more Wmid Wend d n r1 r2 h x (subst (In x) (sym w) i))) same refl)
+    (λ h. LosesNone-at C C C2 Wold Wold Wend (LosesNone-still C Wold) same (h ∙ w))
+    ok still
 
 -- Where there was no space for the next of the list, all are more than may wait.
 pub space_in : (W V all ys xs zs : List ChangeParts) (x : ChangeParts)

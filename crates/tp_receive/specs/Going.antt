@@ -31,14 +31,15 @@ pub record IsTold (C K long : List ChangeParts) (h : Hash) (e : GraphError) : Ty
   pub before : Begins at long
   pub caused : cause at change ≡ Some e
 
--- The change entered or was refused for good: whatever enters later it can't enter, and it is there or was told.
-pub record IsDone (C : List ChangeParts) (told : List (Hash × GraphError)) (c : ChangeParts) : Type 0 where
+-- The change is one of the new ones, which entered, or was refused for good: whatever enters later it can't enter,
+-- and it entered or was told.
+pub record IsDone (new C : List ChangeParts) (told : List (Hash × GraphError)) (c : ChangeParts) : Type 0 where
   pub refused : is_refusal (cause C c) ≡ true
-  pub known : (has C (hash_of c) ≡ true) ⊎ ((e : GraphError) × In (hash_of c, e) told)
+  pub known : In c new ⊎ ((e : GraphError) × In (hash_of c, e) told)
 
 -- What became of a change: it waits, it is done, or it would have to wait and was dropped for want of space.
-abbrev pub IsPlaced : List ChangeParts → List ChangeParts → List (Hash × GraphError) → ChangeParts → Type 0
-IsPlaced C W told c = In c W ⊎ (IsDone C told c ⊎ In (hash_of c, MissingDeps) told)
+abbrev pub IsPlaced : List ChangeParts → List ChangeParts → List ChangeParts → List (Hash × GraphError) → ChangeParts → Type 0
+IsPlaced new C W told c = In c W ⊎ (IsDone new C told c ⊎ In (hash_of c, MissingDeps) told)
 
 -- From the applied list C, the keeper k, the hashes t told as entered and the refusals r told, receiving the
 -- changes F came to C', k', t' and r', and W waits.
@@ -49,7 +50,7 @@ pub record Goes {S : Type 0} (keeps : S → ChangeParts → S → Type 0) (k k' 
   pub kept : KeepsAll keeps k new k'
   pub told : t' ≡ t ++ hashes new
   pub waits : AllIn W F
-  pub placed : HashesApart F → (c : ChangeParts) → In c F → IsPlaced C' W r' c
+  pub placed : HashesApart F → (c : ChangeParts) → In c F → IsPlaced new C' W r' c
   pub more : AllIn r r'
   pub true_told : (h : Hash) (e : GraphError) → In (h, e) r' → In (h, e) r ⊎ IsTold C F C' h e
 
@@ -78,6 +79,13 @@ IsHeld W c reserved W' r r' =
     ((W' ≡ W ++ c ∷ []) × (length W + reserved < most_waiting) × (r' ≡ r))
     ⊎ (((W' ≡ W) × (has W (hash_of c) ≡ true) × (r' ≡ r))
     ⊎ ((W' ≡ W) × (most_waiting ≤ length W + reserved) × (r' ≡ r ++ (hash_of c, MissingDeps) ∷ [])))
+
+-- What becomes of the changes W that waited behind C, where C' is applied and W' waits: each waits still, entered,
+-- or is refused for good. What was applied or refused for good is so still.
+pub record LosesNone (C C' W W' : List ChangeParts) : Type 0 where
+  pub grown : AllIn C C'
+  pub final : (c : ChangeParts) → is_refusal (cause C c) ≡ true → is_refusal (cause C' c) ≡ true
+  pub stays : (c : ChangeParts) → In c W → In c W' ⊎ (In c C' ⊎ (is_refusal (cause C' c) ≡ true))
 
 -- No change was told as dropped beside those told before.
 abbrev pub DropsNone : List (Hash × GraphError) → List (Hash × GraphError) → Type 0

@@ -24,8 +24,8 @@ pub(crate) enum Outcome {
     Waits(Change),
 }
 
-// Keeps a change, with the refusal as this crate's.
-fn keep<K: Keeper>(keeper: &mut K, change: &Change) -> Result<(), ReceiveError>
+/// Keeps a change, with the refusal as this crate's.
+pub(crate) fn keep<K: Keeper>(keeper: &mut K, change: &Change) -> Result<(), ReceiveError>
     ensures ok { OnOk result (K.keeps keeper.old change.now keeper.new) }
     ensures err { IfErr result (λ e. Leaves K.refuses e (change.now ∷ []) keeper.old keeper.new) }
 {

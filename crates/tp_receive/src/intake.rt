@@ -3,7 +3,7 @@
 ghost use Rattle.std.specs.Prelude.{◌≡◌, ◌+◌, ◌<◌, ◌≤◌, ◌++◌, [], length, OnOk, IfOk, IfErr};
 ghost use Rattle.tp_receive.specs.Receiving.{AllWait, HashesApart, Receives};
 ghost use Rattle.tp_receive.specs.Receiving as receiving;
-ghost use Rattle.tp_receive.specs.Going.{Goes, Stops, DropsWhere};
+ghost use Rattle.tp_receive.specs.Going.{Goes, Stops, LosesNone, DropsWhere};
 ghost use Rattle.tp_graph.specs.GraphState.{most_waiting};
 ghost use Rattle.tp_receive.specs.Loose as loose;
 ghost use Rattle.tp_receive.specs.Replies.{NoneDropped, Fails};
@@ -32,6 +32,7 @@ fn take_all<R: Replica, K: Keeper>(
         (R.waiting replica.new) told.old.applied.items told.new.applied.items told.old.refused.items told.new.refused.items) }
     ensures spare { OnOk result (DropsWhere told.old.refused.items told.new.refused.items (most_waiting < length (R.waiting replica.old) + length changes.items)) }
     ensures settled { OnOk result (AllWait (R.applied replica.new) (R.waiting replica.new)) }
+    ensures stays { LosesNone (R.applied replica.old) (R.applied replica.new) (R.waiting replica.old) (R.waiting replica.new) }
     ensures err { IfErr result (λ e. Stops K.keeps K.refuses keeper.old keeper.new (R.waiting replica.old ++ changes.items) (R.applied replica.old)
         (R.applied replica.new) (R.waiting replica.new) e) }
 {
@@ -65,9 +66,9 @@ pub struct Applied {
 /// earlier change of the list that isn't loose. `PendingFull` comes exactly where the pending changes and the
 /// loose ones, each hash once, are more than 1,024, and changes nothing.
 ///
-/// `NotKept` and `OutOfMemory` leave the replica between: what entered until then stays, and what waits is of
-/// what waited and came. The change that was being tried, also one that waited, and those of the list behind it are
-/// let go: they have to come again. Each entry costs a check of each pending change: at most 1,024.
+/// `NotKept` and `OutOfMemory` leave the replica between: what entered until then stays, and of what waited nothing
+/// is lost, since each waits still, entered or was refused for good. Only the change of the list that was being
+/// tried and those behind it are let go: they have to come again. Each entry costs a check of each pending change: at most 1,024.
 pub fn receive<R: Replica, K: Keeper>(
     alloc: Global,
     replica: &mut R,
@@ -80,6 +81,7 @@ pub fn receive<R: Replica, K: Keeper>(
         → Receives (R.applied replica.old) (R.waiting replica.old ++ changes.items) (R.applied replica.new)) }
     ensures none_dropped { IfOk result (λ r. length (R.waiting replica.old) + length changes.items ≤ most_waiting → NoneDropped r.refused.items) }
     ensures waits { OnOk result (AllWait (R.applied replica.new) (R.waiting replica.new)) }
+    ensures stays { LosesNone (R.applied replica.old) (R.applied replica.new) (R.waiting replica.old) (R.waiting replica.new) }
     ensures held { IfOk result (λ r. r.held.items ≡ receiving.held_of (receiving.hashes changes.items) (R.waiting replica.new)) }
     ensures full { loose.IsFullOnly result (loose.is_full (R.applied replica.old) (R.waiting replica.old) changes.items) }
     ensures err { IfErr result (λ e. Fails K.keeps K.refuses keeper.old keeper.new (R.waiting replica.old ++ changes.items) (R.applied replica.old)

@@ -1,19 +1,22 @@
 //! Trying the changes that wait.
 
-ghost use Rattle.std.specs.Prelude.{◌≡◌, ◌+◌, ◌<◌, ◌≤◌, ℕ, Some, false, length, OnOk, IfOk, IfErr, MatchOption};
+ghost use Rattle.std.specs.Prelude.{◌≡◌, ◌+◌, ◌<◌, ◌≤◌, ◌++◌, ◌∷◌, [], ℕ, None, Some, false, length, OnOk, OnErr, IfOk, IfErr, MatchOption};
 ghost use Rattle.std.specs.List.{slice_get, remove};
 ghost use Rattle.tp_change.specs.declared.parts.ChangeParts.{ChangeParts};
+ghost use Rattle.tp_change.specs.ChangeHash.{hash_of};
 ghost use Rattle.tp_graph.specs.Fit.{cause};
+ghost use Rattle.tp_receive.specs.Admits.{Admits};
 ghost use Rattle.tp_receive.specs.Receiving.{AllWait, lacks_deps};
-ghost use Rattle.tp_receive.specs.Going.{Goes, Stops, DropsNone};
+ghost use Rattle.tp_receive.specs.Going.{Goes, Leaves, Stops, LosesNone, DropsNone};
 
-use crate::admit::{Outcome, admit};
+use crate::admit::{Outcome, keep};
 use crate::error::ReceiveError;
 use crate::keeper::Keeper;
 use crate::replica::Replica;
 use crate::told::Told;
 use crate::verdict::{Verdict, judge};
 use tp_change::Change;
+use tp_graph::GraphError;
 
 // Whether the change must wait.
 fn must_wait<R: Replica>(replica: &R, change: &Change) -> Result<bool, ReceiveError>
@@ -43,7 +46,53 @@ fn first_ready<R: Replica>(replica: &R) -> Result<Option<usize>, ReceiveError>
     Ok(None)
 }
 
-// Takes out a pending change that needn't wait: it enters or is refused.
+// Keeps a pending change that was made ready for, takes it out and enters it. An error leaves it waiting.
+fn enter_waiting<R: Replica, K: Keeper>(
+    replica: &mut R,
+    keeper: &mut K,
+    i: usize,
+    told: &mut Told,
+) -> Result<(), ReceiveError>
+    requires within { i < length (R.waiting replica.old) }
+    requires enters { (c : ChangeParts) → slice_get (R.waiting replica.old) i ≡ Some c → cause (R.applied replica.old) c ≡ None }
+    requires room { (c : ChangeParts) → slice_get (R.waiting replica.old) i ≡ Some c → R.has_room replica.old c }
+    ensures ok { (c : ChangeParts) → slice_get (R.waiting replica.old) i ≡ Some c → OnOk result (Admits K.keeps keeper.old keeper.new c (R.applied replica.old) (R.applied replica.new)
+        told.old.applied.items told.new.applied.items told.old.refused.items told.new.refused.items Outcome.Entered) }
+    ensures out { OnOk result (R.waiting replica.new ≡ remove (R.waiting replica.old) i) }
+    ensures err { (c : ChangeParts) → slice_get (R.waiting replica.old) i ≡ Some c → IfErr result (λ e. Leaves K.refuses e (c ∷ []) keeper.old keeper.new) }
+    ensures applied { OnErr result (R.applied replica.new ≡ R.applied replica.old) }
+    ensures waiting { OnErr result (R.waiting replica.new ≡ R.waiting replica.old) }
+{
+    let change = &replica.pending()[i];
+    told.applied.push(change.hash())?;
+    keep(keeper, change)?;
+    let change = replica.release(i);
+    replica.enter(change);
+    Ok(())
+}
+
+// Tells a pending change as refused and takes it out. An error leaves it waiting.
+fn refuse_waiting<R: Replica>(
+    replica: &mut R,
+    i: usize,
+    error: GraphError,
+    told: &mut Told,
+) -> Result<(), ReceiveError>
+    requires within { i < length (R.waiting replica.old) }
+    ensures ok { (c : ChangeParts) → slice_get (R.waiting replica.old) i ≡ Some c → OnOk result (told.new.refused.items ≡ told.old.refused.items ++ (hash_of c, error) ∷ []) }
+    ensures told { told.new.applied.items ≡ told.old.applied.items }
+    ensures out { OnOk result (R.waiting replica.new ≡ remove (R.waiting replica.old) i) }
+    ensures applied { R.applied replica.new ≡ R.applied replica.old }
+    ensures err { IfErr result (λ e. e ≡ ReceiveError.OutOfMemory) }
+    ensures waiting { OnErr result (R.waiting replica.new ≡ R.waiting replica.old) }
+{
+    let hash = replica.pending()[i].hash();
+    told.refused.push((hash, error))?;
+    let _change = replica.release(i);
+    Ok(())
+}
+
+// Tries a pending change that needn't wait: it enters or is refused, and waits no longer. An error leaves it waiting.
 fn settle_one<R: Replica, K: Keeper>(
     replica: &mut R,
     keeper: &mut K,
@@ -57,18 +106,18 @@ fn settle_one<R: Replica, K: Keeper>(
     ensures err { IfErr result (λ e. Stops K.keeps K.refuses keeper.old keeper.new (R.waiting replica.old) (R.applied replica.old)
         (R.applied replica.new) (R.waiting replica.new) e) }
     ensures undropped { OnOk result (DropsNone told.old.refused.items told.new.refused.items) }
-    ensures fewer { length (R.waiting replica.new) + 1 ≡ length (R.waiting replica.old) }
+    ensures fewer { OnOk result (length (R.waiting replica.new) + 1 ≡ length (R.waiting replica.old)) }
+    ensures stays { LosesNone (R.applied replica.old) (R.applied replica.new) (R.waiting replica.old) (R.waiting replica.new) }
 {
-    let change = replica.release(i);
-    match admit(replica, keeper, change, told)? {
-        Outcome::Entered => Ok(()),
-        Outcome::Refused => Ok(()),
-        Outcome::Waits(_) => unreachable!(),
+    match judge(replica.ready_waiting(i))? {
+        Verdict::Enters => enter_waiting(replica, keeper, i, told),
+        Verdict::Waits => unreachable!(),
+        Verdict::Refused(error) => refuse_waiting(replica, i, error, told),
     }
 }
 
 /// Tries the pending changes from the earliest until each of those left must wait. After each that enters it
-/// begins again from the earliest: at most 1,024 times 1,024 checks.
+/// begins again from the earliest: at most 1,024 times 1,024 checks. An error loses none of them.
 pub(crate) fn settle<R: Replica, K: Keeper>(
     replica: &mut R,
     keeper: &mut K,
@@ -77,8 +126,9 @@ pub(crate) fn settle<R: Replica, K: Keeper>(
     ensures ok { OnOk result (Goes K.keeps keeper.old keeper.new (R.waiting replica.old) (R.applied replica.old) (R.applied replica.new)
         (R.waiting replica.new) told.old.applied.items told.new.applied.items told.old.refused.items told.new.refused.items) }
     ensures undropped { OnOk result (DropsNone told.old.refused.items told.new.refused.items) }
-    ensures fewer { length (R.waiting replica.new) ≤ length (R.waiting replica.old) }
+    ensures fewer { OnOk result (length (R.waiting replica.new) ≤ length (R.waiting replica.old)) }
     ensures settled { OnOk result (AllWait (R.applied replica.new) (R.waiting replica.new)) }
+    ensures stays { LosesNone (R.applied replica.old) (R.applied replica.new) (R.waiting replica.old) (R.waiting replica.new) }
     ensures err { IfErr result (λ e. Stops K.keeps K.refuses keeper.old keeper.new (R.waiting replica.old) (R.applied replica.old)
         (R.applied replica.new) (R.waiting replica.new) e) }
 {

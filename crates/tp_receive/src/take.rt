@@ -5,7 +5,7 @@ ghost use Rattle.tp_change.specs.declared.parts.ChangeParts.{ChangeParts};
 ghost use Rattle.tp_graph.specs.Named as named;
 ghost use Rattle.tp_graph.specs.Fit.{cause};
 ghost use Rattle.tp_receive.specs.Receiving.{AllWait, lacks_deps};
-ghost use Rattle.tp_receive.specs.Going.{Goes, Stops, IsHeld, DropsWhere};
+ghost use Rattle.tp_receive.specs.Going.{Goes, Stops, LosesNone, IsHeld, DropsWhere};
 ghost use Rattle.tp_graph.specs.GraphState.{most_waiting};
 
 use crate::admit::{Outcome, admit};
@@ -64,7 +64,7 @@ fn let_wait<R: Replica>(
 }
 
 /// Takes a change that came: it enters, and what it lets enter of those that wait; or it is refused and told, or
-/// waits.
+/// waits. An error loses none of those that waited.
 pub(crate) fn take<R: Replica, K: Keeper>(
     replica: &mut R,
     keeper: &mut K,
@@ -78,6 +78,7 @@ pub(crate) fn take<R: Replica, K: Keeper>(
     ensures spare { OnOk result (DropsWhere told.old.refused.items told.new.refused.items (most_waiting ≤ length (R.waiting replica.old) + reserved)) }
     ensures count { OnOk result (length (R.waiting replica.new) ≤ length (R.waiting replica.old) + 1) }
     ensures settled { OnOk result (AllWait (R.applied replica.new) (R.waiting replica.new)) }
+    ensures stays { LosesNone (R.applied replica.old) (R.applied replica.new) (R.waiting replica.old) (R.waiting replica.new) }
     ensures err { IfErr result (λ e. Stops K.keeps K.refuses keeper.old keeper.new (R.waiting replica.old ++ change ∷ []) (R.applied replica.old)
         (R.applied replica.new) (R.waiting replica.new) e) }
 {

@@ -7,6 +7,7 @@ use Rattle.tp_graph.proofs.NamedLaws.{In-left}
 use Rattle.tp_receive.proofs.SettleLaws.{IfErr-residual}
 use Rattle.tp_receive.proofs.TakeLaws.{AllIn-grown, AllIn-fresh, cover_grown, AllIn-yielded, drops_on, space_in, count_on}
 use Rattle.tp_graph.specs.GraphState.{most_waiting}
+use Rattle.tp_receive.proofs.LosesLaws.{LosesNone-then}
 use Rattle.tp_receive.proofs.intake.take_all.Goals as goal
 
 pub returns-in_err-settle-clause-err : goal.returns-in_err-settle-clause-err
@@ -28,6 +29,9 @@ loop-change-preserved g c = record {
       (λ d i. In-left d (g.R.Replica.waiting c.loop-change.replica) (c.in-Some.change ∷ []) i)
       (cover_grown (g.R.Replica.waiting c.args.replica.now) c.loop-change.yielded (g.R.Replica.waiting c.loop-change.replica) c.in-Some.change);
   settled = c.in_ok-take.ensures.settled;
+  stays = LosesNone-then (g.R.Replica.applied c.args.replica.now) (g.R.Replica.applied c.loop-change.replica) (g.R.Replica.applied c.take.new.replica)
+      (g.R.Replica.waiting c.args.replica.now) (g.R.Replica.waiting c.loop-change.replica) (g.R.Replica.waiting c.take.new.replica)
+      c.loop-change.invariant.stays c.take.ensures.stays;
   rest = append_assoc c.loop-change.yielded (c.in-Some.change ∷ []) c.next.new.self.rest.items ∙ ap (λ l. c.loop-change.yielded ++ l) (sym c.in-Some.ensures.steps.0) ∙ c.loop-change.invariant.rest;
   spare = drops_on c.args.told.now.refused.items c.loop-change.told.refused.items c.take.new.told.refused.items (most_waiting ≤ length (g.R.Replica.waiting c.loop-change.replica) + 0) (most_waiting < length (g.R.Replica.waiting c.args.replica.now) + length c.args.changes.items)
       (space_in (g.R.Replica.waiting c.args.replica.now) (g.R.Replica.waiting c.loop-change.replica) c.args.changes.items c.loop-change.yielded c.loop-change.change-iterator.rest.items c.next.new.self.rest.items c.in-Some.change
@@ -50,12 +54,19 @@ returns-in_err-take-clause-err g c =
     (AllIn-yielded (g.R.Replica.waiting c.args.replica.now) c.loop-change.yielded c.loop-change.change-iterator.rest.items c.next.new.self.rest.items c.args.changes.items c.in-Some.change c.loop-change.invariant.rest c.in-Some.ensures.steps.0))
     c.from_residual-in_err-take.ensures.1
 
+pub returns-in_err-take-clause-stays : goal.returns-in_err-take-clause-stays
+returns-in_err-take-clause-stays g c =
+    LosesNone-then (g.R.Replica.applied c.args.replica.now) (g.R.Replica.applied c.loop-change.replica) (g.R.Replica.applied c.take.new.replica)
+    (g.R.Replica.waiting c.args.replica.now) (g.R.Replica.waiting c.loop-change.replica) (g.R.Replica.waiting c.take.new.replica)
+    c.loop-change.invariant.stays c.take.ensures.stays
+
 pub loop-change-init : goal.loop-change-init
 loop-change-init g c = record {
   goes = subst (λ (l : List ChangeParts). Goes g.K.Keeper.keeps c.args.keeper.now c.settle.new.keeper l (g.R.Replica.applied c.args.replica.now) (g.R.Replica.applied c.settle.new.replica) (g.R.Replica.waiting c.settle.new.replica) c.args.told.now.applied.items c.settle.new.told.applied.items c.args.told.now.refused.items c.settle.new.told.refused.items)
       (sym (append-nil (g.R.Replica.waiting c.args.replica.now))) c.in_ok-settle.ensures.ok;
   spare = λ h i. inl (c.in_ok-settle.ensures.undropped h i);
-  count = omega (arith, c.settle.ensures.fewer);
+  count = omega (arith, c.in_ok-settle.ensures.fewer);
   settled = c.in_ok-settle.ensures.settled;
+  stays = c.settle.ensures.stays;
   rest = c.into_iter-change-iterator.ensures.into_iter_gives.0;
 }

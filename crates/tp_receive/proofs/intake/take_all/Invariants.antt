@@ -1,6 +1,6 @@
 use Rattle.std.proofs.Common.{◌≡◌, ◌++◌, ◌+◌, ◌<◌, ◌≤◌, length}
 use Rattle.tp_receive.specs.Receiving.{AllWait}
-use Rattle.tp_receive.specs.Going.{Goes, DropsWhere}
+use Rattle.tp_receive.specs.Going.{Goes, LosesNone, DropsWhere}
 use Rattle.tp_graph.specs.GraphState.{most_waiting}
 use Rattle.tp_receive.proofs.intake.take_all.Given as goal
 
@@ -11,5 +11,6 @@ invariant-loop-change g l = record {
   spare : DropsWhere l.fn.told.refused.items l.told.refused.items (most_waiting < length (g.R.Replica.waiting l.fn.replica) + length l.fn.changes.items);
   count : length (g.R.Replica.waiting l.replica) ≤ length (g.R.Replica.waiting l.fn.replica) + length l.yielded;
   settled : AllWait (g.R.Replica.applied l.replica) (g.R.Replica.waiting l.replica);
+  stays : LosesNone (g.R.Replica.applied l.fn.replica) (g.R.Replica.applied l.replica) (g.R.Replica.waiting l.fn.replica) (g.R.Replica.waiting l.replica);
   rest : l.yielded ++ l.change-iterator.rest.items ≡ l.fn.changes.items;
 }

@@ -1,45 +1,84 @@
-use Rattle.tp_receive.proofs.SettleLaws.{IfErr-residual, settle_entered, settle_refused, settle_stopped, drops_same, drops_refused}
-use Rattle.tp_change.specs.ChangeHash.{hash_of}
-use Rattle.tp_receive.specs.declared.error.ReceiveError.{ReceiveError}
-use Rattle.tp_receive.specs.Going.{Stops}
+use Rattle.std.proofs.Common.{◌≡◌, Some, true, false, ap, sym, subst, Result, Ok, Err, OnOk, IsOk, ◌∙◌}
+use Rattle.std.specs.List.{slice_get}
+use Rattle.tp_change.specs.declared.parts.ChangeParts.{ChangeParts}
+use Rattle.tp_graph.specs.declared.error.GraphError.{GraphError}
+use Rattle.tp_graph.specs.Fit.{cause}
+use Rattle.tp_receive.specs.Receiving.{lacks_deps}
+use Rattle.tp_receive.proofs.LosesLaws.{slice_get_there}
+use Rattle.tp_receive.proofs.SettleLaws.{at_mid, drops_same, settle_kept, settle_kept_stays, settle_kept_stopped, settle_told, settle_told_stays, settle_told_undropped}
+use Rattle.tp_receive.proofs.LosesLaws.{OnOk-both}
 use Rattle.tp_receive.proofs.settle.settle_one.Goals as goal
 
-pub returns-in-Entered-clause-ok : goal.returns-in-Entered-clause-ok
-returns-in-Entered-clause-ok g c =
-    settle_entered g.K.Keeper.keeps c.args.keeper.now c.admit.new.keeper (g.R.Replica.waiting c.args.replica.now) c.args.i c.release-change.result
-    (g.R.Replica.applied c.args.replica.now) (g.R.Replica.applied c.release-change.new.self) (g.R.Replica.applied c.admit.new.replica)
-    (g.R.Replica.waiting c.release-change.new.self) (g.R.Replica.waiting c.admit.new.replica)
-    c.args.told.now.applied.items c.admit.new.told.applied.items c.args.told.now.refused.items c.admit.new.told.refused.items
-    c.release-change.ensures.change c.release-change.ensures.waiting c.release-change.ensures.applied c.admit.ensures.waiting
-    (rw c.in-Entered.is at c.in_ok-admit.ensures.ok)
+from_ok : (P : Type 0) (r : Result (Unit {0}) GraphError) → OnOk r P → IsOk r → P
+from_ok P (Ok x) h k = h
+from_ok P (Err e) h k = cc
+
+pub enter_waiting-requires-clause-room : goal.enter_waiting-requires-clause-room
+enter_waiting-requires-clause-room g c x get =
+    from_ok _ c.ready_waiting.result (c.ready_waiting.ensures.room x (at_mid (g.R.Replica.waiting c.ready_waiting.new.self) (g.R.Replica.waiting c.args.replica.now) c.args.i x (sym c.ready_waiting.ensures.waiting) get))
+    (rw c.in-Enters.is at c.in_ok-judge.ensures.entry)
+
+pub unreachable-requires : goal.unreachable-requires
+unreachable-requires g c =
+    let there = slice_get_there (g.R.Replica.waiting c.args.replica.now) c.args.i c.requires.within in
+    let waits = rw c.in-Waits.is at (c.in_ok-judge.ensures.ok (cause (g.R.Replica.applied c.args.replica.now) there.0) (c.ready_waiting.ensures.answers there.0 there.1)) in
+    let no : true ≡ false = sym (ap lacks_deps waits) ∙ c.requires.ready there.0 there.1 in
+    cc
+
+pub returns-in-Enters-clause-ok : goal.returns-in-Enters-clause-ok
+returns-in-Enters-clause-ok g c =
+    settle_kept g.K.Keeper.keeps c.args.keeper.now c.enter_waiting.new.keeper (g.R.Replica.waiting c.args.replica.now) c.args.i
+    (g.R.Replica.applied c.args.replica.now) (g.R.Replica.applied c.ready_waiting.new.self) (g.R.Replica.applied c.enter_waiting.new.replica)
+    (g.R.Replica.waiting c.ready_waiting.new.self) (g.R.Replica.waiting c.enter_waiting.new.replica)
+    c.args.told.now.applied.items c.enter_waiting.new.told.applied.items c.args.told.now.refused.items c.enter_waiting.new.told.refused.items c.enter_waiting.result
+    c.requires.within c.ready_waiting.ensures.waiting c.ready_waiting.ensures.applied c.enter_waiting.ensures.ok c.enter_waiting.ensures.out
+
+pub returns-in-Enters-clause-err : goal.returns-in-Enters-clause-err
+returns-in-Enters-clause-err g c =
+    settle_kept_stopped g.K.Keeper.keeps g.K.Keeper.refuses c.args.keeper.now c.enter_waiting.new.keeper (g.R.Replica.waiting c.args.replica.now) c.args.i
+    (g.R.Replica.applied c.args.replica.now) (g.R.Replica.applied c.ready_waiting.new.self) (g.R.Replica.applied c.enter_waiting.new.replica)
+    (g.R.Replica.waiting c.ready_waiting.new.self) (g.R.Replica.waiting c.enter_waiting.new.replica) c.enter_waiting.result
+    c.requires.within c.ready_waiting.ensures.waiting c.ready_waiting.ensures.applied c.enter_waiting.ensures.err c.enter_waiting.ensures.applied c.enter_waiting.ensures.waiting
+
+pub returns-in-Enters-clause-undropped : goal.returns-in-Enters-clause-undropped
+returns-in-Enters-clause-undropped g c =
+    let there = slice_get_there (g.R.Replica.waiting c.args.replica.now) c.args.i c.requires.within in
+    OnOk-both c.enter_waiting.result (λ a b. drops_same c.args.told.now.refused.items c.enter_waiting.new.told.refused.items a.4)
+    (c.enter_waiting.ensures.ok there.0 (at_mid (g.R.Replica.waiting c.args.replica.now) (g.R.Replica.waiting c.ready_waiting.new.self) c.args.i there.0 c.ready_waiting.ensures.waiting there.1))
+    c.enter_waiting.ensures.out
+
+pub returns-in-Enters-clause-stays : goal.returns-in-Enters-clause-stays
+returns-in-Enters-clause-stays g c =
+    settle_kept_stays g.K.Keeper.keeps c.args.keeper.now c.enter_waiting.new.keeper (g.R.Replica.waiting c.args.replica.now) c.args.i
+    (g.R.Replica.applied c.args.replica.now) (g.R.Replica.applied c.ready_waiting.new.self) (g.R.Replica.applied c.enter_waiting.new.replica)
+    (g.R.Replica.waiting c.ready_waiting.new.self) (g.R.Replica.waiting c.enter_waiting.new.replica)
+    c.args.told.now.applied.items c.enter_waiting.new.told.applied.items c.args.told.now.refused.items c.enter_waiting.new.told.refused.items c.enter_waiting.result
+    c.requires.within c.ready_waiting.ensures.waiting c.ready_waiting.ensures.applied c.enter_waiting.ensures.ok c.enter_waiting.ensures.out c.enter_waiting.ensures.applied c.enter_waiting.ensures.waiting
 
 pub returns-in-Refused-clause-ok : goal.returns-in-Refused-clause-ok
 returns-in-Refused-clause-ok g c =
-    settle_refused g.K.Keeper.keeps c.args.keeper.now c.admit.new.keeper (g.R.Replica.waiting c.args.replica.now) c.args.i c.release-change.result
-    (g.R.Replica.applied c.args.replica.now) (g.R.Replica.applied c.release-change.new.self) (g.R.Replica.applied c.admit.new.replica)
-    (g.R.Replica.waiting c.release-change.new.self) (g.R.Replica.waiting c.admit.new.replica)
-    c.args.told.now.applied.items c.admit.new.told.applied.items c.args.told.now.refused.items c.admit.new.told.refused.items
-    c.release-change.ensures.change c.release-change.ensures.waiting c.release-change.ensures.applied c.admit.ensures.waiting
-    (rw c.in-Refused.is at c.in_ok-admit.ensures.ok)
-
-pub returns-in_err-admit-clause-err : goal.returns-in_err-admit-clause-err
-returns-in_err-admit-clause-err g c =
-    IfErr-residual
-    (λ (e : ReceiveError). Stops g.K.Keeper.keeps g.K.Keeper.refuses c.args.keeper.now c.admit.new.keeper (g.R.Replica.waiting c.args.replica.now)
-    (g.R.Replica.applied c.args.replica.now) (g.R.Replica.applied c.admit.new.replica) (g.R.Replica.waiting c.admit.new.replica) e)
-    c.from_residual.result c.in_err-admit.field-0.0
-    (settle_stopped g.K.Keeper.keeps g.K.Keeper.refuses c.args.keeper.now c.admit.new.keeper (g.R.Replica.waiting c.args.replica.now) c.args.i c.release-change.result
-    (g.R.Replica.applied c.args.replica.now) (g.R.Replica.applied c.release-change.new.self) (g.R.Replica.applied c.admit.new.replica)
-    (g.R.Replica.waiting c.release-change.new.self) (g.R.Replica.waiting c.admit.new.replica) c.in_err-admit.field-0.0
-    c.release-change.ensures.change c.release-change.ensures.waiting c.release-change.ensures.applied c.admit.ensures.waiting
-    c.in_err-admit.ensures.stays c.in_err-admit.ensures.err)
-    c.from_residual.ensures.1
-
-pub returns-in-Entered-clause-undropped : goal.returns-in-Entered-clause-undropped
-returns-in-Entered-clause-undropped g c =
-    let a = rw c.in-Entered.is at c.in_ok-admit.ensures.ok in drops_same c.args.told.now.refused.items c.admit.new.told.refused.items a.4
+    settle_told g.K.Keeper.keeps c.args.keeper.now (g.R.Replica.waiting c.args.replica.now) c.args.i c.in-Refused.error
+    (g.R.Replica.applied c.args.replica.now) (g.R.Replica.applied c.ready_waiting.new.self) (g.R.Replica.applied c.refuse_waiting.new.replica)
+    (g.R.Replica.waiting c.ready_waiting.new.self) (g.R.Replica.waiting c.refuse_waiting.new.replica)
+    c.args.told.now.applied.items c.refuse_waiting.new.told.applied.items c.args.told.now.refused.items c.refuse_waiting.new.told.refused.items c.refuse_waiting.result
+    c.requires.within c.ready_waiting.ensures.waiting c.ready_waiting.ensures.applied
+    (λ x get. rw c.in-Refused.is at (c.in_ok-judge.ensures.ok (cause (g.R.Replica.applied c.args.replica.now) x) (c.ready_waiting.ensures.answers x get)))
+    c.refuse_waiting.ensures.ok c.refuse_waiting.ensures.told c.refuse_waiting.ensures.applied c.refuse_waiting.ensures.out
 
 pub returns-in-Refused-clause-undropped : goal.returns-in-Refused-clause-undropped
 returns-in-Refused-clause-undropped g c =
-    let a = rw c.in-Refused.is at c.in_ok-admit.ensures.ok in
-    drops_refused (hash_of c.release-change.result) a.1 c.args.told.now.refused.items c.admit.new.told.refused.items a.3 a.4
+    settle_told_undropped (g.R.Replica.waiting c.args.replica.now) c.args.i c.in-Refused.error
+    (g.R.Replica.applied c.args.replica.now) (g.R.Replica.waiting c.ready_waiting.new.self)
+    c.args.told.now.refused.items c.refuse_waiting.new.told.refused.items c.refuse_waiting.result
+    c.requires.within c.ready_waiting.ensures.waiting
+    (λ x get. rw c.in-Refused.is at (c.in_ok-judge.ensures.ok (cause (g.R.Replica.applied c.args.replica.now) x) (c.ready_waiting.ensures.answers x get)))
+    c.refuse_waiting.ensures.ok
+
+pub returns-in-Refused-clause-stays : goal.returns-in-Refused-clause-stays
+returns-in-Refused-clause-stays g c =
+    settle_told_stays (g.R.Replica.waiting c.args.replica.now) c.args.i c.in-Refused.error
+    (g.R.Replica.applied c.args.replica.now) (g.R.Replica.applied c.ready_waiting.new.self) (g.R.Replica.applied c.refuse_waiting.new.replica)
+    (g.R.Replica.waiting c.ready_waiting.new.self) (g.R.Replica.waiting c.refuse_waiting.new.replica) c.refuse_waiting.result
+    c.requires.within c.ready_waiting.ensures.waiting c.ready_waiting.ensures.applied
+    (λ x get. rw c.in-Refused.is at (c.in_ok-judge.ensures.ok (cause (g.R.Replica.applied c.args.replica.now) x) (c.ready_waiting.ensures.answers x get)))
+    c.refuse_waiting.ensures.applied c.refuse_waiting.ensures.out c.refuse_waiting.ensures.waiting

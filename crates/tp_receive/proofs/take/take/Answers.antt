@@ -1,4 +1,4 @@
-use Rattle.std.proofs.Common.{◌≡◌, ◌++◌, ◌∷◌, [], inl, ap, subst, length, ◌≤◌, ◌+◌, arith}
+use Rattle.std.proofs.Common.{◌≡◌, ◌++◌, ◌∷◌, [], inl, ap, subst, ◌∙◌, length, ◌≤◌, ◌+◌, arith}
 use Rattle.tp_receive.specs.declared.error.ReceiveError.{ReceiveError}
 use Rattle.tp_receive.specs.declared.error.ReceiveError.TheVariants as error
 use Rattle.tp_receive.specs.Going.{Stops}
@@ -6,9 +6,10 @@ use Rattle.tp_list.specs.Members.{In}
 use Rattle.tp_graph.proofs.NamedLaws.{In-left}
 use Rattle.tp_receive.proofs.GoesLaws.{Goes-then, Stops-then}
 use Rattle.tp_receive.proofs.SettleLaws.{IfErr-residual, drops_refused}
-use Rattle.tp_receive.proofs.TakeLaws.{OnOk-map, IfErr-map, IfErr-stays, take_entered, take_refused, take_stopped, take_held, wait_held, wait_stopped, spare_held, count_held, drops_where, OnOk-all}
+use Rattle.tp_receive.proofs.TakeLaws.{OnOk-map, IfErr-map, IfErr-stays, take_entered, take_refused, take_stopped, take_held, wait_held, wait_stopped, spare_held, count_held, count_on_one, stays_held, drops_where}
 use Rattle.tp_change.specs.ChangeHash.{hash_of}
 use Rattle.tp_graph.specs.GraphState.{most_waiting}
+use Rattle.tp_receive.proofs.LosesLaws.{LosesNone-then, LosesNone-at, LosesNone-enters}
 use Rattle.tp_receive.proofs.take.take.Goals as goal
 
 pub returns-in_err-admit-clause-err : goal.returns-in_err-admit-clause-err
@@ -81,8 +82,27 @@ returns-in-Entered-clause-spare g c =
 
 pub returns-in-Entered-clause-count : goal.returns-in-Entered-clause-count
 returns-in-Entered-clause-count g c =
-    let less : length (g.R.Replica.waiting c.settle.new.replica) ≤ length (g.R.Replica.waiting c.args.replica.now) + 1 = omega (arith, c.settle.ensures.fewer, ap length c.admit.ensures.waiting) in
-    OnOk-all c.settle.result less
+    OnOk-map c.settle.result
+    (λ h. count_on_one (g.R.Replica.waiting c.args.replica.now) (g.R.Replica.waiting c.admit.new.replica) (g.R.Replica.waiting c.settle.new.replica) c.admit.ensures.waiting h)
+    c.settle.ensures.fewer
+
+pub returns-in-Entered-clause-stays : goal.returns-in-Entered-clause-stays
+returns-in-Entered-clause-stays g c =
+    let a = rw c.in-Entered.is at c.in_ok-admit.ensures.ok in
+    LosesNone-then (g.R.Replica.applied c.args.replica.now) (g.R.Replica.applied c.admit.new.replica) (g.R.Replica.applied c.settle.new.replica)
+    (g.R.Replica.waiting c.args.replica.now) (g.R.Replica.waiting c.admit.new.replica) (g.R.Replica.waiting c.settle.new.replica)
+    (LosesNone-at (g.R.Replica.applied c.args.replica.now) (g.R.Replica.applied c.args.replica.now ++ c.args.change ∷ []) (g.R.Replica.applied c.admit.new.replica)
+    (g.R.Replica.waiting c.args.replica.now) (g.R.Replica.waiting c.args.replica.now) (g.R.Replica.waiting c.admit.new.replica)
+    (LosesNone-enters (g.R.Replica.applied c.args.replica.now) (g.R.Replica.waiting c.args.replica.now) c.args.change a.0) a.2 c.admit.ensures.waiting)
+    c.settle.ensures.stays
+
+pub returns-in-Waits-clause-stays : goal.returns-in-Waits-clause-stays
+returns-in-Waits-clause-stays g c =
+    let a = rw c.in-Waits.is at c.in_ok-admit.ensures.ok in
+    stays_held (g.R.Replica.applied c.args.replica.now) (g.R.Replica.applied c.let_wait.new.replica)
+    (g.R.Replica.waiting c.args.replica.now) (g.R.Replica.waiting c.admit.new.replica) (g.R.Replica.waiting c.let_wait.new.replica)
+    c.in-Waits.change c.args.reserved c.admit.new.told.refused.items c.let_wait.new.told.refused.items c.let_wait.result
+    (c.let_wait.ensures.applied ∙ a.0.applied) c.admit.ensures.waiting c.let_wait.ensures.ok c.let_wait.ensures.stays
 
 pub returns-in-Refused-clause-spare : goal.returns-in-Refused-clause-spare
 returns-in-Refused-clause-spare g c =

@@ -1,0 +1,228 @@
+//! The applied changes, with what is kept beside them.
+
+ghost use Rattle.std.specs.Prelude.{◌≡◌, ◌↔◌, ◌+◌, ◌<◌, ◌≤◌, [], ◌∷◌, ◌++◌, false, length, Some, None, vec_len, vec_capacity, MatchOption, IfOk, OnOk, OnErr};
+ghost use Rattle.tp_list.specs.Members.{In};
+ghost use Rattle.tp_list.specs.Rising.{IsRising};
+ghost use Rattle.tp_opid.specs.Order.{hash_cmp};
+ghost use Rattle.tp_opid.specs.declared.hash.Hash.{Hash};
+ghost use Rattle.tp_change.specs.ChangeHash.{hash_of};
+ghost use Rattle.tp_change.specs.Elements as made;
+ghost use Rattle.tp_graph.specs.Named as named;
+ghost use Rattle.tp_graph.specs.Heads as head;
+ghost use Rattle.tp_graph.specs.Fit as fit;
+ghost use Rattle.tp_graph.specs.Fit.{cause, most_changes};
+ghost use Rattle.tp_graph.specs.Marks.{marks};
+ghost use Rattle.tp_graph.specs.Places.{place_from};
+ghost use Rattle.tp_graph.specs.Sound.{Sound};
+ghost use Rattle.tp_graph.specs.Answers.{Answers};
+ghost use Rattle.tp_graph.specs.Since.{since, skip, IsMissing};
+
+use crate::error::GraphError;
+use crate::index::Index;
+use crate::judge::later;
+use crate::{check, heads, since, walk};
+use std::alloc::{AllocError, Global};
+use std::marker::Model;
+use tp_change::Change;
+use tp_opid::{Actor, Hash};
+
+/// The applied changes in the order in which they entered. Heads, places and counters are kept beside them.
+#[derive(Drop)]
+pub(crate) struct Applied {
+    alloc: Global,
+    changes: Vec<Change>,
+    heads: Vec<Hash>,
+    ends: Vec<u64>,
+    next: u64,
+    index: Index,
+    room: Option<Hash>,
+}
+
+impl Model for Applied {
+    ghost use Rattle.std.specs.Prelude.{vec_len, vec_capacity};
+    ghost use Rattle.tp_graph.specs.AppliedState.{AppliedState, IsKept, HasRoom};
+
+    ghost Value = { AppliedState };
+
+    ghost view = { λ a. record { changes = a.changes.items; room = a.room } };
+
+    ghost invariant = { λ a.
+        IsKept a.changes.items a.heads.items a.index a.ends.items a.next
+        × HasRoom a.room (vec_len a.changes) a.index (vec_capacity a.changes) (vec_len a.heads) (vec_capacity a.heads) (vec_len a.ends) (vec_capacity a.ends) };
+}
+
+// Makes room for one more of each.
+fn grow(
+    changes: &mut Vec<Change>,
+    heads: &mut Vec<Hash>,
+    ends: &mut Vec<u64>,
+) -> Result<(), AllocError>
+    ensures changes { changes.new.items ≡ changes.old.items }
+    ensures heads { heads.new.items ≡ heads.old.items }
+    ensures ends { ends.new.items ≡ ends.old.items }
+    ensures lens { (vec_len changes.new ≡ vec_len changes.old) × (vec_len heads.new ≡ vec_len heads.old) × (vec_len ends.new ≡ vec_len ends.old) }
+    ensures room { OnOk result
+        ((vec_len changes.new < vec_capacity changes.new) × (vec_len heads.new < vec_capacity heads.new) × (vec_len ends.new < vec_capacity ends.new)) }
+    ensures stays { (vec_capacity changes.old ≤ vec_capacity changes.new) × (vec_capacity heads.old ≤ vec_capacity heads.new) × (vec_capacity ends.old ≤ vec_capacity ends.new) }
+{
+    changes.reserve(1)?;
+    heads.reserve(1)?;
+    ends.reserve(1)?;
+    Ok(())
+}
+
+// Puts an item at the end of a vector that has room for it.
+fn push_within<T: Drop>(items: &mut Vec<T>, item: T)
+    requires { vec_len items.old < vec_capacity items.old }
+    ensures { items.new.items ≡ items.old.items ++ item ∷ [] }
+{
+    match items.push(item) {
+        Ok(()) => {}
+        Err(_) => unreachable!(),
+    }
+}
+
+impl Applied {
+    /// No changes. It takes no memory.
+    pub(crate) fn new(alloc: Global) -> Applied
+        ensures changes { result.changes ≡ [] }
+        ensures room { result.room ≡ None }
+    {
+        Applied {
+            alloc,
+            changes: Vec::new(alloc),
+            heads: Vec::new(alloc),
+            ends: Vec::new(alloc),
+            next: 1,
+            index: Index::new(alloc),
+            room: None,
+        }
+    }
+
+    /// The changes, in order.
+    pub(crate) fn changes(&self) -> &[Change]
+        ensures changes { result.now ≡ self.now.changes }
+        ensures sound { Sound self.now.changes }
+        ensures few { length self.now.changes ≤ most_changes }
+    {
+        self.changes.as_slice()
+    }
+
+    /// Their heads, rising.
+    pub(crate) fn heads(&self) -> &[Hash]
+        ensures { result.now ≡ head.heads self.now.changes }
+    {
+        self.heads.as_slice()
+    }
+
+    /// One more than the greatest counter, or 1.
+    pub(crate) fn next_counter(&self) -> u64
+        ensures { result ≡ made.next_counter self.now.changes }
+    {
+        self.next
+    }
+
+    /// How many of the changes the actor made.
+    pub(crate) fn count_by(&self, actor: &Actor) -> u64
+        ensures { result ≡ fit.count_by actor.now self.now.changes }
+    {
+        check::count_all(self.changes.as_slice(), actor)
+    }
+
+    /// The place of the change with the hash.
+    pub(crate) fn place(&self, hash: &Hash) -> Option<usize>
+        ensures { result ≡ place_from 0 self.now.changes hash.now }
+    {
+        walk::place_of(self.changes.as_slice(), &self.index, hash)
+    }
+
+    /// Whether one of the changes has the hash.
+    pub(crate) fn contains(&self, hash: &Hash) -> bool
+        ensures { result ≡ named.has self.now.changes hash.now }
+    {
+        walk::contains(self.changes.as_slice(), &self.index, hash)
+    }
+
+    /// Whether each of the hashes is that of one of the changes.
+    pub(crate) fn has_all(&self, hashes: &[Hash]) -> bool
+        ensures { result ≡ named.has_all self.now.changes hashes.now }
+    {
+        walk::has_all(self.changes.as_slice(), &self.index, hashes)
+    }
+
+    /// The change with the hash.
+    pub(crate) fn get(&self, hash: &Hash) -> Option<&Change>
+        ensures { MatchOption result (named.has self.now.changes hash.now ≡ false)
+            (λ change. In change.now self.now.changes × (hash_of change.now ≡ hash.now)) }
+    {
+        walk::change_of(self.changes.as_slice(), &self.index, hash)
+    }
+
+    /// Whether the change can enter.
+    pub(crate) fn check(&self, change: &Change) -> Result<(), GraphError>
+        ensures { Answers result (cause self.now.changes change.now) }
+    {
+        check::check(
+            self.alloc,
+            self.changes.as_slice(),
+            self.ends.as_slice(),
+            self.heads.as_slice(),
+            &self.index,
+            change,
+        )
+    }
+
+    /// Checks, and makes every growth that the entry of the change takes.
+    pub(crate) fn ready(&mut self, change: &Change) -> Result<(), GraphError>
+        ensures answers { Answers result (cause self.old.changes change.now) }
+        ensures changes { self.new.changes ≡ self.old.changes }
+        ensures room { OnOk result (self.new.room ≡ Some (hash_of change.now)) }
+        ensures err { OnErr result (self.new.room ≡ self.old.room) }
+    {
+        self.check(change)?;
+        let hash = change.hash();
+        let place = self.changes.len() as u32;
+        grow(&mut self.changes, &mut self.heads, &mut self.ends)?;
+        self.index.note(hash, place)?;
+        self.room = Some(hash);
+        Ok(())
+    }
+
+    /// Enters a change that can enter and that was made ready for, as the last. No memory.
+    pub(crate) fn enter(&mut self, change: Change)
+        requires enters { cause self.old.changes change ≡ None }
+        requires room { self.old.room ≡ Some (hash_of change) }
+        ensures { self.new.changes ≡ self.old.changes ++ change ∷ [] }
+    {
+        let end = change.next_start();
+        self.next = later(self.next, end);
+        heads::move_on(&mut self.heads, change.deps(), change.hash());
+        push_within(&mut self.ends, end);
+        push_within(&mut self.changes, change);
+        self.room = None;
+    }
+
+    /// Marks for the past of those of the hashes that are known.
+    pub(crate) fn marks(&self, hashes: &[Hash]) -> Result<Vec<bool>, AllocError>
+        ensures marks { IfOk result (λ v. v.items ≡ marks self.now.changes hashes.now) }
+        ensures len { IfOk result (λ v. length v.items ≡ length self.now.changes) }
+        ensures few { length self.now.changes ≤ most_changes }
+        ensures since { IfOk result (λ v. skip v.items self.now.changes ≡ since self.now.changes hashes.now) }
+    {
+        walk::marks_of(
+            self.alloc,
+            self.changes.as_slice(),
+            &self.index,
+            self.heads.as_slice(),
+            hashes,
+        )
+    }
+
+    /// The dependencies of the waiting changes that are neither applied nor waiting, rising.
+    pub(crate) fn missing(&self, waiting: &[Change]) -> Result<Vec<Hash>, AllocError>
+        ensures rising { IfOk result (λ v. IsRising hash_cmp v.items) }
+        ensures there { IfOk result (λ v. (h : Hash) → In h v.items ↔ IsMissing self.now.changes waiting.now h) }
+    {
+        since::missing(self.alloc, self.changes.as_slice(), &self.index, waiting)
+    }
+}
