@@ -5,3 +5,4 @@ pub mod EditSizes
 pub mod EditAnswers
 pub mod ForkLaws
 pub mod MergeLaws
+pub mod ApplyLaws

@@ -3,7 +3,7 @@
 ghost use Rattle.std.specs.Prelude.{◌≡◌, ◌+◌, ◌≤◌, ◌++◌, [], length, OnOk, IfOk, IfErr};
 ghost use Rattle.tp_graph.specs.GraphState.{most_waiting};
 ghost use Rattle.tp_receive.specs.Receiving.{AllWait, HashesApart, Receives, hashes, held_of};
-ghost use Rattle.tp_receive.specs.Going.{Goes};
+ghost use Rattle.tp_receive.specs.Going.{Goes, LosesNone};
 ghost use Rattle.tp_receive.specs.Loose as loose;
 ghost use Rattle.tp_receive.specs.Replies.{NoneDropped};
 ghost use Rattle.tp_document.specs.Applying.{refusal_of, keeps_nothing, refuses_nothing, ApplyFails, MergeFails, IsFullAlone, IsOtherAlone};
@@ -44,6 +44,7 @@ impl<S: Sequence> Document<S> {
             → Receives self.old.applied (self.old.waiting ++ changes.items) self.new.applied) }
         ensures none_dropped { IfOk result (λ r. length self.old.waiting + length changes.items ≤ most_waiting → NoneDropped r.refused.items) }
         ensures waits { OnOk result (AllWait self.new.applied self.new.waiting) }
+        ensures stays { LosesNone self.old.applied self.new.applied self.old.waiting self.new.waiting }
         ensures held { IfOk result (λ r. r.held.items ≡ held_of (hashes changes.items) self.new.waiting) }
         ensures full { IsFullAlone result (loose.is_full self.old.applied self.old.waiting changes.items) }
         ensures err { IfErr result (λ e. ApplyFails K.keeps K.refuses keeper.old keeper.new (self.old.waiting ++ changes.items) self.old.applied
@@ -62,8 +63,8 @@ impl<S: Sequence> Document<S> {
     /// dropped and told. A change that is pending already doesn't wait twice. See [`receive`] for the rules in full.
     ///
     /// `PendingFull` where more than 1,024 changes would have to wait: nothing changes. `OutOfMemory` leaves the
-    /// document between: it holds a beginning of the changes that it would have entered, each whole, and what waits
-    /// is of what waited and came.
+    /// document between: it holds a beginning of the changes that it would have entered, each whole, and of what
+    /// waited nothing is lost. The change of the list that was being tried and those behind it have to come again.
     ///
     /// An applied change costs its check and its operations. The pending ones are looked at again only where
     /// something entered.
@@ -75,6 +76,7 @@ impl<S: Sequence> Document<S> {
             → Receives self.old.applied (self.old.waiting ++ changes.items) self.new.applied) }
         ensures none_dropped { IfOk result (λ r. length self.old.waiting + length changes.items ≤ most_waiting → NoneDropped r.refused.items) }
         ensures waits { OnOk result (AllWait self.new.applied self.new.waiting) }
+        ensures stays { LosesNone self.old.applied self.new.applied self.old.waiting self.new.waiting }
         ensures held { IfOk result (λ r. r.held.items ≡ held_of (hashes changes.items) self.new.waiting) }
         ensures full { IsFullAlone result (loose.is_full self.old.applied self.old.waiting changes.items) }
         ensures err { IfErr result (λ e. ApplyFails keeps_nothing refuses_nothing tt tt (self.old.waiting ++ changes.items) self.old.applied
@@ -99,6 +101,7 @@ impl<S: Sequence> Document<S> {
         ensures receives { IfOk result (λ r. HashesApart (self.old.waiting ++ merging.absent self.old.applied other.now.applied) → NoneDropped r.refused.items
             → Receives self.old.applied (self.old.waiting ++ merging.absent self.old.applied other.now.applied) self.new.applied) }
         ensures waits { OnOk result (AllWait self.new.applied self.new.waiting) }
+        ensures stays { LosesNone self.old.applied self.new.applied self.old.waiting self.new.waiting }
         ensures held { IfOk result (λ r. r.held.items ≡ held_of (hashes (merging.absent self.old.applied other.now.applied)) self.new.waiting) }
         ensures other { IsOtherAlone result self.old.id other.now.id }
         ensures err { IfErr result (λ e. MergeFails K.keeps K.refuses keeper.old keeper.new (self.old.waiting ++ merging.absent self.old.applied other.now.applied)
@@ -108,8 +111,10 @@ impl<S: Sequence> Document<S> {
         if !self.id.is(&other.id) {
             return Err(DocError::OtherDocument);
         }
-        let changes = absent(self, other.changes())?;
-        self.apply_with(changes, keeper)
+        match absent(self, other.changes()) {
+            Ok(changes) => self.apply_with(changes, keeper),
+            Err(_) => Err(DocError::OutOfMemory),
+        }
     }
 
     /// Receives the other's applied changes that are absent here, as [`apply`](Document::apply) does and as
@@ -124,6 +129,7 @@ impl<S: Sequence> Document<S> {
         ensures receives { IfOk result (λ r. HashesApart (self.old.waiting ++ merging.absent self.old.applied other.now.applied) → NoneDropped r.refused.items
             → Receives self.old.applied (self.old.waiting ++ merging.absent self.old.applied other.now.applied) self.new.applied) }
         ensures waits { OnOk result (AllWait self.new.applied self.new.waiting) }
+        ensures stays { LosesNone self.old.applied self.new.applied self.old.waiting self.new.waiting }
         ensures held { IfOk result (λ r. r.held.items ≡ held_of (hashes (merging.absent self.old.applied other.now.applied)) self.new.waiting) }
         ensures other { IsOtherAlone result self.old.id other.now.id }
         ensures err { IfErr result (λ e. MergeFails keeps_nothing refuses_nothing tt tt (self.old.waiting ++ merging.absent self.old.applied other.now.applied)

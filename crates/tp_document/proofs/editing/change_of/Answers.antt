@@ -25,7 +25,7 @@ make_change-requires g c =
     let C = c.args.graph.now.applied in
     let asked = asking c.args.actor c.args.splices.now c.args.time (chars c.args.message.now) in
     let h = c.requires.kept.holds in
-    let numbered : c.next_seq-seq.result ≡ count_by c.args.actor C + 1 = c.next_seq-seq.ensures.seq ∙ ap (λ (D : List ChangeParts). count_by c.args.actor D + 1) c.changes.ensures.changes in
+    let numbered : c.next_seq-seq.result ≡ count_by c.args.actor C + 1 = c.next_seq-seq.ensures.seq in
     let is : IsEdit C asked c.in-Ok.parts = edit_made C (S.placed c.args.sequence.now) (S.removals c.args.sequence.now) asked c.next_seq-seq.result c.args.next c.heads.result.now c.in-Ok.parts h numbered c.requires.kept.counter c.heads.ensures c.in-Ok.ensures in
     let small : c.in-Ok.parts.seq < 2 ^ 64 = subst (λ n. n < 2 ^ 64) (sym (ap (λ (p : ChangeParts). p.seq) c.in-Ok.ensures)) c.next_seq-seq.ensures.small in
     λ size. edit_limits C asked c.in-Ok.parts h.sound h.limits is c.requires.within.counters
