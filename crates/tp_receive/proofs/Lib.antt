@@ -6,3 +6,5 @@ pub mod LosesLaws
 pub mod SettleLaws
 pub mod TakeLaws
 pub mod ReplyLaws
+pub mod CausesLaws
+pub mod OneSetLaws

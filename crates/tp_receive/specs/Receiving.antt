@@ -23,6 +23,10 @@ Begins C long = (new : List ChangeParts) × (long ≡ C ++ new)
 abbrev pub HashesApart : List ChangeParts → Type 0
 HashesApart K = (c d : ChangeParts) → In c K → In d K → hash_of c ≡ hash_of d → c ≡ d
 
+-- Two changes of K with one actor and sequence number are one.
+abbrev pub SeqsApart : List ChangeParts → Type 0
+SeqsApart K = (c d : ChangeParts) → In c K → In d K → c.actor ≡ d.actor → c.seq ≡ d.seq → c ≡ d
+
 -- The list `long` is C and behind it the new changes, which are of K and entered one after another.
 pub record Grows (C K long new : List ChangeParts) : Type 0 where
   pub begins : long ≡ C ++ new

@@ -11,7 +11,7 @@ ghost use Rattle.tp_graph.specs.Answers.{Answers};
 ghost use Rattle.tp_graph.specs.GraphState.{most_waiting, HashesOnce};
 
 use tp_change::Change;
-use tp_graph::{GraphError, Rejected};
+use tp_graph::{Graph, GraphError, Rejected};
 use tp_opid::Hash;
 
 /// Applied changes in the order in which they entered, and changes that wait for others. A graph is one, and so
@@ -85,4 +85,48 @@ pub trait Replica: Drop {
         ensures waiting { waiting self.new ≡ remove (waiting self.old) i }
         ensures applied { applied self.new ≡ applied self.old }
         ensures room { (c : ChangeParts) → has_room self.old c → has_room self.new c };
+}
+
+impl Replica for Graph {
+    ghost applied = { λ g. g.applied };
+
+    ghost waiting = { λ g. g.waiting };
+
+    ghost has_room = { λ g c. g.room ≡ Some (hash_of c) };
+
+    fn changes(&self) -> &[Change] {
+        Graph::changes(self)
+    }
+
+    fn pending(&self) -> &[Change] {
+        Graph::pending(self)
+    }
+
+    fn contains(&self, hash: &Hash) -> bool {
+        Graph::contains(self, hash)
+    }
+
+    fn check(&self, change: &Change) -> Result<(), GraphError> {
+        Graph::check(self, change)
+    }
+
+    fn ready(&mut self, change: &Change) -> Result<(), GraphError> {
+        Graph::ready(self, change)
+    }
+
+    fn ready_waiting(&mut self, i: usize) -> Result<(), GraphError> {
+        Graph::ready_waiting(self, i)
+    }
+
+    fn enter(&mut self, change: Change) {
+        Graph::enter(self, change)
+    }
+
+    fn hold(&mut self, change: Change) -> Result<(), Rejected> {
+        Graph::hold(self, change)
+    }
+
+    fn release(&mut self, i: usize) -> Change {
+        Graph::release(self, i)
+    }
 }
