@@ -45,6 +45,7 @@ fn enter_kept<R: Replica, K: Keeper>(
 ) -> Result<(), ReceiveError>
     requires enters { cause (R.applied replica.old) change ≡ None }
     requires room { R.has_room replica.old change }
+    ensures id { R.id replica.new ≡ R.id replica.old }
     ensures waiting { R.waiting replica.new ≡ R.waiting replica.old }
     ensures kept { OnOk result (K.keeps keeper.old change keeper.new) }
     ensures applied { OnOk result (R.applied replica.new ≡ R.applied replica.old ++ change ∷ []) }
@@ -67,6 +68,7 @@ pub(crate) fn admit<R: Replica, K: Keeper>(
     change: Change,
     told: &mut Told,
 ) -> Result<Outcome, ReceiveError>
+    ensures id { R.id replica.new ≡ R.id replica.old }
     ensures waiting { R.waiting replica.new ≡ R.waiting replica.old }
     ensures ok { IfOk result (λ o. Admits K.keeps keeper.old keeper.new change (R.applied replica.old) (R.applied replica.new)
         told.old.applied.items told.new.applied.items told.old.refused.items told.new.refused.items o) }

@@ -28,6 +28,7 @@ fn take_all<R: Replica, K: Keeper>(
     changes: Vec<Change>,
     told: &mut Told,
 ) -> Result<(), ReceiveError>
+    ensures id { R.id replica.new ≡ R.id replica.old }
     ensures ok { OnOk result (Goes K.keeps keeper.old keeper.new (R.waiting replica.old ++ changes.items) (R.applied replica.old) (R.applied replica.new)
         (R.waiting replica.new) told.old.applied.items told.new.applied.items told.old.refused.items told.new.refused.items) }
     ensures spare { OnOk result (DropsWhere told.old.refused.items told.new.refused.items (most_waiting < length (R.waiting replica.old) + length changes.items)) }
@@ -75,6 +76,7 @@ pub fn receive<R: Replica, K: Keeper>(
     keeper: &mut K,
     changes: Vec<Change>,
 ) -> Result<Applied, ReceiveError>
+    ensures id { R.id replica.new ≡ R.id replica.old }
     ensures goes { IfOk result (λ r. Goes K.keeps keeper.old keeper.new (R.waiting replica.old ++ changes.items) (R.applied replica.old) (R.applied replica.new)
         (R.waiting replica.new) [] r.applied.items [] r.refused.items) }
     ensures receives { IfOk result (λ r. HashesApart (R.waiting replica.old ++ changes.items) → NoneDropped r.refused.items

@@ -1,7 +1,8 @@
 //! What receives changes: applied changes, and changes that wait.
 
-ghost use Rattle.std.specs.Prelude.{◌≡◌, ◌<◌, ◌≤◌, ◌++◌, ◌∷◌, [], ℕ, List, Some, None, false, length, is_ok, if◌then◌else◌, IfErr, OnOk, OnErr};
+ghost use Rattle.std.specs.Prelude.{◌≡◌, ◌<◌, ◌≤◌, ◌++◌, ◌∷◌, [], ℕ, List, Option, Some, None, false, length, is_ok, if◌then◌else◌, IfErr, OnOk, OnErr};
 ghost use Rattle.std.specs.List.{slice_get, remove};
+ghost use Rattle.tp_opid.specs.declared.doc_id.DocId.{DocId};
 ghost use Rattle.tp_change.specs.declared.parts.ChangeParts.{ChangeParts};
 ghost use Rattle.tp_change.specs.ChangeHash.{hash_of};
 ghost use Rattle.tp_graph.specs.Named as named;
@@ -17,6 +18,9 @@ use tp_opid::Hash;
 /// Applied changes in the order in which they entered, and changes that wait for others. A graph is one, and so
 /// is a document, which keeps more beside them.
 pub trait Replica: Drop {
+    /// The identifier of the document, where it has one.
+    ghost id: { Self → Option DocId };
+
     /// The applied changes, in the order in which they entered.
     ghost applied: { Self → List ChangeParts };
 
@@ -48,6 +52,7 @@ pub trait Replica: Drop {
     /// Checks, and makes every growth that the entry of the change takes.
     fn ready(&mut self, change: &Change) -> Result<(), GraphError>
         ensures answers { Answers result (cause (applied self.old) change.now) }
+        ensures id { id self.new ≡ id self.old }
         ensures applied { applied self.new ≡ applied self.old }
         ensures waiting { waiting self.new ≡ waiting self.old }
         ensures room { OnOk result (has_room self.new change.now) };
@@ -57,6 +62,7 @@ pub trait Replica: Drop {
     fn ready_waiting(&mut self, i: usize) -> Result<(), GraphError>
         requires { i < length (waiting self.old) }
         ensures answers { (c : ChangeParts) → slice_get (waiting self.old) i ≡ Some c → Answers result (cause (applied self.old) c) }
+        ensures id { id self.new ≡ id self.old }
         ensures applied { applied self.new ≡ applied self.old }
         ensures waiting { waiting self.new ≡ waiting self.old }
         ensures room { (c : ChangeParts) → slice_get (waiting self.old) i ≡ Some c → OnOk result (has_room self.new c) };
@@ -65,6 +71,7 @@ pub trait Replica: Drop {
     fn enter(&mut self, change: Change)
         requires enters { cause (applied self.old) change ≡ None }
         requires room { has_room self.old change }
+        ensures id { id self.new ≡ id self.old }
         ensures applied { applied self.new ≡ applied self.old ++ change ∷ [] }
         ensures waiting { waiting self.new ≡ waiting self.old };
 
@@ -75,6 +82,7 @@ pub trait Replica: Drop {
         requires apart { named.has (waiting self.old) (hash_of change) ≡ false }
         ensures waiting { waiting self.new ≡ (if is_ok result then waiting self.old ++ change ∷ [] else waiting self.old) }
         ensures err { IfErr result (λ rejected. (rejected.change ≡ change) × (rejected.error ≡ GraphError.OutOfMemory)) }
+        ensures id { id self.new ≡ id self.old }
         ensures applied { applied self.new ≡ applied self.old };
 
     /// Takes out the waiting change with the number `i`, from 0. The others keep their order, and growths that were
@@ -83,11 +91,14 @@ pub trait Replica: Drop {
         requires { i < length (waiting self.old) }
         ensures change { slice_get (waiting self.old) i ≡ Some result }
         ensures waiting { waiting self.new ≡ remove (waiting self.old) i }
+        ensures id { id self.new ≡ id self.old }
         ensures applied { applied self.new ≡ applied self.old }
         ensures room { (c : ChangeParts) → has_room self.old c → has_room self.new c };
 }
 
 impl Replica for Graph {
+    ghost id = { λ g. None };
+
     ghost applied = { λ g. g.applied };
 
     ghost waiting = { λ g. g.waiting };

@@ -56,6 +56,7 @@ fn enter_waiting<R: Replica, K: Keeper>(
     requires within { i < length (R.waiting replica.old) }
     requires enters { (c : ChangeParts) → slice_get (R.waiting replica.old) i ≡ Some c → cause (R.applied replica.old) c ≡ None }
     requires room { (c : ChangeParts) → slice_get (R.waiting replica.old) i ≡ Some c → R.has_room replica.old c }
+    ensures id { R.id replica.new ≡ R.id replica.old }
     ensures ok { (c : ChangeParts) → slice_get (R.waiting replica.old) i ≡ Some c → OnOk result (Admits K.keeps keeper.old keeper.new c (R.applied replica.old) (R.applied replica.new)
         told.old.applied.items told.new.applied.items told.old.refused.items told.new.refused.items Outcome.Entered) }
     ensures out { OnOk result (R.waiting replica.new ≡ remove (R.waiting replica.old) i) }
@@ -79,6 +80,7 @@ fn refuse_waiting<R: Replica>(
     told: &mut Told,
 ) -> Result<(), ReceiveError>
     requires within { i < length (R.waiting replica.old) }
+    ensures id { R.id replica.new ≡ R.id replica.old }
     ensures ok { (c : ChangeParts) → slice_get (R.waiting replica.old) i ≡ Some c → OnOk result (told.new.refused.items ≡ told.old.refused.items ++ (hash_of c, error) ∷ []) }
     ensures told { told.new.applied.items ≡ told.old.applied.items }
     ensures out { OnOk result (R.waiting replica.new ≡ remove (R.waiting replica.old) i) }
@@ -101,6 +103,7 @@ fn settle_one<R: Replica, K: Keeper>(
 ) -> Result<(), ReceiveError>
     requires within { i < length (R.waiting replica.old) }
     requires ready { (c : ChangeParts) → slice_get (R.waiting replica.old) i ≡ Some c → lacks_deps (cause (R.applied replica.old) c) ≡ false }
+    ensures id { R.id replica.new ≡ R.id replica.old }
     ensures ok { OnOk result (Goes K.keeps keeper.old keeper.new (R.waiting replica.old) (R.applied replica.old) (R.applied replica.new)
         (R.waiting replica.new) told.old.applied.items told.new.applied.items told.old.refused.items told.new.refused.items) }
     ensures err { IfErr result (λ e. Stops K.keeps K.refuses keeper.old keeper.new (R.waiting replica.old) (R.applied replica.old)
@@ -123,6 +126,7 @@ pub(crate) fn settle<R: Replica, K: Keeper>(
     keeper: &mut K,
     told: &mut Told,
 ) -> Result<(), ReceiveError>
+    ensures id { R.id replica.new ≡ R.id replica.old }
     ensures ok { OnOk result (Goes K.keeps keeper.old keeper.new (R.waiting replica.old) (R.applied replica.old) (R.applied replica.new)
         (R.waiting replica.new) told.old.applied.items told.new.applied.items told.old.refused.items told.new.refused.items) }
     ensures undropped { OnOk result (DropsNone told.old.refused.items told.new.refused.items) }

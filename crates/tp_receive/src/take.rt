@@ -41,6 +41,7 @@ fn let_wait<R: Replica>(
     reserved: usize,
     told: &mut Told,
 ) -> Result<(), ReceiveError>
+    ensures id { R.id replica.new ≡ R.id replica.old }
     ensures applied { R.applied replica.new ≡ R.applied replica.old }
     ensures told { told.new.applied.items ≡ told.old.applied.items }
     ensures ok { OnOk result (IsHeld (R.waiting replica.old) change reserved (R.waiting replica.new) told.old.refused.items told.new.refused.items) }
@@ -73,6 +74,7 @@ pub(crate) fn take<R: Replica, K: Keeper>(
     told: &mut Told,
 ) -> Result<(), ReceiveError>
     requires settled { AllWait (R.applied replica.old) (R.waiting replica.old) }
+    ensures id { R.id replica.new ≡ R.id replica.old }
     ensures ok { OnOk result (Goes K.keeps keeper.old keeper.new (R.waiting replica.old ++ change ∷ []) (R.applied replica.old) (R.applied replica.new)
         (R.waiting replica.new) told.old.applied.items told.new.applied.items told.old.refused.items told.new.refused.items) }
     ensures spare { OnOk result (DropsWhere told.old.refused.items told.new.refused.items (most_waiting ≤ length (R.waiting replica.old) + reserved)) }

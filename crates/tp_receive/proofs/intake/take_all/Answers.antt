@@ -21,6 +21,7 @@ returns-in_err-settle-clause-err g c =
 
 pub loop-change-preserved : goal.loop-change-preserved
 loop-change-preserved g c = record {
+  id = c.take.ensures.id ∙ c.loop-change.invariant.id;
   goes = Goes-then g.K.Keeper.keeps c.args.keeper.now c.loop-change.keeper c.take.new.keeper (g.R.Replica.waiting c.args.replica.now ++ c.loop-change.yielded) (g.R.Replica.waiting c.loop-change.replica ++ c.in-Some.change ∷ []) (g.R.Replica.waiting c.args.replica.now ++ (c.loop-change.yielded ++ c.in-Some.change ∷ [])) (g.R.Replica.applied c.args.replica.now) (g.R.Replica.applied c.loop-change.replica) (g.R.Replica.applied c.take.new.replica) (g.R.Replica.waiting c.loop-change.replica) (g.R.Replica.waiting c.take.new.replica)
       c.args.told.now.applied.items c.loop-change.told.applied.items c.take.new.told.applied.items c.args.told.now.refused.items c.loop-change.told.refused.items c.take.new.told.refused.items
       c.loop-change.invariant.goes c.in_ok-take.ensures.ok
@@ -62,6 +63,7 @@ returns-in_err-take-clause-stays g c =
 
 pub loop-change-init : goal.loop-change-init
 loop-change-init g c = record {
+  id = c.settle.ensures.id;
   goes = subst (λ (l : List ChangeParts). Goes g.K.Keeper.keeps c.args.keeper.now c.settle.new.keeper l (g.R.Replica.applied c.args.replica.now) (g.R.Replica.applied c.settle.new.replica) (g.R.Replica.waiting c.settle.new.replica) c.args.told.now.applied.items c.settle.new.told.applied.items c.args.told.now.refused.items c.settle.new.told.refused.items)
       (sym (append-nil (g.R.Replica.waiting c.args.replica.now))) c.in_ok-settle.ensures.ok;
   spare = λ h i. inl (c.in_ok-settle.ensures.undropped h i);

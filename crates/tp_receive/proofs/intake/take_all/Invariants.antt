@@ -6,6 +6,7 @@ use Rattle.tp_receive.proofs.intake.take_all.Given as goal
 
 abbrev pub invariant-loop-change : goal.invariant-loop-change
 invariant-loop-change g l = record {
+  id : g.R.Replica.id l.replica ≡ g.R.Replica.id l.fn.replica;
   goes : Goes g.K.Keeper.keeps l.fn.keeper l.keeper (g.R.Replica.waiting l.fn.replica ++ l.yielded) (g.R.Replica.applied l.fn.replica)
       (g.R.Replica.applied l.replica) (g.R.Replica.waiting l.replica) l.fn.told.applied.items l.told.applied.items l.fn.told.refused.items l.told.refused.items;
   spare : DropsWhere l.fn.told.refused.items l.told.refused.items (most_waiting < length (g.R.Replica.waiting l.fn.replica) + length l.fn.changes.items);

@@ -1,4 +1,4 @@
-use Rattle.std.proofs.Common.{inl, arith}
+use Rattle.std.proofs.Common.{◌∙◌, inl, arith}
 use Rattle.tp_receive.specs.declared.error.ReceiveError.{ReceiveError}
 use Rattle.tp_receive.specs.Going.{Stops}
 use Rattle.tp_receive.proofs.GoesLaws.{Goes-then, Stops-then}
@@ -8,6 +8,7 @@ use Rattle.tp_receive.proofs.settle.settle.Goals as goal
 
 pub loop-i-preserved : goal.loop-i-preserved
 loop-i-preserved g c = record {
+  id = c.settle_one.ensures.id ∙ c.loop-i.invariant.id;
   goes = Goes-then g.K.Keeper.keeps c.args.keeper.now c.loop-i.keeper c.settle_one.new.keeper
       (g.R.Replica.waiting c.args.replica.now) (g.R.Replica.waiting c.loop-i.replica) (g.R.Replica.waiting c.args.replica.now)
       (g.R.Replica.applied c.args.replica.now) (g.R.Replica.applied c.loop-i.replica) (g.R.Replica.applied c.settle_one.new.replica)
