@@ -1,5 +1,6 @@
 //! A document as what receives changes.
 
+ghost use Rattle.std.specs.Prelude.{Some};
 ghost use Rattle.tp_document.specs.DocState.{HasRoomFor};
 
 use crate::document::Document;
@@ -10,6 +11,8 @@ use tp_receive::Replica;
 use tp_rga::Sequence;
 
 impl<S: Sequence> Replica for Document<S> {
+    ghost id = { λ d. Some d.id };
+
     ghost applied = { λ d. d.applied };
 
     ghost waiting = { λ d. d.waiting };
