@@ -3,3 +3,7 @@ pub mod ShowingLaws
 pub mod EditFits
 pub mod EditSizes
 pub mod EditAnswers
+pub mod EndLaws
+pub mod PastElements
+pub mod ClockLaws
+pub mod SnapshotLaws

@@ -3,3 +3,4 @@ pub mod DocState
 pub mod Showing
 pub mod Editing
 pub mod Making
+pub mod History

@@ -5,11 +5,13 @@
 //! changes.
 #![tactic(auto)]
 
+mod clock;
 mod cursor;
 mod document;
 mod editing;
 mod error;
 mod forking;
+mod history;
 mod laws;
 mod making;
 
