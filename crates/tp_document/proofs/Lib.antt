@@ -7,3 +7,4 @@ pub mod EndLaws
 pub mod PastElements
 pub mod ClockLaws
 pub mod SnapshotLaws
+pub mod TextLaws
