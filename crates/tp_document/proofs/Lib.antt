@@ -6,3 +6,8 @@ pub mod EditAnswers
 pub mod ForkLaws
 pub mod MergeLaws
 pub mod ApplyLaws
+pub mod EndLaws
+pub mod PastElements
+pub mod ClockLaws
+pub mod SnapshotLaws
+pub mod TextLaws

@@ -6,3 +6,4 @@ pub mod Making
 pub mod Forking
 pub mod Merging
 pub mod Applying
+pub mod History

@@ -6,11 +6,13 @@
 #![tactic(auto)]
 
 mod applying;
+mod clock;
 mod cursor;
 mod document;
 mod editing;
 mod error;
 mod forking;
+mod history;
 mod laws;
 mod making;
 mod merging;
@@ -19,5 +21,8 @@ mod replica;
 pub use cursor::Cursor;
 pub use document::Document;
 pub use error::DocError;
-pub use laws::{edit_is_determined, one_text};
+pub use laws::{
+    each_past_has_a_text, edit_is_determined, equal_heads_equal_texts,
+    later_changes_leave_the_text_at_heads, one_text, text_at_all_heads, text_of_a_set,
+};
 pub use tp_receive::{Applied, KeepError, Keeper, NoKeeper};

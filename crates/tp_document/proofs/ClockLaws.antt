@@ -1,0 +1,144 @@
+-- Changes at places, clocks and targets, step by step.
+use Rattle.std.proofs.Common.{◌≡◌, ℕ, suc, ◌+◌, ◌<◌, ◌≤◌, inl, inr, List, [], ◌∷◌, ◌++◌, length, take, get_or, Bool, true, false, ◌||◌, cond, Option, Some, None, refl, sym, ap, ◌∙◌, subst, arith, append_assoc, append-nil}
+use Rattle.std.specs.List.{slice_get}
+use Rattle.std.specs.Option.{unwrap_or}
+use Rattle.std.specs.Map.{lookup}
+use Rattle.std.proofs.lemmas.Bool.Decides.{nat_tests}
+use Rattle.std.proofs.lemmas.List.{take_more, length-append}
+use Rattle.std.proofs.lemmas.List.Elements.{filter-append}
+use Rattle.std.proofs.lemmas.Option.{slice_get-get_or}
+use Rattle.tp_list.specs.Members.{In}
+use Rattle.tp_opid.specs.declared.actor.Actor.{Actor}
+use Rattle.tp_opid.specs.declared.hash.Hash.{Hash}
+use Rattle.tp_opid.specs.declared.op_id.OpId.{OpId}
+use Rattle.tp_opid.specs.Same.{same_actor, id_eq}
+use Rattle.tp_opid.proofs.Orders.{same_actor-same}
+use Rattle.tp_change.specs.declared.parts.ChangeParts.{ChangeParts}
+use Rattle.tp_change.specs.Operations.{op_count}
+use Rattle.tp_change.specs.Elements.{later}
+use Rattle.tp_rga.specs.Shown.{is_removed}
+use Rattle.tp_rga.proofs.Edits.{In-slice_get}
+use Rattle.tp_graph.specs.Named.{names, is_needed}
+use Rattle.tp_graph.specs.Past.{past}
+use Rattle.tp_graph.specs.Marks.{marks, places_from}
+use Rattle.tp_graph.specs.Since.{past_places}
+use Rattle.tp_graph.proofs.Tests.{truth}
+use Rattle.tp_document.specs.History.{end_at, end_of, has_op, AreEnds, AreTargets, with_change, changes_at, is_one_of, deletes_by}
+use Rattle.tp_document.proofs.EndLaws.{end_of-push}
+
+-- ---- the changes at the places of a past are the past
+
+at_length : (F : List ChangeParts) (c : ChangeParts) (C : List ChangeParts) → slice_get (F ++ c ∷ C) (length F) ≡ Some c
+at_length [] c C = refl
+at_length (x ∷ F) c C = at_length F c C
+
+changes_from : (F C : List ChangeParts) (H : List Hash) → changes_at (F ++ C) (places_from (length F) (marks C H)) ≡ past C H
+changes_from F [] H = refl
+changes_from F (c ∷ C) H =
+    let n = length F in
+    let next : length (F ++ c ∷ []) ≡ n + 1 = length-append F (c ∷ []) in
+    let rest : changes_at (F ++ c ∷ C) (places_from (n + 1) (marks C H)) ≡ past C H =
+    ap (λ l. changes_at l (places_from (n + 1) (marks C H))) (sym (append_assoc F (c ∷ []) C))
+    ∙ ap (λ k. changes_at ((F ++ c ∷ []) ++ C) (places_from k (marks C H))) (sym next)
+    ∙ changes_from (F ++ c ∷ []) C H in
+    elim (names H c || is_needed (past C H) c) as (λ b. changes_at (F ++ c ∷ C) (cond b (n ∷ places_from (n + 1) (marks C H)) (places_from (n + 1) (marks C H))) ≡ cond b (c ∷ past C H) (past C H)) [
+      | true ↦ ap (λ o. with_change o (changes_at (F ++ c ∷ C) (places_from (n + 1) (marks C H)))) (at_length F c C) ∙ ap (λ l. c ∷ l) rest
+      | false ↦ rest
+    ]
+
+pub changes_at-past : (C : List ChangeParts) (H : List Hash) → changes_at C (past_places C H) ≡ past C H
+changes_at-past C H = changes_from [] C H
+
+-- each is within the list
+places_within : (n : ℕ) (C : List ChangeParts) (H : List Hash) (i : ℕ) → In i (places_from n (marks C H)) → i < n + length C
+places_within n [] H i k = absurd k
+places_within n (c ∷ C) H i k =
+    elim (names H c || is_needed (past C H) c) as (λ b. In i (cond b (n ∷ places_from (n + 1) (marks C H)) (places_from (n + 1) (marks C H))) → i < n + suc (length C)) [
+      | true ↦ λ j. elim j [ inl e ↦ omega arith | inr m ↦ let h : i < n + 1 + length C = places_within (n + 1) C H i m in omega arith ]
+      | false ↦ λ j. let h : i < n + 1 + length C = places_within (n + 1) C H i j in omega arith
+    ] k
+
+pub past_places-within : (C : List ChangeParts) (H : List Hash) (i : ℕ) → In i (past_places C H) → i < length C
+past_places-within C H i k = let h : i < 0 + length C = places_within 0 C H i k in omega arith
+
+-- ---- the changes at one place more
+
+changes_at-append : (C : List ChangeParts) (is js : List ℕ) → changes_at C (is ++ js) ≡ changes_at C is ++ changes_at C js
+changes_at-append C [] js = refl
+changes_at-append C (i ∷ is) js = ap (with_change (slice_get C i)) (changes_at-append C is js) ∙ before (slice_get C i) (changes_at C is) (changes_at C js) where
+  before : (o : Option ChangeParts) (xs ys : List ChangeParts) → with_change o (xs ++ ys) ≡ with_change o xs ++ ys
+  before None xs ys = refl
+  before (Some c) xs ys = refl
+
+pub changes_at-more : (C : List ChangeParts) (is : List ℕ) (k : ℕ) (c : ChangeParts) → k < length is → slice_get C (get_or is k 0) ≡ Some c → changes_at C (take (k + 1) is) ≡ changes_at C (take k is) ++ c ∷ []
+changes_at-more C is k c lt found =
+    ap (changes_at C) (take_more is k 0 lt)
+    ∙ changes_at-append C (take k is) (get_or is k 0 ∷ [])
+    ∙ ap (λ o. changes_at C (take k is) ++ with_change o []) found
+
+pub place_at : (is : List ℕ) (k : ℕ) → k < length is → In (get_or is k 0) is
+place_at is k lt = let read = slice_get-get_or is k 0 lt in In-slice_get is k (get_or is k 0) read
+
+-- ---- clocks
+
+-- an actor whose end is raised
+pub noted : (K : List (Actor × ℕ)) (a b : Actor) (end : ℕ) → end_at K a < end
+    → unwrap_or (cond (same_actor a b) (Some end) (lookup (same_actor b) K)) 0 ≡ cond (same_actor a b) (later end (end_at K b)) (end_at K b)
+noted K a b end lt =
+    elim (truth (same_actor a b)) [
+      | inl t ↦
+          let below : end_at K b < end = subst (λ x. end_at K x < end) (same_actor-same a b t) lt in
+          ap (λ t. unwrap_or (cond t (Some end) (lookup (same_actor b) K)) 0) t ∙ kept end (end_at K b) below ∙ ap (λ t. cond t (later end (end_at K b)) (end_at K b)) (sym t)
+      | inr f ↦ ap (λ t. unwrap_or (cond t (Some end) (lookup (same_actor b) K)) 0) f ∙ ap (λ t. cond t (later end (end_at K b)) (end_at K b)) (sym f)
+    ] where
+      kept : (m n : ℕ) → n < m → m ≡ later m n
+      kept m n lt = grind (arith, nat_tests)
+
+-- an actor whose end is there already
+pub not_noted : (K : List (Actor × ℕ)) (a b : Actor) (end : ℕ) → end ≤ end_at K a → end_at K b ≡ cond (same_actor a b) (later end (end_at K b)) (end_at K b)
+not_noted K a b end le =
+    elim (truth (same_actor a b)) [
+      | inl t ↦
+          let above : end ≤ end_at K b = subst (λ x. end ≤ end_at K x) (same_actor-same a b t) le in
+          kept end (end_at K b) above ∙ ap (λ t. cond t (later end (end_at K b)) (end_at K b)) (sym t)
+      | inr f ↦ ap (λ t. cond t (later end (end_at K b)) (end_at K b)) (sym f)
+    ] where
+      kept : (m n : ℕ) → m ≤ n → n ≡ later m n
+      kept m n le = grind (arith, nat_tests)
+
+-- a clock with one change more
+pub AreEnds-push : (K N : List (Actor × ℕ)) (C D : List ChangeParts) (c : ChangeParts) → AreEnds K C
+    → ((a : Actor) → end_at N a ≡ cond (same_actor c.actor a) (later (c.start + op_count c) (end_at K a)) (end_at K a)) → D ≡ C ++ c ∷ [] → AreEnds N D
+AreEnds-push K N C D c ends noted more a =
+    noted a ∙ ap (λ n. cond (same_actor c.actor a) (later (c.start + op_count c) n) n) (ends a) ∙ sym (end_of-push C c a) ∙ ap (λ l. end_of l a) (sym more)
+
+-- ---- targets
+
+is_removed-push : (R : List (OpId × OpId)) (r : OpId × OpId) (x : OpId) → is_removed (R ++ r ∷ []) x ≡ (id_eq r.0 x || is_removed R x)
+is_removed-push [] r x = refl
+is_removed-push (s ∷ R) r x = ap (λ b. id_eq s.0 x || b) (is_removed-push R r x) ∙ turn (id_eq s.0 x) (id_eq r.0 x) (is_removed R x) where
+  turn : (a b c : Bool) → (a || (b || c)) ≡ (b || (a || c))
+  turn true true c = refl
+  turn true false c = refl
+  turn false b c = refl
+
+deletes_by-more : (K : List (Actor × ℕ)) (R : List (OpId × OpId)) (k : ℕ) (r : OpId × OpId) → k < length R → r ≡ get_or R k r → deletes_by K (take (k + 1) R) ≡ deletes_by K (take k R) ++ deletes_by K (r ∷ [])
+deletes_by-more K R k r lt at =
+    ap (deletes_by K) (take_more R k r lt ∙ ap (λ x. take k R ++ x ∷ []) (sym at))
+    ∙ filter-append (λ (x : OpId × OpId). has_op K x.1) (take k R) (r ∷ [])
+
+-- a delete among the operations
+pub AreTargets-more : (K : List (Actor × ℕ)) (R : List (OpId × OpId)) (k : ℕ) (r : OpId × OpId) (T N : List OpId) → k < length R → r ≡ get_or R k r → has_op K r.1 ≡ true
+    → AreTargets T K (take k R) → ((x : OpId) → is_one_of N x ≡ (id_eq r.0 x || is_one_of T x)) → AreTargets N K (take (k + 1) R)
+AreTargets-more K R k r T N lt at has targets added x =
+    added x ∙ ap (λ b. id_eq r.0 x || b) (targets x) ∙ sym (is_removed-push (deletes_by K (take k R)) r x)
+    ∙ ap (λ b. is_removed (deletes_by K (take k R) ++ cond b (r ∷ []) []) x) (sym has)
+    ∙ ap (λ l. is_removed l x) (sym (deletes_by-more K R k r lt at))
+
+-- another
+pub AreTargets-same : (K : List (Actor × ℕ)) (R : List (OpId × OpId)) (k : ℕ) (r : OpId × OpId) (T : List OpId) → k < length R → r ≡ get_or R k r → has_op K r.1 ≡ false
+    → AreTargets T K (take k R) → AreTargets T K (take (k + 1) R)
+AreTargets-same K R k r T lt at lacks targets x =
+    targets x ∙ ap (λ l. is_removed l x) (sym (append-nil (deletes_by K (take k R))))
+    ∙ ap (λ b. is_removed (deletes_by K (take k R) ++ cond b (r ∷ []) []) x) (sym lacks)
+    ∙ ap (λ l. is_removed l x) (sym (deletes_by-more K R k r lt at))

@@ -1,0 +1,187 @@
+-- The elements and the deletes of a past, among those of the whole.
+use Rattle.std.proofs.Common.{◌≡◌, ℕ, suc, ◌+◌, ◌<◌, ◌≤◌, ◌||◌, false, inl, inr, List, [], ◌∷◌, ◌++◌, length, Bool, true, nat_lt, cond, map, refl, sym, ap, ◌∙◌, subst, arith}
+use Rattle.std.specs.Prelude.{Option, encode_utf8_all}
+use Rattle.std.specs.List.{slice_get}
+use Rattle.std.specs.Option.{option_map}
+use Rattle.std.specs.Str.{chars}
+use Rattle.std.proofs.lemmas.Bool.Decides.{nat_tests}
+use Rattle.tp_list.specs.Members.{In, SameMembers}
+use Rattle.tp_opid.specs.declared.actor.Actor.{Actor}
+use Rattle.tp_opid.specs.declared.hash.Hash.{Hash}
+use Rattle.tp_opid.specs.declared.op_id.OpId.{OpId}
+use Rattle.tp_opid.specs.Insert.{Insert}
+use Rattle.tp_change.specs.declared.op.Op.{Op}
+use Rattle.tp_change.specs.declared.op.Op.TheVariants as op_of
+use Rattle.tp_change.specs.declared.parts.ChangeParts.{ChangeParts}
+use Rattle.tp_change.specs.Operations.{id_of, ops_of, op_count}
+use Rattle.tp_change.specs.OpIds.{op_id, IsOwnId}
+use Rattle.tp_change.specs.Elements.{inserts_in, inserts, deletes_in, deletes}
+use Rattle.tp_rga.specs.Tree.{IsTree}
+use Rattle.tp_rga.specs.Order.{IsInOrder}
+use Rattle.tp_rga.specs.Shown.{shown}
+use Rattle.tp_rga.proofs.Sets.{In-left, In-right, In-append, SameMembers-sym, IsTree-same}
+use Rattle.tp_rga.proofs.OneOrder.{In-filter, filter-In, order_of_part, order_of_set, shown_of_set}
+use Rattle.tp_text.proofs.Numbered.{Numbered, Numbered-ops_of, length-ops_of}
+use Rattle.tp_graph.specs.Named.{names, is_needed}
+use Rattle.tp_graph.specs.Past.{past}
+use Rattle.tp_graph.specs.Fit.{most_changes}
+use Rattle.tp_graph.specs.Sound.{Sound}
+use Rattle.tp_graph.proofs.PastLaws.{past-In}
+use Rattle.tp_graph.proofs.SoundLaws.{sound_pasts}
+use Rattle.tp_graph.proofs.CountLaws.{In-inserts, inserts-In}
+use Rattle.tp_text.specs.Text.{chars_of, IsTextOf}
+use Rattle.tp_document.specs.DocState.{Holds}
+use Rattle.tp_document.specs.Showing.{HasElementAt}
+use Rattle.tp_document.proofs.ShowingLaws.{Holds-bytes, Holds-element}
+use Rattle.tp_document.specs.History.{end_at, end_of, has_op, AreEnds, inserts_by, deletes_by, shown_by}
+use Rattle.tp_document.proofs.SoundText.{IsTree-inserts}
+use Rattle.tp_document.proofs.EndLaws.{below_end, in_past}
+
+-- ---- the identifiers of a change's inserts and deletes are its own
+
+insert_id : (ops : List Op) (e : Insert) → In e (inserts_in ops) → In e.id (map op_id ops)
+insert_id [] e i = absurd i
+insert_id (op_of.Insert id after ch ∷ ops) e (inl same) = inl (ap (λ (x : Insert). x.id) same)
+insert_id (op_of.Insert id after ch ∷ ops) e (inr i) = inr (insert_id ops e i)
+insert_id (op_of.Delete id target ∷ ops) e i = inr (insert_id ops e i)
+
+delete_id : (ops : List Op) (r : OpId × OpId) → In r (deletes_in ops) → In r.1 (map op_id ops)
+delete_id [] r i = absurd i
+delete_id (op_of.Insert id after ch ∷ ops) r i = inr (delete_id ops r i)
+delete_id (op_of.Delete id target ∷ ops) r (inl same) = inl (ap (λ (x : OpId × OpId). x.1) same)
+delete_id (op_of.Delete id target ∷ ops) r (inr i) = inr (delete_id ops r i)
+
+-- where an identifier lies
+record IsFrom (a : Actor) (n m : ℕ) (id : OpId) : Type 0 where
+  actor : id.actor ≡ a
+  from : n ≤ id.counter
+  to : id.counter < m
+
+from_first : (a : Actor) (n k : ℕ) (x id : OpId) → x ≡ id → id ≡ id_of a n → IsFrom a n (n + suc k) x
+from_first a n k x id same is =
+    let at : x.counter ≡ n = ap (λ (y : OpId). y.counter) (same ∙ is) in
+    record { actor = ap (λ (y : OpId). y.actor) (same ∙ is); from = omega arith; to = omega arith }
+
+from_rest : (a : Actor) (n k : ℕ) (x : OpId) → IsFrom a (n + 1) (n + 1 + k) x → IsFrom a n (n + suc k) x
+from_rest a n k x w =
+    let from : n + 1 ≤ x.counter = w.from in
+    let to : x.counter < n + 1 + k = w.to in
+    record { actor = w.actor; from = omega arith; to = omega arith }
+
+ids_from : (a : Actor) (n : ℕ) (ops : List Op) (x : OpId) → Numbered a n ops → In x (map op_id ops) → IsFrom a n (n + length ops) x
+ids_from a n [] x h i = absurd i
+ids_from a n (op_of.Insert id after ch ∷ ops) x h (inl e) = from_first a n (length ops) x id e h.0
+ids_from a n (op_of.Insert id after ch ∷ ops) x h (inr i) = from_rest a n (length ops) x (ids_from a (n + 1) ops x h.1 i)
+ids_from a n (op_of.Delete id target ∷ ops) x h (inl e) = from_first a n (length ops) x id e h.0
+ids_from a n (op_of.Delete id target ∷ ops) x h (inr i) = from_rest a n (length ops) x (ids_from a (n + 1) ops x h.1 i)
+
+own_id : (c : ChangeParts) (x : OpId) → In x (map op_id (ops_of c)) → IsOwnId c x
+own_id c x i =
+    let w = ids_from c.actor c.start (ops_of c) x (Numbered-ops_of c) i in
+    record { actor = w.actor; from = w.from; to = subst (λ k. x.counter < c.start + k) (length-ops_of c) w.to }
+
+-- ---- the deletes of changes
+
+pub In-deletes : (C : List ChangeParts) (c : ChangeParts) (r : OpId × OpId) → In c C → In r (deletes_in (ops_of c)) → In r (deletes C)
+In-deletes [] c r i j = absurd i
+In-deletes (d ∷ C) c r (inl e) j = In-left r (deletes_in (ops_of d)) (deletes C) (subst (λ y. In r (deletes_in (ops_of y))) e j)
+In-deletes (d ∷ C) c r (inr i) j = In-right r (deletes_in (ops_of d)) (deletes C) (In-deletes C c r i j)
+
+pub deletes-In : (C : List ChangeParts) (r : OpId × OpId) → In r (deletes C) → (c : ChangeParts) × In c C × In r (deletes_in (ops_of c))
+deletes-In [] r i = absurd i
+deletes-In (d ∷ C) r i =
+    elim (In-append r (deletes_in (ops_of d)) (deletes C) i) [
+      | inl l ↦ (d, inl refl, l)
+      | inr k ↦ let w = deletes-In C r k in (w.0, inr w.1, w.2)
+    ]
+
+-- ---- what a clock keeps
+
+kept_test : (K : List (Actor × ℕ)) (P : List ChangeParts) (id : OpId) → AreEnds K P → id.counter < end_of P id.actor → has_op K id ≡ true
+kept_test K P id ends lt = let e : end_at K id.actor ≡ end_of P id.actor = ends id.actor in below id.counter (end_at K id.actor) (end_of P id.actor) e lt where
+  below : (k m n : ℕ) → m ≡ n → k < n → nat_lt k m ≡ true
+  below k m n e lt = grind (arith, nat_tests)
+
+test_kept : (K : List (Actor × ℕ)) (P : List ChangeParts) (id : OpId) → AreEnds K P → has_op K id ≡ true → id.counter < end_of P id.actor
+test_kept K P id ends t = let e : end_at K id.actor ≡ end_of P id.actor = ends id.actor in below id.counter (end_at K id.actor) (end_of P id.actor) e t where
+  below : (k m n : ℕ) → m ≡ n → nat_lt k m ≡ true → k < n
+  below k m n e t = grind (arith, nat_tests)
+
+-- the inserts of the past are those below the ends
+pub inserts_of_past : (C : List ChangeParts) (H : List Hash) (K : List (Actor × ℕ)) → Sound C → AreEnds K (past C H) → SameMembers (inserts_by K (inserts C)) (inserts (past C H))
+inserts_of_past C H K s ends = record {
+  there = λ e i.
+      let w = In-filter (λ (x : Insert). has_op K x.id) (inserts C) e i in
+      let v = inserts-In C e w.0 in
+      let own = own_id v.0 e.id (insert_id (ops_of v.0) e v.2) in
+      In-inserts (past C H) v.0 e (in_past C H v.0 e.id s v.1 own (test_kept K (past C H) e.id ends w.1)) v.2;
+  back = λ e i.
+      let v = inserts-In (past C H) e i in
+      let own = own_id v.0 e.id (insert_id (ops_of v.0) e v.2) in
+      filter-In (λ (x : Insert). has_op K x.id) (inserts C) e (In-inserts C v.0 e (past-In C H v.0 v.1) v.2)
+      (kept_test K (past C H) e.id ends (below_end (past C H) v.0 e.id v.1 own));
+}
+
+-- and so are its deletes
+pub deletes_of_past : (C : List ChangeParts) (H : List Hash) (K : List (Actor × ℕ)) → Sound C → AreEnds K (past C H) → SameMembers (deletes_by K (deletes C)) (deletes (past C H))
+deletes_of_past C H K s ends = record {
+  there = λ r i.
+      let w = In-filter (λ (x : OpId × OpId). has_op K x.1) (deletes C) r i in
+      let v = deletes-In C r w.0 in
+      let own = own_id v.0 r.1 (delete_id (ops_of v.0) r v.2) in
+      In-deletes (past C H) v.0 r (in_past C H v.0 r.1 s v.1 own (test_kept K (past C H) r.1 ends w.1)) v.2;
+  back = λ r i.
+      let v = deletes-In (past C H) r i in
+      let own = own_id v.0 r.1 (delete_id (ops_of v.0) r v.2) in
+      filter-In (λ (x : OpId × OpId). has_op K x.1) (deletes C) r (In-deletes C v.0 r (past-In C H v.0 v.1) v.2)
+      (kept_test K (past C H) r.1 ends (below_end (past C H) v.0 r.1 v.1 own));
+}
+
+-- ---- what the document holds of a past
+
+-- the elements of the past stand in order as they do in the whole
+pub order_of_past : (C : List ChangeParts) (H : List Hash) (K : List (Actor × ℕ)) (L : List Insert) → Sound C → AreEnds K (past C H) → IsInOrder (inserts C) L → IsInOrder (inserts (past C H)) (inserts_by K L)
+order_of_past C H K L s ends order =
+    let P = past C H in
+    let same = inserts_of_past C H K s ends in
+    let part : IsTree (inserts_by K (inserts C)) = IsTree-same (inserts P) (inserts_by K (inserts C)) (SameMembers-sym (inserts_by K (inserts C)) (inserts P) same) (IsTree-inserts P (sound_pasts C s H)) in
+    order_of_set (inserts_by K (inserts C)) (inserts P) (inserts_by K L) same
+    (order_of_part (inserts C) L (λ (x : Insert). has_op K x.id) (IsTree-inserts C s) part order)
+
+length-past : (C : List ChangeParts) (H : List Hash) → length (past C H) ≤ length C
+length-past [] H = omega arith
+length-past (c ∷ C) H =
+    let h = length-past C H in
+    elim (names H c || is_needed (past C H) c) as (λ b. length (cond b (c ∷ past C H) (past C H)) ≤ suc (length C)) [
+      | true ↦ omega arith
+      | false ↦ omega arith
+    ]
+
+pub Holds-past : (C : List ChangeParts) (L : List Insert) (R : List (OpId × OpId)) (H : List Hash) (K : List (Actor × ℕ)) → Holds C L R → AreEnds K (past C H) → Holds (past C H) (inserts_by K L) (deletes (past C H))
+Holds-past C L R H K h ends = record {
+  sound = sound_pasts C h.sound H;
+  limits = λ c i. h.limits c (past-In C H c i);
+  few = let fewer = length-past C H in let few : length C ≤ most_changes = h.few in within (length (past C H)) (length C) fewer few;
+  order = order_of_past C H K L h.sound ends h.order;
+  deletes = refl;
+} where
+  within : (m n : ℕ) → m ≤ n → n ≤ most_changes → m ≤ most_changes
+  within m n a b = omega arith
+
+-- what is shown of the elements of the past
+pub shown_of_past : (C : List ChangeParts) (L : List Insert) (R : List (OpId × OpId)) (H : List Hash) (K : List (Actor × ℕ)) → Holds C L R → AreEnds K (past C H) → shown_by K R L ≡ shown (deletes (past C H)) (inserts_by K L)
+shown_of_past C L R H K h ends =
+    ap (λ Q. shown (deletes_by K Q) (inserts_by K L)) h.deletes
+    ∙ shown_of_set (deletes_by K (deletes C)) (deletes (past C H)) (inserts_by K L) (deletes_of_past C H K h.sound ends)
+
+pub past-bytes : (C : List ChangeParts) (L : List Insert) (R : List (OpId × OpId)) (H : List Hash) (K : List (Actor × ℕ)) (bytes : List ℕ) → Holds C L R → AreEnds K (past C H)
+    → bytes ≡ encode_utf8_all (chars_of (shown_by K R L)) → IsTextOf (past C H) (chars bytes)
+past-bytes C L R H K bytes h ends e =
+    Holds-bytes (past C H) (inserts_by K L) (deletes (past C H)) bytes (Holds-past C L R H K h ends)
+    (e ∙ ap (λ l. encode_utf8_all (chars_of l)) (shown_of_past C L R H K h ends))
+
+pub past-element : (C : List ChangeParts) (L : List Insert) (R : List (OpId × OpId)) (H : List Hash) (K : List (Actor × ℕ)) (at : ℕ) (o : Option OpId) → Holds C L R → AreEnds K (past C H)
+    → o ≡ option_map (λ (e : Insert). e.id) (slice_get (shown_by K R L) at) → HasElementAt (past C H) at o
+past-element C L R H K at o h ends e =
+    Holds-element (past C H) (inserts_by K L) (deletes (past C H)) at o (Holds-past C L R H K h ends)
+    (e ∙ ap (λ l. option_map (λ (x : Insert). x.id) (slice_get l at)) (shown_of_past C L R H K h ends))

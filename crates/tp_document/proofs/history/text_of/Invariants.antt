@@ -1,0 +1,12 @@
+use Rattle.std.proofs.Common.{◌≡◌, take}
+use Rattle.std.specs.Prelude.{encode_utf8_all}
+use Rattle.std.specs.String.{string_bytes}
+use Rattle.tp_text.specs.Text.{chars_of}
+use Rattle.tp_document.specs.History.{shown_by}
+use Rattle.tp_document.proofs.history.text_of.Given as goal
+
+-- the text so far is that of the elements so far
+abbrev pub invariant-loop-place : goal.invariant-loop-place
+invariant-loop-place g l =
+    let placed = g.S.Sequence.placed l.sequence in
+    string_bytes l.text ≡ encode_utf8_all (chars_of (shown_by l.snapshot.clock (g.S.Sequence.removals l.sequence) (take l.place placed)))

@@ -1,0 +1,145 @@
+//! The text as it was: what the past of hashes shows.
+
+ghost use Rattle.std.specs.Prelude.{◌≡◌, ◌↔◌, ◌⊎◌, ◌&&◌, ℕ, not, false, Some, None, Err, IfOk, IfErr, encode_utf8_all};
+ghost use Rattle.std.specs.List.{slice_get};
+ghost use Rattle.std.specs.Option.{option_map};
+ghost use Rattle.std.specs.Str.{chars};
+ghost use Rattle.std.specs.String.{string_bytes};
+ghost use Rattle.tp_text.specs.Text.{chars_of, IsTextOf};
+ghost use Rattle.tp_graph.specs.Named as named;
+ghost use Rattle.tp_graph.specs.Past.{past};
+ghost use Rattle.tp_graph.specs.Since.{past_places};
+ghost use Rattle.tp_document.specs.History.{has_op, is_one_of, shown_by, AreEnds, AreTargets};
+ghost use Rattle.tp_document.specs.Showing.{HasElementAt};
+
+use crate::clock::{Clock, Targets, clock_of, targets_of};
+use crate::cursor::Cursor;
+use crate::document::Document;
+use crate::error::DocError;
+use std::alloc::{AllocError, Global};
+use tp_graph::{Graph, GraphError, Past};
+use tp_opid::{Hash, OpId};
+use tp_rga::{Element, Sequence};
+
+// What a past shows of the elements: those that it inserts and doesn't delete.
+#[derive(Drop)]
+struct Snapshot {
+    clock: Clock,
+    targets: Targets,
+}
+
+impl Snapshot {
+    // Whether the past shows an element. Who isn't deleted now wasn't deleted in the past.
+    fn shows(&self, element: &Element) -> bool
+        ensures { result ≡ (has_op self.now.clock element.now.id
+            && not (element.now.deleted && is_one_of self.now.targets element.now.id)) }
+    {
+        self.clock.has(&element.id) && !(element.deleted && self.targets.contains(&element.id))
+    }
+}
+
+// The past of the hashes as places.
+fn past_of(graph: &Graph, heads: &[Hash]) -> Result<Past, DocError>
+    ensures places { IfOk result (λ places. places ≡ past_places graph.now.applied heads.now) }
+    ensures unknown { (result ≡ Err DocError.UnknownHead) ↔ (named.has_all graph.now.applied heads.now ≡ false) }
+    ensures err { IfErr result (λ error. (error ≡ DocError.UnknownHead) ⊎ (error ≡ DocError.OutOfMemory)) }
+{
+    match graph.past(heads) {
+        Ok(past) => Ok(past),
+        Err(GraphError::UnknownHead) => Err(DocError::UnknownHead),
+        Err(_) => Err(DocError::OutOfMemory),
+    }
+}
+
+// What the past of the hashes shows: one walk over the changes of the past, and one over the deletes.
+fn snapshot_at<S: Sequence>(
+    alloc: Global,
+    graph: &Graph,
+    sequence: &S,
+    heads: &[Hash],
+) -> Result<Snapshot, DocError>
+    ensures ends { IfOk result (λ s. AreEnds s.clock (past graph.now.applied heads.now)) }
+    ensures targets { IfOk result (λ s. AreTargets s.targets s.clock (S.removals sequence.now)) }
+    ensures unknown { (result ≡ Err DocError.UnknownHead) ↔ (named.has_all graph.now.applied heads.now ≡ false) }
+    ensures err { IfErr result (λ error. (error ≡ DocError.UnknownHead) ⊎ (error ≡ DocError.OutOfMemory)) }
+{
+    let past = past_of(graph, heads)?;
+    let clock = clock_of(alloc, graph.changes(), past.places())?;
+    let targets = targets_of(alloc, &clock, sequence.deletes())?;
+    Ok(Snapshot { clock, targets })
+}
+
+// The text that a past shows: one walk over the elements.
+fn text_of<S: Sequence>(
+    alloc: Global,
+    sequence: &S,
+    snapshot: &Snapshot,
+) -> Result<String, AllocError>
+    requires { AreTargets snapshot.now.targets snapshot.now.clock (S.removals sequence.now) }
+    ensures { IfOk result (λ text. string_bytes text
+        ≡ encode_utf8_all (chars_of (shown_by snapshot.now.clock (S.removals sequence.now) (S.placed sequence.now)))) }
+{
+    let mut text = String::new(alloc);
+    for place in 0..sequence.all() {
+        if let Some(element) = sequence.element(place) {
+            if snapshot.shows(&element) {
+                text.push(element.ch)?;
+            }
+        }
+    }
+    Ok(text)
+}
+
+// The element at a place of the text that a past shows: one walk over the elements up to it.
+fn element_at<S: Sequence>(sequence: &S, snapshot: &Snapshot, at: usize) -> Option<OpId>
+    requires { AreTargets snapshot.now.targets snapshot.now.clock (S.removals sequence.now) }
+    ensures { result ≡ option_map (λ e. e.id)
+        (slice_get (shown_by snapshot.now.clock (S.removals sequence.now) (S.placed sequence.now)) at) }
+{
+    let mut left = at;
+    for place in 0..sequence.all() {
+        if let Some(element) = sequence.element(place) {
+            if snapshot.shows(&element) {
+                if left == 0 {
+                    return Some(element.id);
+                }
+                left -= 1;
+            }
+        }
+    }
+    None
+}
+
+impl<S: Sequence> Document<S> {
+    /// The text of the past of the hashes: of the changes that have them and all that these depend on. The hashes may
+    /// come in any order and more than once, and no hash gives the empty text. A hash that no applied change has is
+    /// refused as `UnknownHead`, and the only other refusal is `OutOfMemory`.
+    ///
+    /// Nothing is rebuilt: one walk over the changes, and one over the elements, deleted ones among them. A change
+    /// takes two look-ups among the actors of the past, an element one, and one more among the deletes of the past
+    /// where it is deleted now.
+    pub fn text_at(&self, heads: &[Hash]) -> Result<String, DocError>
+        ensures text { IfOk result (λ t. IsTextOf (past self.now.applied heads.now) (chars (string_bytes t))) }
+        ensures unknown { (result ≡ Err DocError.UnknownHead) ↔ (named.has_all self.now.applied heads.now ≡ false) }
+        ensures err { IfErr result (λ error. (error ≡ DocError.UnknownHead) ⊎ (error ≡ DocError.OutOfMemory)) }
+    {
+        let snapshot = snapshot_at(self.alloc, &self.graph, &self.sequence, heads)?;
+        Ok(text_of(self.alloc, &self.sequence, &snapshot)?)
+    }
+
+    /// A cursor at the visible character at a place, from 0, of the text of the past of the hashes. A hash that no
+    /// applied change has is refused as `UnknownHead`, whatever the place; then a place past the end of that text as
+    /// `OutOfRange`. The only other refusal is `OutOfMemory`. The cost is that of [`text_at`](Document::text_at).
+    pub fn cursor_at(&self, at: usize, heads: &[Hash]) -> Result<Cursor, DocError>
+        ensures found { IfOk result (λ cursor. HasElementAt (past self.now.applied heads.now) at (Some cursor.element)) }
+        ensures unknown { (result ≡ Err DocError.UnknownHead) ↔ (named.has_all self.now.applied heads.now ≡ false) }
+        ensures err { IfErr result (λ error. (error ≡ DocError.UnknownHead) ⊎ ((error ≡ DocError.OutOfMemory)
+            ⊎ ((error ≡ DocError.OutOfRange) × HasElementAt (past self.now.applied heads.now) at None))) }
+    {
+        let snapshot = snapshot_at(self.alloc, &self.graph, &self.sequence, heads)?;
+        match element_at(&self.sequence, &snapshot, at) {
+            Some(element) => Ok(Cursor { element }),
+            None => Err(DocError::OutOfRange),
+        }
+    }
+}
