@@ -63,7 +63,7 @@ past_places-within C H i k = let h : i < 0 + length C = places_within 0 C H i k 
 
 -- ---- the changes at one place more
 
-changes_at-append : (C : List ChangeParts) (is js : List ℕ) → changes_at C (is ++ js) ≡ changes_at C is ++ changes_at C js
+pub changes_at-append : (C : List ChangeParts) (is js : List ℕ) → changes_at C (is ++ js) ≡ changes_at C is ++ changes_at C js
 changes_at-append C [] js = refl
 changes_at-append C (i ∷ is) js = ap (with_change (slice_get C i)) (changes_at-append C is js) ∙ before (slice_get C i) (changes_at C is) (changes_at C js) where
   before : (o : Option ChangeParts) (xs ys : List ChangeParts) → with_change o (xs ++ ys) ≡ with_change o xs ++ ys

@@ -3,7 +3,6 @@ pub mod DocState
 pub mod Showing
 pub mod Editing
 pub mod Making
-pub mod Forking
 pub mod Merging
 pub mod Applying
 pub mod History

@@ -1,13 +1,12 @@
 //! Copies of documents.
 
-ghost use Rattle.std.specs.Prelude.{◌≡◌, ◌↔◌, ◌⊎◌, ◌≤◌, [], ◌∷◌, ◌++◌, None, Some, false, length, IfOk, IfErr, IsOkUnless, OnOk};
-ghost use Rattle.std.specs.List.{slice_get};
-ghost use Rattle.tp_change.specs.declared.parts.ChangeParts.{ChangeParts};
+ghost use Rattle.std.specs.Prelude.{◌≡◌, ◌↔◌, ◌⊎◌, ◌<◌, ◌≤◌, ℕ, [], ◌∷◌, ◌++◌, None, false, length, IfOk, IfErr, IsOkUnless, OnOk};
 ghost use Rattle.tp_graph.specs.Fit.{cause, most_changes};
 ghost use Rattle.tp_graph.specs.Named.{has_all};
 ghost use Rattle.tp_graph.specs.Past as pasts;
 ghost use Rattle.tp_graph.specs.Sound.{Sound};
-ghost use Rattle.tp_document.specs.Forking.{found, at_places};
+ghost use Rattle.tp_list.specs.Members.{In};
+ghost use Rattle.tp_document.specs.History.{changes_at};
 ghost use Rattle.tp_document.specs.declared.error.DocError.TheVariants.{OutOfMemory};
 
 use crate::document::Document;
@@ -58,25 +57,6 @@ fn document_of<S: Sequence>(
     Ok(document)
 }
 
-// Enters a copy of the change at the place, which can enter.
-fn enter_at<S: Sequence>(
-    document: &mut Document<S>,
-    changes: &[Change],
-    place: usize,
-) -> Result<(), DocError>
-    requires { (c : ChangeParts) → slice_get changes.now place ≡ Some c → cause document.old.applied c ≡ None }
-    ensures ok { OnOk result (document.new.applied ≡ document.old.applied ++ found (slice_get changes.now place)) }
-    ensures id { document.new.id ≡ document.old.id }
-    ensures waiting { document.new.waiting ≡ document.old.waiting }
-    ensures err { IsOkUnless result OutOfMemory }
-{
-    if place < changes.len() {
-        enter_copy(document, &changes[place])
-    } else {
-        Ok(())
-    }
-}
-
 // A document with copies of the changes at the places, entered one after another.
 fn document_at<S: Sequence>(
     alloc: Global,
@@ -84,16 +64,17 @@ fn document_at<S: Sequence>(
     changes: &[Change],
     places: &[u32],
 ) -> Result<Document<S>, DocError>
-    requires sound { Sound (at_places changes.now places.now) }
-    requires few { length (at_places changes.now places.now) ≤ most_changes }
+    requires within { (i : ℕ) → In i places.now → i < length changes.now }
+    requires sound { Sound (changes_at changes.now places.now) }
+    requires few { length (changes_at changes.now places.now) ≤ most_changes }
     ensures id { IfOk result (λ d. d.id ≡ id) }
-    ensures applied { IfOk result (λ d. d.applied ≡ at_places changes.now places.now) }
+    ensures applied { IfOk result (λ d. d.applied ≡ changes_at changes.now places.now) }
     ensures waiting { IfOk result (λ d. d.waiting ≡ []) }
     ensures err { IsOkUnless result OutOfMemory }
 {
     let mut document = Document::new(alloc, id);
     for place in places {
-        enter_at(&mut document, changes, *place as usize)?;
+        enter_copy(&mut document, &changes[*place as usize])?;
     }
     Ok(document)
 }

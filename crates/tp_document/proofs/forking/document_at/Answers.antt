@@ -1,27 +1,37 @@
-use Rattle.std.proofs.Common.{◌∙◌, ◌++◌, ap, sym, List, subst, take}
-use Rattle.std.specs.List.{slice_get}
-use Rattle.std.proofs.Common.{get_or, ◌≡◌, None}
+use Rattle.std.proofs.Common.{◌≡◌, None, ◌∙◌, ◌∷◌, [], ◌++◌, ap, sym, refl, subst, List, take, get_or}
+use Rattle.std.proofs.lemmas.Option.{slice_get_read}
 use Rattle.tp_change.specs.declared.parts.ChangeParts.{ChangeParts}
 use Rattle.tp_graph.specs.Fit.{cause}
-use Rattle.tp_document.specs.Forking.{found, at_places}
-use Rattle.tp_document.proofs.ForkLaws.{at_places-next, next_enters}
+use Rattle.tp_document.specs.History.{changes_at}
+use Rattle.tp_document.proofs.ClockLaws.{place_at, changes_at-more}
+use Rattle.tp_document.proofs.ForkLaws.{next_enters}
 use Rattle.tp_document.proofs.forking.document_at.Goals as goal
 
-pub enter_at-requires : goal.enter_at-requires
-enter_at-requires g c x is =
-    subst (λ C. cause C x ≡ None) (sym c.loop-place.invariant.applied)
-    (next_enters c.args.changes.now c.args.places.now c.loop-place.place-index x c.requires.sound c.requires.few c.loop-place-test.true is)
+pub bounds-changes-place : goal.bounds-changes-place
+bounds-changes-place g c = c.requires.within (get_or c.args.places.now c.loop-place.place-index 0) (place_at c.args.places.now c.loop-place.place-index c.loop-place-test.true)
+
+pub enter_copy-requires : goal.enter_copy-requires
+enter_copy-requires g c =
+    let C = c.args.changes.now in
+    let ps = c.args.places.now in
+    let i = c.loop-place.place-index in
+    let x = c.index-changes-place.result in
+    let within = c.requires.within (get_or ps i 0) (place_at ps i c.loop-place-test.true) in
+    subst (λ (D : List ChangeParts). cause D x ≡ None) (sym c.loop-place.invariant.applied)
+    (next_enters C ps i x c.requires.sound c.requires.few c.loop-place-test.true (slice_get_read C _ (get_or ps i 0) x refl within c.index-changes-place.is))
 
 pub loop-place-preserved : goal.loop-place-preserved
 loop-place-preserved g c =
     let C = c.args.changes.now in
     let ps = c.args.places.now in
     let i = c.loop-place.place-index in
+    let x = c.index-changes-place.result in
+    let within = c.requires.within (get_or ps i 0) (place_at ps i c.loop-place-test.true) in
     record {
-      id = c.in_ok-enter_at.ensures.id ∙ c.loop-place.invariant.id;
+      id = c.in_ok-enter_copy.ensures.id ∙ c.loop-place.invariant.id;
       applied =
-          c.in_ok-enter_at.ensures.ok
-          ∙ ap (λ (D : List ChangeParts). D ++ found (slice_get C (get_or ps i 0))) c.loop-place.invariant.applied
-          ∙ sym (at_places-next C ps i c.loop-place-test.true);
-      waiting = c.in_ok-enter_at.ensures.waiting ∙ c.loop-place.invariant.waiting;
+          c.in_ok-enter_copy.ensures.ok
+          ∙ ap (λ (D : List ChangeParts). D ++ x ∷ []) c.loop-place.invariant.applied
+          ∙ sym (changes_at-more C ps i x c.loop-place-test.true (slice_get_read C _ (get_or ps i 0) x refl within c.index-changes-place.is));
+      waiting = c.in_ok-enter_copy.ensures.waiting ∙ c.loop-place.invariant.waiting;
     }
