@@ -8,3 +8,6 @@ pub mod TakeLaws
 pub mod ReplyLaws
 pub mod CausesLaws
 pub mod OneSetLaws
+pub mod LooseLaws
+pub mod TurnLaws
+pub mod RoomLaws

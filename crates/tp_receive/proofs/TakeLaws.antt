@@ -1,5 +1,5 @@
 -- What a change that came adds to how far receiving has come.
-use Rattle.std.proofs.Common.{◌≡◌, ℕ, ◌⊎◌, inl, inr, List, [], ◌∷◌, ◌++◌, true, Result, Ok, Err, IfErr, OnOk, OnErr, refl, sym, ap, ◌∙◌, subst, length, length-append, arith, ◌≤◌, ◌<◌, ◌+◌}
+use Rattle.std.proofs.Common.{◌≡◌, ℕ, ◌⊎◌, inl, inr, List, [], ◌∷◌, ◌++◌, true, Some, Result, Ok, Err, IfErr, OnOk, OnErr, refl, sym, ap, ◌∙◌, subst, length, length-append, arith, ◌≤◌, ◌<◌, ◌+◌}
 use Rattle.tp_list.specs.Members.{In, AllIn}
 use Rattle.tp_opid.specs.declared.hash.Hash.{Hash}
 use Rattle.tp_change.specs.declared.parts.ChangeParts.{ChangeParts}
@@ -16,7 +16,7 @@ use Rattle.tp_receive.specs.declared.keeper.KeepError.{KeepError}
 use Rattle.tp_receive.specs.declared.admit.Outcome.TheVariants as outcome
 use Rattle.tp_receive.specs.Admits.{Admits}
 use Rattle.tp_receive.specs.Receiving.{AllWait, lacks_deps}
-use Rattle.tp_receive.specs.Going.{Goes, Leaves, Stops, LosesNone, IsHeld, DropsNone, DropsWhere}
+use Rattle.tp_receive.specs.Going.{Goes, Leaves, Stops, LosesNone, IsHeld, DropsNone, DropsWhere, DropsOne}
 use Rattle.tp_receive.proofs.GoesLaws.{Goes-entered, Goes-refused, Goes-held, Goes-waiting, Goes-dropped, Stops-left, Leaves-more}
 use Rattle.tp_receive.proofs.SettleLaws.{Goes-at}
 use Rattle.tp_receive.proofs.LosesLaws.{LosesNone-held, LosesNone-still, LosesNone-at, either}
@@ -123,26 +123,42 @@ pub IfErr-stays : {T E A : Type 0} {x y : A} (P Q : E → Type 0) (r : Result T 
 IfErr-stays P Q (Ok v) f h s = h
 IfErr-stays P Q (Err v) f h s = f v h s
 
--- Where a change that must wait was dropped, there was no space.
-pub spare_held : (Wmid Wold Wend : List ChangeParts) (d : ChangeParts) (n : ℕ) (r r1 r2 : List (Hash × GraphError))
-    → Wmid ≡ Wold → r1 ≡ r → IsHeld Wmid d n Wend r1 r2 → DropsWhere r r2 (most_waiting ≤ length Wold + n)
-spare_held Wmid Wold Wend d n r r1 r2 w e (inl h) g i = inl (subst (λ l. In (g, MissingDeps) l) (h.2 ∙ e) i)
-spare_held Wmid Wold Wend d n r r1 r2 w e (inr (inl h)) g i = inl (subst (λ l. In (g, MissingDeps) l) (h.2 ∙ e) i)
-spare_held Wmid Wold Wend d n r r1 r2 w e (inr (inr h)) g i = inr (subst (λ (l : List ChangeParts). most_waiting ≤ length l + n) w h.1)
+-- Where a change that must wait was dropped, it lacked a dependency, and there was no space.
+pub spare_held : (C C2 Wmid Wold Wend : List ChangeParts) (c d : ChangeParts) (n : ℕ) (r r1 r2 : List (Hash × GraphError))
+    → Wmid ≡ Wold → r1 ≡ r → d ≡ c → cause C c ≡ Some MissingDeps → C2 ≡ C → IsHeld Wmid d n Wend r1 r2 → DropsOne r r2 C C2 Wold c n
+spare_held C C2 Wmid Wold Wend c d n r r1 r2 w e s caused same (inl h) g i = inl (subst (λ l. In (g, MissingDeps) l) (h.2 ∙ e) i)
+spare_held C C2 Wmid Wold Wend c d n r r1 r2 w e s caused same (inr (inl h)) g i = inl (subst (λ l. In (g, MissingDeps) l) (h.2 ∙ e) i)
+spare_held C C2 Wmid Wold Wend c d n r r1 r2 w e s caused same (inr (inr h)) g i =
+    elim (In-cases (g, MissingDeps) r1 ((hash_of d, MissingDeps) ∷ []) (subst (λ l. In (g, MissingDeps) l) h.2 i)) [
+      | inl j ↦ inl (subst (λ l. In (g, MissingDeps) l) e j)
+      | inr j ↦ elim j [
+        | inl p ↦ inr (
+          ap (λ (q : Hash × GraphError). q.0) p ∙ ap hash_of s,
+          record {
+            caused = caused;
+            same = same;
+            new = ap (λ l. has l (hash_of c)) (sym w) ∙ ap (λ (x : ChangeParts). has Wmid (hash_of x)) (sym s) ∙ h.3;
+            full = subst (λ (l : List ChangeParts). most_waiting ≤ length l + n) w h.1;
+          },
+        )
+        | inr b ↦ absurd b
+      ]
+    ]
 
 pub count_held : (Wmid Wold Wend : List ChangeParts) (d : ChangeParts) (n : ℕ) (r1 r2 : List (Hash × GraphError))
-    → Wmid ≡ Wold → IsHeld Wmid d n Wend r1 r2 → length Wend ≤ length Wold + 1
-count_held Wmid Wold Wend d n r1 r2 w (inl h) = omega (arith, ap length h.0, ap length w, length-append Wmid (d ∷ []))
-count_held Wmid Wold Wend d n r1 r2 w (inr (inl h)) = omega (arith, ap length h.0, ap length w)
-count_held Wmid Wold Wend d n r1 r2 w (inr (inr h)) = omega (arith, ap length h.0, ap length w)
+    → Wmid ≡ Wold → IsHeld Wmid d n Wend r1 r2 → (length Wend ≤ length Wold) ⊎ ((length Wend ≤ length Wold + 1) × (length Wold + n < most_waiting))
+count_held Wmid Wold Wend d n r1 r2 w (inl h) = inr (omega (arith, ap length h.0, ap length w, length-append Wmid (d ∷ [])), omega (arith, h.1, ap length w))
+count_held Wmid Wold Wend d n r1 r2 w (inr (inl h)) = inl (omega (arith, ap length h.0, ap length w))
+count_held Wmid Wold Wend d n r1 r2 w (inr (inr h)) = inl (omega (arith, ap length h.0, ap length w))
 
-pub drops_where : (r q r' : List (Hash × GraphError)) (full : Type 0) → q ≡ r → DropsNone q r' → DropsWhere r r' full
-drops_where r q r' full e f h i = inl (subst (λ l. In (h, MissingDeps) l) e (f h i))
+pub drops_one : (r q r' : List (Hash × GraphError)) (C C' W : List ChangeParts) (c : ChangeParts) (n : ℕ) → q ≡ r → DropsNone q r' → DropsOne r r' C C' W c n
+drops_one r q r' C C' W c n e f h i = inl (subst (λ l. In (h, MissingDeps) l) e (f h i))
 
-pub drops_on : (r q r' : List (Hash × GraphError)) (P Q : Type 0) → (P → Q) → DropsWhere r q Q → DropsWhere q r' P → DropsWhere r r' Q
-drops_on r q r' P Q f a b h i = elim (b h i) [ inl j ↦ a h j | inr p ↦ inr (f p) ]
+pub drops_on : (r q r' : List (Hash × GraphError)) (Q : Type 0) (C C' W : List ChangeParts) (c : ChangeParts) (n : ℕ)
+    → (most_waiting ≤ length W + n → Q) → DropsWhere r q Q → DropsOne q r' C C' W c n → DropsWhere r r' Q
+drops_on r q r' Q C C' W c n f a b h i = elim (b h i) [ inl j ↦ a h j | inr p ↦ inr (f p.1.full) ]
 
-pub count_on_one : (Wold Wmid Wend : List ChangeParts) → Wmid ≡ Wold → length Wend ≤ length Wmid → length Wend ≤ length Wold + 1
+pub count_on_one : (Wold Wmid Wend : List ChangeParts) → Wmid ≡ Wold → length Wend ≤ length Wmid → length Wend ≤ length Wold
 count_on_one Wold Wmid Wend w h = omega (arith, ap length w)
 
 held_more : (Wmid Wend : List ChangeParts) (d : ChangeParts) (n : ℕ) (r1 r2 : List (Hash × GraphError)) → IsHeld Wmid d n Wend r1 r2 → AllIn Wmid Wend
@@ -158,11 +174,3 @@ stays_held C C2 Wold Wmid Wend d n r1 r2 res same w ok still =
     (λ h. LosesNone-at C C C2 Wold Wend Wend (LosesNone-held C Wold Wend (λ x i. held_more Wmid Wend d n r1 r2 h x (subst (In x) (sym w) i))) same refl)
     (λ h. LosesNone-at C C C2 Wold Wold Wend (LosesNone-still C Wold) same (h ∙ w))
     ok still
-
--- Where there was no space for the next of the list, all are more than may wait.
-pub space_in : (W V all ys xs zs : List ChangeParts) (x : ChangeParts)
-    → ys ++ xs ≡ all → xs ≡ x ∷ zs → length V ≤ length W + length ys → most_waiting ≤ length V + 0 → most_waiting < length W + length all
-space_in W V all ys xs zs x e f few full = omega (arith, ap length e, ap length f, length-append ys xs)
-
-pub count_on : (W V X ys : List ChangeParts) (x : ChangeParts) → length V ≤ length W + length ys → length X ≤ length V + 1 → length X ≤ length W + length (ys ++ x ∷ [])
-count_on W V X ys x few more = omega (arith, length-append ys (x ∷ []))

@@ -1,12 +1,12 @@
 -- How far receiving has come: what entered and was kept, what waits, what was refused and told.
-use Rattle.std.specs.Prelude.{◌≡◌, ◌⊎◌, ℕ, ◌+◌, ◌<◌, ◌≤◌, List, [], ◌∷◌, ◌++◌, length, true, Some}
+use Rattle.std.specs.Prelude.{◌≡◌, ◌⊎◌, ℕ, ◌+◌, ◌<◌, ◌≤◌, List, [], ◌∷◌, ◌++◌, length, true, false, Some}
 use Rattle.tp_list.specs.Members.{In, AllIn}
 use Rattle.tp_opid.specs.declared.hash.Hash.{Hash}
 use Rattle.tp_change.specs.declared.parts.ChangeParts.{ChangeParts}
 use Rattle.tp_change.specs.ChangeHash.{hash_of}
 use Rattle.tp_graph.specs.declared.error.GraphError.{GraphError}
 use Rattle.tp_graph.specs.declared.error.GraphError.TheVariants.{MissingDeps}
-use Rattle.tp_graph.specs.Named.{has}
+use Rattle.tp_graph.specs.Named.{has, among}
 use Rattle.tp_graph.specs.Fit.{cause}
 use Rattle.tp_graph.specs.GraphState.{most_waiting}
 use Rattle.tp_receive.specs.declared.error.ReceiveError.{ReceiveError}
@@ -78,7 +78,7 @@ abbrev pub IsHeld : List ChangeParts → ChangeParts → ℕ → List ChangePart
 IsHeld W c reserved W' r r' =
     ((W' ≡ W ++ c ∷ []) × (length W + reserved < most_waiting) × (r' ≡ r))
     ⊎ (((W' ≡ W) × (has W (hash_of c) ≡ true) × (r' ≡ r))
-    ⊎ ((W' ≡ W) × (most_waiting ≤ length W + reserved) × (r' ≡ r ++ (hash_of c, MissingDeps) ∷ [])))
+    ⊎ ((W' ≡ W) × (most_waiting ≤ length W + reserved) × (r' ≡ r ++ (hash_of c, MissingDeps) ∷ []) × (has W (hash_of c) ≡ false)))
 
 -- What becomes of the changes W that waited behind C, where C' is applied and W' waits: each waits still, entered,
 -- or is refused for good. What was applied or refused for good is so still.
@@ -94,3 +94,21 @@ DropsNone r r' = (h : Hash) → In (h, MissingDeps) r' → In (h, MissingDeps) r
 -- No change was told as dropped beside those told before, but where there was no space.
 abbrev pub DropsWhere : List (Hash × GraphError) → List (Hash × GraphError) → Type 0 → Type 0
 DropsWhere r r' full = (h : Hash) → In (h, MissingDeps) r' → In (h, MissingDeps) r ⊎ full
+
+-- The change that came had to wait behind C and was dropped: its hash doesn't wait already, and there was no space
+-- beside the reserved places.
+pub record IsDropped (C C' W : List ChangeParts) (c : ChangeParts) (reserved : ℕ) : Type 0 where
+  pub caused : cause C c ≡ Some MissingDeps
+  pub same : C' ≡ C
+  pub new : has W (hash_of c) ≡ false
+  pub full : most_waiting ≤ length W + reserved
+
+-- No change was told as dropped beside those told before, but the one that came.
+abbrev pub DropsOne : List (Hash × GraphError) → List (Hash × GraphError) → List ChangeParts → List ChangeParts → List ChangeParts → ChangeParts → ℕ → Type 0
+DropsOne r r' C C' W c reserved = (h : Hash) → In (h, MissingDeps) r' → In (h, MissingDeps) r ⊎ ((h ≡ hash_of c) × IsDropped C C' W c reserved)
+
+-- What is told as dropped, where F is what waited and came and C' is applied in the end: each lacks a dependency
+-- still, and none is one of the loose hashes.
+pub record DropsFirm (F C' : List ChangeParts) (loose : List Hash) (told : List (Hash × GraphError)) : Type 0 where
+  pub waits : (c : ChangeParts) → In c F → In (hash_of c, MissingDeps) told → cause C' c ≡ Some MissingDeps
+  pub firm : (h : Hash) → In (h, MissingDeps) told → among loose h ≡ false

@@ -1,5 +1,5 @@
 -- Which changes of a list would have to wait.
-use Rattle.std.specs.Prelude.{◌≡◌, List, [], ◌∷◌, ◌++◌, length, Bool, true, false, ◌||◌, ◌&&◌, cond, Result, Ok, Err, nat_lt}
+use Rattle.std.specs.Prelude.{◌≡◌, ℕ, ◌+◌, ◌<◌, take, slice_index, List, [], ◌∷◌, ◌++◌, length, Bool, true, false, ◌||◌, ◌&&◌, cond, Result, Ok, Err, nat_lt}
 use Rattle.tp_opid.specs.declared.hash.Hash.{Hash}
 use Rattle.tp_change.specs.declared.parts.ChangeParts.{ChangeParts}
 use Rattle.tp_change.specs.ChangeHash.{hash_of}
@@ -23,6 +23,22 @@ with_hash H h = cond (among H h) H (H ++ h ∷ [])
 abbrev pub loose_with : List ChangeParts → List Hash → List ChangeParts → List Hash → List Hash
 loose_with C F [] H = H
 loose_with C F (c ∷ K) H = cond (all_there C F c.deps) (loose_with C (F ++ hash_of c ∷ []) K H) (loose_with C F K (with_hash H (hash_of c)))
+
+-- the hashes F with those of the changes of K that aren't loose behind them
+abbrev pub firm_with : List ChangeParts → List Hash → List ChangeParts → List Hash
+firm_with C F [] = F
+firm_with C F (c ∷ K) = cond (all_there C F c.deps) (firm_with C (F ++ hash_of c ∷ []) K) (firm_with C F K)
+
+-- the hashes of the loose changes of K, each once
+abbrev pub loose_in : List ChangeParts → List ChangeParts → List Hash
+loose_in C K = loose_with C [] K []
+
+-- How many of what waits behind C and of the loose changes of K there are, each hash once, up to and with each change
+-- of K and in all.
+pub record ArePlaces (C W K : List ChangeParts) (up_to : List ℕ) (all : ℕ) : Type 0 where
+  pub len : length up_to ≡ length K
+  pub each : (k : ℕ) → k < length K → slice_index up_to k ≡ length (loose_with C [] (take (k + 1) K) (hashes W))
+  pub whole : all ≡ length (loose_with C [] K (hashes W))
 
 -- what waits behind C and the loose changes of K are more than may wait
 abbrev pub is_full : List ChangeParts → List ChangeParts → List ChangeParts → Bool

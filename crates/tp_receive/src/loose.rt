@@ -1,10 +1,8 @@
 //! Which changes of a list would have to wait, before any enters.
 
-ghost use Rattle.std.specs.Prelude.{◌≡◌, ◌∷◌, [], List, IfOk, OnOk, length, nat_lt};
-ghost use Rattle.tp_change.specs.declared.parts.ChangeParts.{ChangeParts};
+ghost use Rattle.std.specs.Prelude.{◌≡◌, ◌∷◌, [], IfOk, OnOk};
 ghost use Rattle.tp_graph.specs.Named as named;
-ghost use Rattle.tp_graph.specs.GraphState.{most_waiting};
-ghost use Rattle.tp_receive.specs.Receiving as receiving;
+ghost use Rattle.tp_receive.specs.Loose.{ArePlaces};
 ghost use Rattle.tp_receive.specs.Loose as loose;
 
 use crate::hashes::{among, hashes_of};
@@ -53,9 +51,8 @@ fn note<R: Replica>(
     waiting: &mut Vec<Hash>,
     change: &Change,
 ) -> Result<(), AllocError>
-    ensures { OnOk result ((K : List ChangeParts) →
-        loose.loose_with (R.applied replica.now) firm.old.items (change.now ∷ K) waiting.old.items
-        ≡ loose.loose_with (R.applied replica.now) firm.new.items K waiting.new.items) }
+    ensures firm { OnOk result (firm.new.items ≡ loose.firm_with (R.applied replica.now) firm.old.items (change.now ∷ [])) }
+    ensures waiting { OnOk result (waiting.new.items ≡ loose.loose_with (R.applied replica.now) firm.old.items (change.now ∷ []) waiting.old.items) }
 {
     if all_there(replica, firm, change.deps()) {
         firm.push(change.hash())?;
@@ -65,19 +62,45 @@ fn note<R: Replica>(
     }
 }
 
-/// Whether what waits and the loose changes, each once, are more than 1,024. It compares each dependency with
-/// the earlier hashes of the list.
-pub(crate) fn is_full<R: Replica>(
+/// How many places what waits and the loose changes of a list take, one for each hash.
+#[derive(Drop)]
+pub(crate) struct Places {
+    /// How many up to and with each change of the list.
+    pub(crate) up_to: Vec<usize>,
+    /// How many in all.
+    pub(crate) all: usize,
+}
+
+impl Places {
+    ghost use Rattle.std.specs.Prelude.{◌≡◌, nat_lt};
+    ghost use Rattle.tp_graph.specs.GraphState.{most_waiting};
+
+    /// Whether they are more than 1,024.
+    pub(crate) fn is_full(&self) -> bool
+        ensures { result ≡ nat_lt most_waiting self.now.all }
+    {
+        MOST_WAITING < self.all
+    }
+}
+
+/// The places that what waits and the loose changes take. It compares each dependency with the earlier hashes of
+/// the list.
+pub(crate) fn places_of<R: Replica>(
     alloc: Global,
     replica: &R,
     changes: &[Change],
-) -> Result<bool, AllocError>
-    ensures { IfOk result (λ b. b ≡ loose.is_full (R.applied replica.now) (R.waiting replica.now) changes.now) }
+) -> Result<Places, AllocError>
+    ensures { IfOk result (λ p. ArePlaces (R.applied replica.now) (R.waiting replica.now) changes.now p.up_to.items p.all) }
 {
     let mut firm = Vec::new(alloc);
     let mut waiting = hashes_of(alloc, replica.pending())?;
+    let mut up_to = Vec::new(alloc);
     for change in changes {
         note(replica, &mut firm, &mut waiting, change)?;
+        up_to.push(waiting.len())?;
     }
-    Ok(MOST_WAITING < waiting.len())
+    Ok(Places {
+        up_to,
+        all: waiting.len(),
+    })
 }

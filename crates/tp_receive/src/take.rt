@@ -1,11 +1,11 @@
 //! Taking one change that came.
 
-ghost use Rattle.std.specs.Prelude.{◌≡◌, ◌++◌, ◌∷◌, [], ◌+◌, ◌≤◌, ℕ, Some, length, OnOk, OnErr, IfOk, IfErr};
+ghost use Rattle.std.specs.Prelude.{◌≡◌, ◌++◌, ◌∷◌, [], ◌⊎◌, ◌+◌, ◌<◌, ◌≤◌, ℕ, Some, length, OnOk, OnErr, IfOk, IfErr};
 ghost use Rattle.tp_change.specs.declared.parts.ChangeParts.{ChangeParts};
 ghost use Rattle.tp_graph.specs.Named as named;
 ghost use Rattle.tp_graph.specs.Fit.{cause};
 ghost use Rattle.tp_receive.specs.Receiving.{AllWait, lacks_deps};
-ghost use Rattle.tp_receive.specs.Going.{Goes, Stops, LosesNone, IsHeld, DropsWhere};
+ghost use Rattle.tp_receive.specs.Going.{Goes, Stops, LosesNone, IsHeld, DropsOne};
 ghost use Rattle.tp_graph.specs.GraphState.{most_waiting};
 
 use crate::admit::{Outcome, admit};
@@ -65,7 +65,7 @@ fn let_wait<R: Replica>(
 }
 
 /// Takes a change that came: it enters, and what it lets enter of those that wait; or it is refused and told, or
-/// waits. An error loses none of those that waited.
+/// waits, where the waiting changes and the reserved places are fewer than 1,024. An error loses none of those that waited.
 pub(crate) fn take<R: Replica, K: Keeper>(
     replica: &mut R,
     keeper: &mut K,
@@ -77,8 +77,9 @@ pub(crate) fn take<R: Replica, K: Keeper>(
     ensures id { R.id replica.new ≡ R.id replica.old }
     ensures ok { OnOk result (Goes K.keeps keeper.old keeper.new (R.waiting replica.old ++ change ∷ []) (R.applied replica.old) (R.applied replica.new)
         (R.waiting replica.new) told.old.applied.items told.new.applied.items told.old.refused.items told.new.refused.items) }
-    ensures spare { OnOk result (DropsWhere told.old.refused.items told.new.refused.items (most_waiting ≤ length (R.waiting replica.old) + reserved)) }
-    ensures count { OnOk result (length (R.waiting replica.new) ≤ length (R.waiting replica.old) + 1) }
+    ensures spare { OnOk result (DropsOne told.old.refused.items told.new.refused.items (R.applied replica.old) (R.applied replica.new) (R.waiting replica.old) change reserved) }
+    ensures count { OnOk result ((length (R.waiting replica.new) ≤ length (R.waiting replica.old))
+        ⊎ ((length (R.waiting replica.new) ≤ length (R.waiting replica.old) + 1) × (length (R.waiting replica.old) + reserved < most_waiting))) }
     ensures settled { OnOk result (AllWait (R.applied replica.new) (R.waiting replica.new)) }
     ensures stays { LosesNone (R.applied replica.old) (R.applied replica.new) (R.waiting replica.old) (R.waiting replica.new) }
     ensures err { IfErr result (λ e. Stops K.keeps K.refuses keeper.old keeper.new (R.waiting replica.old ++ change ∷ []) (R.applied replica.old)

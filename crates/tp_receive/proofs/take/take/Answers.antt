@@ -6,7 +6,7 @@ use Rattle.tp_list.specs.Members.{In}
 use Rattle.tp_graph.proofs.NamedLaws.{In-left}
 use Rattle.tp_receive.proofs.GoesLaws.{Goes-then, Stops-then}
 use Rattle.tp_receive.proofs.SettleLaws.{IfErr-residual, drops_refused}
-use Rattle.tp_receive.proofs.TakeLaws.{OnOk-map, IfErr-map, IfErr-stays, take_entered, take_refused, take_stopped, take_held, wait_held, wait_stopped, spare_held, count_held, count_on_one, stays_held, drops_where}
+use Rattle.tp_receive.proofs.TakeLaws.{OnOk-map, IfErr-map, IfErr-stays, take_entered, take_refused, take_stopped, take_held, wait_held, wait_stopped, spare_held, count_held, count_on_one, stays_held, drops_one}
 use Rattle.tp_change.specs.ChangeHash.{hash_of}
 use Rattle.tp_graph.specs.GraphState.{most_waiting}
 use Rattle.tp_receive.proofs.LosesLaws.{LosesNone-then, LosesNone-at, LosesNone-enters}
@@ -78,12 +78,14 @@ returns-in-Waits-clause-err g c =
 pub returns-in-Entered-clause-spare : goal.returns-in-Entered-clause-spare
 returns-in-Entered-clause-spare g c =
     let a = rw c.in-Entered.is at c.in_ok-admit.ensures.ok in
-    OnOk-map c.settle.result (λ h. drops_where c.args.told.now.refused.items c.admit.new.told.refused.items c.settle.new.told.refused.items (most_waiting ≤ length (g.R.Replica.waiting c.args.replica.now) + c.args.reserved) a.4 h) c.settle.ensures.undropped
+    OnOk-map c.settle.result
+    (λ h. drops_one c.args.told.now.refused.items c.admit.new.told.refused.items c.settle.new.told.refused.items (g.R.Replica.applied c.args.replica.now) (g.R.Replica.applied c.settle.new.replica) (g.R.Replica.waiting c.args.replica.now) c.args.change c.args.reserved a.4 h)
+    c.settle.ensures.undropped
 
 pub returns-in-Entered-clause-count : goal.returns-in-Entered-clause-count
 returns-in-Entered-clause-count g c =
     OnOk-map c.settle.result
-    (λ h. count_on_one (g.R.Replica.waiting c.args.replica.now) (g.R.Replica.waiting c.admit.new.replica) (g.R.Replica.waiting c.settle.new.replica) c.admit.ensures.waiting h)
+    (λ h. inl (count_on_one (g.R.Replica.waiting c.args.replica.now) (g.R.Replica.waiting c.admit.new.replica) (g.R.Replica.waiting c.settle.new.replica) c.admit.ensures.waiting h))
     c.settle.ensures.fewer
 
 pub returns-in-Entered-clause-stays : goal.returns-in-Entered-clause-stays
@@ -110,13 +112,14 @@ returns-in-Refused-clause-spare g c =
     λ h i. inl (drops_refused (hash_of c.args.change) a.1 c.args.told.now.refused.items c.admit.new.told.refused.items a.3 a.4 h i)
 
 pub returns-in-Refused-clause-count : goal.returns-in-Refused-clause-count
-returns-in-Refused-clause-count g c = omega (arith, ap length c.admit.ensures.waiting)
+returns-in-Refused-clause-count g c = inl (omega (arith, ap length c.admit.ensures.waiting))
 
 pub returns-in-Waits-clause-spare : goal.returns-in-Waits-clause-spare
 returns-in-Waits-clause-spare g c =
     let a = rw c.in-Waits.is at c.in_ok-admit.ensures.ok in
     OnOk-map c.let_wait.result
-    (λ h. spare_held (g.R.Replica.waiting c.admit.new.replica) (g.R.Replica.waiting c.args.replica.now) (g.R.Replica.waiting c.let_wait.new.replica) c.in-Waits.change c.args.reserved c.args.told.now.refused.items c.admit.new.told.refused.items c.let_wait.new.told.refused.items c.admit.ensures.waiting a.3 h)
+    (λ h. spare_held (g.R.Replica.applied c.args.replica.now) (g.R.Replica.applied c.let_wait.new.replica) (g.R.Replica.waiting c.admit.new.replica) (g.R.Replica.waiting c.args.replica.now) (g.R.Replica.waiting c.let_wait.new.replica) c.args.change c.in-Waits.change c.args.reserved
+    c.args.told.now.refused.items c.admit.new.told.refused.items c.let_wait.new.told.refused.items c.admit.ensures.waiting a.3 a.2 a.1 (c.let_wait.ensures.applied ∙ a.0.applied) h)
     c.let_wait.ensures.ok
 
 pub returns-in-Waits-clause-count : goal.returns-in-Waits-clause-count
