@@ -1,5 +1,5 @@
 -- Receiving without a keeper, and from another document.
-use Rattle.std.proofs.Common.{◌≡◌, List, [], ◌∷◌, Bool, true, false, Result, Ok, Err, IfOk, IfErr, OnOk, refl, inl, inr, sym, ◌∙◌}
+use Rattle.std.proofs.Common.{◌≡◌, List, [], ◌∷◌, ◌++◌, Bool, true, false, Result, Ok, Err, IfOk, IfErr, OnOk, refl, inl, inr, sym, ◌∙◌}
 use Rattle.tp_opid.specs.declared.hash.Hash.{Hash}
 use Rattle.tp_opid.specs.declared.doc_id.DocId.{DocId}
 use Rattle.tp_change.specs.declared.parts.ChangeParts.{ChangeParts}
@@ -11,7 +11,7 @@ use Rattle.tp_receive.specs.Going.{KeepsAll, Goes, Leaves, Stops}
 use Rattle.tp_receive.specs.Replies.{Fails}
 use Rattle.tp_document.specs.declared.error.DocError.{DocError}
 use Rattle.tp_document.specs.declared.error.DocError.TheVariants.{OutOfRange, CounterLimit, TooManyOps, TooManyHeads, UnknownHead, UnknownElement, PendingFull, HashTaken, OutOfMemory, OtherDocument, TooLong, Full, NotKept}
-use Rattle.tp_document.specs.Applying.{keeps_nothing, refuses_nothing, ApplyFails, MergeFails, IsFullAlone, IsOtherAlone}
+use Rattle.tp_document.specs.Applying.{Answered, keeps_nothing, refuses_nothing, ApplyFails, MergeFails, IsFullAlone, IsOtherAlone}
 
 pub IfOk-map : {T E : Type 0} (P Q : T → Type 0) (r : Result T E) → ((x : T) → P x → Q x) → IfOk r P → IfOk r Q
 IfOk-map P Q (Ok x) f h = f x h
@@ -27,9 +27,9 @@ keeps_all : (new : List ChangeParts) → KeepsAll keeps_nothing tt new tt
 keeps_all [] = refl
 keeps_all (c ∷ cs) = (tt, refl, keeps_all cs)
 
-pub alone : {S : Type 0} (keeps : S → ChangeParts → S → Type 0) (k k' : S) (F C C' W : List ChangeParts) (t t' : List Hash) (r r' : List (Hash × GraphError))
+goes_alone : {S : Type 0} (keeps : S → ChangeParts → S → Type 0) (k k' : S) (F C C' W : List ChangeParts) (t t' : List Hash) (r r' : List (Hash × GraphError))
     → Goes keeps k k' F C C' W t t' r r' → Goes keeps_nothing tt tt F C C' W t t' r r'
-alone keeps k k' F C C' W t t' r r' g = record {
+goes_alone keeps k k' F C C' W t t' r r' g = record {
   new = g.new;
   grows = g.grows;
   kept = keeps_all g.new;
@@ -38,6 +38,20 @@ alone keeps k k' F C C' W t t' r r' g = record {
   placed = g.placed;
   more = g.more;
   true_told = g.true_told;
+}
+
+pub alone : {S : Type 0} (keeps : S → ChangeParts → S → Type 0) (k k' : S) (came C C' W W' : List ChangeParts) (applied held : List Hash) (refused : List (Hash × GraphError))
+    → Answered keeps k k' came C C' W W' applied held refused → Answered keeps_nothing tt tt came C C' W W' applied held refused
+alone keeps k k' came C C' W W' applied held refused a = record {
+  goes = goes_alone keeps k k' (W ++ came) C C' W' [] applied [] refused a.goes;
+  receives = a.receives;
+  causes = a.causes;
+  placed = a.placed;
+  firm = a.firm;
+  none_dropped = a.none_dropped;
+  waits = a.waits;
+  holds = a.holds;
+  once = a.once;
 }
 
 stops_alone : {S : Type 0} (keeps : S → ChangeParts → S → Type 0) (refuses : S → ChangeParts → KeepError → S → Type 0) (k k' : S) (F C C' W : List ChangeParts)

@@ -1,11 +1,17 @@
 -- What a call that receives changes answers and leaves.
-use Rattle.std.specs.Prelude.{◌≡◌, List, Bool, true, false, Result, Ok, Err}
+use Rattle.std.specs.Prelude.{◌≡◌, ◌+◌, ◌≤◌, ◌++◌, List, [], length, Bool, true, false, Result, Ok, Err}
+use Rattle.tp_opid.specs.declared.hash.Hash.{Hash}
 use Rattle.tp_opid.specs.declared.doc_id.DocId.{DocId}
 use Rattle.tp_change.specs.declared.parts.ChangeParts.{ChangeParts}
 use Rattle.tp_receive.specs.declared.error.ReceiveError.{ReceiveError}
 use Rattle.tp_receive.specs.declared.error.ReceiveError.TheVariants as receive
 use Rattle.tp_receive.specs.declared.keeper.KeepError.{KeepError}
-use Rattle.tp_receive.specs.Replies.{Fails}
+use Rattle.tp_receive.specs.Receiving.{HashesApart, Receives, AllWait, hashes, held_of}
+use Rattle.tp_receive.specs.Going.{Goes}
+use Rattle.tp_receive.specs.Loose.{loose_in}
+use Rattle.tp_receive.specs.Replies.{AreRefused, AllPlaced, AreFirm, NoneDropped, EachOnce, Fails}
+use Rattle.tp_graph.specs.GraphState.{most_waiting}
+use Rattle.tp_graph.specs.declared.error.GraphError.{GraphError}
 use Rattle.tp_document.specs.declared.error.DocError.{DocError}
 use Rattle.tp_document.specs.declared.error.DocError.TheVariants.{PendingFull, OutOfMemory, OtherDocument, NotKept}
 
@@ -21,6 +27,27 @@ keeps_nothing k c k' = k ≡ k'
 
 abbrev pub refuses_nothing : Unit {0} → ChangeParts → KeepError → Unit {0} → Type 0
 refuses_nothing k c e k' = ⊥
+
+-- What is answered where the changes `came` were received: C was applied and W waited before, C' is applied and W'
+-- waits now, and the keeper went from k to k'.
+pub record Answered {S : Type 0} (keeps : S → ChangeParts → S → Type 0) (k k' : S) (came C C' W W' : List ChangeParts)
+    (applied held : List Hash) (refused : List (Hash × GraphError)) : Type 0 where
+  -- what entered is of what waited and came, had no cause at its turn, was kept first, and is told in its order
+  pub goes : Goes keeps k k' (W ++ came) C C' W' [] applied [] refused
+  -- every change of what waited and came has a cause now
+  pub receives : HashesApart (W ++ came) → Receives C (W ++ came) C'
+  -- each told cause is the cause now
+  pub causes : HashesApart (W ++ came) → AreRefused (W ++ came) C' refused
+  -- each change has entered, waits for a dependency, or is told as refused
+  pub placed : HashesApart (W ++ came) → AllPlaced (W ++ came) C' W' applied refused
+  -- what was dropped isn't loose, and nothing is dropped where no more than 1,024 waited and came
+  pub firm : HashesApart (W ++ came) → AreFirm (loose_in C came) refused
+  pub none_dropped : length W + length came ≤ most_waiting → NoneDropped refused
+  -- what waits lacks a dependency
+  pub waits : AllWait C' W'
+  -- held are those that came and wait, each hash once
+  pub holds : held ≡ held_of (hashes came) W'
+  pub once : EachOnce held
 
 -- How a refused call leaves the keeper, what is applied and what waits: PendingFull as they were, NotKept and
 -- OutOfMemory between. No other refusal comes.

@@ -1,12 +1,9 @@
 //! Receiving changes, in a list or from another document.
 
-ghost use Rattle.std.specs.Prelude.{◌≡◌, ◌+◌, ◌≤◌, ◌++◌, [], length, OnOk, IfOk, IfErr};
-ghost use Rattle.tp_graph.specs.GraphState.{most_waiting};
-ghost use Rattle.tp_receive.specs.Receiving.{AllWait, HashesApart, Receives, hashes, held_of};
-ghost use Rattle.tp_receive.specs.Going.{Goes, LosesNone};
+ghost use Rattle.std.specs.Prelude.{◌≡◌, ◌++◌, IfOk, IfErr};
+ghost use Rattle.tp_receive.specs.Going.{LosesNone};
 ghost use Rattle.tp_receive.specs.Loose as loose;
-ghost use Rattle.tp_receive.specs.Replies.{NoneDropped};
-ghost use Rattle.tp_document.specs.Applying.{refusal_of, keeps_nothing, refuses_nothing, ApplyFails, MergeFails, IsFullAlone, IsOtherAlone};
+ghost use Rattle.tp_document.specs.Applying.{Answered, refusal_of, keeps_nothing, refuses_nothing, ApplyFails, MergeFails, IsFullAlone, IsOtherAlone};
 ghost use Rattle.tp_document.specs.Merging as merging;
 
 use crate::document::Document;
@@ -38,14 +35,9 @@ impl<S: Sequence> Document<S> {
         keeper: &mut K,
     ) -> Result<Applied, DocError>
         ensures id { self.new.id ≡ self.old.id }
-        ensures goes { IfOk result (λ r. Goes K.keeps keeper.old keeper.new (self.old.waiting ++ changes.items) self.old.applied self.new.applied
-            self.new.waiting [] r.applied.items [] r.refused.items) }
-        ensures receives { IfOk result (λ r. HashesApart (self.old.waiting ++ changes.items) → NoneDropped r.refused.items
-            → Receives self.old.applied (self.old.waiting ++ changes.items) self.new.applied) }
-        ensures none_dropped { IfOk result (λ r. length self.old.waiting + length changes.items ≤ most_waiting → NoneDropped r.refused.items) }
-        ensures waits { OnOk result (AllWait self.new.applied self.new.waiting) }
+        ensures answered { IfOk result (λ r. Answered K.keeps keeper.old keeper.new changes.items self.old.applied self.new.applied
+            self.old.waiting self.new.waiting r.applied.items r.held.items r.refused.items) }
         ensures stays { LosesNone self.old.applied self.new.applied self.old.waiting self.new.waiting }
-        ensures held { IfOk result (λ r. r.held.items ≡ held_of (hashes changes.items) self.new.waiting) }
         ensures full { IsFullAlone result (loose.is_full self.old.applied self.old.waiting changes.items) }
         ensures err { IfErr result (λ e. ApplyFails K.keeps K.refuses keeper.old keeper.new (self.old.waiting ++ changes.items) self.old.applied
             self.new.applied self.old.waiting self.new.waiting e) }
@@ -70,14 +62,9 @@ impl<S: Sequence> Document<S> {
     /// something entered.
     pub fn apply(&mut self, changes: Vec<Change>) -> Result<Applied, DocError>
         ensures id { self.new.id ≡ self.old.id }
-        ensures goes { IfOk result (λ r. Goes keeps_nothing tt tt (self.old.waiting ++ changes.items) self.old.applied self.new.applied
-            self.new.waiting [] r.applied.items [] r.refused.items) }
-        ensures receives { IfOk result (λ r. HashesApart (self.old.waiting ++ changes.items) → NoneDropped r.refused.items
-            → Receives self.old.applied (self.old.waiting ++ changes.items) self.new.applied) }
-        ensures none_dropped { IfOk result (λ r. length self.old.waiting + length changes.items ≤ most_waiting → NoneDropped r.refused.items) }
-        ensures waits { OnOk result (AllWait self.new.applied self.new.waiting) }
+        ensures answered { IfOk result (λ r. Answered keeps_nothing tt tt changes.items self.old.applied self.new.applied
+            self.old.waiting self.new.waiting r.applied.items r.held.items r.refused.items) }
         ensures stays { LosesNone self.old.applied self.new.applied self.old.waiting self.new.waiting }
-        ensures held { IfOk result (λ r. r.held.items ≡ held_of (hashes changes.items) self.new.waiting) }
         ensures full { IsFullAlone result (loose.is_full self.old.applied self.old.waiting changes.items) }
         ensures err { IfErr result (λ e. ApplyFails keeps_nothing refuses_nothing tt tt (self.old.waiting ++ changes.items) self.old.applied
             self.new.applied self.old.waiting self.new.waiting e) }
@@ -96,13 +83,9 @@ impl<S: Sequence> Document<S> {
         keeper: &mut K,
     ) -> Result<Applied, DocError>
         ensures id { self.new.id ≡ self.old.id }
-        ensures goes { IfOk result (λ r. Goes K.keeps keeper.old keeper.new (self.old.waiting ++ merging.absent self.old.applied other.now.applied)
-            self.old.applied self.new.applied self.new.waiting [] r.applied.items [] r.refused.items) }
-        ensures receives { IfOk result (λ r. HashesApart (self.old.waiting ++ merging.absent self.old.applied other.now.applied) → NoneDropped r.refused.items
-            → Receives self.old.applied (self.old.waiting ++ merging.absent self.old.applied other.now.applied) self.new.applied) }
-        ensures waits { OnOk result (AllWait self.new.applied self.new.waiting) }
+        ensures answered { IfOk result (λ r. Answered K.keeps keeper.old keeper.new (merging.absent self.old.applied other.now.applied) self.old.applied self.new.applied
+            self.old.waiting self.new.waiting r.applied.items r.held.items r.refused.items) }
         ensures stays { LosesNone self.old.applied self.new.applied self.old.waiting self.new.waiting }
-        ensures held { IfOk result (λ r. r.held.items ≡ held_of (hashes (merging.absent self.old.applied other.now.applied)) self.new.waiting) }
         ensures other { IsOtherAlone result self.old.id other.now.id }
         ensures err { IfErr result (λ e. MergeFails K.keeps K.refuses keeper.old keeper.new (self.old.waiting ++ merging.absent self.old.applied other.now.applied)
             self.old.applied self.new.applied self.old.waiting self.new.waiting e) }
@@ -124,13 +107,9 @@ impl<S: Sequence> Document<S> {
     /// leaves the document as it does there. One look-up for each of the other's changes.
     pub fn merge(&mut self, other: &Document<S>) -> Result<Applied, DocError>
         ensures id { self.new.id ≡ self.old.id }
-        ensures goes { IfOk result (λ r. Goes keeps_nothing tt tt (self.old.waiting ++ merging.absent self.old.applied other.now.applied)
-            self.old.applied self.new.applied self.new.waiting [] r.applied.items [] r.refused.items) }
-        ensures receives { IfOk result (λ r. HashesApart (self.old.waiting ++ merging.absent self.old.applied other.now.applied) → NoneDropped r.refused.items
-            → Receives self.old.applied (self.old.waiting ++ merging.absent self.old.applied other.now.applied) self.new.applied) }
-        ensures waits { OnOk result (AllWait self.new.applied self.new.waiting) }
+        ensures answered { IfOk result (λ r. Answered keeps_nothing tt tt (merging.absent self.old.applied other.now.applied) self.old.applied self.new.applied
+            self.old.waiting self.new.waiting r.applied.items r.held.items r.refused.items) }
         ensures stays { LosesNone self.old.applied self.new.applied self.old.waiting self.new.waiting }
-        ensures held { IfOk result (λ r. r.held.items ≡ held_of (hashes (merging.absent self.old.applied other.now.applied)) self.new.waiting) }
         ensures other { IsOtherAlone result self.old.id other.now.id }
         ensures err { IfErr result (λ e. MergeFails keeps_nothing refuses_nothing tt tt (self.old.waiting ++ merging.absent self.old.applied other.now.applied)
             self.old.applied self.new.applied self.old.waiting self.new.waiting e) }

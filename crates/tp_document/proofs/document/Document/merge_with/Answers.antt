@@ -5,15 +5,13 @@ use Rattle.tp_opid.proofs.Orders.{same_doc-same, same_doc-apart}
 use Rattle.tp_change.specs.declared.parts.ChangeParts.{ChangeParts}
 use Rattle.tp_graph.specs.Sound.{Sound}
 use Rattle.tp_graph.proofs.NamedLaws.{In-left}
-use Rattle.tp_receive.specs.Receiving.{HashesApart, Receives}
-use Rattle.tp_receive.specs.Replies.{NoneDropped}
 use Rattle.tp_receive.specs.Loose.{is_full}
 use Rattle.tp_receive.specs.declared.error.ReceiveError.TheVariants as receive
 use Rattle.tp_receive.proofs.GoesLaws.{Stops-still}
 use Rattle.tp_receive.proofs.ReplyLaws.{Fails-stopped}
 use Rattle.tp_document.specs.DocState.{DocState}
 use Rattle.tp_document.specs.Merging.{absent}
-use Rattle.tp_document.specs.Applying.{MergeFails, IsFullAlone}
+use Rattle.tp_document.specs.Applying.{Answered, MergeFails}
 use Rattle.tp_document.proofs.MergeLaws.{never_full}
 use Rattle.tp_document.proofs.ApplyLaws.{merge_fails, same_alone}
 use Rattle.tp_document.proofs.document.Document.merge_with.Goals as goal
@@ -27,13 +25,11 @@ returns-then-not-is-clause-other g c same =
     same_doc-apart c.self.inside.id c.other.inside.id (sym c.is.ensures ∙ c.if-not-is.true)
     (ap (λ (d : DocState). d.id) c.self.view_is ∙ same ∙ sym (ap (λ (d : DocState). d.id) c.other.view_is))
 
-pub returns-in-Ok-clause-receives : goal.returns-in-Ok-clause-receives
-returns-in-Ok-clause-receives g c =
-    let C = c.args.self.now.applied in
-    let W = c.args.self.now.waiting in
-    let came = c.in-Ok.ensures.copied ∙ ap (absent C) c.changes.ensures.changes in
-    subst (λ (K : List ChangeParts). IfOk c.apply_with.result (λ r. HashesApart (W ++ K) → NoneDropped r.refused.items → Receives C (W ++ K) c.apply_with.new.self.applied))
-    came c.apply_with.ensures.receives
+pub returns-in-Ok-clause-answered : goal.returns-in-Ok-clause-answered
+returns-in-Ok-clause-answered g c =
+    let came = c.in-Ok.ensures.copied ∙ ap (absent c.args.self.now.applied) c.changes.ensures.changes in
+    subst (λ (K : List ChangeParts). IfOk c.apply_with.result (λ r. Answered g.K.Keeper.keeps c.args.keeper.now c.apply_with.new.keeper K c.args.self.now.applied c.apply_with.new.self.applied c.args.self.now.waiting c.apply_with.new.self.waiting r.applied.items r.held.items r.refused.items))
+    came c.apply_with.ensures.answered
 
 pub returns-in-Ok-clause-other : goal.returns-in-Ok-clause-other
 returns-in-Ok-clause-other g c =
