@@ -161,7 +161,7 @@ impl<S: Sequence> Document<S> {
     /// 4,194,304; `Full` at 4,294,967,295 changes; `HashTaken` where a change that is there has its hash. It may be
     /// refused as `OutOfMemory` at any time.
     ///
-    /// One pass over the actors of the changes; one splice makes no pass over the text.
+    /// No pass over the changes; one splice makes no pass over the text beyond what the search of the sequence costs.
     pub fn make_edit(
         &self,
         actor: Actor,

@@ -4,4 +4,6 @@
 #[cfg(test)]
 mod receiving;
 #[cfg(test)]
+mod refusals;
+#[cfg(test)]
 mod tests;

@@ -16,12 +16,12 @@ const A: Actor = Actor([0, 0, 0, 0, 0, 0, 0, 0, 0, 0, 0, 0, 0, 0, 0, 1]);
 const B: Actor = Actor([0, 0, 0, 0, 0, 0, 0, 0, 0, 0, 0, 0, 0, 0, 0, 2]);
 
 /// A document with no changes.
-fn empty(alloc: Global) -> Document<PlainSequence> {
+pub fn empty(alloc: Global) -> Document<PlainSequence> {
     Document::new(alloc, DocId([7; 16]))
 }
 
 /// Edits with one splice.
-fn splice(
+pub fn splice(
     document: &mut Document<PlainSequence>,
     actor: Actor,
     at: usize,
@@ -222,7 +222,7 @@ fn an_earlier_state_is_forked(rt: HostRuntime) -> Result<(), Fail> {
 }
 
 /// A document with a chain of 1,026 changes of one character each.
-fn chain(alloc: Global) -> Result<Document<PlainSequence>, DocError> {
+pub fn chain(alloc: Global) -> Result<Document<PlainSequence>, DocError> {
     let mut document = empty(alloc);
     for _ in 0..1026 {
         splice(&mut document, A, 0, 0, "x")?;
@@ -231,7 +231,7 @@ fn chain(alloc: Global) -> Result<Document<PlainSequence>, DocError> {
 }
 
 /// Copies of the document's changes from the place `first` up to, but without, the place `end`.
-fn piece(
+pub fn piece(
     alloc: Global,
     document: &Document<PlainSequence>,
     first: usize,
