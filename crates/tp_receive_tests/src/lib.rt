@@ -2,6 +2,8 @@
 #![tactic(auto)]
 
 #[cfg(test)]
+mod keepers;
+#[cfg(test)]
 mod making;
 #[cfg(test)]
 mod orders;
