@@ -1,5 +1,5 @@
 -- An actor's changes in a past are those below one counter.
-use Rattle.std.proofs.Common.{◌≡◌, ℕ, suc, zero, ◌+◌, ◌<◌, ◌≤◌, ◌⊎◌, inl, inr, List, [], ◌∷◌, ◌++◌, length, Bool, true, false, cond, nat_lt, refl, sym, ap, ◌∙◌, subst, arith, append_assoc}
+use Rattle.std.proofs.Common.{◌≡◌, ℕ, suc, zero, ◌+◌, ◌<◌, ◌≤◌, ◌⊎◌, inl, inr, List, [], ◌∷◌, ◌++◌, Bool, true, false, cond, nat_lt, refl, sym, ap, ◌∙◌, subst, arith, append_assoc}
 use Rattle.std.proofs.lemmas.Bool.Decides.{nat_tests}
 use Rattle.tp_list.specs.Members.{In, AllIn}
 use Rattle.tp_opid.specs.declared.actor.Actor.{Actor}
@@ -11,7 +11,7 @@ use Rattle.tp_change.specs.declared.parts.ChangeParts.{ChangeParts}
 use Rattle.tp_change.specs.ChangeHash.{hash_of}
 use Rattle.tp_change.specs.Operations.{op_count}
 use Rattle.tp_change.specs.OpIds.{IsOwnId}
-use Rattle.tp_change.specs.Elements.{later, next_counter}
+use Rattle.tp_change.specs.Elements.{later}
 use Rattle.tp_rga.proofs.Sets.{In-right, In-append}
 use Rattle.tp_graph.specs.Past.{past}
 use Rattle.tp_graph.specs.Reach.{Chain}

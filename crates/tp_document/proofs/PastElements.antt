@@ -1,5 +1,5 @@
 -- The elements and the deletes of a past, among those of the whole.
-use Rattle.std.proofs.Common.{◌≡◌, ℕ, suc, ◌+◌, ◌<◌, ◌≤◌, ◌||◌, false, inl, inr, List, [], ◌∷◌, ◌++◌, length, Bool, true, nat_lt, cond, map, refl, sym, ap, ◌∙◌, subst, arith}
+use Rattle.std.proofs.Common.{◌≡◌, ℕ, suc, ◌+◌, ◌<◌, ◌≤◌, ◌||◌, false, inl, inr, List, [], ◌∷◌, length, true, nat_lt, cond, map, refl, ap, ◌∙◌, subst, arith}
 use Rattle.std.specs.Prelude.{Option, encode_utf8_all}
 use Rattle.std.specs.List.{slice_get}
 use Rattle.std.specs.Option.{option_map}
@@ -13,7 +13,7 @@ use Rattle.tp_opid.specs.Insert.{Insert}
 use Rattle.tp_change.specs.declared.op.Op.{Op}
 use Rattle.tp_change.specs.declared.op.Op.TheVariants as op_of
 use Rattle.tp_change.specs.declared.parts.ChangeParts.{ChangeParts}
-use Rattle.tp_change.specs.Operations.{id_of, ops_of, op_count}
+use Rattle.tp_change.specs.Operations.{id_of, ops_of}
 use Rattle.tp_change.specs.OpIds.{op_id, IsOwnId}
 use Rattle.tp_change.specs.Elements.{inserts_in, inserts, deletes_in, deletes}
 use Rattle.tp_rga.specs.Tree.{IsTree}

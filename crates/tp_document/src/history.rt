@@ -29,7 +29,7 @@ struct Snapshot {
 }
 
 impl Snapshot {
-    // Whether the past shows an element. Who isn't deleted now wasn't deleted in the past.
+    // Whether the past shows an element. One that isn't deleted now wasn't in any past: only others are looked up.
     fn shows(&self, element: &Element) -> bool
         ensures { result ≡ (has_op self.now.clock element.now.id
             && not (element.now.deleted && is_one_of self.now.targets element.now.id)) }
@@ -51,7 +51,7 @@ fn past_of(graph: &Graph, heads: &[Hash]) -> Result<Past, DocError>
     }
 }
 
-// What the past of the hashes shows: one walk over the changes of the past, and one over the deletes.
+// What the past of the hashes shows: one walk over the changes of the past, and one over all deletes.
 fn snapshot_at<S: Sequence>(
     alloc: Global,
     graph: &Graph,
@@ -115,9 +115,9 @@ impl<S: Sequence> Document<S> {
     /// come in any order and more than once, and no hash gives the empty text. A hash that no applied change has is
     /// refused as `UnknownHead`, and the only other refusal is `OutOfMemory`.
     ///
-    /// Nothing is rebuilt: one walk over the changes, and one over the elements, deleted ones among them. A change
-    /// takes two look-ups among the actors of the past, an element one, and one more among the deletes of the past
-    /// where it is deleted now.
+    /// Nothing is rebuilt: one walk over the changes, one over all deletes, and one over the elements, deleted ones
+    /// among them. Each takes a look-up among the actors of the past, and an element that is deleted now one more
+    /// among those that the past deletes.
     pub fn text_at(&self, heads: &[Hash]) -> Result<String, DocError>
         ensures text { IfOk result (λ t. IsTextOf (past self.now.applied heads.now) (chars (string_bytes t))) }
         ensures unknown { (result ≡ Err DocError.UnknownHead) ↔ (named.has_all self.now.applied heads.now ≡ false) }
@@ -129,15 +129,17 @@ impl<S: Sequence> Document<S> {
 
     /// A cursor at the visible character at a place, from 0, of the text of the past of the hashes. A hash that no
     /// applied change has is refused as `UnknownHead`, whatever the place; then a place past the end of that text as
-    /// `OutOfRange`. The only other refusal is `OutOfMemory`. The cost is that of [`text_at`](Document::text_at).
+    /// `OutOfRange`. The only other refusal is `OutOfMemory`.
+    ///
+    /// The cost is that of [`text_at`](Document::text_at), but the walk over the elements ends at the one that is found.
     pub fn cursor_at(&self, at: usize, heads: &[Hash]) -> Result<Cursor, DocError>
         ensures found { IfOk result (λ cursor. HasElementAt (past self.now.applied heads.now) at (Some cursor.element)) }
         ensures unknown { (result ≡ Err DocError.UnknownHead) ↔ (named.has_all self.now.applied heads.now ≡ false) }
         ensures err { IfErr result (λ error. (error ≡ DocError.UnknownHead) ⊎ ((error ≡ DocError.OutOfMemory)
             ⊎ ((error ≡ DocError.OutOfRange) × HasElementAt (past self.now.applied heads.now) at None))) }
     {
-        let snapshot = snapshot_at(self.alloc, &self.graph, &self.sequence, heads)?;
-        match element_at(&self.sequence, &snapshot, at) {
+        let view = snapshot_at(self.alloc, &self.graph, &self.sequence, heads)?;
+        match element_at(&self.sequence, &view, at) {
             Some(element) => Ok(Cursor { element }),
             None => Err(DocError::OutOfRange),
         }

@@ -2,6 +2,7 @@
 #![tactic(auto)]
 
 #[cfg(test)]
+mod history;
 mod receiving;
 #[cfg(test)]
 mod refusals;

@@ -1,6 +1,5 @@
-use Rattle.std.proofs.Common.{◌≡◌, ◌+◌, ◌∙◌, ◌∷◌, ap, subst, refl, get_or, take, cond, ℕ}
+use Rattle.std.proofs.Common.{◌+◌, ◌∙◌, ap, refl, get_or, take, cond}
 use Rattle.std.proofs.lemmas.Option.{slice_get_read}
-use Rattle.tp_opid.specs.declared.actor.Actor.{Actor}
 use Rattle.tp_opid.specs.Same.{same_actor}
 use Rattle.tp_change.specs.Elements.{later}
 use Rattle.tp_document.specs.History.{end_at, changes_at}
