@@ -1,5 +1,5 @@
 -- What a graph keeps stays true where a change is made ready for, and where it enters.
-use Rattle.std.proofs.Common.{◌≡◌, ℕ, ◌+◌, ◌<◌, ◌==◌, List, [], ◌∷◌, ◌++◌, length, Bool, true, false, cond, Option, Some, None, refl, sym, ap, ◌∙◌, arith, length-append}
+use Rattle.std.proofs.Common.{◌≡◌, ℕ, ◌+◌, ◌<◌, ◌≤◌, ◌==◌, List, [], ◌∷◌, ◌++◌, length, Bool, true, false, cond, Option, Some, None, refl, sym, ap, ◌∙◌, arith, length-append}
 use Rattle.std.proofs.lemmas.Bool.Decides.{nat_tests}
 use Rattle.tp_list.specs.Rising as list
 use Rattle.tp_opid.specs.declared.hash.Hash.{Hash}
@@ -17,6 +17,7 @@ use Rattle.tp_graph.specs.Fit.{misfit, cause, or_full, most_changes}
 use Rattle.tp_graph.specs.Places.{noted}
 use Rattle.tp_graph.specs.Sound.{Fits}
 use Rattle.tp_graph.specs.AppliedState.{IsKept}
+use Rattle.tp_graph.specs.ByActor.{IsByActor}
 use Rattle.tp_graph.proofs.Tests.{not_true, never}
 use Rattle.tp_graph.proofs.NamedLaws.{In-has}
 use Rattle.tp_graph.proofs.SoundLaws.{Fits-from_misfit, misfit-from_Fits, Sound-push}
@@ -37,6 +38,10 @@ enters C c h = no_cause (misfit C c) (length C == most_changes) h
 pub Fits-from_cause : (C : List ChangeParts) (c : ChangeParts) → cause C c ≡ None → Fits C c
 Fits-from_cause C c h = Fits-from_misfit C c (enters C c h).0
 
+-- where a change can enter there are fewer changes than a graph has at most
+pub room_for_one : (C : List ChangeParts) (c : ChangeParts) → cause C c ≡ None → length C ≤ most_changes → length C < most_changes
+room_for_one C c none few = let one = (enters C c none).1 in grind (arith, nat_tests)
+
 -- a change that fits can enter where the list isn't full
 pub cause-from_Fits : (C : List ChangeParts) (c : ChangeParts) → Fits C c → length C < most_changes → cause C c ≡ None
 unfolding cause
@@ -45,9 +50,9 @@ cause-from_Fits C c f small =
     ap (λ o. or_full o (length C == most_changes)) (misfit-from_Fits C c f) ∙ ap (or_full None) room
 
 -- a new note for a hash that isn't there
-pub IsKept-noted : (C : List ChangeParts) (heads : List Hash) (old new : List (Hash × ℕ)) (ends : List ℕ) (next : ℕ) (h : Hash) (p : ℕ)
-    → IsKept C heads old ends next → has C h ≡ false → ((other : Hash) → noted new other ≡ cond (same_hash h other) (Some p) (noted old other)) → IsKept C heads new ends next
-IsKept-noted C heads old new ends next h p k lacks notes = record {
+pub IsKept-noted : (C : List ChangeParts) (heads : List Hash) (old new : List (Hash × ℕ)) (ends : List ℕ) (next : ℕ) (order : List ℕ) (h : Hash) (p : ℕ)
+    → IsKept C heads old ends next order → has C h ≡ false → ((other : Hash) → noted new other ≡ cond (same_hash h other) (Some p) (noted old other)) → IsKept C heads new ends next order
+IsKept-noted C heads old new ends next order h p k lacks notes = record {
   sound = k.sound;
   few = k.few;
   heads_are = k.heads_are;
@@ -58,16 +63,17 @@ IsKept-noted C heads old new ends next h p k lacks notes = record {
       k.noted_are;
   ends_are = k.ends_are;
   next_is = k.next_is;
+  by_actor = k.by_actor;
 }
 
 pub noted_itself : (old new : List (Hash × ℕ)) (h : Hash) (p : ℕ) → ((other : Hash) → noted new other ≡ cond (same_hash h other) (Some p) (noted old other)) → noted new h ≡ Some p
 noted_itself old new h p notes = notes h ∙ ap (λ b. cond b (Some p) (noted old h)) (same_hash-itself h)
 
 -- a change that enters
-pub IsKept-push : (C : List ChangeParts) (c : ChangeParts) (heads : List Hash) (entries : List (Hash × ℕ)) (ends : List ℕ) (next : ℕ)
-    → IsKept C heads entries ends next → cause C c ≡ None → noted entries (hash_of c) ≡ Some (length C)
-    → IsKept (C ++ c ∷ []) (list.put hash_cmp (hash_of c) (head.without c.deps heads)) entries (ends ++ (c.start + op_count c) ∷ []) (later next (c.start + op_count c))
-IsKept-push C c heads entries ends next k none at =
+pub IsKept-push : (C : List ChangeParts) (c : ChangeParts) (heads : List Hash) (entries : List (Hash × ℕ)) (ends : List ℕ) (next : ℕ) (order order_after : List ℕ)
+    → IsKept C heads entries ends next order → cause C c ≡ None → noted entries (hash_of c) ≡ Some (length C) → IsByActor (C ++ c ∷ []) order_after
+    → IsKept (C ++ c ∷ []) (list.put hash_cmp (hash_of c) (head.without c.deps heads)) entries (ends ++ (c.start + op_count c) ∷ []) (later next (c.start + op_count c)) order_after
+IsKept-push C c heads entries ends next order order_after k none at by_actor =
     let f = Fits-from_cause C c none in
     let one = (enters C c none).1 in
     let small = k.few in
@@ -80,16 +86,17 @@ IsKept-push C c heads entries ends next k none at =
       noted_are = NotesFrom-push 0 C c entries k.noted_are (at ∙ ap Some (counted (length C)));
       ends_are = ap (λ l. l ++ (c.start + op_count c) ∷ []) k.ends_are ∙ sym (ends_of-push C c);
       next_is = ap (λ n. later n (c.start + op_count c)) k.next_is ∙ sym (next_counter-push C c);
+      by_actor = by_actor;
     } where
       counted : (n : ℕ) → n ≡ 0 + n
       counted n = omega arith
 
 -- the same, of vectors that were changed so
-pub IsKept-entered : (C : List ChangeParts) (c : ChangeParts) (heads : List Hash) (entries : List (Hash × ℕ)) (ends : List ℕ) (next : ℕ)
-    (D : List ChangeParts) (heads_after : List Hash) (ends_after : List ℕ) (next_after : ℕ) (h : Hash) (deps : List Hash) (end : ℕ)
-    → IsKept C heads entries ends next → cause C c ≡ None → noted entries (hash_of c) ≡ Some (length C)
+pub IsKept-entered : (C : List ChangeParts) (c : ChangeParts) (heads : List Hash) (entries : List (Hash × ℕ)) (ends : List ℕ) (next : ℕ) (order : List ℕ)
+    (D : List ChangeParts) (heads_after : List Hash) (ends_after : List ℕ) (next_after : ℕ) (order_after : List ℕ) (h : Hash) (deps : List Hash) (end : ℕ)
+    → IsKept C heads entries ends next order → cause C c ≡ None → noted entries (hash_of c) ≡ Some (length C)
     → h ≡ hash_of c → deps ≡ c.deps → end ≡ c.start + op_count c
-    → D ≡ C ++ c ∷ [] → heads_after ≡ list.put hash_cmp h (head.without deps heads) → ends_after ≡ ends ++ end ∷ [] → next_after ≡ later next end
-    → IsKept D heads_after entries ends_after next_after
-IsKept-entered C c heads entries ends next D heads_after ends_after next_after h deps end k none at hash_is deps_are end_is all heads_are ends_are next_is =
-    rw (all, heads_are, ends_are, next_is, hash_is, deps_are, end_is) (IsKept-push C c heads entries ends next k none at)
+    → D ≡ C ++ c ∷ [] → heads_after ≡ list.put hash_cmp h (head.without deps heads) → ends_after ≡ ends ++ end ∷ [] → next_after ≡ later next end → IsByActor (C ++ c ∷ []) order_after
+    → IsKept D heads_after entries ends_after next_after order_after
+IsKept-entered C c heads entries ends next order D heads_after ends_after next_after order_after h deps end k none at hash_is deps_are end_is all heads_are ends_are next_is by_actor =
+    rw (all, heads_are, ends_are, next_is, hash_is, deps_are, end_is) (IsKept-push C c heads entries ends next order order_after k none at by_actor)

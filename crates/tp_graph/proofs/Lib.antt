@@ -21,3 +21,6 @@ pub mod FirstFaults
 pub mod LatestLaws
 pub mod BackLaws
 pub mod WaitingLaws
+pub mod ByActorLaws
+pub mod OwnLaws
+pub mod PartLaws

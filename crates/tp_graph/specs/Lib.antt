@@ -9,6 +9,8 @@ pub mod Places
 pub mod Marks
 pub mod Covers
 pub mod GraphState
+pub mod Parts
+pub mod ByActor
 pub mod AppliedState
 pub mod Answers
 pub mod Since

@@ -13,13 +13,15 @@ ghost use Rattle.tp_graph.specs.Fit as fit;
 ghost use Rattle.tp_graph.specs.Fit.{cause, most_changes};
 ghost use Rattle.tp_graph.specs.Marks.{marks};
 ghost use Rattle.tp_graph.specs.Places.{place_from};
-ghost use Rattle.tp_graph.specs.Sound.{Sound};
+ghost use Rattle.tp_graph.specs.ByActor.{IsByActor};
+ghost use Rattle.tp_graph.specs.Sound.{Sound, Fits};
 ghost use Rattle.tp_graph.specs.Answers.{Answers};
 ghost use Rattle.tp_graph.specs.Since.{since, skip, IsMissing};
 
+use crate::by_actor::cut;
 use crate::error::GraphError;
 use crate::index::Index;
-use crate::judge::later;
+use crate::judge::{count_all, later};
 use crate::{check, heads, since, walk};
 use std::alloc::{AllocError, Global};
 use std::marker::Model;
@@ -35,6 +37,7 @@ pub(crate) struct Applied {
     ends: Vec<u64>,
     next: u64,
     index: Index,
+    order: Vec<u32>,
     room: Option<Hash>,
 }
 
@@ -47,8 +50,8 @@ impl Model for Applied {
     ghost view = { λ a. record { changes = a.changes.items; room = a.room } };
 
     ghost invariant = { λ a.
-        IsKept a.changes.items a.heads.items a.index a.ends.items a.next
-        × HasRoom a.room (vec_len a.changes) a.index (vec_capacity a.changes) (vec_len a.heads) (vec_capacity a.heads) (vec_len a.ends) (vec_capacity a.ends) };
+        IsKept a.changes.items a.heads.items a.index a.ends.items a.next a.order.items
+        × HasRoom a.room (vec_len a.changes) a.index (vec_capacity a.changes) (vec_len a.heads) (vec_capacity a.heads) (vec_len a.ends) (vec_capacity a.ends) (vec_len a.order) (vec_capacity a.order) };
 }
 
 // Makes room for one more of each.
@@ -56,19 +59,44 @@ fn grow(
     changes: &mut Vec<Change>,
     heads: &mut Vec<Hash>,
     ends: &mut Vec<u64>,
+    order: &mut Vec<u32>,
 ) -> Result<(), AllocError>
     ensures changes { changes.new.items ≡ changes.old.items }
     ensures heads { heads.new.items ≡ heads.old.items }
     ensures ends { ends.new.items ≡ ends.old.items }
-    ensures lens { (vec_len changes.new ≡ vec_len changes.old) × (vec_len heads.new ≡ vec_len heads.old) × (vec_len ends.new ≡ vec_len ends.old) }
+    ensures order { order.new.items ≡ order.old.items }
+    ensures lens { (vec_len changes.new ≡ vec_len changes.old) × (vec_len heads.new ≡ vec_len heads.old) × (vec_len ends.new ≡ vec_len ends.old) × (vec_len order.new ≡ vec_len order.old) }
     ensures room { OnOk result
-        ((vec_len changes.new < vec_capacity changes.new) × (vec_len heads.new < vec_capacity heads.new) × (vec_len ends.new < vec_capacity ends.new)) }
-    ensures stays { (vec_capacity changes.old ≤ vec_capacity changes.new) × (vec_capacity heads.old ≤ vec_capacity heads.new) × (vec_capacity ends.old ≤ vec_capacity ends.new) }
+        ((vec_len changes.new < vec_capacity changes.new) × (vec_len heads.new < vec_capacity heads.new) × (vec_len ends.new < vec_capacity ends.new) × (vec_len order.new < vec_capacity order.new)) }
+    ensures stays { (vec_capacity changes.old ≤ vec_capacity changes.new) × (vec_capacity heads.old ≤ vec_capacity heads.new) × (vec_capacity ends.old ≤ vec_capacity ends.new) × (vec_capacity order.old ≤ vec_capacity order.new) }
 {
     changes.reserve(1)?;
     heads.reserve(1)?;
     ends.reserve(1)?;
+    order.reserve(1)?;
     Ok(())
+}
+
+// Puts the place of a change that enters, the last, where its actor's next change belongs.
+fn put_in_order(order: &mut Vec<u32>, changes: &[Change], change: &Change)
+    requires room { vec_len order.old < vec_capacity order.old }
+    requires few { length changes.now < most_changes }
+    requires order { IsByActor changes.now order.old.items }
+    requires sound { Sound changes.now }
+    requires fits { Fits changes.now change.now }
+    ensures { IsByActor (changes.now ++ change.now ∷ []) order.new.items }
+{
+    let place = changes.len() as u32;
+    let i = cut(
+        changes,
+        order.as_slice(),
+        &change.actor(),
+        Some(change.start()),
+    );
+    match order.insert(i, place) {
+        Ok(()) => {}
+        Err(_) => unreachable!(),
+    }
 }
 
 // Puts an item at the end of a vector that has room for it.
@@ -95,6 +123,7 @@ impl Applied {
             ends: Vec::new(alloc),
             next: 1,
             index: Index::new(alloc),
+            order: Vec::new(alloc),
             room: None,
         }
     }
@@ -126,7 +155,7 @@ impl Applied {
     pub(crate) fn count_by(&self, actor: &Actor) -> u64
         ensures { result ≡ fit.count_by actor.now self.now.changes }
     {
-        check::count_all(self.changes.as_slice(), actor)
+        count_all(self.changes.as_slice(), self.order.as_slice(), actor)
     }
 
     /// The place of the change with the hash.
@@ -166,8 +195,10 @@ impl Applied {
             self.alloc,
             self.changes.as_slice(),
             self.ends.as_slice(),
+            self.next,
             self.heads.as_slice(),
             &self.index,
+            self.order.as_slice(),
             change,
         )
     }
@@ -182,7 +213,12 @@ impl Applied {
         self.check(change)?;
         let hash = change.hash();
         let place = self.changes.len() as u32;
-        grow(&mut self.changes, &mut self.heads, &mut self.ends)?;
+        grow(
+            &mut self.changes,
+            &mut self.heads,
+            &mut self.ends,
+            &mut self.order,
+        )?;
         self.index.note(hash, place)?;
         self.room = Some(hash);
         Ok(())
@@ -197,6 +233,7 @@ impl Applied {
         let end = change.next_start();
         self.next = later(self.next, end);
         heads::move_on(&mut self.heads, change.deps(), change.hash());
+        put_in_order(&mut self.order, self.changes.as_slice(), &change);
         push_within(&mut self.ends, end);
         push_within(&mut self.changes, change);
         self.room = None;

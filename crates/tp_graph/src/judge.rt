@@ -6,9 +6,14 @@ ghost use Rattle.tp_change.specs.Operations.{count_of, op_count, ops_of, ops_fro
 ghost use Rattle.tp_graph.specs.Fit as fit;
 ghost use Rattle.tp_change.specs.Elements as made;
 ghost use Rattle.tp_graph.specs.Covers as cover;
+ghost use Rattle.tp_graph.specs.ByActor.{IsByActor};
 ghost use Rattle.tp_graph.specs.Marks.{pick, rest_of};
+ghost use Rattle.tp_graph.specs.Parts.{picked, IsPartOf};
 ghost use Rattle.tp_graph.specs.Places.{ends_of};
+ghost use Rattle.tp_graph.specs.Sound.{Sound};
 
+use crate::by_actor::latest;
+use crate::part::Part;
 use tp_change::{Change, Record};
 use tp_opid::{Actor, OpId, Place};
 
@@ -40,15 +45,11 @@ fn covers(records: &[Record], first: u64, counter: u64) -> bool
     false
 }
 
-// Whether the change, which has its last counter before `end`, inserts the element with the identifier.
-fn inserts_id(change: &Change, end: u64, id: &OpId) -> bool
-    requires { end ≡ change.now.start + op_count change.now }
+// Whether the change inserts the element with the identifier.
+fn inserts_id(change: &Change, id: &OpId) -> bool
     ensures { result ≡ made.is_inserted (made.inserts_in (ops_of change.now)) id.now }
 {
     let _hash = change.hash();
-    if end <= id.counter {
-        return false;
-    }
     if id.counter < change.start() {
         return false;
     }
@@ -76,8 +77,8 @@ fn count_at(applied: &[Change], marks: &[bool], place: usize, actor: &Actor) -> 
     }
 }
 
-/// How many of the marked changes the actor made.
-pub(crate) fn count_by(applied: &[Change], marks: &[bool], actor: &Actor) -> usize
+// How many of the marked changes the actor made.
+fn count_by(applied: &[Change], marks: &[bool], actor: &Actor) -> usize
     requires { length marks.now ≡ length applied.now }
     ensures count { result ≡ fit.count_by actor.now (pick marks.now applied.now) }
     ensures few { result ≤ length applied.now }
@@ -107,9 +108,9 @@ fn end_at(applied: &[Change], ends: &[u64], marks: &[bool], place: usize) -> u64
     if marks[place] { ends[place] } else { 0 }
 }
 
-/// One more than the greatest counter of the marked changes, or 1. `ends` has one more than the last counter of
-/// each change.
-pub(crate) fn next_counter(applied: &[Change], ends: &[u64], marks: &[bool]) -> u64
+// One more than the greatest counter of the marked changes, or 1. `ends` has one more than the last counter of each
+// change.
+fn next_counter(applied: &[Change], ends: &[u64], marks: &[bool]) -> u64
     requires ends { ends.now ≡ ends_of applied.now }
     requires marks { length marks.now ≡ length applied.now }
     ensures { result ≡ made.next_counter (pick marks.now applied.now) }
@@ -121,97 +122,132 @@ pub(crate) fn next_counter(applied: &[Change], ends: &[u64], marks: &[bool]) -> 
     next
 }
 
-// Whether the change at the place is marked and inserts the element with the identifier.
-fn inserts_at(applied: &[Change], ends: &[u64], marks: &[bool], place: usize, id: &OpId) -> bool
-    requires ends { ends.now ≡ ends_of applied.now }
-    requires marks { length marks.now ≡ length applied.now }
-    requires place { place < length applied.now }
-    ensures { made.is_inserted (made.inserts (rest_of marks.now applied.now place)) id.now
-        ≡ (result || made.is_inserted (made.inserts (rest_of marks.now applied.now (place + 1))) id.now) }
+/// How many of the changes the actor made: the sequence number of its latest. A number of comparisons that grows with
+/// the logarithm of the number of changes.
+pub(crate) fn count_all(applied: &[Change], order: &[u32], actor: &Actor) -> u64
+    requires sound { Sound applied.now }
+    requires order { IsByActor applied.now order.now }
+    ensures count { result ≡ fit.count_by actor.now applied.now }
+    ensures few { result ≤ length applied.now }
 {
-    if !marks[place] {
-        return false;
+    match latest(applied, order, actor, None) {
+        Some(place) => applied[place].seq(),
+        None => 0,
     }
-    inserts_id(&applied[place], ends[place], id)
 }
 
-// Whether one of the marked changes inserts the element with the identifier. One pass from the end, as far as that
-// change.
-fn is_inserted(applied: &[Change], ends: &[u64], marks: &[bool], id: &OpId) -> bool
-    requires ends { ends.now ≡ ends_of applied.now }
-    requires marks { length marks.now ≡ length applied.now }
-    ensures { result ≡ made.is_inserted (made.inserts (pick marks.now applied.now)) id.now }
+/// How many changes of the past the actor made.
+pub(crate) fn count_in(applied: &[Change], order: &[u32], part: &Part, actor: &Actor) -> u64
+    requires sound { Sound applied.now }
+    requires order { IsByActor applied.now order.now }
+    requires part { IsPartOf part.now applied.now }
+    ensures count { result ≡ fit.count_by actor.now (picked part.now applied.now) }
+    ensures few { result ≤ length applied.now }
 {
-    let count = applied.len();
-    for passed in 0..count {
-        if inserts_at(applied, ends, marks, count - 1 - passed, id) {
-            return true;
+    match part {
+        Part::Whole => count_all(applied, order, actor),
+        Part::Marked(marks) => count_by(applied, marks.as_slice(), actor) as u64,
+    }
+}
+
+/// One more than the greatest counter of the past, or 1. `ends` has one more than the last counter of each change,
+/// and `next` is that of all changes.
+pub(crate) fn start_in(applied: &[Change], ends: &[u64], next: u64, part: &Part) -> u64
+    requires ends { ends.now ≡ ends_of applied.now }
+    requires next { next ≡ made.next_counter applied.now }
+    requires part { IsPartOf part.now applied.now }
+    ensures { result ≡ made.next_counter (picked part.now applied.now) }
+{
+    match part {
+        Part::Whole => next,
+        Part::Marked(marks) => next_counter(applied, ends, marks.as_slice()),
+    }
+}
+
+// Whether a change of the past inserts the element with the identifier: its actor's latest change that starts within the
+// counter is the only one that may. A number of comparisons that grows with the logarithm of the number of changes,
+// and the records of that one.
+fn is_inserted(applied: &[Change], order: &[u32], part: &Part, id: &OpId) -> bool
+    requires sound { Sound applied.now }
+    requires order { IsByActor applied.now order.now }
+    requires part { IsPartOf part.now applied.now }
+    ensures { result ≡ made.is_inserted (made.inserts (picked part.now applied.now)) id.now }
+{
+    match latest(applied, order, &id.actor, Some(id.counter)) {
+        Some(place) => {
+            if !part.holds(place) {
+                return false;
+            }
+            inserts_id(&applied[place], id)
         }
+        None => false,
     }
-    false
 }
 
-// Whether one of the marked changes, or one of the actor's records, the first of which has the counter `first`,
+// Whether a change of the past, or one of the actor's records, the first of which has the counter `first`,
 // inserts the element with the identifier.
 fn is_known(
     applied: &[Change],
-    ends: &[u64],
-    marks: &[bool],
+    order: &[u32],
+    part: &Part,
     actor: &Actor,
     first: u64,
     before: &[Record],
     id: &OpId,
 ) -> bool
-    requires ends { ends.now ≡ ends_of applied.now }
-    requires marks { length marks.now ≡ length applied.now }
+    requires sound { Sound applied.now }
+    requires order { IsByActor applied.now order.now }
+    requires part { IsPartOf part.now applied.now }
     requires counters { first + count_of before.now < 2 ^ 64 }
     ensures { result
-        ≡ made.is_inserted (made.inserts_in (ops_from actor.now first before.now) ++ made.inserts (pick marks.now applied.now)) id.now }
+        ≡ made.is_inserted (made.inserts_in (ops_from actor.now first before.now) ++ made.inserts (picked part.now applied.now)) id.now }
 {
     if !actor.is(&id.actor) {
-        return is_inserted(applied, ends, marks, id);
+        return is_inserted(applied, order, part, id);
     }
     if id.counter < first {
-        return is_inserted(applied, ends, marks, id);
+        return is_inserted(applied, order, part, id);
     }
     if covers(before, first, id.counter) {
         return true;
     }
-    is_inserted(applied, ends, marks, id)
+    is_inserted(applied, order, part, id)
 }
 
-// Whether the reference or the target of the record is inserted by one of the marked changes, or by one of the
+// Whether the reference or the target of the record is inserted by a change of the past, or by one of the
 // records before it.
 fn is_there(
     applied: &[Change],
-    ends: &[u64],
-    marks: &[bool],
+    order: &[u32],
+    part: &Part,
     actor: &Actor,
     first: u64,
     before: &[Record],
     entry: &Record,
 ) -> bool
-    requires ends { ends.now ≡ ends_of applied.now }
-    requires marks { length marks.now ≡ length applied.now }
+    requires sound { Sound applied.now }
+    requires order { IsByActor applied.now order.now }
+    requires part { IsPartOf part.now applied.now }
     requires counters { first + count_of before.now < 2 ^ 64 }
     ensures { result
-        ≡ cover.is_there (made.inserts_in (ops_from actor.now first before.now) ++ made.inserts (pick marks.now applied.now)) entry.now }
+        ≡ cover.is_there (made.inserts_in (ops_from actor.now first before.now) ++ made.inserts (picked part.now applied.now)) entry.now }
 {
     match entry {
         Record::Insert { after, .. } => match after {
             Place::Start => true,
-            Place::After(id) => is_known(applied, ends, marks, actor, first, before, id),
+            Place::After(id) => is_known(applied, order, part, actor, first, before, id),
         },
-        Record::Delete { target } => is_known(applied, ends, marks, actor, first, before, target),
+        Record::Delete { target } => is_known(applied, order, part, actor, first, before, target),
     }
 }
 
-/// Whether each reference and each target of the change is inserted by one of the marked changes, or earlier in
+/// Whether each reference and each target of the change is inserted by a change of the past, or earlier in
 /// the change.
-pub(crate) fn refers(applied: &[Change], ends: &[u64], marks: &[bool], change: &Change) -> bool
-    requires ends { ends.now ≡ ends_of applied.now }
-    requires marks { length marks.now ≡ length applied.now }
-    ensures { result ≡ made.refers (made.inserts (pick marks.now applied.now)) (ops_of change.now) }
+pub(crate) fn refers(applied: &[Change], order: &[u32], part: &Part, change: &Change) -> bool
+    requires sound { Sound applied.now }
+    requires order { IsByActor applied.now order.now }
+    requires part { IsPartOf part.now applied.now }
+    ensures { result ≡ made.refers (made.inserts (picked part.now applied.now)) (ops_of change.now) }
 {
     let _hash = change.hash();
     let actor = change.actor();
@@ -220,8 +256,8 @@ pub(crate) fn refers(applied: &[Change], ends: &[u64], marks: &[bool], change: &
     for i in 0..records.len() {
         if !is_there(
             applied,
-            ends,
-            marks,
+            order,
+            part,
             &actor,
             first,
             &records[..i],

@@ -6,6 +6,7 @@
 #![tactic(auto)]
 
 mod applied;
+mod by_actor;
 mod check;
 mod error;
 mod graph;
@@ -13,6 +14,7 @@ mod heads;
 mod index;
 mod judge;
 pub mod laws;
+mod part;
 mod past;
 mod since;
 mod walk;

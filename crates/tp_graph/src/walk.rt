@@ -117,8 +117,8 @@ fn follow(applied: &[Change], index: &Index, marks: &mut [bool], place: usize, h
     }
 }
 
-// Marks for the past of the hashes, by one walk back over the changes.
-fn walk_back(
+/// Marks for the past of the hashes, by one walk back over the changes.
+pub(crate) fn walk_back(
     alloc: Global,
     applied: &[Change],
     index: &Index,

@@ -12,9 +12,6 @@ returns-then-not-is c =
 pub returns-then-id-start : goal.returns-then-id-start
 returns-then-id-start c = inserts_id-low c.args.change.now c.args.id.now (rw (← c.start.ensures) c.if-id-start.true)
 
-pub returns-then-end-id : goal.returns-then-end-id
-returns-then-end-id c = inserts_id-high c.args.change.now c.args.id.now c.args.end c.requires c.if-end-id.true
-
 pub returns : goal.returns
 returns c =
     let one : same_actor c.args.change.now.actor c.args.id.now.actor ≡ true = cc in

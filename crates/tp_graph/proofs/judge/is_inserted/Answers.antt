@@ -1,18 +1,44 @@
-use Rattle.std.proofs.Common.{◌-◌, length, refl}
-use Rattle.tp_graph.proofs.BackLaws.{back-starts, back-goes_on, back-finds, back-ends}
+use Rattle.std.proofs.Common.{◌≡◌, ◌&&◌, ◌∙◌, refl, sym, ap, length, false, true, Some}
+use Rattle.std.specs.List.{slice_get}
+use Rattle.std.proofs.lemmas.Option.{slice_get_read}
+use Rattle.tp_change.specs.Elements as made
+use Rattle.tp_change.specs.Operations.{ops_of}
+use Rattle.tp_graph.specs.Parts.{holds, picked}
+use Rattle.tp_graph.proofs.MarksLaws.{hashes_once}
+use Rattle.tp_graph.proofs.OwnLaws.{inserted-none, inserted-latest}
+use Rattle.tp_graph.proofs.PartLaws.{picked-In, place_of_part, holds-In, In-holds}
 use Rattle.tp_graph.proofs.judge.is_inserted.Goals as goal
 
-pub loop-passed-init : goal.loop-passed-init
-loop-passed-init c = back-starts c.args.marks.now c.args.applied.now c.args.id.now c.requires.marks
+pub holds-requires : goal.holds-requires
+holds-requires c = place_of_part c.args.part.now c.args.applied.now c.in-Some.place c.requires.part c.in-Some.ensures.within
 
-pub loop-passed-preserved : goal.loop-passed-preserved
-loop-passed-preserved c =
-    back-goes_on c.args.marks.now c.args.applied.now c.args.id.now c.loop-passed.passed (length c.args.applied.now - 1 - c.loop-passed.passed) c.inserts_at.result c.loop-passed-test.true refl
-    c.inserts_at.ensures c.if-inserts_at.false c.loop-passed.invariant
+pub returns-then-not-holds : goal.returns-then-not-holds
+returns-then-not-holds c =
+    let C = c.args.applied.now in
+    let id = c.args.id.now in
+    let w = c.in-Some.ensures.latest in
+    let lacks : holds c.args.part.now c.in-Some.place ≡ false = sym c.holds.ensures ∙ c.if-not-holds.true in
+    let whose = made.is_inserted (made.inserts_in (ops_of w.0)) id in
+    ap (λ b. b && whose) (sym lacks)
+    ∙ inserted-latest C (picked c.args.part.now C) id c.in-Some.place w.0 (holds c.args.part.now c.in-Some.place) whose
+    c.requires.sound (picked-In c.args.part.now C) w w.1
+    (holds-In c.args.part.now C c.in-Some.place w.0 w.1)
+    (In-holds c.args.part.now C c.in-Some.place w.0 (hashes_once C c.requires.sound) w.1)
+    refl
 
-pub returns-then-inserts_at : goal.returns-then-inserts_at
-returns-then-inserts_at c =
-    back-finds c.args.marks.now c.args.applied.now c.args.id.now (length c.args.applied.now - 1 - c.loop-passed.passed) c.inserts_at.result c.inserts_at.ensures c.if-inserts_at.true
+pub returns-else-not-holds : goal.returns-else-not-holds
+returns-else-not-holds c =
+    let C = c.args.applied.now in
+    let id = c.args.id.now in
+    let here : slice_get C c.in-Some.place ≡ Some c.index-applied-place.result =
+    slice_get_read C (length C) c.in-Some.place c.index-applied-place.result refl c.in-Some.ensures.within c.index-applied-place.is in
+    let held : holds c.args.part.now c.in-Some.place ≡ true = sym c.holds.ensures ∙ c.if-not-holds.false in
+    ap (λ b. b && c.inserts_id.result) (sym held)
+    ∙ inserted-latest C (picked c.args.part.now C) id c.in-Some.place c.index-applied-place.result (holds c.args.part.now c.in-Some.place) c.inserts_id.result
+    c.requires.sound (picked-In c.args.part.now C) c.in-Some.ensures.latest here
+    (holds-In c.args.part.now C c.in-Some.place c.index-applied-place.result here)
+    (In-holds c.args.part.now C c.in-Some.place c.index-applied-place.result (hashes_once C c.requires.sound) here)
+    c.inserts_id.ensures
 
-pub returns : goal.returns
-returns c = back-ends c.args.marks.now c.args.applied.now c.args.id.now c.loop-passed.passed c.loop-passed-test.false c.loop-passed.invariant
+pub returns-in-None : goal.returns-in-None
+returns-in-None c = inserted-none c.args.applied.now (picked c.args.part.now c.args.applied.now) c.args.id.now (picked-In c.args.part.now c.args.applied.now) c.in-None.ensures.latest

@@ -2,7 +2,7 @@ use Rattle.std.proofs.Common.{◌≡◌, ◌≤◌, ◌+◌, ◌^◌, ◌∙◌,
 use Rattle.tp_change.specs.Operations.{count_of}
 use Rattle.tp_graph.specs.Covers as cover
 use Rattle.tp_change.specs.Elements as made
-use Rattle.tp_graph.specs.Marks.{pick}
+use Rattle.tp_graph.specs.Parts.{picked}
 use Rattle.tp_graph.proofs.InsertLaws.{refers-all_there, count_of-take, all_there-stop, all_there-on, all_there-end}
 use Rattle.tp_graph.proofs.judge.refers.Goals as goal
 
@@ -16,7 +16,7 @@ is_there-requires-clause-counters c =
 
 pub returns-then-not-is_there : goal.returns-then-not-is_there
 returns-then-not-is_there c =
-    let S = made.inserts (pick c.args.marks.now c.args.applied.now) in
+    let S = made.inserts (picked c.args.part.now c.args.applied.now) in
     let no : c.is_there.result ≡ false = c.if-not-is_there.true in
     sym (refers-all_there S c.args.change.now c.hash-hash.ensures.limits
     ∙ ap (λ r. cover.all_there c.args.change.now.actor c.args.change.now.start S [] r) (sym c.records-records.ensures)
@@ -27,7 +27,7 @@ returns-then-not-is_there c =
 
 pub returns : goal.returns
 returns c =
-    let S = made.inserts (pick c.args.marks.now c.args.applied.now) in
+    let S = made.inserts (picked c.args.part.now c.args.applied.now) in
     sym (refers-all_there S c.args.change.now c.hash-hash.ensures.limits
     ∙ ap (λ r. cover.all_there c.args.change.now.actor c.args.change.now.start S [] r) (sym c.records-records.ensures)
     ∙ ap (λ a. cover.all_there a c.args.change.now.start S [] c.records-records.result.now) (sym c.actor-actor.ensures)
@@ -37,6 +37,6 @@ returns c =
 
 pub loop-i-preserved : goal.loop-i-preserved
 loop-i-preserved c =
-    let S = made.inserts (pick c.args.marks.now c.args.applied.now) in
+    let S = made.inserts (picked c.args.part.now c.args.applied.now) in
     all_there-on c.actor-actor.result c.start-first.result S c.records-records.result.now c.loop-i.i c.index-records-i.result c.loop-i-test.true c.index-records-i.is (sym c.is_there.ensures ∙ c.if-not-is_there.false)
     ∙ c.loop-i.invariant

@@ -10,9 +10,9 @@ invariant_of-self-2 c =
     let g = c.self.inside in
     let none : cause g.changes.items c.args.change.now ≡ None = ap (λ (s : AppliedState). cause s.changes c.args.change.now) c.self.view_is ∙ c.in_ok-check.ensures in
     let lacks : has g.changes.items c.hash-hash.result ≡ false = ap (has g.changes.items) c.hash-hash.ensures.hash ∙ (Fits-from_cause g.changes.items c.args.change.now none).new in
-    let kept = IsKept-noted g.changes.items g.heads.items g.index c.note.new.self g.ends.items g.next c.hash-hash.result c.len-place.result c.self.invariant.0 lacks c.in_ok-note.ensures.ok in
+    let kept = IsKept-noted g.changes.items g.heads.items g.index c.note.new.self g.ends.items g.next g.order.items c.hash-hash.result c.len-place.result c.self.invariant.0 lacks c.in_ok-note.ensures.ok in
     let grown = c.grow.ensures in
     let room = c.in_ok-grow.ensures.room in (
-      rw (grown.changes, grown.heads, grown.ends) kept,
-      (noted_itself g.index c.note.new.self c.hash-hash.result c.len-place.result c.in_ok-note.ensures.ok ∙ ap Some (c.len-place.ensures ∙ sym grown.lens.0), room.0, room.1, room.2),
+      rw (grown.changes, grown.heads, grown.ends, grown.order) kept,
+      (noted_itself g.index c.note.new.self c.hash-hash.result c.len-place.result c.in_ok-note.ensures.ok ∙ ap Some (c.len-place.ensures ∙ sym grown.lens.0), room.0, room.1, room.2, room.3),
     )

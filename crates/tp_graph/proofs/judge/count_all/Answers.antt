@@ -1,0 +1,27 @@
+use Rattle.std.proofs.Common.{◌≡◌, ◌≤◌, ◌∙◌, refl, length, arith, Some}
+use Rattle.std.specs.List.{slice_get}
+use Rattle.std.proofs.lemmas.Option.{slice_get_read}
+use Rattle.tp_graph.specs.Fit as fit
+use Rattle.tp_graph.proofs.LatestLaws.{count_by-length}
+use Rattle.tp_graph.proofs.OwnLaws.{count-latest, count-none}
+use Rattle.tp_graph.proofs.judge.count_all.Goals as goal
+
+pub returns-in-Some-clause-count : goal.returns-in-Some-clause-count
+returns-in-Some-clause-count c =
+    let C = c.args.applied.now in
+    let here : slice_get C c.in-Some.place ≡ Some c.index-applied-place.result =
+    slice_get_read C (length C) c.in-Some.place c.index-applied-place.result refl c.in-Some.ensures.within c.index-applied-place.is in
+    c.seq.ensures ∙ count-latest C c.args.actor.now c.in-Some.place c.index-applied-place.result c.requires.sound c.in-Some.ensures.latest here
+
+pub returns-in-Some-clause-few : goal.returns-in-Some-clause-few
+returns-in-Some-clause-few c =
+    let C = c.args.applied.now in
+    let here : slice_get C c.in-Some.place ≡ Some c.index-applied-place.result =
+    slice_get_read C (length C) c.in-Some.place c.index-applied-place.result refl c.in-Some.ensures.within c.index-applied-place.is in
+    let all : c.seq.result ≡ fit.count_by c.args.actor.now C =
+    c.seq.ensures ∙ count-latest C c.args.actor.now c.in-Some.place c.index-applied-place.result c.requires.sound c.in-Some.ensures.latest here in
+    let few : fit.count_by c.args.actor.now C ≤ length C = count_by-length c.args.actor.now C in
+    omega arith
+
+pub returns-in-None-clause-count : goal.returns-in-None-clause-count
+returns-in-None-clause-count c = count-none c.args.applied.now c.args.actor.now c.requires.sound c.in-None.ensures.latest
