@@ -3,6 +3,7 @@
 
 #[cfg(test)]
 mod history;
+#[cfg(test)]
 mod receiving;
 #[cfg(test)]
 mod refusals;
