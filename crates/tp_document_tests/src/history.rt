@@ -143,12 +143,15 @@ fn enter(document: &mut Document<PlainSequence>, change: &Change) -> Result<(), 
     Ok(())
 }
 
-/// Keeps a copy of a change as one that waits.
-fn hold(document: &mut Document<PlainSequence>, change: &Change) -> Result<(), Fail> {
-    let copied = change.copy()?;
-    if document.pending_len() < 1024 {
-        let _kept = document.hold(copied);
-    }
+/// Receives a copy of a change.
+fn receive(
+    alloc: Global,
+    document: &mut Document<PlainSequence>,
+    change: &Change,
+) -> Result<(), Fail> {
+    let mut came = Vec::new(alloc);
+    came.push(change.copy()?)?;
+    document.apply(came)?;
     Ok(())
 }
 
@@ -242,7 +245,7 @@ fn refuses_what_is_not_there(rt: HostRuntime) -> Result<(), Fail> {
     let changes = examples(alloc)?;
     let mut document = document_of(alloc, &changes, &[0, 1])?;
     if let Some(change) = changes.get(4) {
-        hold(&mut document, change)?;
+        receive(alloc, &mut document, change)?;
     }
     assert_eq!(rt; document.pending_len(), 1);
     let rows: [(&[usize], u8, u8, u8); 5] = [
