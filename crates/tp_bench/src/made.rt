@@ -22,8 +22,20 @@ pub fn change(
     deps: Vec<Hash>,
     records: Vec<Record>,
 ) -> anyhow::Result<Change> {
+    change_by(alloc, AUTHOR, seq, start, deps, records)
+}
+
+/// A change of an actor's.
+pub fn change_by(
+    alloc: Global,
+    actor: Actor,
+    seq: u64,
+    start: u64,
+    deps: Vec<Hash>,
+    records: Vec<Record>,
+) -> anyhow::Result<Change> {
     let parts = ChangeParts {
-        actor: AUTHOR,
+        actor,
         seq,
         start,
         time: 0,

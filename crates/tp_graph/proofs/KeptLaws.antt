@@ -8,7 +8,7 @@ use Rattle.tp_opid.specs.Same.{same_hash}
 use Rattle.tp_opid.proofs.Orders.{same_hash-same, same_hash-itself}
 use Rattle.tp_change.specs.declared.parts.ChangeParts.{ChangeParts}
 use Rattle.tp_change.specs.ChangeHash.{hash_of}
-use Rattle.tp_change.specs.Elements.{later, next_counter}
+use Rattle.tp_change.specs.Elements.{later}
 use Rattle.tp_change.specs.Operations.{op_count}
 use Rattle.tp_graph.specs.declared.error.GraphError.{GraphError}
 use Rattle.tp_graph.specs.Named.{has}

@@ -19,8 +19,8 @@ pub mod SetLaws
 pub mod PlaceLists
 pub mod FirstFaults
 pub mod LatestLaws
-pub mod BackLaws
 pub mod WaitingLaws
 pub mod ByActorLaws
 pub mod OwnLaws
 pub mod PartLaws
+pub mod EndLaws

@@ -1,6 +1,6 @@
 -- An actor's changes in a sound list: their numbers and counters rise, and the latest one says how many there are and
 -- who inserted what.
-use Rattle.std.proofs.Common.{◌≡◌, ◌⊎◌, ℕ, ◌+◌, ◌<◌, ◌≤◌, inl, inr, List, [], ◌∷◌, ◌++◌, length, Bool, true, false, ◌||◌, ◌&&◌, nat_lt, Some, None, Option, refl, sym, ap, ◌∙◌, subst, arith}
+use Rattle.std.proofs.Common.{◌≡◌, ◌⊎◌, ℕ, ◌+◌, ◌<◌, ◌≤◌, inl, inr, List, [], ◌∷◌, ◌++◌, Bool, true, false, ◌&&◌, nat_lt, Some, None, refl, sym, ap, ◌∙◌, subst, arith}
 use Rattle.std.specs.List.{slice_get}
 use Rattle.std.proofs.lemmas.Bool.Decides.{nat_tests}
 use Rattle.tp_list.specs.Members.{In, AllIn}
@@ -11,14 +11,15 @@ use Rattle.tp_opid.proofs.Orders.{same_actor-same, same_actor-itself}
 use Rattle.tp_change.specs.declared.parts.ChangeParts.{ChangeParts}
 use Rattle.tp_change.specs.Operations.{op_count, ops_of}
 use Rattle.tp_change.specs.Elements.{inserts_in, inserts, is_inserted, next_counter}
-use Rattle.tp_graph.specs.ByActor.{is_above, IsWithin, IsLatest}
+use Rattle.tp_graph.specs.ByActor.{IsWithin, IsLatest}
 use Rattle.tp_graph.specs.Fit.{count_by}
 use Rattle.tp_graph.specs.Past.{past}
 use Rattle.tp_graph.specs.Sound.{Sound, Fits}
 use Rattle.tp_graph.proofs.Tests.{truth, never, not_true, same_test, or_cases, or_left, or_right, both_left}
 use Rattle.tp_graph.proofs.NamedLaws.{In-cases}
 use Rattle.tp_graph.proofs.SoundLaws.{sound-induct}
-use Rattle.tp_graph.proofs.CountLaws.{seqs_run, next_seq, own_past, next_counter-above}
+use Rattle.tp_graph.proofs.CountLaws.{count_by-le, seqs_run, next_seq, own_past, next_counter-above}
+use Rattle.tp_graph.proofs.MarksLaws.{hashes_once}
 use Rattle.tp_graph.proofs.InsertLaws.{is_inserted-append, inserts_id-is, inserts_id-low, inserts_id-high}
 use Rattle.tp_graph.proofs.PlacesLaws.{slice_get-In}
 
@@ -101,6 +102,17 @@ count-none C a s w =
           let itself : count_by a C ≤ count_by a C = omega arith in
           let d = (seqs_run C s).there a (count_by a C) some itself in absurd (w d.0 d.1 (record { actor = d.2; start = refl }))
     ]
+
+-- of a past that has the actor's latest change
+pub count-within : (C P : List ChangeParts) (a : Actor) (p : ℕ) (c : ChangeParts) → Sound C → Sound P → AllIn P C → IsLatest C a None (Some p) → slice_get C p ≡ Some c → In c P → c.seq ≡ count_by a P
+count-within C P a p c s t more w at i =
+    let all : c.seq ≡ count_by a C = count-latest C a p c s w at in
+    let fewer : count_by a P ≤ count_by a C = count_by-le a P C (hashes_once P t) more in
+    let h : Some w.0 ≡ Some c = sym w.1 ∙ at in
+    let one : w.0 ≡ c = cc in
+    let who : c.actor ≡ a = same_actor-same c.actor a (subst (λ (x : ChangeParts). same_actor x.actor a ≡ true) one w.2.actor) in
+    let bound : c.seq ≤ count_by a P = subst (λ b. c.seq ≤ count_by b P) who ((seqs_run P t).bounded c i) in
+    omega arith
 
 -- ---- who inserted what
 

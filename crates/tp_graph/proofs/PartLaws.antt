@@ -1,5 +1,5 @@
 -- Laws of the changes that a past has, by place.
-use Rattle.std.proofs.Common.{◌≡◌, ℕ, suc, zero, ◌<◌, inl, inr, List, [], ◌∷◌, length, get_or, Bool, true, false, Some, refl, sym, ap, ◌∙◌, subst, arith}
+use Rattle.std.proofs.Common.{◌≡◌, ℕ, suc, zero, ◌<◌, inl, inr, List, [], ◌∷◌, length, get_or, Bool, true, false, Some, refl, sym, ap, arith}
 use Rattle.std.specs.List.{slice_get}
 use Rattle.tp_list.specs.Members.{In, AllIn}
 use Rattle.tp_change.specs.declared.parts.ChangeParts.{ChangeParts}
@@ -13,14 +13,14 @@ use Rattle.tp_graph.proofs.Tests.{never}
 use Rattle.tp_graph.proofs.NamedLaws.{In-has}
 use Rattle.tp_graph.proofs.PlacesLaws.{slice_get-In}
 
-pick-In : (bs : List Bool) (C : List ChangeParts) (c : ChangeParts) → In c (pick bs C) → In c C
+pub pick-In : (bs : List Bool) (C : List ChangeParts) (c : ChangeParts) → In c (pick bs C) → In c C
 pick-In [] C c i = absurd i
 pick-In (b ∷ bs) [] c i = absurd i
 pick-In (true ∷ bs) (d ∷ C) c (inl e) = inl e
 pick-In (true ∷ bs) (d ∷ C) c (inr i) = inr (pick-In bs C c i)
 pick-In (false ∷ bs) (d ∷ C) c i = inr (pick-In bs C c i)
 
-pick-marked : (bs : List Bool) (C : List ChangeParts) (p : ℕ) (c : ChangeParts) → slice_get C p ≡ Some c → get_or bs p false ≡ true → In c (pick bs C)
+pub pick-marked : (bs : List Bool) (C : List ChangeParts) (p : ℕ) (c : ChangeParts) → slice_get C p ≡ Some c → get_or bs p false ≡ true → In c (pick bs C)
 pick-marked [] C zero c e t = cc
 pick-marked [] C (suc p) c e t = cc
 pick-marked (b ∷ bs) [] p c e t = cc

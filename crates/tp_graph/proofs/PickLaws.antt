@@ -1,19 +1,16 @@
 -- Loops over marked changes: what is still to come, by places.
-use Rattle.std.proofs.Common.{◌≡◌, ℕ, suc, zero, ◌+◌, ◌<◌, ◌≤◌, List, [], ◌∷◌, ◌++◌, length, Bool, true, false, ◌||◌, cond, Some, drop, get_or, refl, sym, ap, ◌∙◌, subst, arith, add-one, drop-cons, append_assoc, ◌==◌, ◌&&◌}
+use Rattle.std.proofs.Common.{◌≡◌, ℕ, suc, zero, ◌+◌, ◌≤◌, List, [], ◌∷◌, ◌++◌, length, Bool, true, false, cond, Some, drop, get_or, refl, sym, ap, ◌∙◌, subst, arith, add-one, append_assoc}
 use Rattle.std.specs.List.{slice_get}
-use Rattle.std.proofs.lemmas.Option.{get_or_from_slice_get}
 use Rattle.std.proofs.lemmas.Bool.Decides.{nat_tests}
 use Rattle.tp_opid.specs.declared.actor.Actor.{Actor}
-use Rattle.tp_opid.specs.declared.op_id.OpId.{OpId}
 use Rattle.tp_opid.specs.Same.{same_actor}
 use Rattle.tp_change.specs.declared.parts.ChangeParts.{ChangeParts}
-use Rattle.tp_change.specs.Operations.{op_count, ops_of}
-use Rattle.tp_graph.specs.Fit.{count_by, clashes}
-use Rattle.tp_change.specs.Elements.{inserts_in, inserts, is_inserted, next_counter, later}
+use Rattle.tp_change.specs.Operations.{op_count}
+use Rattle.tp_graph.specs.Fit.{count_by}
+use Rattle.tp_change.specs.Elements.{next_counter, later}
 use Rattle.tp_graph.specs.Marks.{rest_of}
 use Rattle.tp_graph.specs.Places.{ends_of}
 use Rattle.tp_graph.specs.Since.{skip}
-use Rattle.tp_graph.proofs.InsertLaws.{is_inserted-append}
 
 pub rest_of-step : (bs : List Bool) (C : List ChangeParts) (i : ℕ) (c : ChangeParts) → length bs ≡ length C → slice_get C i ≡ Some c → rest_of bs C i ≡ cond (get_or bs i false) (c ∷ rest_of bs C (i + 1)) (rest_of bs C (i + 1))
 rest_of-step bs [] i c l e = cc
@@ -29,14 +26,6 @@ rest_of-kept bs C i c l e t = rest_of-step bs C i c l e ∙ ap (λ b. cond b (c 
 
 pub rest_of-left : (bs : List Bool) (C : List ChangeParts) (i : ℕ) (c : ChangeParts) → length bs ≡ length C → slice_get C i ≡ Some c → get_or bs i false ≡ false → rest_of bs C i ≡ rest_of bs C (i + 1)
 rest_of-left bs C i c l e t = rest_of-step bs C i c l e ∙ ap (λ b. cond b (c ∷ rest_of bs C (i + 1)) (rest_of bs C (i + 1))) t
-
-pub rest_of-end : (bs : List Bool) (C : List ChangeParts) (i : ℕ) → length bs ≡ length C → length C ≤ i → rest_of bs C i ≡ []
-rest_of-end [] [] zero l e = refl
-rest_of-end [] [] (suc i) l e = refl
-rest_of-end [] (c ∷ C) i l e = absurd (omega arith)
-rest_of-end (b ∷ bs) [] i l e = absurd (omega arith)
-rest_of-end (b ∷ bs) (c ∷ C) zero l e = absurd (omega arith)
-rest_of-end (b ∷ bs) (c ∷ C) (suc i) l e = let less : length bs ≡ length C = omega arith in rest_of-end bs C i less (omega arith)
 
 -- ends by place
 pub ends_of-at : (C : List ChangeParts) (i : ℕ) (c : ChangeParts) → slice_get C i ≡ Some c → slice_get (ends_of C) i ≡ Some (c.start + op_count c)
@@ -56,9 +45,6 @@ ends_of-push (x ∷ C) c = ap (λ l. (x.start + op_count x) ∷ l) (ends_of-push
 
 pub later-assoc : (a b c : ℕ) → later (later a b) c ≡ later a (later b c)
 later-assoc a b c = grind (arith, nat_tests)
-
-pub later-nothing : (b : ℕ) → later 0 b ≡ b
-later-nothing b = grind (arith, nat_tests)
 
 pub one_first : (C : List ChangeParts) → 1 ≤ next_counter C
 one_first [] = omega arith
@@ -96,41 +82,6 @@ pub counted_none : (a : Actor) (bs : List Bool) (C : List ChangeParts) (i : ℕ)
     → length bs ≡ length C → slice_get C i ≡ Some c → get_or bs i false ≡ false
     → 0 + count_by a (rest_of bs C (i + 1)) ≡ count_by a (rest_of bs C i)
 counted_none a bs C i c l e t = let same = ap (count_by a) (rest_of-left bs C i c l e t) in omega (arith, same)
-
-pub end_kept : (bs : List Bool) (C : List ChangeParts) (i : ℕ) (c : ChangeParts) (d : ℕ)
-    → length bs ≡ length C → slice_get C i ≡ Some c → get_or bs i false ≡ true
-    → next_counter (rest_of bs C i) ≡ later (get_or (ends_of C) i d) (next_counter (rest_of bs C (i + 1)))
-end_kept bs C i c d l e t =
-    ap next_counter (rest_of-kept bs C i c l e t)
-    ∙ ap (λ n. later n (next_counter (rest_of bs C (i + 1)))) (sym (get_or_from_slice_get (ends_of C) i (c.start + op_count c) d (ends_of-at C i c e)))
-
-pub end_left : (bs : List Bool) (C : List ChangeParts) (i : ℕ) (c : ChangeParts)
-    → length bs ≡ length C → slice_get C i ≡ Some c → get_or bs i false ≡ false
-    → next_counter (rest_of bs C i) ≡ later 0 (next_counter (rest_of bs C (i + 1)))
-end_left bs C i c l e t = ap next_counter (rest_of-left bs C i c l e t) ∙ sym (later-nothing (next_counter (rest_of bs C (i + 1))))
-
-pub inserts_kept : (bs : List Bool) (C : List ChangeParts) (i : ℕ) (c : ChangeParts) (id : OpId)
-    → length bs ≡ length C → slice_get C i ≡ Some c → get_or bs i false ≡ true
-    → is_inserted (inserts (rest_of bs C i)) id ≡ (is_inserted (inserts_in (ops_of c)) id || is_inserted (inserts (rest_of bs C (i + 1))) id)
-inserts_kept bs C i c id l e t =
-    ap (λ K. is_inserted (inserts K) id) (rest_of-kept bs C i c l e t) ∙ is_inserted-append (inserts_in (ops_of c)) (inserts (rest_of bs C (i + 1))) id
-
-pub inserts_left : (bs : List Bool) (C : List ChangeParts) (i : ℕ) (c : ChangeParts) (id : OpId)
-    → length bs ≡ length C → slice_get C i ≡ Some c → get_or bs i false ≡ false
-    → is_inserted (inserts (rest_of bs C i)) id ≡ (false || is_inserted (inserts (rest_of bs C (i + 1))) id)
-inserts_left bs C i c id l e t = ap (λ K. is_inserted (inserts K) id) (rest_of-left bs C i c l e t)
-
-clashes-drop : (C : List ChangeParts) (i : ℕ) (x c : ChangeParts) → i < length C → x ≡ get_or C i x → clashes (drop i C) c ≡ ((same_actor x.actor c.actor && (x.seq == c.seq)) || clashes (drop (i + 1) C) c)
-clashes-drop C i x c small e =
-    ap (λ l. clashes l c) (drop-cons C i x small)
-    ∙ ap (λ y. clashes (y ∷ drop (suc i) C) c) (sym e)
-    ∙ ap (λ k. (same_actor x.actor c.actor && (x.seq == c.seq)) || clashes (drop k C) c) (sym (add-one i))
-
-pub clashes-found : (C : List ChangeParts) (i : ℕ) (x c : ChangeParts) → i < length C → x ≡ get_or C i x → clashes (drop i C) c ≡ clashes C c → (same_actor x.actor c.actor && (x.seq == c.seq)) ≡ true → true ≡ clashes C c
-clashes-found C i x c small e f t = sym (sym f ∙ clashes-drop C i x c small e ∙ ap (λ b. b || clashes (drop (i + 1) C) c) t)
-
-pub clashes-on : (C : List ChangeParts) (i : ℕ) (x c : ChangeParts) → i < length C → x ≡ get_or C i x → clashes (drop i C) c ≡ clashes C c → (same_actor x.actor c.actor && (x.seq == c.seq)) ≡ false → clashes (drop (i + 1) C) c ≡ clashes C c
-clashes-on C i x c small e f t = sym (sym f ∙ clashes-drop C i x c small e ∙ ap (λ b. b || clashes (drop (i + 1) C) c) t)
 
 skip-step : (bs : List Bool) (C : List ChangeParts) (i : ℕ) (c : ChangeParts) → length bs ≡ length C → slice_get C i ≡ Some c → skip (drop i bs) (drop i C) ≡ cond (get_or bs i false) (skip (drop (suc i) bs) (drop (suc i) C)) (c ∷ skip (drop (suc i) bs) (drop (suc i) C))
 skip-step bs [] i c l e = cc

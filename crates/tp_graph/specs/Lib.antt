@@ -10,6 +10,7 @@ pub mod Marks
 pub mod Covers
 pub mod GraphState
 pub mod Parts
+pub mod Ends
 pub mod ByActor
 pub mod AppliedState
 pub mod Answers

@@ -28,7 +28,8 @@ use std::marker::Model;
 use tp_change::Change;
 use tp_opid::{Actor, Hash};
 
-/// The applied changes in the order in which they entered. Heads, places and counters are kept beside them.
+/// The applied changes in the order in which they entered. Heads, places, counters and the order by actors are kept
+/// beside them.
 #[derive(Drop)]
 pub(crate) struct Applied {
     alloc: Global,
@@ -195,7 +196,6 @@ impl Applied {
             self.alloc,
             self.changes.as_slice(),
             self.ends.as_slice(),
-            self.next,
             self.heads.as_slice(),
             &self.index,
             self.order.as_slice(),

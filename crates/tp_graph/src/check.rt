@@ -2,18 +2,18 @@
 
 ghost use Rattle.std.specs.Prelude.{◌≡◌, ◌≤◌, length};
 ghost use Rattle.tp_graph.specs.Answers.{Answers};
-ghost use Rattle.tp_graph.specs.AppliedState.{IsKept};
 ghost use Rattle.tp_graph.specs.ByActor.{IsByActor};
 ghost use Rattle.tp_graph.specs.Fit as fit;
 ghost use Rattle.tp_graph.specs.Parts.{picked, IsPartOf};
 ghost use Rattle.tp_graph.specs.Past.{past};
-ghost use Rattle.tp_graph.specs.Places.{ends_of};
+ghost use Rattle.tp_graph.specs.Heads as head;
+ghost use Rattle.tp_graph.specs.Places.{ends_of, NotesFrom};
 ghost use Rattle.tp_graph.specs.Sound.{Sound};
 ghost use Rattle.tp_change.specs.Elements as made;
 
 use crate::error::GraphError;
 use crate::index::Index;
-use crate::judge::{count_all, count_in, refers, start_in};
+use crate::judge::{count_all, count_in, refers, start_after};
 use crate::part::{Part, part_of};
 use crate::walk::{contains, has_all};
 use std::alloc::Global;
@@ -23,28 +23,27 @@ use tp_opid::Hash;
 /// How many changes a graph has at most.
 pub(crate) const MOST_CHANGES: usize = 4294967295;
 
-// The numbers and references of the change behind its past.
+// The numbers and references of the change behind its past, where one that fits starts at `start`.
 #[tactic(auto, unfolding(crate::specs::Fit::misfit_behind))]
 fn check_behind(
     applied: &[Change],
-    ends: &[u64],
-    next: u64,
     order: &[u32],
     part: &Part,
+    start: u64,
     change: &Change,
 ) -> Result<(), GraphError>
     requires sound { Sound applied.now }
     requires few { length applied.now ≤ fit.most_changes }
-    requires ends { ends.now ≡ ends_of applied.now }
-    requires next { next ≡ made.next_counter applied.now }
     requires order { IsByActor applied.now order.now }
     requires part { IsPartOf part.now applied.now }
+    requires past { Sound (picked part.now applied.now) }
+    requires start { start ≡ made.next_counter (picked part.now applied.now) }
     ensures { Answers result (fit.misfit_behind (picked part.now applied.now) change.now) }
 {
     if change.seq() != count_in(applied, order, part, &change.actor()) + 1 {
         return Err(GraphError::BadSeq);
     }
-    if change.start() != start_in(applied, ends, next, part) {
+    if change.start() != start {
         return Err(GraphError::BadStart);
     }
     if !refers(applied, order, part, change) {
@@ -58,17 +57,22 @@ fn check_past(
     alloc: Global,
     applied: &[Change],
     ends: &[u64],
-    next: u64,
     heads: &[Hash],
     index: &Index,
     order: &[u32],
     change: &Change,
 ) -> Result<(), GraphError>
-    requires { IsKept applied.now heads.now index.now ends.now next order.now }
+    requires sound { Sound applied.now }
+    requires few { length applied.now ≤ fit.most_changes }
+    requires notes { NotesFrom 0 applied.now index.now }
+    requires ends { ends.now ≡ ends_of applied.now }
+    requires heads { heads.now ≡ head.heads applied.now }
+    requires order { IsByActor applied.now order.now }
     ensures { Answers result (fit.misfit_behind (past applied.now change.now.deps) change.now) }
 {
     let part = part_of(alloc, applied, index, heads, change.deps())?;
-    check_behind(applied, ends, next, order, &part, change)
+    let start = start_after(applied, index, ends, change.deps());
+    check_behind(applied, order, &part, start, change)
 }
 
 // Whether one of the changes has the actor and the sequence number of the change: whether its actor has reached
@@ -88,13 +92,17 @@ pub(crate) fn check(
     alloc: Global,
     applied: &[Change],
     ends: &[u64],
-    next: u64,
     heads: &[Hash],
     index: &Index,
     order: &[u32],
     change: &Change,
 ) -> Result<(), GraphError>
-    requires { IsKept applied.now heads.now index.now ends.now next order.now }
+    requires sound { Sound applied.now }
+    requires few { length applied.now ≤ fit.most_changes }
+    requires notes { NotesFrom 0 applied.now index.now }
+    requires ends { ends.now ≡ ends_of applied.now }
+    requires heads { heads.now ≡ head.heads applied.now }
+    requires order { IsByActor applied.now order.now }
     ensures { Answers result (fit.cause applied.now change.now) }
 {
     if contains(applied, index, &change.hash()) {
@@ -103,7 +111,7 @@ pub(crate) fn check(
     if !has_all(applied, index, change.deps()) {
         return Err(GraphError::MissingDeps);
     }
-    check_past(alloc, applied, ends, next, heads, index, order, change)?;
+    check_past(alloc, applied, ends, heads, index, order, change)?;
     if clashes(applied, order, change) {
         return Err(GraphError::SeqClash);
     }

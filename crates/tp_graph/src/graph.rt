@@ -30,8 +30,8 @@ use tp_opid::{Actor, Hash};
 
 /// Changes by hash: those that are applied, in the order in which they entered, and those that wait for others.
 ///
-/// Contracts see the two lists, and for which change room was made. Heads, places and counters are kept beside
-/// them: a look-up takes as many comparisons as the logarithm of the number of changes.
+/// Contracts see the two lists, and for which change room was made. Heads, places, counters and the order by actors
+/// are kept beside them: a look-up takes as many comparisons as the logarithm of the number of changes.
 #[derive(Drop)]
 pub struct Graph {
     alloc: Global,
@@ -134,7 +134,8 @@ impl Graph {
         self.applied.next_counter()
     }
 
-    /// How many of the applied changes the actor made.
+    /// How many of the applied changes the actor made. A number of comparisons that grows with the logarithm of the
+    /// number of applied changes.
     pub fn count_by(&self, actor: &Actor) -> u64
         ensures { result ≡ fit.count_by actor.now self.now.applied }
     {
@@ -143,8 +144,9 @@ impl Graph {
 
     /// Whether the change can enter: `Ok`, or why not. It may be refused as `OutOfMemory` whatever the change.
     ///
-    /// A byte for each applied change. Where the dependencies are the heads, some passes over the applied changes;
-    /// elsewhere one walk back over them as well, with a look-up for each dependency.
+    /// Where the dependencies are the heads: a number of comparisons that grows with the logarithm of the number of
+    /// applied changes, for each dependency and each reference, and the records of the changes that are referred to.
+    /// Elsewhere one walk back over the applied changes as well, with a byte for each.
     pub fn check(&self, change: &Change) -> Result<(), GraphError>
         ensures { Answers result (cause self.now.applied change.now) }
     {
@@ -177,7 +179,7 @@ impl Graph {
     }
 
     /// Enters a change that can enter and that was made [`ready`](Graph::ready) for, as the last applied one. No
-    /// memory.
+    /// memory. It moves four bytes for each applied change of a later actor.
     pub fn enter(&mut self, change: Change)
         requires enters { cause self.old.applied change ≡ None }
         requires room { self.old.room ≡ Some (hash_of change) }

@@ -9,13 +9,17 @@ ghost use Rattle.tp_graph.specs.Covers as cover;
 ghost use Rattle.tp_graph.specs.ByActor.{IsByActor};
 ghost use Rattle.tp_graph.specs.Marks.{pick, rest_of};
 ghost use Rattle.tp_graph.specs.Parts.{picked, IsPartOf};
-ghost use Rattle.tp_graph.specs.Places.{ends_of};
+ghost use Rattle.tp_graph.specs.Ends.{end_named};
+ghost use Rattle.tp_graph.specs.Past.{past};
+ghost use Rattle.tp_graph.specs.Places.{ends_of, NotesFrom};
 ghost use Rattle.tp_graph.specs.Sound.{Sound};
 
 use crate::by_actor::latest;
+use crate::index::Index;
 use crate::part::Part;
+use crate::walk::place_of;
 use tp_change::{Change, Record};
-use tp_opid::{Actor, OpId, Place};
+use tp_opid::{Actor, Hash, OpId, Place};
 
 // How many characters a text has.
 fn chars_in(text: &str) -> usize
@@ -97,27 +101,29 @@ pub(crate) fn later(a: u64, b: u64) -> u64
     if a < b { b } else { a }
 }
 
-// One more than the last counter of the change at the place where it is marked, else 0.
-fn end_at(applied: &[Change], ends: &[u64], marks: &[bool], place: usize) -> u64
+// One more than the last counter of the change with the hash, or 0 where none has it.
+fn end_of(applied: &[Change], index: &Index, ends: &[u64], hash: &Hash) -> u64
+    requires notes { NotesFrom 0 applied.now index.now }
     requires ends { ends.now ≡ ends_of applied.now }
-    requires marks { length marks.now ≡ length applied.now }
-    requires place { place < length applied.now }
-    ensures { made.next_counter (rest_of marks.now applied.now place)
-        ≡ made.later result (made.next_counter (rest_of marks.now applied.now (place + 1))) }
+    ensures { result ≡ end_named applied.now hash.now }
 {
-    if marks[place] { ends[place] } else { 0 }
+    match place_of(applied, index, hash) {
+        Some(place) => ends[place],
+        None => 0,
+    }
 }
 
-// One more than the greatest counter of the marked changes, or 1. `ends` has one more than the last counter of each
-// change.
-fn next_counter(applied: &[Change], ends: &[u64], marks: &[bool]) -> u64
+/// One more than the greatest counter in the past of the hashes, or 1: that of the changes that have them, since what a
+/// change depends on ends before it starts. A look-up for each hash.
+pub(crate) fn start_after(applied: &[Change], index: &Index, ends: &[u64], hashes: &[Hash]) -> u64
+    requires sound { Sound applied.now }
+    requires notes { NotesFrom 0 applied.now index.now }
     requires ends { ends.now ≡ ends_of applied.now }
-    requires marks { length marks.now ≡ length applied.now }
-    ensures { result ≡ made.next_counter (pick marks.now applied.now) }
+    ensures { result ≡ made.next_counter (past applied.now hashes.now) }
 {
     let mut next = 1;
-    for place in 0..applied.len() {
-        next = later(next, end_at(applied, ends, marks, place));
+    for hash in hashes {
+        next = later(next, end_of(applied, index, ends, hash));
     }
     next
 }
@@ -136,9 +142,28 @@ pub(crate) fn count_all(applied: &[Change], order: &[u32], actor: &Actor) -> u64
     }
 }
 
+// How many of the marked changes, which are a past, the actor made. Where its latest change is marked, they all are;
+// elsewhere, where no change of the actor's can enter, one pass.
+fn count_marked(applied: &[Change], order: &[u32], marks: &[bool], actor: &Actor) -> u64
+    requires sound { Sound applied.now }
+    requires past { Sound (pick marks.now applied.now) }
+    requires order { IsByActor applied.now order.now }
+    requires marks { length marks.now ≡ length applied.now }
+    ensures count { result ≡ fit.count_by actor.now (pick marks.now applied.now) }
+    ensures few { result ≤ length applied.now }
+{
+    if let Some(place) = latest(applied, order, actor, None) {
+        if marks[place] {
+            return applied[place].seq();
+        }
+    }
+    count_by(applied, marks, actor) as u64
+}
+
 /// How many changes of the past the actor made.
 pub(crate) fn count_in(applied: &[Change], order: &[u32], part: &Part, actor: &Actor) -> u64
     requires sound { Sound applied.now }
+    requires past { Sound (picked part.now applied.now) }
     requires order { IsByActor applied.now order.now }
     requires part { IsPartOf part.now applied.now }
     ensures count { result ≡ fit.count_by actor.now (picked part.now applied.now) }
@@ -146,21 +171,7 @@ pub(crate) fn count_in(applied: &[Change], order: &[u32], part: &Part, actor: &A
 {
     match part {
         Part::Whole => count_all(applied, order, actor),
-        Part::Marked(marks) => count_by(applied, marks.as_slice(), actor) as u64,
-    }
-}
-
-/// One more than the greatest counter of the past, or 1. `ends` has one more than the last counter of each change,
-/// and `next` is that of all changes.
-pub(crate) fn start_in(applied: &[Change], ends: &[u64], next: u64, part: &Part) -> u64
-    requires ends { ends.now ≡ ends_of applied.now }
-    requires next { next ≡ made.next_counter applied.now }
-    requires part { IsPartOf part.now applied.now }
-    ensures { result ≡ made.next_counter (picked part.now applied.now) }
-{
-    match part {
-        Part::Whole => next,
-        Part::Marked(marks) => next_counter(applied, ends, marks.as_slice()),
+        Part::Marked(marks) => count_marked(applied, order, marks.as_slice(), actor),
     }
 }
 

@@ -1,5 +1,5 @@
-use Rattle.std.proofs.Common.{◌≡◌, ap, subst, Some}
-use Rattle.tp_graph.specs.ByActor.{IsByActor, IsCut}
+use Rattle.std.proofs.Common.{Some}
+use Rattle.tp_graph.specs.ByActor.{IsCut}
 use Rattle.tp_graph.proofs.ByActorLaws.{IsByActor-push}
 use Rattle.tp_graph.proofs.OwnLaws.{own_earlier}
 use Rattle.tp_graph.proofs.applied.put_in_order.Goals as goal

@@ -1,5 +1,4 @@
-use Rattle.tp_graph.proofs.OwnLaws.{count-none}
-use Rattle.std.proofs.Common.{◌≡◌, ◌-◌, ◌<◌, ◌∙◌, sym, length, refl, arith, ap, true, false, Some, get_or}
+use Rattle.std.proofs.Common.{◌≡◌, ◌-◌, ◌<◌, length, refl, arith, true, false, Some, get_or}
 use Rattle.std.specs.List.{slice_get}
 use Rattle.std.proofs.lemmas.Option.{slice_get_read}
 use Rattle.tp_opid.specs.Same.{same_actor}

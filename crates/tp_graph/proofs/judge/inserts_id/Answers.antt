@@ -1,7 +1,7 @@
 use Rattle.std.proofs.Common.{◌≡◌, ◌∙◌, ap, true, false}
 use Rattle.tp_opid.specs.Same.{same_actor}
 use Rattle.tp_graph.specs.Covers.{covers}
-use Rattle.tp_graph.proofs.InsertLaws.{inserts_id-other, inserts_id-low, inserts_id-high, inserts_id-at}
+use Rattle.tp_graph.proofs.InsertLaws.{inserts_id-other, inserts_id-low, inserts_id-at}
 use Rattle.tp_graph.proofs.judge.inserts_id.Goals as goal
 
 pub returns-then-not-is : goal.returns-then-not-is

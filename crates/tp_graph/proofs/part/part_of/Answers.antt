@@ -1,8 +1,7 @@
-use Rattle.std.proofs.Common.{◌≡◌, ◌∙◌, sym, ap}
+use Rattle.std.proofs.Common.{◌∙◌, sym, ap}
 use Rattle.tp_graph.specs.Past.{past}
 use Rattle.tp_graph.proofs.HeadsLaws.{past-heads}
 use Rattle.tp_graph.proofs.SoundLaws.{deps_first}
-use Rattle.tp_graph.proofs.PartLaws.{picked-In}
 use Rattle.tp_graph.proofs.part.part_of.Goals as goal
 
 pub returns-then-same_hashes-clause-past : goal.returns-then-same_hashes-clause-past

@@ -1,0 +1,18 @@
+-- Where the counters of named changes end.
+use Rattle.std.specs.Prelude.{ℕ, ◌+◌, List, [], ◌∷◌, cond}
+use Rattle.tp_opid.specs.declared.hash.Hash.{Hash}
+use Rattle.tp_opid.specs.Same.{same_hash}
+use Rattle.tp_change.specs.declared.parts.ChangeParts.{ChangeParts}
+use Rattle.tp_change.specs.ChangeHash.{hash_of}
+use Rattle.tp_change.specs.Operations.{op_count}
+use Rattle.tp_change.specs.Elements.{later}
+
+-- one more than the last counter of the change with the hash, or 0 where none has it
+abbrev pub end_named : List ChangeParts → Hash → ℕ
+end_named [] h = 0
+end_named (c ∷ C) h = cond (same_hash (hash_of c) h) (c.start + op_count c) (end_named C h)
+
+-- the greatest of these over hashes, at least 1
+abbrev pub latest_end : List ChangeParts → List Hash → ℕ
+latest_end C [] = 1
+latest_end C (h ∷ H) = later (end_named C h) (latest_end C H)
