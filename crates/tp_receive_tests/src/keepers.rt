@@ -2,13 +2,13 @@
 
 ghost use Rattle.std.specs.Prelude.{◌≡◌};
 
-use crate::making::{change, first, insert, same};
+use crate::making::{change, first, insert, received, same};
 use std::alloc::Global;
 use std::test::Fail;
 use tp_change::Change;
 use tp_graph::{Graph, GraphError};
 use tp_opid::{Hash, Place};
-use tp_receive::{KeepError, Keeper, NoKeeper, ReceiveError, receive};
+use tp_receive::{KeepError, Keeper, NoKeeper, ReceiveError};
 
 /// A keeper that keeps one change and refuses those behind it.
 #[derive(Drop)]
@@ -51,10 +51,10 @@ fn a_refused_keeper_loses_nothing_that_waits(rt: HostRuntime) -> Result<(), Fail
     assert!(rt; graph.hold(c2).is_ok());
     let mut keeper = OneKept { full: false };
     let list = two(alloc, c1.copy()?, c3)?;
-    let stopped = receive(alloc, &mut graph, &mut keeper, list);
+    let stopped = received(alloc, &mut graph, &mut keeper, list);
     assert!(rt; matches!(stopped, Err(ReceiveError::NotKept)));
     assert!(rt; graph.changes().len() == 1 && graph.contains(&h1) && graph.waits(&h2));
-    let reply = receive(alloc, &mut graph, &mut NoKeeper, two(alloc, c1, again)?)?;
+    let reply = received(alloc, &mut graph, &mut NoKeeper, two(alloc, c1, again)?)?;
     assert!(rt; same(&reply.applied, &[h2, h3]) && reply.held.is_empty());
     assert!(rt; reply.refused.len() == 1 && reply.refused[0] == (h1, GraphError::Known));
     Ok(())
@@ -85,7 +85,7 @@ fn a_change_that_has_no_space_is_dropped(rt: HostRuntime) -> Result<(), Fail> {
     let waits = change(alloc, 3, 1, 3, Some(h1), insert(alloc, Place::Start, "b")?)?;
     let h2 = waits.hash();
     let mut graph = Graph::new(alloc);
-    let reply = receive(
+    let reply = received(
         alloc,
         &mut graph,
         &mut NoKeeper,

@@ -3,8 +3,10 @@
 use std::alloc::Global;
 use std::test::Fail;
 use tp_change::{Change, ChangeParts, Record};
+use tp_graph::Graph;
 use tp_list::{Items, Text};
 use tp_opid::{Actor, Hash, Place};
+use tp_receive::{Applied, Keeper, ReceiveError, receive};
 
 /// The actor whose last byte is n, after zeros.
 pub fn actor(n: u8) -> Actor {
@@ -55,6 +57,16 @@ pub fn change(
 /// The first change of an actor: a text after the start.
 pub fn first(alloc: Global, n: u8, text: &str) -> Result<Change, Fail> {
     change(alloc, n, 1, 1, None, insert(alloc, Place::Start, text)?)
+}
+
+/// The graph receives the changes, and the keeper is asked to keep them.
+pub fn received<K: Keeper>(
+    alloc: Global,
+    graph: &mut Graph,
+    keeper: &mut K,
+    changes: Vec<Change>,
+) -> Result<Applied, ReceiveError> {
+    receive(alloc, graph, keeper, changes)
 }
 
 /// Whether the two lists of hashes are one.

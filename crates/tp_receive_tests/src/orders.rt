@@ -1,18 +1,12 @@
 //! Changes that come in an order of their own, received by a graph.
 
-use crate::making::{change, first, insert, same};
+use crate::making::{change, first, insert, received, same};
 use std::alloc::Global;
 use std::test::Fail;
 use tp_change::Change;
 use tp_graph::{Graph, GraphError};
 use tp_opid::{Hash, Place};
-use tp_receive::{Applied, NoKeeper, receive};
-
-/// The graph receives the changes.
-fn received(alloc: Global, graph: &mut Graph, changes: Vec<Change>) -> Result<Applied, Fail> {
-    let mut keeper = NoKeeper;
-    Ok(receive(alloc, graph, &mut keeper, changes)?)
-}
+use tp_receive::NoKeeper;
 
 /// The list of one change.
 fn one(alloc: Global, change: Change) -> Result<Vec<Change>, Fail> {
@@ -35,13 +29,13 @@ fn a_dependency_comes_second(rt: HostRuntime) -> Result<(), Fail> {
     let h2 = c2.hash();
     let again = c1.copy()?;
     let mut graph = Graph::new(alloc);
-    let reply = received(alloc, &mut graph, one(alloc, c2)?)?;
+    let reply = received(alloc, &mut graph, &mut NoKeeper, one(alloc, c2)?)?;
     assert!(rt; same(&reply.held, &[h2]) && reply.applied.is_empty() && reply.refused.is_empty());
-    let reply = received(alloc, &mut graph, one(alloc, c1)?)?;
+    let reply = received(alloc, &mut graph, &mut NoKeeper, one(alloc, c1)?)?;
     assert!(rt;
         same(&reply.applied, &[h1, h2]) && reply.held.is_empty() && reply.refused.is_empty()
     );
-    let reply = received(alloc, &mut graph, one(alloc, again)?)?;
+    let reply = received(alloc, &mut graph, &mut NoKeeper, one(alloc, again)?)?;
     assert!(rt; refused(&reply.refused, &h1, GraphError::Known) && reply.applied.is_empty());
     Ok(())
 }
@@ -57,7 +51,7 @@ fn a_clash_is_refused_alone(rt: HostRuntime) -> Result<(), Fail> {
     assert!(rt; graph.add(c1).is_ok());
     let mut changes = one(alloc, clash)?;
     changes.push(other)?;
-    let reply = received(alloc, &mut graph, changes)?;
+    let reply = received(alloc, &mut graph, &mut NoKeeper, changes)?;
     assert!(rt; refused(&reply.refused, &h1, GraphError::SeqClash) && same(&reply.applied, &[h2]));
     Ok(())
 }
