@@ -1,9 +1,8 @@
 //! Each call once, with ample memory.
 
-use crate::making::{change, first, have, insert, same, unknown};
+use crate::making::{actor, enter_waiting, first, following, have, hold, same, unknown};
 use std::test::Fail;
 use tp_graph::{Graph, GraphError};
-use tp_opid::Place;
 
 #[test]
 fn two_changes(rt: HostRuntime) -> Result<(), Fail> {
@@ -18,6 +17,7 @@ fn two_changes(rt: HostRuntime) -> Result<(), Fail> {
     let (low, high) = if a < b { (a, b) } else { (b, a) };
     assert!(rt; same(graph.heads(), &[low, high]));
     assert!(rt; graph.contains(&a) && !graph.contains(&unknown()));
+    assert!(rt; graph.next_counter() == 4 && graph.count_by(&actor(2)) == 1);
     assert_eq!(rt; graph.place(&b), Some(1));
     assert_eq!(rt; graph.get(&b).map(|change| change.hash()), Some(b));
     assert!(rt; have(graph.changes(), &[a, b]));
@@ -31,52 +31,37 @@ fn two_changes(rt: HostRuntime) -> Result<(), Fail> {
 }
 
 #[test]
-fn waits_and_enters(rt: HostRuntime) -> Result<(), Fail> {
+fn waits(rt: HostRuntime) -> Result<(), Fail> {
     let alloc = rt.alloc();
     let one = first(alloc, 1, "abc")?;
-    let two = change(
-        alloc,
-        1,
-        2,
-        4,
-        Some(one.hash()),
-        insert(alloc, Place::Start, "x")?,
-    )?;
-    let three = change(
-        alloc,
-        1,
-        3,
-        5,
-        Some(two.hash()),
-        insert(alloc, Place::Start, "y")?,
-    )?;
-    let other = change(
-        alloc,
-        2,
-        1,
-        1,
-        Some(unknown()),
-        insert(alloc, Place::Start, "z")?,
-    )?;
-    let (a, b, c, d) = (one.hash(), two.hash(), three.hash(), other.hash());
+    let two = following(alloc, 2, 4, one.hash(), "x")?;
+    let other = following(alloc, 1, 1, unknown(), "z")?;
+    let (a, b, c) = (one.hash(), two.hash(), other.hash());
     let mut graph = Graph::new(alloc);
-    assert!(rt; graph.hold(three).is_ok());
-    assert!(rt; graph.hold(two).is_ok());
-    assert!(rt; graph.hold(other).is_ok());
-    assert!(rt; have(graph.pending(), &[c, b, d]));
+    assert!(rt; hold(&mut graph, two) && hold(&mut graph, other));
+    assert!(rt; have(graph.pending(), &[b, c]));
     let (low, high) = if a < unknown() {
         (a, unknown())
     } else {
         (unknown(), a)
     };
     assert!(rt; same(&graph.missing()?, &[low, high]));
+    Ok(())
+}
+
+#[test]
+fn enters(rt: HostRuntime) -> Result<(), Fail> {
+    let alloc = rt.alloc();
+    let one = first(alloc, 1, "abc")?;
+    let two = following(alloc, 2, 4, one.hash(), "x")?;
+    let three = following(alloc, 3, 5, two.hash(), "y")?;
+    let (a, b, c) = (one.hash(), two.hash(), three.hash());
+    let mut graph = Graph::new(alloc);
+    assert!(rt; hold(&mut graph, three) && hold(&mut graph, two));
     assert!(rt; graph.ready(&one).is_ok());
     graph.enter(one);
-    assert!(rt; same(&graph.missing()?, &[unknown()]));
-    let next = graph.release(1);
-    assert_eq!(rt; next.hash(), b);
-    assert!(rt; have(graph.pending(), &[c, d]));
-    assert_eq!(rt; graph.add(next).ok(), Some(1));
+    assert!(rt; enter_waiting(&mut graph, 1));
+    assert!(rt; have(graph.pending(), &[c]) && have(graph.changes(), &[a, b]));
     assert!(rt; same(graph.heads(), &[b]));
     Ok(())
 }

@@ -3,6 +3,7 @@
 use std::alloc::Global;
 use std::test::Fail;
 use tp_change::{Change, ChangeParts, Record};
+use tp_graph::Graph;
 use tp_list::{Items, Text};
 use tp_opid::{Actor, Hash, OpId, Place};
 
@@ -62,6 +63,24 @@ pub fn first(alloc: Global, n: u8, text: &str) -> Result<Change, Fail> {
     change(alloc, n, 1, 1, None, insert(alloc, Place::Start, text)?)
 }
 
+/// A change of actor 1 that depends on one with the hash: a text after the start.
+pub fn following(
+    alloc: Global,
+    seq: u64,
+    start: u64,
+    dep: Hash,
+    text: &str,
+) -> Result<Change, Fail> {
+    change(
+        alloc,
+        1,
+        seq,
+        start,
+        Some(dep),
+        insert(alloc, Place::Start, text)?,
+    )
+}
+
 /// The identifier of actor 1's operation n.
 pub fn id(n: u64) -> OpId {
     OpId {
@@ -82,4 +101,27 @@ pub fn have(changes: &[Change], wanted: &[Hash]) -> bool {
             .iter()
             .zip(wanted)
             .all(|(change, hash)| change.hash().is(hash))
+}
+
+/// Whether the change was held, where it doesn't wait yet.
+pub fn hold(graph: &mut Graph, change: Change) -> bool {
+    if graph.waits(&change.hash()) || graph.pending().len() >= 1024 {
+        return false;
+    }
+    graph.hold(change).is_ok()
+}
+
+/// Whether the waiting change with the number could be made ready for, taken out and entered.
+pub fn enter_waiting(graph: &mut Graph, i: usize) -> bool {
+    if i >= graph.pending().len() {
+        return false;
+    }
+    match graph.ready_waiting(i) {
+        Ok(()) => {
+            let change = graph.release(i);
+            graph.enter(change);
+            true
+        }
+        Err(_) => false,
+    }
 }
