@@ -20,8 +20,8 @@ use Rattle.tp_change.specs.declared.parts.ChangeParts.{ChangeParts}
 use Rattle.tp_change.specs.Operations.{ops_of, ops_from, ops_in, run, id_of, count_in, count_of, op_count}
 use Rattle.tp_change.specs.Limits.{IsRecord, IsChange}
 use Rattle.tp_change.specs.Elements.{element, inserts_in, inserts, is_inserted, is_place, refers}
-use Rattle.tp_graph.specs.Covers.{covers, is_there, all_there}
-use Rattle.tp_graph.proofs.Tests.{same_test, or_cases, or_left, or_right, both, both_left, both_right}
+use Rattle.tp_graph.specs.Covers.{covers, only_inserts, is_there, all_there}
+use Rattle.tp_graph.proofs.Tests.{truth, same_test, or_cases, or_left, or_right, both, both_left, both_right}
 
 -- ---- joined lists
 
@@ -256,6 +256,18 @@ covers-high n (Insert after text ∷ rs) k h =
     let rest = covers-high (n + length text) rs k (omega arith) in grind (arith, nat_tests)
 covers-high n (Delete target ∷ rs) k h = covers-high (n + 1) rs k (omega arith)
 
+covers-all : (n : ℕ) (rs : List Record) (k : ℕ) → only_inserts rs ≡ true → n ≤ k → k < n + count_of rs → covers n rs k ≡ true
+covers-all n [] k e le lt = absurd (omega arith)
+covers-all n (Delete target ∷ rs) k e le lt = cc
+covers-all n (Insert after text ∷ rs) k e le lt =
+    elim (truth (nat_lt k (n + length text))) [
+      | inl here ↦ grind (arith, nat_tests)
+      | inr later ↦
+          let past : n + length text ≤ k = grind (arith, nat_tests) in
+          let rest : covers (n + length text) rs k ≡ true = covers-all (n + length text) rs k e past (omega arith) in
+          or_right (nat_le n k && nat_lt k (n + length text)) (covers (n + length text) rs k) rest
+    ]
+
 pub inserts_id-other : (c : ChangeParts) (id : OpId) → same_actor c.actor id.actor ≡ false → false ≡ is_inserted (inserts_in (ops_of c)) id
 inserts_id-other c id e = sym (inserts_id-is c id ∙ ap (λ b. b && covers c.start c.records id.counter) e)
 
@@ -320,3 +332,11 @@ all_there-on a n S rs i r small e f = sym (all_there-step a n S rs i r small e �
 
 pub all_there-end : (a : Actor) (n : ℕ) (S : List element_of.Insert) (rs : List Record) (i : ℕ) → length rs ≤ i → all_there a n S (take i rs) (drop i rs) ≡ true
 all_there-end a n S rs i h = ap (all_there a n S (take i rs)) (drop_all i rs h)
+
+-- a change without deletes inserts at each of its counters
+pub inserts_id-all : (c : ChangeParts) (id : OpId) (end : ℕ) → end ≡ c.start + op_count c → same_actor c.actor id.actor ≡ true → only_inserts c.records ≡ true
+    → c.start ≤ id.counter → id.counter < end → true ≡ is_inserted (inserts_in (ops_of c)) id
+unfolding op_count
+inserts_id-all c id end e one all low high =
+    let within : id.counter < c.start + count_of c.records = omega (arith, e) in
+    inserts_id-at c id true one (sym (covers-all c.start c.records id.counter all low within))

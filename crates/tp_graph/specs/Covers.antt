@@ -13,6 +13,12 @@ covers n [] k = false
 covers n (Insert after text ∷ rs) k = (nat_le n k && nat_lt k (n + length text)) || covers (n + length text) rs k
 covers n (Delete target ∷ rs) k = covers (n + 1) rs k
 
+-- No record is a delete.
+abbrev pub only_inserts : List Record → Bool
+only_inserts [] = true
+only_inserts (Insert after text ∷ rs) = only_inserts rs
+only_inserts (Delete target ∷ rs) = false
+
 -- The reference or the target of the record is among S.
 abbrev pub is_there : List element_of.Insert → Record → Bool
 is_there S (Insert after text) = is_place S after

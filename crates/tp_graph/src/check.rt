@@ -27,6 +27,7 @@ pub(crate) const MOST_CHANGES: usize = 4294967295;
 #[tactic(auto, unfolding(crate::specs::Fit::misfit_behind))]
 fn check_behind(
     applied: &[Change],
+    ends: &[u64],
     order: &[u32],
     part: &Part,
     start: u64,
@@ -34,6 +35,7 @@ fn check_behind(
 ) -> Result<(), GraphError>
     requires sound { Sound applied.now }
     requires few { length applied.now ≤ fit.most_changes }
+    requires ends { ends.now ≡ ends_of applied.now }
     requires order { IsByActor applied.now order.now }
     requires part { IsPartOf part.now applied.now }
     requires past { Sound (picked part.now applied.now) }
@@ -46,7 +48,7 @@ fn check_behind(
     if change.start() != start {
         return Err(GraphError::BadStart);
     }
-    if !refers(applied, order, part, change) {
+    if !refers(applied, ends, order, part, change) {
         return Err(GraphError::BadReference);
     }
     Ok(())
@@ -72,7 +74,7 @@ fn check_past(
 {
     let part = part_of(alloc, applied, index, heads, change.deps())?;
     let start = start_after(applied, index, ends, change.deps());
-    check_behind(applied, order, &part, start, change)
+    check_behind(applied, ends, order, &part, start, change)
 }
 
 // Whether one of the changes has the actor and the sequence number of the change: whether its actor has reached

@@ -49,16 +49,36 @@ fn covers(records: &[Record], first: u64, counter: u64) -> bool
     false
 }
 
-// Whether the change inserts the element with the identifier.
-fn inserts_id(change: &Change, id: &OpId) -> bool
+// Whether no record is a delete. No text is gone over.
+fn only_inserts(records: &[Record]) -> bool
+    ensures { result ≡ cover.only_inserts records.now }
+{
+    for record in records {
+        if let Record::Delete { .. } = record {
+            return false;
+        }
+    }
+    true
+}
+
+// Whether the change, whose last counter stands before `end`, inserts the element with the identifier. Where it deletes
+// nothing, no text is gone over.
+fn inserts_id(change: &Change, end: u64, id: &OpId) -> bool
+    requires { end ≡ change.now.start + op_count change.now }
     ensures { result ≡ made.is_inserted (made.inserts_in (ops_of change.now)) id.now }
 {
     let _hash = change.hash();
+    if end <= id.counter {
+        return false;
+    }
     if id.counter < change.start() {
         return false;
     }
     if !change.actor().is(&id.actor) {
         return false;
+    }
+    if only_inserts(change.records()) {
+        return true;
     }
     covers(change.records(), change.start(), id.counter)
 }
@@ -178,8 +198,9 @@ pub(crate) fn count_in(applied: &[Change], order: &[u32], part: &Part, actor: &A
 // Whether a change of the past inserts the element with the identifier: its actor's latest change that starts within the
 // counter is the only one that may. A number of comparisons that grows with the logarithm of the number of changes,
 // and the records of that one.
-fn is_inserted(applied: &[Change], order: &[u32], part: &Part, id: &OpId) -> bool
+fn is_inserted(applied: &[Change], ends: &[u64], order: &[u32], part: &Part, id: &OpId) -> bool
     requires sound { Sound applied.now }
+    requires ends { ends.now ≡ ends_of applied.now }
     requires order { IsByActor applied.now order.now }
     requires part { IsPartOf part.now applied.now }
     ensures { result ≡ made.is_inserted (made.inserts (picked part.now applied.now)) id.now }
@@ -189,7 +210,7 @@ fn is_inserted(applied: &[Change], order: &[u32], part: &Part, id: &OpId) -> boo
             if !part.holds(place) {
                 return false;
             }
-            inserts_id(&applied[place], id)
+            inserts_id(&applied[place], ends[place], id)
         }
         None => false,
     }
@@ -199,6 +220,7 @@ fn is_inserted(applied: &[Change], order: &[u32], part: &Part, id: &OpId) -> boo
 // inserts the element with the identifier.
 fn is_known(
     applied: &[Change],
+    ends: &[u64],
     order: &[u32],
     part: &Part,
     actor: &Actor,
@@ -207,6 +229,7 @@ fn is_known(
     id: &OpId,
 ) -> bool
     requires sound { Sound applied.now }
+    requires ends { ends.now ≡ ends_of applied.now }
     requires order { IsByActor applied.now order.now }
     requires part { IsPartOf part.now applied.now }
     requires counters { first + count_of before.now < 2 ^ 64 }
@@ -214,21 +237,22 @@ fn is_known(
         ≡ made.is_inserted (made.inserts_in (ops_from actor.now first before.now) ++ made.inserts (picked part.now applied.now)) id.now }
 {
     if !actor.is(&id.actor) {
-        return is_inserted(applied, order, part, id);
+        return is_inserted(applied, ends, order, part, id);
     }
     if id.counter < first {
-        return is_inserted(applied, order, part, id);
+        return is_inserted(applied, ends, order, part, id);
     }
     if covers(before, first, id.counter) {
         return true;
     }
-    is_inserted(applied, order, part, id)
+    is_inserted(applied, ends, order, part, id)
 }
 
 // Whether the reference or the target of the record is inserted by a change of the past, or by one of the
 // records before it.
 fn is_there(
     applied: &[Change],
+    ends: &[u64],
     order: &[u32],
     part: &Part,
     actor: &Actor,
@@ -237,6 +261,7 @@ fn is_there(
     entry: &Record,
 ) -> bool
     requires sound { Sound applied.now }
+    requires ends { ends.now ≡ ends_of applied.now }
     requires order { IsByActor applied.now order.now }
     requires part { IsPartOf part.now applied.now }
     requires counters { first + count_of before.now < 2 ^ 64 }
@@ -246,16 +271,25 @@ fn is_there(
     match entry {
         Record::Insert { after, .. } => match after {
             Place::Start => true,
-            Place::After(id) => is_known(applied, order, part, actor, first, before, id),
+            Place::After(id) => is_known(applied, ends, order, part, actor, first, before, id),
         },
-        Record::Delete { target } => is_known(applied, order, part, actor, first, before, target),
+        Record::Delete { target } => {
+            is_known(applied, ends, order, part, actor, first, before, target)
+        }
     }
 }
 
 /// Whether each reference and each target of the change is inserted by a change of the past, or earlier in
 /// the change.
-pub(crate) fn refers(applied: &[Change], order: &[u32], part: &Part, change: &Change) -> bool
+pub(crate) fn refers(
+    applied: &[Change],
+    ends: &[u64],
+    order: &[u32],
+    part: &Part,
+    change: &Change,
+) -> bool
     requires sound { Sound applied.now }
+    requires ends { ends.now ≡ ends_of applied.now }
     requires order { IsByActor applied.now order.now }
     requires part { IsPartOf part.now applied.now }
     ensures { result ≡ made.refers (made.inserts (picked part.now applied.now)) (ops_of change.now) }
@@ -267,6 +301,7 @@ pub(crate) fn refers(applied: &[Change], order: &[u32], part: &Part, change: &Ch
     for i in 0..records.len() {
         if !is_there(
             applied,
+            ends,
             order,
             part,
             &actor,

@@ -1,6 +1,8 @@
-use Rattle.std.proofs.Common.{◌≡◌, ◌&&◌, ◌∙◌, refl, sym, ap, length, false, true, Some}
+use Rattle.std.proofs.Common.{◌≡◌, ◌<◌, ◌&&◌, ◌∙◌, refl, sym, ap, arith, get_or, length, false, true, Some}
 use Rattle.std.specs.List.{slice_get}
-use Rattle.std.proofs.lemmas.Option.{slice_get_read}
+use Rattle.std.proofs.lemmas.Option.{slice_get_read, get_or_from_slice_get}
+use Rattle.tp_graph.specs.Places.{ends_of}
+use Rattle.tp_graph.proofs.PickLaws.{ends_of-at, length-ends_of}
 use Rattle.tp_change.specs.Elements as made
 use Rattle.tp_change.specs.Operations.{ops_of}
 use Rattle.tp_graph.specs.Parts.{holds, picked}
@@ -8,6 +10,20 @@ use Rattle.tp_graph.proofs.MarksLaws.{hashes_once}
 use Rattle.tp_graph.proofs.OwnLaws.{inserted-none, inserted-latest}
 use Rattle.tp_graph.proofs.PartLaws.{picked-In, place_of_part, holds-In, In-holds}
 use Rattle.tp_graph.proofs.judge.is_inserted.Goals as goal
+
+pub bounds-ends-place : goal.bounds-ends-place
+bounds-ends-place c =
+    let long : length c.args.ends.now ≡ length c.args.applied.now = ap length c.requires.ends ∙ length-ends_of c.args.applied.now in
+    let within = c.in-Some.ensures.within in
+    omega arith
+
+pub inserts_id-requires : goal.inserts_id-requires
+inserts_id-requires c =
+    let C = c.args.applied.now in
+    let here : slice_get C c.in-Some.place ≡ Some c.index-applied-place.result =
+    slice_get_read C (length C) c.in-Some.place c.index-applied-place.result refl c.in-Some.ensures.within c.index-applied-place.is in
+    ap (λ l. get_or l c.in-Some.place 0) c.requires.ends
+    ∙ get_or_from_slice_get (ends_of C) c.in-Some.place _ 0 (ends_of-at C c.in-Some.place c.index-applied-place.result here)
 
 pub holds-requires : goal.holds-requires
 holds-requires c = place_of_part c.args.part.now c.args.applied.now c.in-Some.place c.requires.part c.in-Some.ensures.within
