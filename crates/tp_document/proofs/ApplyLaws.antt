@@ -1,14 +1,12 @@
 -- Receiving without a keeper, and from another document.
-use Rattle.std.proofs.Common.{◌≡◌, List, [], ◌∷◌, ◌++◌, Bool, true, false, Result, Ok, Err, IfOk, IfErr, OnOk, refl, inl, inr, sym, ◌∙◌}
+use Rattle.std.proofs.Common.{◌≡◌, List, [], ◌∷◌, ◌++◌, Bool, true, false, Result, Ok, Err, IfOk, IfErr, OnOk, refl, inl}
 use Rattle.tp_opid.specs.declared.hash.Hash.{Hash}
 use Rattle.tp_opid.specs.declared.doc_id.DocId.{DocId}
 use Rattle.tp_change.specs.declared.parts.ChangeParts.{ChangeParts}
 use Rattle.tp_graph.specs.declared.error.GraphError.{GraphError}
-use Rattle.tp_receive.specs.declared.error.ReceiveError.{ReceiveError}
 use Rattle.tp_receive.specs.declared.error.ReceiveError.TheVariants as receive
 use Rattle.tp_receive.specs.declared.keeper.KeepError.{KeepError}
-use Rattle.tp_receive.specs.Going.{KeepsAll, Goes, Leaves, Stops}
-use Rattle.tp_receive.specs.Replies.{Fails}
+use Rattle.tp_receive.specs.Going.{KeepsAll, Goes, Stops}
 use Rattle.tp_document.specs.declared.error.DocError.{DocError}
 use Rattle.tp_document.specs.declared.error.DocError.TheVariants.{OutOfRange, CounterLimit, TooManyOps, TooManyHeads, UnknownHead, UnknownElement, PendingFull, HashTaken, OutOfMemory, OtherDocument, TooLong, Full, NotKept}
 use Rattle.tp_document.specs.Applying.{Answered, keeps_nothing, refuses_nothing, ApplyFails, MergeFails, IsFullAlone, IsOtherAlone}

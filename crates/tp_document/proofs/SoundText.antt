@@ -12,9 +12,9 @@ use Rattle.tp_opid.proofs.Orders.{same_actor-apart, id_eq-same}
 use Rattle.tp_change.specs.declared.op.Op.{Op}
 use Rattle.tp_change.specs.declared.op.Op.TheVariants as op_of
 use Rattle.tp_change.specs.declared.parts.ChangeParts.{ChangeParts}
-use Rattle.tp_change.specs.Operations.{id_of, ops_of, op_count}
+use Rattle.tp_change.specs.Operations.{id_of, ops_of}
 use Rattle.tp_change.specs.Limits.{IsChange}
-use Rattle.tp_change.specs.Elements.{element, inserts_in, inserts, deletes_in, deletes, later, next_counter}
+use Rattle.tp_change.specs.Elements.{element, inserts_in, inserts, deletes_in, deletes, next_counter}
 use Rattle.tp_rga.specs.Tree.{IsThere, IsTree}
 use Rattle.tp_rga.specs.Order.{IsInOrder}
 use Rattle.tp_rga.proofs.Sets.{In-left, In-append, IsThere-grow, IsTree-push}
@@ -155,16 +155,6 @@ few_more C c few none =
 
       fewer : (n m : ℕ) → n ≤ most_changes → (n == most_changes) ≡ false → m ≡ n + 1 → m ≤ most_changes
       fewer n m few apart more = grind (arith, nat_tests)
-
--- the counter after one change more
-pub next_counter-push : (C : List ChangeParts) (c : ChangeParts) → next_counter (C ++ c ∷ []) ≡ later (next_counter C) (c.start + op_count c)
-next_counter-push [] c = one (c.start + op_count c) where
-  one : (n : ℕ) → later n 1 ≡ later 1 n
-  one n = grind (arith, nat_tests)
-next_counter-push (d ∷ C) c =
-    ap (λ n. later (d.start + op_count d) n) (next_counter-push C c) ∙ turn (d.start + op_count d) (next_counter C) (c.start + op_count c) where
-      turn : (a b n : ℕ) → later a (later b n) ≡ later (later a b) n
-      turn a b n = grind (arith, nat_tests)
 
 -- and once they are in, the document holds the change too
 pub Holds-push : (C : List ChangeParts) (L M : List Insert) (R Q : List (OpId × OpId)) (c : ChangeParts)

@@ -7,7 +7,7 @@ use Rattle.tp_opid.specs.declared.op_id.OpId.{OpId}
 use Rattle.tp_opid.specs.Insert.{Insert}
 use Rattle.tp_change.specs.declared.parts.ChangeParts.{ChangeParts}
 use Rattle.tp_change.specs.ChangeHash.{hash_of}
-use Rattle.tp_change.specs.Elements.{inserts, deletes, next_counter}
+use Rattle.tp_change.specs.Elements.{inserts, deletes}
 use Rattle.tp_change.specs.Limits.{IsChange}
 use Rattle.tp_change.specs.Operations.{op_count}
 use Rattle.tp_rga.specs.Order.{IsInOrder}
@@ -41,8 +41,3 @@ pub record Holds (applied : List ChangeParts) (placed : List Insert) (removals :
   pub few : length applied ≤ most_changes
   pub order : IsInOrder (inserts applied) placed
   pub deletes : removals ≡ deletes applied
-
--- And it keeps the counter that an edit starts with.
-pub record IsKept (applied : List ChangeParts) (next : ℕ) (placed : List Insert) (removals : List (OpId × OpId)) : Type 0 where
-  pub holds : Holds applied placed removals
-  pub counter : next ≡ next_counter applied

@@ -19,7 +19,6 @@ ghost use Rattle.tp_graph.specs.GraphState.{most_waiting, HashesOnce};
 ghost use Rattle.tp_change.specs.ChangeHash.{hash_of};
 ghost use Rattle.tp_change.specs.declared.parts.ChangeParts.{ChangeParts};
 ghost use Rattle.tp_document.specs.DocState.{HasRoomFor, AllChanges};
-ghost use Rattle.tp_change.specs.Elements.{later};
 ghost use Rattle.tp_document.specs.Showing.{HasLength, HasCharAt};
 ghost use Rattle.tp_document.specs.declared.error.DocError.TheVariants.{OutOfMemory};
 
@@ -43,24 +42,16 @@ pub struct Document<S: Sequence> {
     pub(crate) id: DocId,
     pub(crate) graph: Graph,
     pub(crate) sequence: S,
-    pub(crate) next: u64,
 }
 
 impl<S: Sequence> Model for Document<S> {
-    ghost use Rattle.tp_document.specs.DocState.{DocState, IsKept};
+    ghost use Rattle.tp_document.specs.DocState.{DocState, Holds};
 
     ghost Value = { DocState };
 
     ghost view = { λ d. record { id = d.id; applied = d.graph.applied; waiting = d.graph.waiting; room = d.graph.room; space = S.room d.sequence } };
 
-    ghost invariant = { λ d. IsKept d.graph.applied d.next (S.placed d.sequence) (S.removals d.sequence) };
-}
-
-// The greater of two counters.
-fn later_of(a: u64, b: u64) -> u64
-    ensures { result ≡ later a b }
-{
-    if a < b { b } else { a }
+    ghost invariant = { λ d. Holds d.graph.applied (S.placed d.sequence) (S.removals d.sequence) };
 }
 
 // Drops the changes that wait.
@@ -88,7 +79,6 @@ impl<S: Sequence> Document<S> {
             id,
             graph: Graph::new(alloc),
             sequence: S::new(alloc),
-            next: 1,
         }
     }
 
@@ -241,7 +231,6 @@ impl<S: Sequence> Document<S> {
         ensures waiting { self.new.waiting ≡ self.old.waiting }
     {
         let _hash = change.hash();
-        self.next = later_of(self.next, change.next_start());
         apply_change(&mut self.sequence, &change);
         self.graph.enter(change);
     }

@@ -11,7 +11,7 @@ ghost use Rattle.tp_edit.specs.EditRecords.{records_of, visible_ids};
 ghost use Rattle.tp_rga.specs.Shown.{shown};
 ghost use Rattle.tp_document.specs.Editing.{asking, IsRefused, AsksNothing, Edited, IsDone, DoesSplices};
 ghost use Rattle.tp_document.specs.Making.{parts_made, IsAllowed, IsWithin, IsWithinSize, IsShut};
-ghost use Rattle.tp_document.specs.DocState.{IsKept};
+ghost use Rattle.tp_document.specs.DocState.{Holds};
 ghost use Rattle.tp_graph.specs.Named.{has};
 ghost use Rattle.tp_change.specs.ChangeHash.{hash_of};
 
@@ -70,11 +70,10 @@ fn parts_of<S: Sequence>(
 fn judge_edit<S: Sequence>(
     graph: &Graph,
     sequence: &S,
-    next: u64,
     splices: &[Splice],
     message: &str,
 ) -> Result<bool, DocError>
-    requires { IsKept graph.now.applied next (S.placed sequence.now) (S.removals sequence.now) }
+    requires { Holds graph.now.applied (S.placed sequence.now) (S.removals sequence.now) }
     ensures { IsAllowed graph.now.applied splices.now (chars message.now) result }
 {
     let count = match judge_splices(splices, sequence.len()) {
@@ -87,6 +86,7 @@ fn judge_edit<S: Sequence>(
     if graph.heads().len() > 65535 {
         return Err(DocError::TooManyHeads);
     }
+    let next = graph.next_counter();
     if next as u128 + count as u128 > 281474976710656 {
         return Err(DocError::CounterLimit);
     }
@@ -101,13 +101,12 @@ fn change_of<S: Sequence>(
     alloc: Global,
     graph: &Graph,
     sequence: &S,
-    next: u64,
     actor: Actor,
     splices: &[Splice],
     time: u64,
     message: &str,
 ) -> Result<Change, DocError>
-    requires kept { IsKept graph.now.applied next (S.placed sequence.now) (S.removals sequence.now) }
+    requires holds { Holds graph.now.applied (S.placed sequence.now) (S.removals sequence.now) }
     requires within { IsWithin graph.now.applied (asking actor splices.now time (chars message.now)) }
     ensures { MatchResult result
         (λ c. IsWithinSize graph.now.applied (asking actor splices.now time (chars message.now)) c)
@@ -115,6 +114,7 @@ fn change_of<S: Sequence>(
 {
     let _actor = actor_len(actor);
     let seq = next_seq(graph, &actor);
+    let next = graph.next_counter();
     match parts_of(
         alloc,
         sequence,
@@ -175,7 +175,7 @@ impl<S: Sequence> Document<S> {
             (λ c. Edited self.now.applied (asking actor splices.now time (chars message.now)) c))
             (λ e. IsRefused self.now.applied (asking actor splices.now time (chars message.now)) e) }
     {
-        match judge_edit(&self.graph, &self.sequence, self.next, splices, message) {
+        match judge_edit(&self.graph, &self.sequence, splices, message) {
             Ok(true) => {}
             Ok(false) => return Ok(None),
             Err(error) => return Err(error),
@@ -184,7 +184,6 @@ impl<S: Sequence> Document<S> {
             self.alloc,
             &self.graph,
             &self.sequence,
-            self.next,
             actor,
             splices,
             time,

@@ -8,15 +8,15 @@ use Rattle.tp_graph.specs.declared.error.GraphError.{GraphError}
 use Rattle.tp_graph.specs.declared.error.GraphError.TheVariants.{Known, MissingDeps, BadSeq, BadStart, BadReference, SeqClash, UnknownHead, Full, OutOfMemory}
 use Rattle.tp_graph.specs.Named.{has, has_all}
 use Rattle.tp_graph.specs.Fit.{misfit, or_full, cause, most_changes}
-use Rattle.tp_graph.specs.Sound.{Sound, Fits}
+use Rattle.tp_graph.specs.Sound.{Sound}
 use Rattle.tp_graph.proofs.Tests.{truth, never, not_true}
-use Rattle.tp_graph.proofs.NamedLaws.{In-left, In-right, has-In, In-has, has-append, has-left, has_all-In, In-has_all}
+use Rattle.tp_graph.proofs.NamedLaws.{has-In, has-append, has-left, has_all-In}
 use Rattle.tp_graph.proofs.SoundLaws.{Sound-push}
 use Rattle.tp_graph.proofs.SetLaws.{misfit-later}
 use Rattle.tp_graph.proofs.FirstFaults.{missing_deps_is}
 use Rattle.tp_graph.proofs.KeptLaws.{enters, Fits-from_cause}
 use Rattle.tp_receive.specs.Receiving.{EntersAfter, HashesApart, lacks_deps, is_refusal}
-use Rattle.tp_receive.proofs.StaysLaws.{cause-known, refused-stays, EntersAfter-append, Sound-entered}
+use Rattle.tp_receive.proofs.StaysLaws.{cause-known, refused-stays, EntersAfter-append}
 
 -- ---- a cause other than a missing dependency stays the same
 

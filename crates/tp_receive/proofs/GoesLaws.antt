@@ -8,7 +8,7 @@ use Rattle.tp_graph.specs.declared.error.GraphError.{GraphError}
 use Rattle.tp_graph.specs.declared.error.GraphError.TheVariants.{MissingDeps}
 use Rattle.tp_graph.specs.Named.{has}
 use Rattle.tp_graph.specs.Fit.{cause}
-use Rattle.tp_graph.proofs.NamedLaws.{In-left, In-right, In-cases, In-has, has-In, has-left}
+use Rattle.tp_graph.proofs.NamedLaws.{In-left, In-right, In-cases, In-has, has-In}
 use Rattle.tp_receive.specs.declared.error.ReceiveError.{ReceiveError}
 use Rattle.tp_receive.specs.declared.error.ReceiveError.TheVariants.{PendingFull, NotKept, OutOfMemory}
 use Rattle.tp_receive.specs.declared.keeper.KeepError.{KeepError}

@@ -1,7 +1,7 @@
 -- Nothing that waited is lost: steps add up.
-use Rattle.std.proofs.Common.{◌≡◌, ℕ, ◌<◌, ◌≤◌, ◌+◌, ◌⊎◌, inl, inr, List, [], ◌∷◌, ◌++◌, true, Some, None, Result, Ok, Err, OnOk, OnErr, refl, subst, zero, suc, length, arith}
+use Rattle.std.proofs.Common.{◌≡◌, ℕ, ◌<◌, inl, inr, List, [], ◌∷◌, ◌++◌, true, Some, None, Result, Ok, Err, OnOk, OnErr, refl, zero, suc, length, arith}
 use Rattle.std.specs.List.{slice_get, remove}
-use Rattle.tp_list.specs.Members.{In, AllIn}
+use Rattle.tp_list.specs.Members.{AllIn}
 use Rattle.tp_change.specs.declared.parts.ChangeParts.{ChangeParts}
 use Rattle.tp_graph.specs.Fit.{cause}
 use Rattle.tp_graph.proofs.NamedLaws.{In-left, In-right}

@@ -1,5 +1,5 @@
 -- Any two results of receiving one list have the same members.
-use Rattle.std.proofs.Common.{◌≡◌, ℕ, ◌==◌, ◌<◌, ◌||◌, ◌&&◌, ◌⊎◌, inl, inr, List, [], ◌∷◌, ◌++◌, length, true, false, Some, None, IsSome, refl, sym, ap, ◌∙◌, subst, append_assoc, append-nil, arith}
+use Rattle.std.proofs.Common.{◌≡◌, ℕ, ◌==◌, ◌<◌, ◌&&◌, inl, inr, List, [], ◌∷◌, ◌++◌, length, true, false, None, IsSome, refl, sym, ap, subst, append_assoc, append-nil, arith}
 use Rattle.std.proofs.lemmas.Bool.Decides.{nat_tests}
 use Rattle.tp_list.specs.Members.{In, AllIn, SameMembers}
 use Rattle.tp_opid.specs.Same.{same_actor}

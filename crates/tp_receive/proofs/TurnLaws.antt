@@ -1,5 +1,5 @@
 -- What holds between the turns of a list, where two changes with one hash are one.
-use Rattle.std.proofs.Common.{◌≡◌, ℕ, ◌+◌, ◌-◌, ◌<◌, ◌≤◌, ◌⊎◌, inl, inr, List, [], ◌∷◌, ◌++◌, length, true, false, Some, None, refl, sym, ap, ◌∙◌, subst, arith, length-append, append_assoc}
+use Rattle.std.proofs.Common.{◌≡◌, ℕ, ◌+◌, ◌<◌, ◌⊎◌, inl, inr, List, [], ◌∷◌, ◌++◌, length, true, false, Some, refl, sym, ap, ◌∙◌, subst, arith}
 use Rattle.tp_list.specs.Members.{In, AllIn}
 use Rattle.tp_opid.specs.declared.hash.Hash.{Hash}
 use Rattle.tp_change.specs.declared.parts.ChangeParts.{ChangeParts}
@@ -10,13 +10,12 @@ use Rattle.tp_graph.specs.Named.{among, has}
 use Rattle.tp_graph.specs.Fit.{cause}
 use Rattle.tp_graph.specs.GraphState.{most_waiting}
 use Rattle.tp_graph.proofs.Tests.{truth, never, not_true}
-use Rattle.tp_graph.proofs.NamedLaws.{In-left, In-right, In-cases, In-last, has-In, In-has, has-left, has-append}
-use Rattle.tp_receive.specs.Receiving.{EntersAfter, HashesApart, Begins, Grows, AllWait, is_refusal, lacks_deps, hashes}
-use Rattle.tp_receive.specs.Going.{IsPlaced, IsDone, IsDropped, DropsOne, DropsFirm}
+use Rattle.tp_graph.proofs.NamedLaws.{In-left, In-right, In-cases, has-In, In-has, has-left}
+use Rattle.tp_receive.specs.Receiving.{HashesApart, Begins, Grows, AllWait, is_refusal, hashes}
+use Rattle.tp_receive.specs.Going.{IsPlaced, IsDropped, DropsOne, DropsFirm}
 use Rattle.tp_receive.specs.Loose.{all_there, firm_with, loose_with, loose_in}
-use Rattle.tp_receive.proofs.StaysLaws.{refused-stays}
-use Rattle.tp_receive.proofs.CausesLaws.{Never, StaysOut, Barred, Never-later, Never-now, Never-out, Barred-later, Barred-cause, out_of_dep, out_of_refusal, lacks_cause, waits_for, lacking}
-use Rattle.tp_receive.proofs.LooseLaws.{among-pushed, among-hashes, all_there-In, all_there-more, firm_with-append, loose_with-append, loose_with-of, loose_with-out, loose_with-new, loose_with-least, loose_with-most}
+use Rattle.tp_receive.proofs.CausesLaws.{Never, StaysOut, Barred, Never-later, Never-out, Barred-later, Barred-cause, out_of_dep, out_of_refusal, lacks_cause, waits_for, lacking}
+use Rattle.tp_receive.proofs.LooseLaws.{among-pushed, among-hashes, all_there-In, firm_with-append, loose_with-append, loose_with-of, loose_with-out}
 
 -- Behind the turns of ys, where F is what waited and came, and C0 was applied when the list K began: each firm change
 -- is there or never comes, and what was dropped is barred and not loose.

@@ -1,4 +1,4 @@
-use Rattle.std.proofs.Common.{◌≡◌, ◌+◌, ◌<◌, ◌^◌, List, length, subst, sym, ap, ◌∙◌}
+use Rattle.std.proofs.Common.{◌≡◌, ◌+◌, ◌<◌, ◌^◌, List, length, subst, sym, ap}
 use Rattle.std.specs.Str.{chars}
 use Rattle.tp_opid.specs.declared.op_id.OpId.{OpId}
 use Rattle.tp_change.specs.declared.parts.ChangeParts.{ChangeParts}
@@ -15,7 +15,7 @@ pub parts_of-requires-clause-in_range : goal.parts_of-requires-clause-in_range
 parts_of-requires-clause-in_range g c =
     let S = g.S.Sequence in
     let L = S.placed c.args.sequence.now in
-    let h = c.requires.kept.holds in
+    let h = c.requires.holds in
     subst (λ (R : List (OpId × OpId)). AllInRange (length (shown R L)) c.args.splices.now) (sym h.deletes)
     (range_of c.args.graph.now.applied L c.args.splices.now h.sound h.order c.requires.within.counters.before.asks.range)
 
@@ -24,9 +24,9 @@ make_change-requires g c =
     let S = g.S.Sequence in
     let C = c.args.graph.now.applied in
     let asked = asking c.args.actor c.args.splices.now c.args.time (chars c.args.message.now) in
-    let h = c.requires.kept.holds in
+    let h = c.requires.holds in
     let numbered : c.next_seq-seq.result ≡ count_by c.args.actor C + 1 = c.next_seq-seq.ensures.seq in
-    let is : IsEdit C asked c.in-Ok.parts = edit_made C (S.placed c.args.sequence.now) (S.removals c.args.sequence.now) asked c.next_seq-seq.result c.args.next c.heads.result.now c.in-Ok.parts h numbered c.requires.kept.counter c.heads.ensures c.in-Ok.ensures in
+    let is : IsEdit C asked c.in-Ok.parts = edit_made C (S.placed c.args.sequence.now) (S.removals c.args.sequence.now) asked c.next_seq-seq.result c.next_counter-next.result c.heads.result.now c.in-Ok.parts h numbered c.next_counter-next.ensures c.heads.ensures c.in-Ok.ensures in
     let small : c.in-Ok.parts.seq < 2 ^ 64 = subst (λ n. n < 2 ^ 64) (sym (ap (λ (p : ChangeParts). p.seq) c.in-Ok.ensures)) c.next_seq-seq.ensures.small in
     λ size. edit_limits C asked c.in-Ok.parts h.sound h.limits is c.requires.within.counters
     (record { actor = c.actor_len-actor.ensures; time = c.ranges.time.fits; message = c.requires.within.spelled; texts = c.requires.within.texts })

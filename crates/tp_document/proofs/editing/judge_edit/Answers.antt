@@ -10,29 +10,29 @@ use Rattle.tp_document.proofs.editing.judge_edit.Goals as goal
 pub returns-in-Err : goal.returns-in-Err
 returns-in-Err g c = λ a time.
     let S = g.S.Sequence in
-    bad_refused c.args.graph.now.applied (S.placed c.args.sequence.now) (S.removals c.args.sequence.now) c.len.result (asking a c.args.splices.now time (chars c.args.message.now)) c.in-Err.error c.requires.holds c.len.ensures c.in-Err.ensures
+    bad_refused c.args.graph.now.applied (S.placed c.args.sequence.now) (S.removals c.args.sequence.now) c.len.result (asking a c.args.splices.now time (chars c.args.message.now)) c.in-Err.error c.requires c.len.ensures c.in-Err.ensures
 
 pub returns-then-count-eq0 : goal.returns-then-count-eq0
 returns-then-count-eq0 g c = λ a time.
     let S = g.S.Sequence in (
-      in_range_of c.args.graph.now.applied (S.placed c.args.sequence.now) (S.removals c.args.sequence.now) c.len.result c.args.splices.now c.requires.holds c.len.ensures c.in-Ok.ensures.0,
+      in_range_of c.args.graph.now.applied (S.placed c.args.sequence.now) (S.removals c.args.sequence.now) c.len.result c.args.splices.now c.requires c.len.ensures c.in-Ok.ensures.0,
       c.in-Ok.ensures.1 ∙ c.if-count-eq0.true,
     )
 
 pub returns-then-heads-gt65535 : goal.returns-then-heads-gt65535
 returns-then-heads-gt65535 g c = λ a time.
     let S = g.S.Sequence in (
-      asks_some c.args.graph.now.applied (S.placed c.args.sequence.now) (S.removals c.args.sequence.now) c.len.result c.in-Ok.count (asking a c.args.splices.now time (chars c.args.message.now)) c.requires.holds c.len.ensures c.in-Ok.ensures.0 c.in-Ok.ensures.1 c.in-Ok.ensures.2 c.if-count-eq0.false,
+      asks_some c.args.graph.now.applied (S.placed c.args.sequence.now) (S.removals c.args.sequence.now) c.len.result c.in-Ok.count (asking a c.args.splices.now time (chars c.args.message.now)) c.requires c.len.ensures c.in-Ok.ensures.0 c.in-Ok.ensures.1 c.in-Ok.ensures.2 c.if-count-eq0.false,
       subst (λ (H : List Hash). 65535 < length H) c.heads.ensures c.if-heads-gt65535.true,
     )
 
 pub returns-then-next-count-gt281474976710656 : goal.returns-then-next-count-gt281474976710656
 returns-then-next-count-gt281474976710656 g c = λ a time.
     let S = g.S.Sequence in
-    let counted : c.args.next + c.in-Ok.count ≡ next_counter c.args.graph.now.applied + total_count c.args.splices.now =
-    ap (λ n. n + c.in-Ok.count) c.requires.counter ∙ ap (λ n. next_counter c.args.graph.now.applied + n) (sym c.in-Ok.ensures.1) in (
+    let counted : c.next_counter-next.result + c.in-Ok.count ≡ next_counter c.args.graph.now.applied + total_count c.args.splices.now =
+    ap (λ n. n + c.in-Ok.count) c.next_counter-next.ensures ∙ ap (λ n. next_counter c.args.graph.now.applied + n) (sym c.in-Ok.ensures.1) in (
       record {
-        asks = asks_some c.args.graph.now.applied (S.placed c.args.sequence.now) (S.removals c.args.sequence.now) c.len.result c.in-Ok.count (asking a c.args.splices.now time (chars c.args.message.now)) c.requires.holds c.len.ensures c.in-Ok.ensures.0 c.in-Ok.ensures.1 c.in-Ok.ensures.2 c.if-count-eq0.false;
+        asks = asks_some c.args.graph.now.applied (S.placed c.args.sequence.now) (S.removals c.args.sequence.now) c.len.result c.in-Ok.count (asking a c.args.splices.now time (chars c.args.message.now)) c.requires c.len.ensures c.in-Ok.ensures.0 c.in-Ok.ensures.1 c.in-Ok.ensures.2 c.if-count-eq0.false;
         heads = subst (λ (H : List Hash). length H ≤ 65535) c.heads.ensures c.if-heads-gt65535.false;
       },
       subst (λ n. 281474976710656 < n) counted c.if-next-count-gt281474976710656.true,
@@ -41,11 +41,11 @@ returns-then-next-count-gt281474976710656 g c = λ a time.
 pub returns-then-byte_count-gt65535 : goal.returns-then-byte_count-gt65535
 returns-then-byte_count-gt65535 g c = λ a time.
     let S = g.S.Sequence in
-    let counted : c.args.next + c.in-Ok.count ≡ next_counter c.args.graph.now.applied + total_count c.args.splices.now =
-    ap (λ n. n + c.in-Ok.count) c.requires.counter ∙ ap (λ n. next_counter c.args.graph.now.applied + n) (sym c.in-Ok.ensures.1) in (
+    let counted : c.next_counter-next.result + c.in-Ok.count ≡ next_counter c.args.graph.now.applied + total_count c.args.splices.now =
+    ap (λ n. n + c.in-Ok.count) c.next_counter-next.ensures ∙ ap (λ n. next_counter c.args.graph.now.applied + n) (sym c.in-Ok.ensures.1) in (
       record {
         before = record {
-          asks = asks_some c.args.graph.now.applied (S.placed c.args.sequence.now) (S.removals c.args.sequence.now) c.len.result c.in-Ok.count (asking a c.args.splices.now time (chars c.args.message.now)) c.requires.holds c.len.ensures c.in-Ok.ensures.0 c.in-Ok.ensures.1 c.in-Ok.ensures.2 c.if-count-eq0.false;
+          asks = asks_some c.args.graph.now.applied (S.placed c.args.sequence.now) (S.removals c.args.sequence.now) c.len.result c.in-Ok.count (asking a c.args.splices.now time (chars c.args.message.now)) c.requires c.len.ensures c.in-Ok.ensures.0 c.in-Ok.ensures.1 c.in-Ok.ensures.2 c.if-count-eq0.false;
           heads = subst (λ (H : List Hash). length H ≤ 65535) c.heads.ensures c.if-heads-gt65535.false;
         };
         counters = subst (λ n. n ≤ 281474976710656) counted c.if-next-count-gt281474976710656.false;
@@ -56,12 +56,12 @@ returns-then-byte_count-gt65535 g c = λ a time.
 pub returns : goal.returns
 returns g c = λ a time.
     let S = g.S.Sequence in
-    let counted : c.args.next + c.in-Ok.count ≡ next_counter c.args.graph.now.applied + total_count c.args.splices.now =
-    ap (λ n. n + c.in-Ok.count) c.requires.counter ∙ ap (λ n. next_counter c.args.graph.now.applied + n) (sym c.in-Ok.ensures.1) in
+    let counted : c.next_counter-next.result + c.in-Ok.count ≡ next_counter c.args.graph.now.applied + total_count c.args.splices.now =
+    ap (λ n. n + c.in-Ok.count) c.next_counter-next.ensures ∙ ap (λ n. next_counter c.args.graph.now.applied + n) (sym c.in-Ok.ensures.1) in
     record {
       counters = record {
         before = record {
-          asks = asks_some c.args.graph.now.applied (S.placed c.args.sequence.now) (S.removals c.args.sequence.now) c.len.result c.in-Ok.count (asking a c.args.splices.now time (chars c.args.message.now)) c.requires.holds c.len.ensures c.in-Ok.ensures.0 c.in-Ok.ensures.1 c.in-Ok.ensures.2 c.if-count-eq0.false;
+          asks = asks_some c.args.graph.now.applied (S.placed c.args.sequence.now) (S.removals c.args.sequence.now) c.len.result c.in-Ok.count (asking a c.args.splices.now time (chars c.args.message.now)) c.requires c.len.ensures c.in-Ok.ensures.0 c.in-Ok.ensures.1 c.in-Ok.ensures.2 c.if-count-eq0.false;
           heads = subst (λ (H : List Hash). length H ≤ 65535) c.heads.ensures c.if-heads-gt65535.false;
         };
         counters = subst (λ n. n ≤ 281474976710656) counted c.if-next-count-gt281474976710656.false;

@@ -1,8 +1,7 @@
-use Rattle.std.proofs.Common.{◌≡◌, None, ◌∙◌, ◌∷◌, [], ◌++◌, ap, sym, refl, subst, List, take, get_or}
+use Rattle.std.proofs.Common.{◌≡◌, None, ◌∙◌, ◌∷◌, [], ◌++◌, ap, sym, refl, subst, List, get_or}
 use Rattle.std.proofs.lemmas.Option.{slice_get_read}
 use Rattle.tp_change.specs.declared.parts.ChangeParts.{ChangeParts}
 use Rattle.tp_graph.specs.Fit.{cause}
-use Rattle.tp_document.specs.History.{changes_at}
 use Rattle.tp_document.proofs.ClockLaws.{place_at, changes_at-more}
 use Rattle.tp_document.proofs.ForkLaws.{next_enters}
 use Rattle.tp_document.proofs.forking.document_at.Goals as goal

@@ -1,4 +1,4 @@
-use Rattle.std.proofs.Common.{◌++◌, ◌∷◌, [], inl, refl, sym, ap, subst, append_assoc, ◌∙◌, length, length-append, ◌≤◌, ◌<◌, ◌+◌, ◌-◌, List, arith, append-nil}
+use Rattle.std.proofs.Common.{◌++◌, ◌∷◌, [], inl, refl, sym, ap, subst, append_assoc, ◌∙◌, length, length-append, ◌<◌, ◌+◌, ◌-◌, List, arith, append-nil}
 use Rattle.tp_receive.specs.declared.error.ReceiveError.{ReceiveError}
 use Rattle.tp_receive.specs.Going.{Goes, Stops}
 use Rattle.tp_change.specs.declared.parts.ChangeParts.{ChangeParts}

@@ -1,6 +1,4 @@
-use Rattle.std.proofs.Common.{◌≡◌, Some, true, false, ap, sym, subst, Result, Ok, Err, OnOk, IsOk, ◌∙◌}
-use Rattle.std.specs.List.{slice_get}
-use Rattle.tp_change.specs.declared.parts.ChangeParts.{ChangeParts}
+use Rattle.std.proofs.Common.{◌≡◌, true, false, ap, sym, Result, Ok, Err, OnOk, IsOk, ◌∙◌}
 use Rattle.tp_graph.specs.declared.error.GraphError.{GraphError}
 use Rattle.tp_graph.specs.Fit.{cause}
 use Rattle.tp_receive.specs.Receiving.{lacks_deps}

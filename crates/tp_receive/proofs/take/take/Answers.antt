@@ -1,4 +1,4 @@
-use Rattle.std.proofs.Common.{◌≡◌, ◌++◌, ◌∷◌, [], inl, ap, subst, ◌∙◌, length, ◌≤◌, ◌+◌, arith}
+use Rattle.std.proofs.Common.{◌≡◌, ◌++◌, ◌∷◌, [], inl, ap, subst, ◌∙◌, length, arith}
 use Rattle.tp_receive.specs.declared.error.ReceiveError.{ReceiveError}
 use Rattle.tp_receive.specs.declared.error.ReceiveError.TheVariants as error
 use Rattle.tp_receive.specs.Going.{Stops}
@@ -8,7 +8,6 @@ use Rattle.tp_receive.proofs.GoesLaws.{Goes-then, Stops-then}
 use Rattle.tp_receive.proofs.SettleLaws.{IfErr-residual, drops_refused}
 use Rattle.tp_receive.proofs.TakeLaws.{OnOk-map, IfErr-map, IfErr-stays, take_entered, take_refused, take_stopped, take_held, wait_held, wait_stopped, spare_held, count_held, count_on_one, stays_held, drops_one}
 use Rattle.tp_change.specs.ChangeHash.{hash_of}
-use Rattle.tp_graph.specs.GraphState.{most_waiting}
 use Rattle.tp_receive.proofs.LosesLaws.{LosesNone-then, LosesNone-at, LosesNone-enters}
 use Rattle.tp_receive.proofs.take.take.Goals as goal
 

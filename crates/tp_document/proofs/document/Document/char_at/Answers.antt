@@ -8,4 +8,4 @@ pub returns : goal.returns
 returns g c =
     let S = g.S.Sequence in
     subst (λ (d : DocState). HasCharAt d.applied c.args.at c.char_at.result) c.self.view_is
-    (Holds-char c.self.inside.graph.applied (S.placed c.self.inside.sequence) (S.removals c.self.inside.sequence) c.args.at c.char_at.result c.self.invariant.holds c.char_at.ensures)
+    (Holds-char c.self.inside.graph.applied (S.placed c.self.inside.sequence) (S.removals c.self.inside.sequence) c.args.at c.char_at.result c.self.invariant c.char_at.ensures)

@@ -8,12 +8,12 @@ pub returns-in-Some : goal.returns-in-Some
 returns-in-Some g c =
     let S = g.S.Sequence in
     subst (λ (d : DocState). HasElementAt d.applied c.args.at (Some c.in-Some.element)) c.self.view_is
-    (Holds-element c.self.inside.graph.applied (S.placed c.self.inside.sequence) (S.removals c.self.inside.sequence) c.args.at (Some c.in-Some.element) c.self.invariant.holds c.in-Some.ensures)
+    (Holds-element c.self.inside.graph.applied (S.placed c.self.inside.sequence) (S.removals c.self.inside.sequence) c.args.at (Some c.in-Some.element) c.self.invariant c.in-Some.ensures)
 
 pub returns-in-None : goal.returns-in-None
 returns-in-None g c =
     let S = g.S.Sequence in (
       subst (λ (d : DocState). HasElementAt d.applied c.args.at None) c.self.view_is
-          (Holds-element c.self.inside.graph.applied (S.placed c.self.inside.sequence) (S.removals c.self.inside.sequence) c.args.at None c.self.invariant.holds c.in-None.ensures),
+          (Holds-element c.self.inside.graph.applied (S.placed c.self.inside.sequence) (S.removals c.self.inside.sequence) c.args.at None c.self.invariant c.in-None.ensures),
       refl,
     )

@@ -11,7 +11,7 @@ returns-in-Some-clause-found g c =
     let d = c.self.inside in
     let H = c.args.heads.now in
     subst (λ (d : DocState). HasElementAt (past d.applied H) c.args.at (Some c.in-Some.element)) c.self.view_is
-    (past-element d.graph.applied (S.placed d.sequence) (S.removals d.sequence) H c.in_ok-view.view.clock c.args.at (Some c.in-Some.element) c.self.invariant.holds c.in_ok-view.ensures.ends c.in-Some.ensures)
+    (past-element d.graph.applied (S.placed d.sequence) (S.removals d.sequence) H c.in_ok-view.view.clock c.args.at (Some c.in-Some.element) c.self.invariant c.in_ok-view.ensures.ends c.in-Some.ensures)
 
 pub returns-clause-err : goal.returns-clause-err
 returns-clause-err g c =
@@ -21,5 +21,5 @@ returns-clause-err g c =
     inr (inr (
       refl,
       subst (λ (d : DocState). HasElementAt (past d.applied H) c.args.at None) c.self.view_is
-          (past-element d.graph.applied (S.placed d.sequence) (S.removals d.sequence) H c.in_ok-view.view.clock c.args.at None c.self.invariant.holds c.in_ok-view.ensures.ends c.in-None.ensures),
+          (past-element d.graph.applied (S.placed d.sequence) (S.removals d.sequence) H c.in_ok-view.view.clock c.args.at None c.self.invariant c.in_ok-view.ensures.ends c.in-None.ensures),
     ))

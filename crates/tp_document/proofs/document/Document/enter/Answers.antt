@@ -1,17 +1,16 @@
 use Rattle.std.proofs.Common.{◌≡◌, ◌≤◌, None, subst, sym, ap, ◌∙◌}
 use Rattle.tp_change.specs.Operations.{op_count}
-use Rattle.tp_change.specs.Elements.{later, next_counter}
 use Rattle.tp_text.proofs.Numbered.{length-ops_of}
 use Rattle.tp_graph.specs.Fit.{cause}
-use Rattle.tp_document.specs.DocState.{DocState, IsKept}
-use Rattle.tp_document.proofs.SoundText.{Holds-applies, Holds-push, next_counter-push}
+use Rattle.tp_document.specs.DocState.{DocState, Holds}
+use Rattle.tp_document.proofs.SoundText.{Holds-applies, Holds-push}
 use Rattle.tp_document.proofs.document.Document.enter.Goals as goal
 
 pub apply_change-requires-clause-fits : goal.apply_change-requires-clause-fits
 apply_change-requires-clause-fits g c =
     let S = g.S.Sequence in
     let none : cause c.self.inside.graph.applied c.args.change ≡ None = ap (λ (d : DocState). cause d.applied c.args.change) c.self.view_is ∙ c.requires.enters in
-    Holds-applies c.self.inside.graph.applied (S.placed c.self.inside.sequence) (S.removals c.self.inside.sequence) c.args.change c.self.invariant.holds none
+    Holds-applies c.self.inside.graph.applied (S.placed c.self.inside.sequence) (S.removals c.self.inside.sequence) c.args.change c.self.invariant none
 
 pub apply_change-requires-clause-room : goal.apply_change-requires-clause-room
 apply_change-requires-clause-room g c =
@@ -27,12 +26,5 @@ invariant_of-self g c =
     let none : cause C x ≡ None = ap (λ (d : DocState). cause d.applied x) c.self.view_is ∙ c.requires.enters in
     let after = S.placed c.apply_change.new.sequence in
     let deleted = S.removals c.apply_change.new.sequence in
-    subst (λ D. IsKept D c.later_of-self-inside.result after deleted) (sym c.enter.ensures.applied)
-    (record {
-      holds = Holds-push C (S.placed c.self.inside.sequence) after (S.removals c.self.inside.sequence) deleted x c.self.invariant.holds none c.hash-hash.ensures.limits c.apply_change.ensures.elements c.apply_change.ensures.removals;
-      counter =
-          c.later_of-self-inside.ensures
-          ∙ ap (λ n. later n c.next_start.result) c.self.invariant.counter
-          ∙ ap (λ n. later (next_counter C) n) c.next_start.ensures
-          ∙ sym (next_counter-push C x);
-    })
+    subst (λ D. Holds D after deleted) (sym c.enter.ensures.applied)
+    (Holds-push C (S.placed c.self.inside.sequence) after (S.removals c.self.inside.sequence) deleted x c.self.invariant none c.hash-hash.ensures.limits c.apply_change.ensures.elements c.apply_change.ensures.removals)

@@ -23,7 +23,7 @@ document_at-requires-clause-sound g c =
     let H = c.args.hashes.now in
     let same : c.changes.result.now ≡ C = c.changes.ensures.changes ∙ sym (ap (λ (d : DocState). d.applied) c.self.view_is) in
     subst Sound (sym (past_of_places c.changes.result.now C c.places.result.now c.in-Ok.past H same c.places.ensures c.in-Ok.ensures.places))
-    (sound_pasts C c.self.invariant.holds.sound H)
+    (sound_pasts C c.self.invariant.sound H)
 
 pub document_at-requires-clause-few : goal.document_at-requires-clause-few
 document_at-requires-clause-few g c =
@@ -31,7 +31,7 @@ document_at-requires-clause-few g c =
     let H = c.args.hashes.now in
     let same : c.changes.result.now ≡ C = c.changes.ensures.changes ∙ sym (ap (λ (d : DocState). d.applied) c.self.view_is) in
     subst (λ (l : List ChangeParts). length l ≤ most_changes) (sym (past_of_places c.changes.result.now C c.places.result.now c.in-Ok.past H same c.places.ensures c.in-Ok.ensures.places))
-    (few_in_past C H c.self.invariant.holds.few)
+    (few_in_past C H c.self.invariant.few)
 
 pub returns-in-Ok-clause-applied : goal.returns-in-Ok-clause-applied
 returns-in-Ok-clause-applied g c =

@@ -27,7 +27,7 @@ returns-in-Ok-judge_change g c =
     let asked = asking c.args.actor c.args.splices.now c.args.time (chars c.args.message.now) in
     let w : IsWithinSize C asked c.in-Ok.change = c.in-Ok.ensures in
     let range : AreInRange C c.args.splices.now = w.size.before.before.asks.range in
-    let h = c.self.invariant.holds in
+    let h = c.self.invariant in
     subst (λ (d : DocState). Edited d.applied asked c.in-Ok-judge_change.change) c.self.view_is
     (subst (λ (y : ChangeParts). Edited C asked y) (sym c.in-Ok-judge_change.ensures.0)
     (record {

@@ -1,4 +1,4 @@
-use Rattle.std.proofs.Common.{◌≡◌, List, [], ◌++◌, ap, sym, subst, ◌∙◌, true, false, IfOk, IfErr}
+use Rattle.std.proofs.Common.{◌≡◌, List, ◌++◌, ap, sym, subst, ◌∙◌, true, false, IfOk, IfErr}
 use Rattle.tp_opid.specs.declared.doc_id.DocId.{DocId}
 use Rattle.tp_opid.specs.Same.{same_doc}
 use Rattle.tp_opid.proofs.Orders.{same_doc-same, same_doc-apart}
@@ -56,6 +56,6 @@ returns-in-Err-clause-err g c =
     let C = c.args.self.now.applied in
     let W = c.args.self.now.waiting in
     let F = W ++ absent C c.args.other.now.applied in
-    let sound = subst (λ (d : DocState). Sound d.applied) c.self.view_is c.self.invariant.holds.sound in
+    let sound = subst (λ (d : DocState). Sound d.applied) c.self.view_is c.self.invariant.sound in
     Fails-stopped g.K.Keeper.keeps g.K.Keeper.refuses c.args.keeper.now c.args.keeper.now F C C W W receive.OutOfMemory sound
     (Stops-still g.K.Keeper.keeps g.K.Keeper.refuses c.args.keeper.now F C W (λ d i. In-left d W (absent C c.args.other.now.applied) i))

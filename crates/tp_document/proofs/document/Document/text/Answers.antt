@@ -10,4 +10,4 @@ pub returns-in-Ok-clause-text : goal.returns-in-Ok-clause-text
 returns-in-Ok-clause-text g c =
     let S = g.S.Sequence in
     subst (λ (d : DocState). IsTextOf d.applied (chars (string_bytes c.in-Ok.text))) c.self.view_is
-    (Holds-bytes c.self.inside.graph.applied (S.placed c.self.inside.sequence) (S.removals c.self.inside.sequence) (string_bytes c.in-Ok.text) c.self.invariant.holds c.in-Ok.ensures)
+    (Holds-bytes c.self.inside.graph.applied (S.placed c.self.inside.sequence) (S.removals c.self.inside.sequence) (string_bytes c.in-Ok.text) c.self.invariant c.in-Ok.ensures)

@@ -14,4 +14,4 @@ returns-clause-text g c =
     let H = c.args.heads.now in
     let bytes = string_bytes c.in_ok-text_of.field-0 in
     subst (λ (d : DocState). IsTextOf (past d.applied H) (chars bytes)) c.self.view_is
-    (past-bytes d.graph.applied (S.placed d.sequence) (S.removals d.sequence) H c.in_ok-snapshot.snapshot.clock bytes c.self.invariant.holds c.in_ok-snapshot.ensures.ends c.in_ok-text_of.ensures)
+    (past-bytes d.graph.applied (S.placed d.sequence) (S.removals d.sequence) H c.in_ok-snapshot.snapshot.clock bytes c.self.invariant c.in_ok-snapshot.ensures.ends c.in_ok-text_of.ensures)
