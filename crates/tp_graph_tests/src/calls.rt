@@ -55,13 +55,14 @@ fn enters(rt: HostRuntime) -> Result<(), Fail> {
     let one = first(alloc, 1, "abc")?;
     let two = following(alloc, 2, 4, one.hash(), "x")?;
     let three = following(alloc, 3, 5, two.hash(), "y")?;
-    let (a, b, c) = (one.hash(), two.hash(), three.hash());
+    let other = following(alloc, 4, 1, unknown(), "z")?;
+    let (a, b, c, d) = (one.hash(), two.hash(), three.hash(), other.hash());
     let mut graph = Graph::new(alloc);
-    assert!(rt; hold(&mut graph, three) && hold(&mut graph, two));
+    assert!(rt; hold(&mut graph, three) && hold(&mut graph, two) && hold(&mut graph, other));
     assert!(rt; graph.ready(&one).is_ok());
     graph.enter(one);
     assert!(rt; enter_waiting(&mut graph, 1));
-    assert!(rt; have(graph.pending(), &[c]) && have(graph.changes(), &[a, b]));
+    assert!(rt; have(graph.pending(), &[c, d]) && have(graph.changes(), &[a, b]));
     assert!(rt; same(graph.heads(), &[b]));
     Ok(())
 }
