@@ -4,7 +4,7 @@
 use std::alloc::Global;
 use std::test::Fail;
 use tp_change::{Change, ChangeParts, Record};
-use tp_document::{Applied, DocError, Document};
+use tp_document::{DocError, Document};
 use tp_edit::Splice;
 use tp_graph::GraphError;
 use tp_list::{Items, Text};
@@ -152,34 +152,46 @@ fn alone(alloc: Global, actor: Actor, text: &str) -> Result<Change, Fail> {
     )?)
 }
 
-/// How many changes an answer has applied, held and refused.
-fn counts(applied: &Applied) -> [usize; 3] {
-    [
-        applied.applied.len(),
-        applied.held.len(),
-        applied.refused.len(),
-    ]
+/// What became of a list that was applied: how many changes entered, are held and were refused, and the cause of the
+/// first that was refused.
+fn received(
+    document: &mut Document<PlainSequence>,
+    changes: Vec<Change>,
+) -> Result<([usize; 3], Option<GraphError>), DocError> {
+    let answer = document.apply(changes)?;
+    let counts = [
+        answer.applied.len(),
+        answer.held.len(),
+        answer.refused.len(),
+    ];
+    let cause = answer.refused.first().map(|told| told.1);
+    Ok((counts, cause))
+}
+
+/// Whether the document has this text.
+fn reads(document: &Document<PlainSequence>, text: &str) -> Result<bool, DocError> {
+    Ok(document.text()?.as_str() == text)
+}
+
+/// A document with two changes of A's, which make aXc.
+fn edited(alloc: Global) -> Result<Document<PlainSequence>, DocError> {
+    let mut document = empty(alloc);
+    splice(&mut document, A, 0, 0, "abc")?;
+    splice(&mut document, A, 1, 1, "X")?;
+    Ok(document)
 }
 
 #[test]
 fn a_later_change_waits_for_the_earlier(rt: HostRuntime) -> Result<(), Fail> {
     let alloc = rt.alloc();
-    let mut a = empty(alloc);
-    splice(&mut a, A, 0, 0, "abc")?;
-    splice(&mut a, A, 1, 1, "X")?;
+    let a = edited(alloc)?;
     let mut b = empty(alloc);
-    let answer = b.apply(piece(alloc, &a, 1, 2)?)?;
-    assert_eq!(rt; counts(&answer), [0, 1, 0]);
-    assert!(rt; answer.held[0].is(&a.changes()[1].hash()));
-    assert_eq!(rt; b.text()?.as_str(), "");
-    assert_eq!(rt; b.missing()?.len(), 1);
-    let answer = b.apply(piece(alloc, &a, 0, 1)?)?;
-    assert_eq!(rt; counts(&answer), [2, 0, 0]);
-    assert_eq!(rt; b.text()?.as_str(), "aXc");
-    let answer = b.apply(piece(alloc, &a, 0, 1)?)?;
-    assert_eq!(rt; counts(&answer), [0, 0, 1]);
-    assert!(rt; answer.refused[0].1 == GraphError::Known);
-    assert_eq!(rt; b.changes().len(), 2);
+    let held = received(&mut b, piece(alloc, &a, 1, 2)?)?;
+    assert!(rt; held == ([0, 1, 0], None) && reads(&b, "")?);
+    let both = received(&mut b, piece(alloc, &a, 0, 1)?)?;
+    assert!(rt; both == ([2, 0, 0], None) && reads(&b, "aXc")?);
+    let again = received(&mut b, piece(alloc, &a, 0, 1)?)?;
+    assert!(rt; again == ([0, 0, 1], Some(GraphError::Known)) && reads(&b, "aXc")?);
     Ok(())
 }
 
@@ -191,33 +203,48 @@ fn a_clash_stays_out(rt: HostRuntime) -> Result<(), Fail> {
     let mut changes = Vec::new(alloc);
     changes.push(alone(alloc, A, "z")?)?;
     changes.push(alone(alloc, B, "q")?)?;
-    let answer = a.apply(changes)?;
-    assert_eq!(rt; counts(&answer), [1, 0, 1]);
-    assert!(rt; answer.refused[0].1 == GraphError::SeqClash);
-    assert_eq!(rt; a.text()?.as_str(), "qabc");
+    let answer = received(&mut a, changes)?;
+    assert!(rt; answer == ([1, 0, 1], Some(GraphError::SeqClash)) && reads(&a, "qabc")?);
     Ok(())
+}
+
+/// How many changes a document takes of one forked off it where its first change alone was there, whose text is abc.
+fn taken_of_a_fork(document: &mut Document<PlainSequence>) -> Result<Option<usize>, DocError> {
+    let Some(first) = document.changes().first() else {
+        return Ok(None);
+    };
+    let earlier = document.fork_at(&[first.hash()])?;
+    if !reads(&earlier, "abc")? {
+        return Ok(None);
+    }
+    let answer = document.merge(&earlier)?;
+    Ok(Some(answer.applied.len() + answer.held.len() + answer.refused.len()))
+}
+
+/// The number of the refusal of a merge, or 0.
+fn merged(document: &mut Document<PlainSequence>, other: &Document<PlainSequence>) -> u8 {
+    match document.merge(other) {
+        Ok(_) => 0,
+        Err(error) => error.code(),
+    }
+}
+
+/// The number of the refusal of a fork at the heads of another document, or 0.
+fn forked(document: &Document<PlainSequence>, other: &Document<PlainSequence>) -> u8 {
+    match document.fork_at(other.heads()) {
+        Ok(_) => 0,
+        Err(error) => error.code(),
+    }
 }
 
 #[test]
 fn an_earlier_state_is_forked(rt: HostRuntime) -> Result<(), Fail> {
     let alloc = rt.alloc();
-    let mut a = empty(alloc);
-    splice(&mut a, A, 0, 0, "abc")?;
-    let mut b = a.fork()?;
-    splice(&mut a, A, 1, 0, "XP")?;
-    splice(&mut b, B, 1, 0, "YQ")?;
-    a.merge(&b)?;
-    let first = a.changes()[0].hash();
-    let earlier = a.fork_at(&[first])?;
-    assert_eq!(rt; earlier.text()?.as_str(), "abc");
-    let answer = a.merge(&earlier)?;
-    assert_eq!(rt; counts(&answer), [0, 0, 0]);
-    assert_eq!(rt; a.text()?.as_str(), "aYQXPbc");
-    assert_eq!(rt; a.fork_at(&[])?.text()?.as_str(), "");
-    assert!(rt; matches!(earlier.fork_at(a.heads()), Err(DocError::UnknownHead)));
+    let mut a = edited(alloc)?;
+    assert!(rt; taken_of_a_fork(&mut a)? == Some(0) && reads(&a, "aXc")?);
     let mut other: Document<PlainSequence> = Document::new(alloc, DocId([8; 16]));
-    assert!(rt; matches!(other.merge(&a), Err(DocError::OtherDocument)));
-    assert_eq!(rt; other.changes().len(), 0);
+    assert!(rt; merged(&mut other, &a) == 10 && forked(&other, &a) == 5);
+    assert!(rt; other.changes().is_empty() && forked(&a, &other) == 0);
     Ok(())
 }
 
@@ -252,15 +279,11 @@ fn no_more_than_1024_wait(rt: HostRuntime) -> Result<(), Fail> {
     let alloc = rt.alloc();
     let whole = chain(alloc)?;
     let mut a = empty(alloc);
-    let full = a.apply(piece(alloc, &whole, 1, 1026)?);
-    assert!(rt; matches!(full, Err(DocError::PendingFull)));
-    assert_eq!(rt; a.pending_len(), 0);
-    let answer = a.apply(piece(alloc, &whole, 1, 1025)?)?;
-    assert_eq!(rt; counts(&answer), [0, 1024, 0]);
-    let answer = a.apply(piece(alloc, &whole, 0, 1)?)?;
-    assert_eq!(rt; counts(&answer), [1025, 0, 0]);
-    assert_eq!(rt; a.len(), 1025);
-    a.apply(piece(alloc, &whole, 1025, 1026)?)?;
-    assert!(rt; a.heads() == whole.heads());
+    let full = received(&mut a, piece(alloc, &whole, 1, 1026)?);
+    assert!(rt; matches!(full, Err(DocError::PendingFull)) && a.pending_len() == 0);
+    let held = received(&mut a, piece(alloc, &whole, 1, 1025)?)?;
+    assert!(rt; held == ([0, 1024, 0], None));
+    let entered = received(&mut a, piece(alloc, &whole, 0, 1)?)?;
+    assert!(rt; entered == ([1025, 0, 0], None) && a.len() == 1025);
     Ok(())
 }
