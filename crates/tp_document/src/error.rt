@@ -7,7 +7,8 @@ ghost use Rattle.tp_document.specs.declared.error.DocError.TheVariants.{OutOfMem
 use std::alloc::{AllocError, AllocFailed};
 use thiserror::Error;
 
-/// Why a call was refused. A refused call leaves the document as it was.
+/// Why a call was refused. A refused call leaves the document as it was, but for `OutOfMemory` and `NotKept` of the
+/// calls that receive changes: see [`Document::apply`](crate::Document::apply).
 #[derive(Clone, Copy, Debug, PartialEq, Eq, Error)]
 pub enum DocError {
     /// A splice or a cursor asks for characters past the end of the text.
