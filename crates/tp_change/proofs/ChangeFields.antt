@@ -3,12 +3,8 @@ use Rattle.std.proofs.Common.{◌≡◌, ℕ, zero, suc, ◌^◌, ◌<◌, ◌�
 use Rattle.std.specs.Int.{w16, w32, w64, to_be_bytes}
 use Rattle.std.specs.List.{flat_map, AllByRecursion}
 use Rattle.std.specs.Ordering.{is_lt}
-use Rattle.std.specs.declared.cmp.Ordering.{Ordering}
-use Rattle.std.specs.declared.cmp.Ordering.TheVariants.{Less, Equal, Greater}
-use Rattle.tp_codec.specs.Front.{byte_at, bytes_at, number_at}
-use Rattle.tp_codec.specs.Reading.{Reads, give, fail, and_then, or_fail, require, repeat_at, text_at}
-use Rattle.tp_codec.proofs.Fields.{IsField, as_field, give_field, fail_field, then_field, require_field, test_field, byte_field, bytes_field, AreSoMany, number_field, text_field, FitsText, repeat_field, EachFits, wide16, wide32, wide64}
 use Rattle.tp_list.specs.Rising.{IsRising, IsBelowAll}
+use Rattle.tp_list.proofs.RisingLaws.{less_of, IsBelowAll-trans}
 use Rattle.tp_opid.specs.declared.actor.Actor.{Actor}
 use Rattle.tp_opid.specs.declared.hash.Hash.{Hash}
 use Rattle.tp_opid.specs.declared.op_id.OpId.{OpId}
@@ -16,6 +12,9 @@ use Rattle.tp_opid.specs.declared.op_id.Place.{Place}
 use Rattle.tp_opid.specs.declared.op_id.Place.TheVariants.{Start, After}
 use Rattle.tp_opid.specs.Order.{hash_cmp}
 use Rattle.tp_opid.proofs.Orders.{hash_total}
+use Rattle.tp_codec.specs.Front.{byte_at, bytes_at, number_at}
+use Rattle.tp_codec.specs.Reading.{Reads, give, fail, and_then, or_fail, require, repeat_at, text_at}
+use Rattle.tp_codec.proofs.Fields.{IsField, as_field, give_field, fail_field, then_field, require_field, test_field, byte_field, bytes_field, AreSoMany, number_field, text_field, FitsText, repeat_field, EachFits, wide16, wide32, wide64}
 use Rattle.tp_change.specs.declared.error.ChangeError.{ChangeError}
 use Rattle.tp_change.specs.declared.error.ChangeError.TheVariants.{Version, Short, ZeroSeqOrStart, BadUtf8, DepsOrder, NoRecords, BadTag, EmptyRun, Limit}
 use Rattle.tp_change.specs.declared.record.Record.{Record}
@@ -130,15 +129,6 @@ dep_field before =
     (λ h g fit. fit.1))
     (λ h fit. append-nil h.0) (λ h fit. (fit.0, fit.1.0)) (λ h fit. (fit.0, (fit.1, refl)))
 
-less_is : (o : Ordering) → is_lt o ≡ true → o ≡ Less
-less_is Less e = refl
-less_is Equal e = absurd cc
-less_is Greater e = absurd cc
-
-below_all_from : (a b : Hash) (deps : List Hash) → hash_cmp a b ≡ Less → IsBelowAll hash_cmp b deps → IsBelowAll hash_cmp a deps
-below_all_from a b [] lt all = tt
-below_all_from a b (d ∷ deps) lt all = (hash_total.trans a b d lt all.0, below_all_from a b deps lt all.1)
-
 abbrev DepFits : Option Hash → Hash → Type 0
 DepFits before h = IsHash h × (rises before h ≡ true)
 
@@ -146,8 +136,8 @@ rising_behind : (before : Hash) (deps : List Hash) → EachFits DepFits next_bef
 rising_behind before [] fit = (tt, tt)
 rising_behind before (h ∷ deps) fit =
     let rest = rising_behind h deps fit.1 in
-    let lt = less_is (hash_cmp before h) fit.0.1 in
-    ((lt, below_all_from before h deps lt rest.0), rest)
+    let lt = less_of (hash_cmp before h) fit.0.1 in
+    ((lt, IsBelowAll-trans hash_cmp hash_total before h deps lt rest.0), rest)
 
 rising_all : (deps : List Hash) → EachFits DepFits next_before None deps → IsRising hash_cmp deps
 rising_all [] fit = tt

@@ -3,11 +3,11 @@ use Rattle.std.proofs.Common.{◌≡◌, ℕ, ◌+◌, ◌-◌, ◌^◌, ◌<◌
 use Rattle.std.specs.Prelude.{encode_utf8_all, nat_lt, nat_le, OnOk}
 use Rattle.std.specs.List.{flat_map, AllByRecursion}
 use Rattle.std.specs.Ordering.{is_lt}
-use Rattle.std.specs.declared.cmp.Ordering.{Ordering}
-use Rattle.std.specs.declared.cmp.Ordering.TheVariants.{Less, Equal, Greater}
-use Rattle.std.proofs.lemmas.Bool.{ltb-true, leb-true, lt-ltb, le-leb}
+use Rattle.std.specs.declared.cmp.Ordering.TheVariants.{Less}
+use Rattle.std.proofs.lemmas.Bool.{ltb-true, leb-true, lt-ltb, le-leb, and_parts}
 use Rattle.std.proofs.lemmas.List.Concat.{flat_map-cons}
 use Rattle.tp_list.specs.Rising.{IsRising, IsBelowAll}
+use Rattle.tp_list.proofs.RisingLaws.{less_of, IsBelowAll-trans}
 use Rattle.tp_opid.specs.declared.hash.Hash.{Hash}
 use Rattle.tp_opid.specs.Order.{hash_cmp}
 use Rattle.tp_opid.proofs.Orders.{hash_total}
@@ -41,32 +41,16 @@ ok_and r s h k = ap (λ x. x and_then s) h ∙ k
 fine : (b : Bool) (e : ChangeError) → b ≡ true → unless b e ≡ Ok tt
 fine b e h = ap (λ x. unless x e) h
 
--- both tests of a conjunction hold
-both_true : (a b : Bool) → (a && b) ≡ true → (a ≡ true) × (b ≡ true)
-both_true true b h = (refl, h)
-both_true false b h = cc
-
--- a test for Less, read
-less_of : (o : Ordering) → is_lt o ≡ true → o ≡ Less
-less_of Less h = refl
-less_of Equal h = cc
-less_of Greater h = cc
-
 -- ---- rising hashes
-
--- what is below a hash is below all that this one is below
-below_after : (g h : Hash) (hs : List Hash) → hash_cmp g h ≡ Less → IsBelowAll hash_cmp h hs → IsBelowAll hash_cmp g hs
-below_after g h [] less below = tt
-below_after g h (x ∷ xs) less below = (hash_total.trans g h x less below.0, below_after g h xs less below.1)
 
 -- hashes that were found to rise after g rise, and stand above it
 rising_after : (g : Hash) (hs : List Hash) → rises_after (Some g) hs ≡ true → IsBelowAll hash_cmp g hs × IsRising hash_cmp hs
 rising_after g [] e = (tt, tt)
 rising_after g (h ∷ hs) e =
-    let two = both_true (is_above (Some g) h) (rises_after (Some h) hs) e in
+    let two = and_parts (is_above (Some g) h) (rises_after (Some h) hs) e in
     let less : hash_cmp g h ≡ Less = less_of (hash_cmp g h) two.0 in
     let more = rising_after h hs two.1 in
-    ((less, below_after g h hs less more.0), more)
+    ((less, IsBelowAll-trans hash_cmp hash_total g h hs less more.0), more)
 
 -- hashes that were found to rise do
 rising_of : (hs : List Hash) → rises_after None hs ≡ true → IsRising hash_cmp hs

@@ -1,9 +1,8 @@
 -- One step of judging a list.
-use Rattle.std.proofs.Common.{◌≡◌, ℕ, ◌+◌, ◌-◌, ◌<◌, true, ◌&&◌, List, ◌∷◌, length, get_or, drop, Option, Some, Ok, Err, sym, ap, ◌∙◌}
+use Rattle.std.proofs.Common.{◌≡◌, ℕ, ◌+◌, ◌-◌, ◌<◌, true, ◌&&◌, List, ◌∷◌, length, get_or, drop, Option, Some, Ok, sym, ap, ◌∙◌}
 use Rattle.std.proofs.lemmas.List.{at_drop_more}
 use Rattle.tp_opid.specs.declared.hash.Hash.{Hash}
 use Rattle.tp_change.specs.declared.record.Record.{Record}
-use Rattle.tp_change.specs.declared.error.ChangeError.{ChangeError}
 use Rattle.tp_change.specs.Operations.{count_in}
 use Rattle.tp_change.specs.Judged.{is_above, rises_after, ◌and_then◌, judged_record, judged_records}
 
@@ -18,8 +17,3 @@ records_step room rs i r count lt here h n =
     let first : judged_records room (drop i rs) ≡ judged_records room (r ∷ drop (i + 1) rs) =
     at_drop_more (judged_records room) rs i r lt ∙ ap (λ x. judged_records room (x ∷ drop (i + 1) rs)) (sym here) in
     sym (first ∙ ap (λ j. j and_then judged_records (room - count_in r) (drop (i + 1) rs)) h ∙ ap (λ k. judged_records (room - k) (drop (i + 1) rs)) (sym n))
-
--- a fault of a record is the fault
-pub records_stop : (room : ℕ) (rs : List Record) (i : ℕ) (r : Record) (e : ChangeError) → i < length rs → r ≡ get_or rs i r → judged_record room r ≡ Err e → judged_records room (drop i rs) ≡ Err e
-records_stop room rs i r e lt here h =
-    at_drop_more (judged_records room) rs i r lt ∙ ap (λ x. judged_records room (x ∷ drop (i + 1) rs)) (sym here) ∙ ap (λ j. j and_then judged_records (room - count_in r) (drop (i + 1) rs)) h

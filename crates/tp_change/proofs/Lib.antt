@@ -11,3 +11,5 @@ pub mod OpsBegin
 pub mod JudgedSteps
 pub mod JudgedLaws
 pub mod OpsLaws
+pub mod ElementLaws
+pub mod Numbered

@@ -1,11 +1,10 @@
 -- The operations of a change, by place: how many they are, and their identifiers.
-use Rattle.std.proofs.Common.{◌≡◌, ℕ, cond, eqb, zero, suc, ◌+◌, ◌<◌, ◌≤◌, List, [], ◌∷◌, ◌++◌, length, map, get_or, refl, sym, ap, ◌∙◌, subst, arith, inl, inr}
+use Rattle.std.proofs.Common.{◌≡◌, ℕ, cond, eqb, zero, suc, ◌+◌, ◌<◌, List, [], ◌∷◌, ◌++◌, length, map, get_or, refl, sym, ap, ◌∙◌, subst, arith}
 use Rattle.std.proofs.lemmas.List.{map-append}
 use Rattle.std.proofs.lemmas.Bool.{lt-ltb}
 use Rattle.std.specs.Cmp.Lexicographic.{slice_cmp}
 use Rattle.std.specs.Ordering.{nat_cmp, ordering_then}
 use Rattle.std.specs.declared.cmp.Ordering.TheVariants.{Less, Equal, Greater}
-use Rattle.tp_list.specs.Members.{In}
 use Rattle.tp_list.specs.Rising.{IsBelowAll, IsRising}
 use Rattle.tp_opid.specs.declared.actor.Actor.{Actor}
 use Rattle.tp_opid.specs.declared.op_id.OpId.{OpId}
@@ -17,9 +16,7 @@ use Rattle.tp_change.specs.declared.record.Record.{Record}
 use Rattle.tp_change.specs.declared.record.Record.TheVariants as record_of
 use Rattle.tp_change.specs.declared.parts.ChangeParts.{ChangeParts}
 use Rattle.tp_change.specs.Operations.{count_in, count_of, id_of, run, ops_in, ops_from, ops_of, op_count}
-use Rattle.tp_change.specs.OpIds.{op_id, ids_from, IsOwnId}
-use Rattle.tp_change.specs.Limits.{IsChange}
-use Rattle.tp_change.proofs.Counts.{length-le-count_of}
+use Rattle.tp_change.specs.OpIds.{op_id, ids_from}
 
 -- ---- the identifiers, as a list
 
@@ -58,7 +55,7 @@ ids-ops_of c = ids-ops_from c.actor c.start c.records
 -- ---- how many
 
 -- there are as many as were asked for
-length-ids_from : (a : Actor) (n k : ℕ) → length (ids_from a n k) ≡ k
+pub length-ids_from : (a : Actor) (n k : ℕ) → length (ids_from a n k) ≡ k
 length-ids_from a n zero = refl
 length-ids_from a n (suc k) = ap suc (length-ids_from a (n + 1) k)
 
@@ -71,59 +68,17 @@ length-ids (op ∷ ops) = ap suc (length-ids ops)
 pub length-ops_of : (c : ChangeParts) → length (ops_of c) ≡ op_count c
 length-ops_of c = sym (length-ids (ops_of c)) ∙ ap length (ids-ops_of c) ∙ length-ids_from c.actor c.start (op_count c)
 
--- a change has an operation
-pub one-le-op_count : (c : ChangeParts) → IsChange c → 1 ≤ op_count c
-unfolding op_count
-one-le-op_count c h = let few = length-le-count_of c.records h.records in omega (arith, h.records_some)
-
 -- ---- by place
 
 -- the identifier at a place
-get_or-ids_from : (a : Actor) (n k j : ℕ) (d : OpId) → j < k → get_or (ids_from a n k) j d ≡ id_of a (n + j)
+pub get_or-ids_from : (a : Actor) (n k j : ℕ) (d : OpId) → j < k → get_or (ids_from a n k) j d ≡ id_of a (n + j)
 get_or-ids_from a n zero j d lt = absurd (omega arith)
 get_or-ids_from a n (suc k) zero d lt = let e : n + zero ≡ n = omega arith in rw e refl
 get_or-ids_from a n (suc k) (suc j) d lt =
     let e : n + suc j ≡ (n + 1) + j = omega arith in
     rw e (get_or-ids_from a (n + 1) k j d (omega arith))
 
--- the identifier of the operation at a place
-get_or-ids : (ops : List Op) (j : ℕ) (d : Op) → get_or (map op_id ops) j (op_id d) ≡ op_id (get_or ops j d)
-get_or-ids [] j d = refl
-get_or-ids (op ∷ ops) zero d = refl
-get_or-ids (op ∷ ops) (suc j) d = get_or-ids ops j d
-
--- operation j, counted from 0, has the change's actor and the counter start + j
-pub op_id-at : (c : ChangeParts) (j : ℕ) (d : Op) → j < op_count c → op_id (get_or (ops_of c) j d) ≡ id_of c.actor (c.start + j)
-op_id-at c j d lt =
-    sym (get_or-ids (ops_of c) j d) ∙ ap (λ ids. get_or ids j (op_id d)) (ids-ops_of c) ∙ get_or-ids_from c.actor c.start (op_count c) j (op_id d) lt
-
--- two places have different identifiers
-pub op_id-apart : (c : ChangeParts) (i j : ℕ) (d : Op) → i < op_count c → j < op_count c → op_id (get_or (ops_of c) i d) ≡ op_id (get_or (ops_of c) j d) → i ≡ j
-op_id-apart c i j d lt_i lt_j e =
-    let at : id_of c.actor (c.start + i) ≡ id_of c.actor (c.start + j) = sym (op_id-at c i d lt_i) ∙ e ∙ op_id-at c j d lt_j in
-    let counters : c.start + i ≡ c.start + j = ap (λ (id : OpId). id.counter) at in
-    omega arith
-
 -- ---- by membership
-
--- a member of identifiers in a row within the change's is one of the change's
-own_id : (c : ChangeParts) (n k : ℕ) (id : OpId) → c.start ≤ n → n + k ≤ c.start + op_count c → In id (ids_from c.actor n k) → IsOwnId c id
-own_id c n zero id low high h = absurd h
-own_id c n (suc k) id low high h =
-    elim h as (λ _. IsOwnId c id) [
-      | inl e ↦ subst (IsOwnId c) (sym e) (record { actor = refl; from = low; to = omega arith })
-      | inr more ↦ own_id c (n + 1) k id (omega arith) (omega arith) more
-    ]
-
--- a member's identifier is among the identifiers
-in_ids : (op : Op) (ops : List Op) → In op ops → In (op_id op) (map op_id ops)
-in_ids op [] h = h
-in_ids op (x ∷ xs) h = elim h as (λ _. In (op_id op) (map op_id (x ∷ xs))) [ inl e ↦ inl (ap op_id e) | inr more ↦ inr (in_ids op xs more) ]
-
--- each operation's identifier is one of the change's
-pub own_op : (c : ChangeParts) (op : Op) → In op (ops_of c) → IsOwnId c (op_id op)
-own_op c op h =
-    own_id c c.start (op_count c) (op_id op) (omega arith) (omega arith) (subst (In (op_id op)) (ids-ops_of c) (in_ids op (ops_of c) h))
 
 -- ---- in order
 

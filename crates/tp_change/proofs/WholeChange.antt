@@ -19,6 +19,7 @@ use Rattle.tp_change.specs.Spelling.{spelling_of_place, spelling_of_run, spellin
 use Rattle.tp_change.specs.Limits.{IsRecord, IsChange}
 use Rattle.tp_change.specs.Reading.{version_at, room_after, room_from, parts_at, sized_at, ended, change_at}
 use Rattle.tp_change.proofs.ChangeFields.{version_field, parts_field, FitsRecord, FitsParts, spelling_of_parts}
+use Rattle.tp_change.proofs.Counts.{length-le-count_of}
 
 -- ---- what is read is within the limits, and the other way round
 
@@ -45,15 +46,6 @@ record_fits room (Delete target) is few = (is, few)
 records_fit : (room : ℕ) (rs : List Record) → AllByRecursion IsRecord rs → count_of rs ≤ room → EachFits FitsRecord room_after room rs
 records_fit room [] is few = tt
 records_fit room (r ∷ rs) is few = (record_fits room r is.0 (omega arith), records_fit (room_after room r) rs is.1 (omega arith))
-
-record_counts : (r : Record) → IsRecord r → 1 ≤ count_in r
-record_counts (Insert after text) is = is.2
-record_counts (Delete target) is = omega arith
-
--- Each record is an operation at least.
-pub length-le-count_of : (rs : List Record) → AllByRecursion IsRecord rs → length rs ≤ count_of rs
-length-le-count_of [] is = omega arith
-length-le-count_of (r ∷ rs) is = omega (arith, record_counts r is.0, length-le-count_of rs is.1)
 
 -- how long a spelling is
 pub length-spelling : (c : ChangeParts) → length (spelling c) ≡ 1 + (length c.actor.0 + (8 + (8 + (8 + (length (spelling_of_message c.message) + (length (spelling_of_deps c.deps) + (4 + length (flat_map spelling_of_record c.records))))))))

@@ -3,15 +3,15 @@ use Rattle.std.proofs.Common.{◌≡◌, ℕ, zero, suc, ◌+◌, ◌^◌, ◌/�
 use Rattle.std.specs.Prelude.{encode_utf8_all}
 use Rattle.std.specs.Int.{Width, w16, w32, w64, byte_len, from_be_bytes, to_be_bytes}
 use Rattle.std.specs.List.{flat_map}
-use Rattle.std.specs.Str.{IsUtf8, chars, is_utf8, all_scalars}
+use Rattle.std.specs.Str.{chars, is_utf8, all_scalars}
 use Rattle.std.proofs.lemmas.Bool.{cases_lt, ltb-false, ltb-true, le-ltb, and_parts}
-use Rattle.std.proofs.lemmas.List.{take_at, drop_at, take-append-drop, length-append, length-take, get_or-drop, get_or-take, get_or_past, get_or-append-add}
+use Rattle.std.proofs.lemmas.List.{take_at, drop_at, take-append-drop, length-append, length-take, get_or-take, get_or_past, get_or-append-add}
 use Rattle.std.proofs.lemmas.List.Concat.{flat_map-cons}
 use Rattle.std.proofs.lemmas.Nat.{be_bytes_2, be_bytes_4, be_bytes_8, from_be_bytes-to_be_bytes_2, from_be_bytes-to_be_bytes_4, from_be_bytes-to_be_bytes_8}
 use Rattle.std.proofs.lemmas.Str.{encodes-chars, scalars-chars, chars-encodes, IsUtf8-from_is_utf8, is_utf8-from_IsUtf8}
-use lib.Utf8.{scalar, encode, scalar_cases}
 use Rattle.tp_codec.specs.Front.{byte_at, bytes_at, number_at}
 use Rattle.tp_codec.specs.Reading.{Reads, give, fail, and_next, and_then, found_or, or_fail, passed, require, repeat_at, characters_at, text_at}
+use lib.Utf8.{scalar, encode, scalar_cases}
 
 -- each is a byte
 abbrev pub AreBytes : List ℕ → Type 0
@@ -123,11 +123,6 @@ then_field {X} {Z} {E} short first next spell_first FirstFits get spell_next Nex
             ((g n.0.0 a.1).stays n.0.1 more e (AreBytes-rest (spell_first n.0.0) bytes n.0.1 a.0 fits) n.2 apart)
       ];
 }
-
-passed_ok : {E : Type 0} (test : Bool) (e : E) (bytes : List ℕ) (x : Unit {0} × List ℕ) → passed test e bytes ≡ Ok x → (test ≡ true) × (bytes ≡ x.1)
-unfolding passed
-passed_ok {E} true e bytes x r = (refl, ap (λ (q : Unit {0} × List ℕ). q.1) (pair_is {E = E} (tt, bytes) x r))
-passed_ok false e bytes x r = absurd cc
 
 -- a test with no field behind it
 pub test_field : {E : Type 0} (short : E) (test : Bool) (e : E) → IsField short (require test e) (λ _. []) (λ _. test ≡ true)

@@ -17,12 +17,12 @@ use Rattle.tp_change.specs.declared.parts.ChangeParts.{ChangeParts}
 use Rattle.tp_change.specs.Operations.{op_count}
 use Rattle.tp_change.specs.Elements.{later}
 use Rattle.tp_rga.specs.Shown.{is_removed}
-use Rattle.tp_rga.proofs.Edits.{In-slice_get}
+use Rattle.tp_list.proofs.Members.{In-slice_get}
 use Rattle.tp_graph.specs.Named.{names, is_needed}
 use Rattle.tp_graph.specs.Past.{past}
 use Rattle.tp_graph.specs.Marks.{marks, places_from}
 use Rattle.tp_graph.specs.Since.{past_places}
-use Rattle.tp_graph.proofs.Tests.{truth}
+use Rattle.tp_list.proofs.Tests.{truth}
 use Rattle.tp_document.specs.History.{end_at, end_of, has_op, AreEnds, AreTargets, with_change, changes_at, is_one_of, deletes_by}
 use Rattle.tp_document.proofs.EndLaws.{end_of-push}
 

@@ -18,13 +18,13 @@ use Rattle.tp_rga.specs.Order.{IsInOrder}
 use Rattle.tp_rga.specs.Shown.{shown}
 use Rattle.tp_rga.proofs.OneOrder.{order_exists, one_order}
 use Rattle.tp_text.specs.Text.{chars_of, IsTextOf}
-use Rattle.tp_text.proofs.Numbered.{inserts-push, deletes-push}
+use Rattle.tp_change.proofs.ElementLaws.{inserts-push, deletes-push}
 use Rattle.tp_graph.specs.declared.error.GraphError.TheVariants.{Full}
 use Rattle.tp_graph.specs.Named.{has, has_all}
 use Rattle.tp_graph.specs.Past.{past}
 use Rattle.tp_graph.specs.Fit.{misfit, or_full, cause, most_changes, clashes, count_by}
 use Rattle.tp_graph.specs.Sound.{Sound, Fits}
-use Rattle.tp_graph.proofs.Tests.{not_true, or_cases, both_left, both_right}
+use Rattle.tp_list.proofs.Tests.{not_true, or_cases, both_left, both_right}
 use Rattle.tp_graph.proofs.SoundLaws.{Fits-at, misfit-from_Fits, deps_first, Sound-push}
 use Rattle.tp_graph.proofs.HeadsLaws.{has_all-heads, past-heads}
 use Rattle.tp_graph.proofs.CountLaws.{seqs_run}

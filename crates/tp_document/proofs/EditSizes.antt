@@ -23,12 +23,13 @@ use Rattle.tp_change.proofs.SpellingLaws.{hash_of_is}
 use Rattle.tp_change.proofs.WholeChange.{length-spelling}
 use Rattle.tp_rga.specs.Shown.{is_removed, shown}
 use Rattle.tp_rga.specs.Order.{IsInOrder}
-use Rattle.tp_rga.proofs.OneOrder.{In-filter}
-use Rattle.tp_text.proofs.Numbered.{Numbered, Numbered-ops_of, length-ops_of}
+use Rattle.tp_list.proofs.Members.{In-filter}
+use Rattle.tp_change.proofs.Numbered.{Numbered-ops_of, Numbered}
+use Rattle.tp_change.proofs.OpsLaws.{length-ops_of}
 use Rattle.tp_graph.specs.Heads as head
 use Rattle.tp_graph.specs.Sound.{Sound}
 use Rattle.tp_graph.proofs.HeadsLaws.{heads-In, heads_rise}
-use Rattle.tp_graph.proofs.CountLaws.{inserts-In, one-next_counter}
+use Rattle.tp_change.proofs.ElementLaws.{inserts-In, one-next_counter}
 use Rattle.tp_edit.specs.Splices.{AllInRange, total_count}
 use Rattle.tp_edit.specs.EditRecords.{records_of, visible_ids, ids_of}
 use Rattle.tp_edit.specs.EditLimits.{AllIds, AllTexts}

@@ -12,15 +12,16 @@ use Rattle.tp_change.specs.ChangeHash.{hash_of}
 use Rattle.tp_change.specs.Operations.{op_count}
 use Rattle.tp_change.specs.OpIds.{IsOwnId}
 use Rattle.tp_change.specs.Elements.{later}
-use Rattle.tp_rga.proofs.Sets.{In-right, In-append}
+use Rattle.tp_list.proofs.Members.{In-right, In-append, In-split}
 use Rattle.tp_graph.specs.Past.{past}
 use Rattle.tp_graph.specs.Reach.{Chain}
 use Rattle.tp_graph.specs.Sound.{Sound}
-use Rattle.tp_graph.proofs.Tests.{truth}
+use Rattle.tp_list.proofs.Tests.{truth}
 use Rattle.tp_graph.proofs.PastLaws.{past-In}
-use Rattle.tp_graph.proofs.SoundLaws.{DepsFirst, deps_first, past-closed, Fits-at, Sound-front, Sound-before, In-split}
+use Rattle.tp_graph.proofs.SoundLaws.{DepsFirst, deps_first, past-closed, Fits-at, Sound-front, Sound-before}
 use Rattle.tp_graph.proofs.ReachLaws.{InPast-from_past}
-use Rattle.tp_graph.proofs.CountLaws.{next_counter-above, own_past}
+use Rattle.tp_graph.proofs.CountLaws.{own_past}
+use Rattle.tp_change.proofs.ElementLaws.{next_counter-above}
 use Rattle.tp_document.specs.History.{end_of}
 
 -- ---- the end of an actor's changes

@@ -8,7 +8,7 @@ use Rattle.tp_graph.specs.Named.{among, has, has_all}
 use Rattle.tp_graph.specs.Sound.{Sound}
 use Rattle.tp_opid.proofs.Orders.{same_hash-same}
 use Rattle.tp_graph.specs.GraphState.{most_waiting}
-use Rattle.tp_graph.proofs.Tests.{truth, or_cases, or_left, or_right, both, both_left, both_right}
+use Rattle.tp_list.proofs.Tests.{truth, or_cases, or_left, or_right, both_left, both_right, both}
 use Rattle.tp_graph.proofs.NamedLaws.{has-append}
 use Rattle.tp_graph.proofs.SoundLaws.{Fits-at}
 use Rattle.tp_receive.specs.Receiving.{hashes}

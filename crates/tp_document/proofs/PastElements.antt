@@ -16,19 +16,21 @@ use Rattle.tp_change.specs.declared.parts.ChangeParts.{ChangeParts}
 use Rattle.tp_change.specs.Operations.{id_of, ops_of}
 use Rattle.tp_change.specs.OpIds.{op_id, IsOwnId}
 use Rattle.tp_change.specs.Elements.{inserts_in, inserts, deletes_in, deletes}
-use Rattle.tp_rga.specs.Tree.{IsTree}
+use Rattle.tp_opid.specs.Tree.{IsTree}
 use Rattle.tp_rga.specs.Order.{IsInOrder}
 use Rattle.tp_rga.specs.Shown.{shown}
-use Rattle.tp_rga.proofs.Sets.{In-left, In-right, In-append, SameMembers-sym, IsTree-same}
-use Rattle.tp_rga.proofs.OneOrder.{In-filter, filter-In, order_of_part, order_of_set, shown_of_set}
-use Rattle.tp_text.proofs.Numbered.{Numbered, Numbered-ops_of, length-ops_of}
+use Rattle.tp_opid.proofs.Trees.{IsTree-same}
+use Rattle.tp_list.proofs.Members.{In-left, In-right, In-append, SameMembers-sym, In-filter, filter-In}
+use Rattle.tp_rga.proofs.OneOrder.{order_of_part, order_of_set, shown_of_set}
+use Rattle.tp_change.proofs.Numbered.{Numbered-ops_of, Numbered}
+use Rattle.tp_change.proofs.OpsLaws.{length-ops_of}
 use Rattle.tp_graph.specs.Named.{names, is_needed}
 use Rattle.tp_graph.specs.Past.{past}
 use Rattle.tp_graph.specs.Fit.{most_changes}
 use Rattle.tp_graph.specs.Sound.{Sound}
 use Rattle.tp_graph.proofs.PastLaws.{past-In}
 use Rattle.tp_graph.proofs.SoundLaws.{sound_pasts}
-use Rattle.tp_graph.proofs.CountLaws.{In-inserts, inserts-In}
+use Rattle.tp_change.proofs.ElementLaws.{In-inserts, inserts-In}
 use Rattle.tp_text.specs.Text.{chars_of, IsTextOf}
 use Rattle.tp_document.specs.DocState.{Holds}
 use Rattle.tp_document.specs.Showing.{HasElementAt}

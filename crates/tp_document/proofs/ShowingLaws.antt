@@ -20,12 +20,11 @@ use Rattle.tp_change.specs.Operations.{id_of, run, ops_from, ops_of}
 use Rattle.tp_change.specs.Elements.{inserts_in, inserts, deletes}
 use Rattle.tp_change.specs.Limits.{IsRecord}
 use Rattle.tp_rga.specs.Shown.{is_removed, shown, shown_before}
-use Rattle.tp_rga.proofs.Sets.{In-append}
+use Rattle.tp_list.proofs.Members.{In-append}
 use Rattle.tp_rga.proofs.OneOrder.{one_order}
 use Rattle.tp_text.specs.Text.{chars_of, IsTextOf}
-use Rattle.tp_text.proofs.Applied.{inserts_in-append}
+use Rattle.tp_change.proofs.ElementLaws.{inserts_in-append, inserts-In}
 use Rattle.tp_graph.specs.Sound.{Sound}
-use Rattle.tp_graph.proofs.CountLaws.{inserts-In}
 use Rattle.tp_document.specs.DocState.{Holds, AllChanges}
 use Rattle.tp_document.specs.Showing.{HasLength, HasCharAt, HasElementAt, HasPosition}
 use Rattle.tp_document.proofs.SoundText.{IsTree-inserts}

@@ -14,7 +14,7 @@ use Rattle.tp_opid.specs.Same.{id_eq}
 use Rattle.tp_rga.specs.declared.element.Element.{Element}
 use Rattle.tp_rga.specs.Shown.{is_removed, shown, element_of}
 use Rattle.tp_text.specs.Text.{chars_of}
-use Rattle.tp_graph.proofs.Tests.{or_right}
+use Rattle.tp_list.proofs.Tests.{or_right}
 use Rattle.tp_document.specs.History.{has_op, AreTargets, is_one_of, inserts_by, deletes_by, shown_by}
 
 -- whether an element is shown

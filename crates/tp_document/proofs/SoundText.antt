@@ -15,20 +15,24 @@ use Rattle.tp_change.specs.declared.parts.ChangeParts.{ChangeParts}
 use Rattle.tp_change.specs.Operations.{id_of, ops_of}
 use Rattle.tp_change.specs.Limits.{IsChange}
 use Rattle.tp_change.specs.Elements.{element, inserts_in, inserts, deletes_in, deletes, next_counter}
-use Rattle.tp_rga.specs.Tree.{IsThere, IsTree}
+use Rattle.tp_opid.specs.Tree.{IsThere, IsTree}
 use Rattle.tp_rga.specs.Order.{IsInOrder}
-use Rattle.tp_rga.proofs.Sets.{In-left, In-append, IsThere-grow, IsTree-push}
+use Rattle.tp_opid.proofs.Trees.{IsThere-grow, IsTree-push}
+use Rattle.tp_list.proofs.Members.{In-left, In-append}
 use Rattle.tp_text.specs.Applying.{CanApply, Extends, AllUnder}
 use Rattle.tp_text.proofs.Applied.{CanApply-same}
-use Rattle.tp_text.proofs.Numbered.{Numbered, Numbered-ops_of, length-ops_of, IsFresh, IsFresh-under, CanApply-refers, AllUnder-ops, AllUnder-up, inserts-push, deletes-push}
+use Rattle.tp_text.proofs.Numbered.{IsFresh, IsFresh-under, CanApply-refers, AllUnder-ops, AllUnder-up}
+use Rattle.tp_change.proofs.Numbered.{Numbered-ops_of, Numbered}
+use Rattle.tp_change.proofs.OpsLaws.{length-ops_of}
+use Rattle.tp_change.proofs.ElementLaws.{inserts-push, deletes-push, In-inserts, inserts-In, inserts-more, next_counter-above}
 use Rattle.tp_graph.specs.declared.error.GraphError.{GraphError}
 use Rattle.tp_graph.specs.Past.{past}
 use Rattle.tp_graph.specs.Fit.{misfit, or_full, cause, most_changes}
 use Rattle.tp_graph.specs.Sound.{Sound, Fits}
-use Rattle.tp_graph.proofs.Tests.{truth}
+use Rattle.tp_list.proofs.Tests.{truth}
 use Rattle.tp_graph.proofs.PastLaws.{past-In}
 use Rattle.tp_graph.proofs.SoundLaws.{Fits-from_misfit, Sound-push, sound-induct}
-use Rattle.tp_graph.proofs.CountLaws.{next_counter-above, In-inserts, inserts-In, inserts-more, own_past}
+use Rattle.tp_graph.proofs.CountLaws.{own_past}
 use Rattle.tp_document.specs.DocState.{Holds}
 
 -- ---- what can enter fits

@@ -12,7 +12,7 @@ use Rattle.tp_graph.specs.Named.{has_all}
 use Rattle.tp_graph.specs.Heads as head
 use Rattle.tp_graph.specs.Past.{past}
 use Rattle.tp_graph.specs.Sound.{Sound}
-use Rattle.tp_graph.proofs.CountLaws.{inserts-more}
+use Rattle.tp_change.proofs.ElementLaws.{inserts-more}
 use Rattle.tp_graph.proofs.HeadsLaws.{past-heads}
 use Rattle.tp_graph.proofs.SetLaws.{heads_decide}
 use Rattle.tp_graph.proofs.SoundLaws.{deps_first, Sound-before, sound_pasts}

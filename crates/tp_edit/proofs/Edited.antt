@@ -1,50 +1,42 @@
 -- The text after an edit is the text before with each splice done in turn.
-use Rattle.std.proofs.Common.{◌≡◌, ℕ, zero, suc, ◌+◌, ◌-◌, ◌≤◌, Bool, true, false, ◌||◌, ◌&&◌, List, [], ◌∷◌, ◌++◌, length, inl, inr, refl, sym, ap, ◌∙◌, subst, append_assoc, append-nil, take, drop, arith, not}
+use Rattle.std.proofs.Common.{◌≡◌, ℕ, zero, suc, ◌+◌, ◌-◌, ◌≤◌, true, false, ◌||◌, List, [], ◌∷◌, ◌++◌, length, inl, inr, refl, sym, ap, ◌∙◌, subst, append_assoc, append-nil, take, drop, arith, not}
 use Rattle.std.proofs.lemmas.Bool.{and_parts}
-use Rattle.std.proofs.lemmas.List.{take-map, drop-map, map-append, length-map, take-append-drop, drop-drop, length-take-le, length-drop, length-append}
+use Rattle.std.proofs.lemmas.List.{take-map, drop-map, map-append, length-map, take-append-drop, drop-drop, length-take-le, length-drop}
 use Rattle.tp_list.specs.Members.{In, AllIn}
+use Rattle.tp_list.proofs.Members.{In-left, In-right, In-append, In-last, In-filter}
+use Rattle.tp_list.proofs.Tests.{both}
 use Rattle.tp_opid.specs.declared.actor.Actor.{Actor}
 use Rattle.tp_opid.specs.declared.op_id.OpId.{OpId}
 use Rattle.tp_opid.specs.declared.op_id.Place.{Place}
 use Rattle.tp_opid.specs.declared.op_id.Place.TheVariants.{Start, After}
 use Rattle.tp_opid.specs.Insert.{Insert}
-use Rattle.tp_opid.specs.Same.{id_eq}
-use Rattle.tp_opid.proofs.Orders.{id_eq-itself, Below-trans, Below-counter}
+use Rattle.tp_opid.specs.Tree.{IsThere, IsAboveAll}
+use Rattle.tp_opid.proofs.Orders.{Below-trans, Below-counter}
+use Rattle.tp_opid.proofs.Trees.{IsThere-grow, IsThere-member}
 use Rattle.tp_change.specs.declared.op.Op.{Op}
 use Rattle.tp_change.specs.declared.op.Op.TheVariants as op_of
 use Rattle.tp_change.specs.declared.record.Record.{Record}
 use Rattle.tp_change.specs.declared.parts.ChangeParts.{ChangeParts}
-use Rattle.tp_change.specs.Operations.{id_of, run, ops_in, ops_from, ops_of, count_in}
+use Rattle.tp_change.specs.Operations.{id_of, run, ops_from, ops_of}
 use Rattle.tp_change.specs.Operations as operations
 use Rattle.tp_change.specs.Elements.{element, inserts_in, deletes_in, is_inserted, is_place, refers}
-use Rattle.tp_rga.specs.Tree.{IsThere, IsTree, IsAboveAll}
+use Rattle.tp_change.specs.OpIds.{ids_from}
+use Rattle.tp_change.proofs.ElementLaws.{inserts_in-append, deletes_in-append, ops_from-append, is_inserted-member, is_inserted-more}
+use Rattle.tp_change.proofs.Numbered.{Numbered-ops_of, Numbered}
 use Rattle.tp_rga.specs.Order.{EndsAt, IsInOrder}
 use Rattle.tp_rga.specs.Shown.{is_removed, shown}
-use Rattle.tp_rga.proofs.Sets.{In-left, In-right, In-append, In-last, IsThere-grow, IsThere-member}
-use Rattle.tp_rga.proofs.OneOrder.{one_order, stands_once, In-filter}
+use Rattle.tp_rga.proofs.OneOrder.{one_order, stands_once}
 use Rattle.tp_text.specs.Text.{chars_of}
-use Rattle.tp_text.proofs.Applied.{inserts_in-append}
-use Rattle.tp_text.proofs.Numbered.{Numbered, Numbered-ops_of, CanApply-refers, IsFresh-under}
+use Rattle.tp_text.proofs.Numbered.{CanApply-refers, IsFresh-under}
 use Rattle.tp_edit.specs.declared.splice.Splice.{Splice}
 use Rattle.tp_edit.specs.Splices.{inserted, count_of, total_count, spliced, IsInRange, AllInRange, all_spliced}
-use Rattle.tp_edit.specs.EditRecords.{ids_of, ids_from, after_last, deletes_of, runs_of, records_of_splice, ids_after, records_of, ids_after_all}
+use Rattle.tp_edit.specs.EditRecords.{ids_of, after_last, deletes_of, runs_of, records_of_splice, ids_after, records_of, ids_after_all}
 use Rattle.tp_edit.specs.EditLaw.{IsReady, ops_of_edit, EditLaw, AppliedLaw}
 use Rattle.tp_edit.proofs.Landed.{length-spliced}
 use Rattle.tp_edit.proofs.ShownEdits.{shown-append, shown_kept, shown_cut, split_shown, named_from-target, AreApart-filter}
 use Rattle.tp_edit.proofs.RunPlaces.{elements_of_run, ids_of-run, chars_of-run, deletes_in-run, run-counter, run_in_order}
 
 -- ---- operations one list after another
-
-deletes_in-append : (xs ys : List Op) → deletes_in (xs ++ ys) ≡ deletes_in xs ++ deletes_in ys
-deletes_in-append [] ys = refl
-deletes_in-append (op_of.Insert id after ch ∷ xs) ys = deletes_in-append xs ys
-deletes_in-append (op_of.Delete id target ∷ xs) ys = ap (λ l. (target, id) ∷ l) (deletes_in-append xs ys)
-
-ops_from-append : (a : Actor) (n : ℕ) (rs qs : List Record) → ops_from a n (rs ++ qs) ≡ ops_from a n rs ++ ops_from a (n + operations.count_of rs) qs
-ops_from-append a n [] qs = ap (λ m. ops_from a m qs) (let e : n ≡ n + 0 = omega arith in e)
-ops_from-append a n (r ∷ rs) qs =
-    ap (λ l. ops_in a n r ++ l) (ops_from-append a (n + count_in r) rs qs ∙ ap (λ m. ops_from a (n + count_in r) rs ++ ops_from a m qs) (let e : (n + count_in r) + operations.count_of rs ≡ n + (count_in r + operations.count_of rs) = omega arith in e))
-    ∙ sym (append_assoc (ops_in a n r) (ops_from a (n + count_in r) rs) (ops_from a (n + (count_in r + operations.count_of rs)) qs))
 
 pub count-append : (rs qs : List Record) → operations.count_of (rs ++ qs) ≡ operations.count_of rs + operations.count_of qs
 count-append [] qs = omega arith
@@ -68,27 +60,12 @@ ops_from-runs a n after (ch ∷ text) = append-nil (run a n after (ch ∷ text))
 
 -- ---- references that are there
 
-is_inserted-member : (S : List Insert) (e : Insert) → In e S → is_inserted S e.id ≡ true
-is_inserted-member [] e i = absurd i
-is_inserted-member (f ∷ S) e (inl i) = ap (λ b. b || is_inserted S e.id) (ap (λ (w : Insert). id_eq w.id e.id) (sym i) ∙ id_eq-itself e.id)
-is_inserted-member (f ∷ S) e (inr i) =
-    let rest = is_inserted-member S e i in
-    elim (id_eq f.id e.id) as (λ b. (b || is_inserted S e.id) ≡ true) [ true ↦ refl | false ↦ rest ]
-
 is_inserted-there : (S : List Insert) (x : OpId) → IsThere S x → is_inserted S x ≡ true
 is_inserted-there S x (p, (ch, i)) = is_inserted-member S (element x p ch) i
 
-both : (a b : Bool) → a ≡ true → b ≡ true → (a && b) ≡ true
-both a b p q = ap (λ c. c && b) p ∙ q
-
-is_inserted-grow : (S T : List Insert) → AllIn S T → (x : OpId) → is_inserted S x ≡ true → is_inserted T x ≡ true
-is_inserted-grow S T sub x h =
-    let found = Rattle.tp_text.proofs.Numbered.is_inserted-there S x h in
-    ap (is_inserted T) (sym found.2) ∙ is_inserted-member T found.0 (sub found.0 found.1)
-
 is_place-grow : (S T : List Insert) → AllIn S T → (p : Place) → is_place S p ≡ true → is_place T p ≡ true
 is_place-grow S T sub Start h = refl
-is_place-grow S T sub (After r) h = is_inserted-grow S T sub r h
+is_place-grow S T sub (After r) h = is_inserted-more S T r sub h
 
 refers-grow : (ops : List Op) (S T : List Insert) → AllIn S T → refers S ops ≡ true → refers T ops ≡ true
 refers-grow [] S T sub h = refl
@@ -98,7 +75,7 @@ refers-grow (op_of.Insert id after ch ∷ ops) S T sub h =
     (refers-grow ops (element id after ch ∷ S) (element id after ch ∷ T) (λ e i. elim i [ inl same ↦ inl same | inr old ↦ inr (sub e old) ]) parts.1)
 refers-grow (op_of.Delete id target ∷ ops) S T sub h =
     let parts = and_parts (is_inserted S target) (refers S ops) h in
-    both (is_inserted T target) (refers T ops) (is_inserted-grow S T sub target parts.0) (refers-grow ops S T sub parts.1)
+    both (is_inserted T target) (refers T ops) (is_inserted-more S T target sub parts.0) (refers-grow ops S T sub parts.1)
 
 -- what refers to S, and then to S with the inserts so far
 refers-join : (xs ys : List Op) (S : List Insert) → refers S xs ≡ true → refers (S ++ inserts_in xs) ys ≡ true → refers S (xs ++ ys) ≡ true
@@ -132,7 +109,7 @@ refers-run a n after (ch ∷ text) S h =
 place_is_there : (S F : List Insert) (p : Place) → AllIn F S → EndsAt F p → is_place S p ≡ true
 place_is_there S F Start sub ends = refl
 place_is_there S F (After r) sub (A, f, is, names) =
-    ap (is_inserted S) (sym names) ∙ is_inserted-member S f (sub f (subst (In f) (sym is) (In-last A f)))
+    ap (is_inserted S) (sym names) ∙ is_inserted-member S f (sub f (subst (In f) (sym is) (In-last f A)))
 
 -- ---- what operations leave
 
@@ -197,7 +174,7 @@ deletes_leave T L R a n A X B ready shows =
       });
       shows =
           shown-append R (deletes_in ops) L ∙ ap (shown (deletes_in ops)) shows
-          ∙ shown_cut a n A X B (subst Rattle.tp_rga.specs.Tree.AreApart shows apart);
+          ∙ shown_cut a n A X B (subst Rattle.tp_opid.specs.Tree.AreApart shows apart);
     }
   where
     above_later : (T : List Insert) (a : Actor) (n k : ℕ) → IsAboveAll T (id_of a n) → IsAboveAll T (id_of a (n + k))

@@ -1,27 +1,18 @@
 -- Where an element that is visible after splices stood before them.
-use Rattle.std.proofs.Common.{◌≡◌, ℕ, zero, suc, ◌+◌, ◌-◌, ◌<◌, ◌≤◌, ◌^◌, List, [], ◌∷◌, ◌++◌, length, get_or, Some, refl, sym, ap, ◌∙◌, subst, arith, take, drop}
+use Rattle.std.proofs.Common.{◌≡◌, ℕ, ◌+◌, ◌-◌, ◌<◌, ◌≤◌, ◌^◌, List, [], ◌∷◌, ◌++◌, length, get_or, Some, refl, sym, ap, ◌∙◌, subst, arith, take, drop}
 use Rattle.std.specs.Prelude.{slice_get}
 use Rattle.std.proofs.lemmas.List.{length-append, length-take-le, length-drop, take_all, take_more, get_or_append_left, get_or-append_right, get_or-take, get_or-drop}
 use Rattle.std.proofs.lemmas.Option.{slice_get-get_or}
 use Rattle.tp_opid.specs.declared.actor.Actor.{Actor}
 use Rattle.tp_opid.specs.declared.op_id.OpId.{OpId}
 use Rattle.tp_change.specs.Operations.{id_of}
+use Rattle.tp_change.specs.OpIds.{ids_from}
+use Rattle.tp_change.proofs.OpsLaws.{length-ids_from, get_or-ids_from}
 use Rattle.tp_edit.specs.declared.landing.Landing.{Landing}
 use Rattle.tp_edit.specs.Splices.{spliced}
-use Rattle.tp_edit.specs.EditRecords.{ids_from}
 use Rattle.tp_edit.specs.Landings.{ids_landed, ids_through, AllFit}
 
 -- ---- one splice
-
-pub length-ids_from : (a : Actor) (n k : ℕ) → length (ids_from a n k) ≡ k
-length-ids_from a n zero = refl
-length-ids_from a n (suc k) = ap suc (length-ids_from a (n + 1) k)
-
-get_or-ids_from : (a : Actor) (n k i : ℕ) (d : OpId) → i < k → get_or (ids_from a n k) i d ≡ id_of a (n + i)
-get_or-ids_from a n zero i d lt = absurd (omega arith)
-get_or-ids_from a n (suc k) zero d lt = ap (id_of a) (omega arith)
-get_or-ids_from a n (suc k) (suc i) d lt =
-    get_or-ids_from a (n + 1) k i d (omega arith) ∙ ap (id_of a) (omega arith)
 
 pub length-spliced : {X : Type 0} (V : List X) (at del : ℕ) (N : List X) → at + del ≤ length V → length (spliced V at del N) ≡ (length V - del) + length N
 length-spliced V at del N fit =
@@ -104,11 +95,6 @@ FitsLast-push a V [] l fit = record { before = tt; place = fit.0; counters = fit
 FitsLast-push a V (k ∷ ls) l fit =
     let rest = FitsLast-push a (ids_landed a V k) ls l fit.2 in
     record { before = (fit.0, fit.1, rest.before); place = rest.place; counters = rest.counters }
-
-pub AllFit-push : (a : Actor) (V : List OpId) (ls : List Landing) (l : Landing) → FitsLast a V ls l → AllFit a V (ls ++ l ∷ [])
-AllFit-push a V [] l h = (h.place, h.counters, tt)
-AllFit-push a V (k ∷ ls) l h =
-    (h.before.0, h.before.1, AllFit-push a (ids_landed a V k) ls l (record { before = h.before.2; place = h.place; counters = h.counters }))
 
 -- ---- the way back through the landings
 

@@ -6,6 +6,7 @@ use Rattle.std.specs.Int.{w32, to_be_bytes}
 use Rattle.std.proofs.lemmas.List.{take-append-drop, length-append}
 use Rattle.std.proofs.lemmas.Grind.{flat_map-append}
 use Rattle.tp_list.specs.Members.{In}
+use Rattle.tp_list.proofs.Members.{In-left, In-right, In-append}
 use Rattle.tp_opid.specs.declared.actor.Actor.{Actor}
 use Rattle.tp_opid.specs.declared.op_id.OpId.{OpId}
 use Rattle.tp_opid.specs.declared.op_id.Place.{Place}
@@ -15,12 +16,13 @@ use Rattle.tp_change.specs.Operations.{id_of}
 use Rattle.tp_change.specs.Operations as operations
 use Rattle.tp_change.specs.Spelling.{spelling_of_place, spelling_of_record}
 use Rattle.tp_change.specs.Limits.{IsActor, IsId, IsPlace, IsText, IsRecord}
-use Rattle.tp_rga.proofs.Sets.{In-left, In-right, In-append}
+use Rattle.tp_change.specs.OpIds.{ids_from}
+use Rattle.tp_change.proofs.OpsLaws.{length-ids_from}
 use Rattle.tp_edit.specs.declared.splice.Splice.{Splice}
 use Rattle.tp_edit.specs.Splices.{inserted, count_of, AllInRange}
-use Rattle.tp_edit.specs.EditRecords.{ids_from, after_last, deletes_of, runs_of, records_of_splice, ids_after, records_of}
+use Rattle.tp_edit.specs.EditRecords.{after_last, deletes_of, runs_of, records_of_splice, ids_after, records_of}
 use Rattle.tp_edit.specs.EditLimits.{AllIds, RecordLaw, CountLaw, SizeLaw}
-use Rattle.tp_edit.proofs.Landed.{length-spliced, length-ids_from}
+use Rattle.tp_edit.proofs.Landed.{length-spliced}
 use Rattle.tp_edit.proofs.Edited.{count-append, count-splice}
 
 -- ---- how many operations

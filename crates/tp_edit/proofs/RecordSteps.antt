@@ -1,5 +1,5 @@
 -- The records of a splice, one after another.
-use Rattle.std.proofs.Common.{◌≡◌, ℕ, ◌+◌, ◌-◌, ◌<◌, ◌≤◌, ◌^◌, List, [], ◌∷◌, ◌++◌, length, get_or, Some, refl, sym, ap, ◌∙◌, subst, arith, take, drop, append_assoc}
+use Rattle.std.proofs.Common.{◌≡◌, ℕ, ◌+◌, ◌-◌, ◌<◌, ◌^◌, List, [], ◌∷◌, ◌++◌, length, get_or, Some, refl, sym, ap, ◌∙◌, subst, arith, take, drop, append_assoc}
 use Rattle.std.specs.Prelude.{slice_get}
 use Rattle.std.proofs.lemmas.List.{take_more, drop_more, take-append-drop, length-drop, get_or-drop}
 use Rattle.std.proofs.lemmas.Option.{slice_get_within, get_or_from_slice_get}
@@ -49,10 +49,6 @@ after_last-start W at none = ap (λ k. after_last Start (take k W)) (sym none)
 pub runs_of-some : (after : Place) (text : List ℕ) → 0 < length text → runs_of after text ≡ record_of.Insert after text ∷ []
 runs_of-some after [] some = absurd (omega arith)
 runs_of-some after (ch ∷ text) some = refl
-
-pub runs_of-none : (after : Place) (text : List ℕ) → length text ≤ 0 → runs_of after text ≡ []
-runs_of-none after [] none = refl
-runs_of-none after (ch ∷ text) none = absurd (omega arith)
 
 -- ---- one splice after others
 

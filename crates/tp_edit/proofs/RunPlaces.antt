@@ -1,22 +1,24 @@
 -- Where a run of new identifiers goes: directly after its reference, all of it.
 use Rattle.std.proofs.Common.{◌≡◌, ℕ, ◌+◌, ◌≤◌, List, [], ◌∷◌, ◌++◌, length, inl, inr, refl, sym, ap, subst, append_assoc, append-nil, arith}
 use Rattle.tp_list.specs.Members.{In, AllIn}
+use Rattle.tp_list.proofs.Members.{In-left, In-right, In-push, In-last}
 use Rattle.tp_opid.specs.declared.actor.Actor.{Actor}
 use Rattle.tp_opid.specs.declared.op_id.OpId.{OpId}
 use Rattle.tp_opid.specs.declared.op_id.Place.{Place}
 use Rattle.tp_opid.specs.declared.op_id.Place.TheVariants.{Start, After}
 use Rattle.tp_opid.specs.Insert.{Insert}
 use Rattle.tp_opid.specs.Order.{Below}
+use Rattle.tp_opid.specs.Tree.{IsThere, IsAboveAll, IsPlaceBelow, IsTree, CanInsert}
 use Rattle.tp_opid.proofs.Orders.{Below-asym, Below-trans, Below-counter}
+use Rattle.tp_opid.proofs.Trees.{IsThere-member, IsTree-push}
 use Rattle.tp_change.specs.Operations.{id_of, run}
 use Rattle.tp_change.specs.Elements.{element, inserts_in, deletes_in}
-use Rattle.tp_rga.specs.Tree.{IsThere, IsTree, IsAboveAll, IsPlaceBelow, CanInsert}
+use Rattle.tp_change.specs.OpIds.{ids_from}
 use Rattle.tp_rga.specs.Order.{EndsAt, IsInOrder}
-use Rattle.tp_rga.proofs.Sets.{In-left, In-right, In-push, In-last, IsThere-member, IsTree-push}
 use Rattle.tp_rga.proofs.Places.{StopsAt, put_in_order}
 use Rattle.tp_text.specs.Text.{chars_of}
 use Rattle.tp_text.proofs.Numbered.{IsFresh-under}
-use Rattle.tp_edit.specs.EditRecords.{ids_of, ids_from}
+use Rattle.tp_edit.specs.EditRecords.{ids_of}
 
 -- the elements of a run
 abbrev pub elements_of_run : Actor → ℕ → Place → List ℕ → List Insert
@@ -51,7 +53,7 @@ stops T (h ∷ B) x above part = λ b. Below-asym x h.id b (above h (part h (inl
 place_there : (T F B : List Insert) (x : OpId) (p : Place) → IsInOrder T (F ++ B) → IsAboveAll T x → EndsAt F p → IsPlaceBelow T x p
 place_there T F B x Start order above ends = tt
 place_there T F B x (After r) order above (A, f, is, names) =
-    let in_front : In f F = subst (In f) (sym is) (In-last A f) in
+    let in_front : In f F = subst (In f) (sym is) (In-last f A) in
     let there : In f T = order.same.back f (In-left f F B in_front) in
     subst (λ w. IsThere T w × Below w x) names (IsThere-member T f there, above f there)
 

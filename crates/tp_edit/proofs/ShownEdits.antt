@@ -3,20 +3,19 @@ use Rattle.std.proofs.Common.{◌≡◌, ℕ, ◌+◌, Bool, true, false, not, c
 use Rattle.std.specs.Prelude.{filter}
 use Rattle.std.proofs.lemmas.List.Elements.{filter-append}
 use Rattle.tp_list.specs.Members.{In}
+use Rattle.tp_list.proofs.Members.{In-left, In-right, In-filter}
 use Rattle.tp_opid.specs.declared.actor.Actor.{Actor}
 use Rattle.tp_opid.specs.declared.op_id.OpId.{OpId}
 use Rattle.tp_opid.specs.declared.op_id.Place.{Place}
 use Rattle.tp_opid.specs.declared.op_id.Place.TheVariants.{Start, After}
 use Rattle.tp_opid.specs.Insert.{Insert}
 use Rattle.tp_opid.specs.Same.{id_eq}
-use Rattle.tp_opid.proofs.Orders.{id_eq-same, id_eq-itself, id_eq-apart}
+use Rattle.tp_opid.specs.Tree.{IsNew, AreApart}
+use Rattle.tp_opid.proofs.Orders.{id_eq-itself, id_eq-flip}
 use Rattle.tp_change.specs.Operations.{ops_from}
 use Rattle.tp_change.specs.Elements.{deletes_in}
-use Rattle.tp_rga.specs.Tree.{IsNew, AreApart}
 use Rattle.tp_rga.specs.Order.{EndsAt}
 use Rattle.tp_rga.specs.Shown.{is_removed, shown}
-use Rattle.tp_rga.proofs.Sets.{In-left, In-right}
-use Rattle.tp_rga.proofs.OneOrder.{In-filter}
 use Rattle.tp_edit.specs.EditRecords.{ids_of, after_last, deletes_of}
 
 -- ---- further deletes
@@ -76,12 +75,6 @@ named_from-leaves a n (x ∷ xs) y apart =
     ∙ named_from-leaves a (n + 1) xs y (λ z i. apart z (inr i))
 
 -- ---- elements apart
-
-id_eq-flip : (x y : OpId) → id_eq x y ≡ false → id_eq y x ≡ false
-id_eq-flip x y h = elim (id_eq y x) as (λ b. id_eq y x ≡ b → b ≡ false) [
-  | true ↦ λ e. absurd (id_eq-apart x y h (sym (id_eq-same y x e)))
-  | false ↦ λ e. refl
-] refl
 
 pub AreApart-filter : (p : Insert → Bool) (L : List Insert) → AreApart L → AreApart (filter p L)
 AreApart-filter p [] h = tt

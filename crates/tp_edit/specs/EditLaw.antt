@@ -4,10 +4,10 @@ use Rattle.tp_list.specs.Members.{In}
 use Rattle.tp_opid.specs.declared.actor.Actor.{Actor}
 use Rattle.tp_opid.specs.declared.op_id.OpId.{OpId}
 use Rattle.tp_opid.specs.Insert.{Insert}
+use Rattle.tp_opid.specs.Tree.{IsThere, IsAboveAll, IsTree}
 use Rattle.tp_change.specs.declared.op.Op.{Op}
 use Rattle.tp_change.specs.Operations.{id_of, ops_from}
 use Rattle.tp_change.specs.Elements.{inserts_in, deletes_in, refers}
-use Rattle.tp_rga.specs.Tree.{IsThere, IsTree, IsAboveAll}
 use Rattle.tp_rga.specs.Order.{IsInOrder}
 use Rattle.tp_rga.specs.Shown.{shown}
 use Rattle.tp_text.specs.Text.{chars_of}

@@ -1,5 +1,5 @@
 -- The records of an edit. They depend on the identifiers of the visible elements alone.
-use Rattle.std.specs.Prelude.{ℕ, suc, zero, ◌+◌, List, [], ◌∷◌, ◌++◌, length, take, drop, map}
+use Rattle.std.specs.Prelude.{ℕ, ◌+◌, List, [], ◌∷◌, ◌++◌, length, take, drop, map}
 use Rattle.tp_opid.specs.declared.actor.Actor.{Actor}
 use Rattle.tp_opid.specs.declared.op_id.OpId.{OpId}
 use Rattle.tp_opid.specs.declared.op_id.Place.{Place}
@@ -7,7 +7,7 @@ use Rattle.tp_opid.specs.declared.op_id.Place.TheVariants.{Start, After}
 use Rattle.tp_opid.specs.Insert.{Insert}
 use Rattle.tp_change.specs.declared.record.Record.{Record}
 use Rattle.tp_change.specs.declared.record.Record.TheVariants as record_of
-use Rattle.tp_change.specs.Operations.{id_of}
+use Rattle.tp_change.specs.OpIds.{ids_from}
 use Rattle.tp_rga.specs.Shown.{shown}
 use Rattle.tp_edit.specs.declared.splice.Splice.{Splice}
 use Rattle.tp_edit.specs.Splices.{inserted, count_of, spliced}
@@ -19,11 +19,6 @@ ids_of L = map (λ (e : Insert). e.id) L
 -- the identifiers of the elements of L that no delete of R names
 abbrev pub visible_ids : List (OpId × OpId) → List Insert → List OpId
 visible_ids R L = ids_of (shown R L)
-
--- the actor's identifiers from a counter on, so many
-abbrev pub ids_from : Actor → ℕ → ℕ → List OpId
-ids_from actor n zero = []
-ids_from actor n (suc k) = id_of actor n ∷ ids_from actor (n + 1) k
 
 -- the place after the last of the identifiers, or p where there are none
 abbrev pub after_last : Place → List OpId → Place

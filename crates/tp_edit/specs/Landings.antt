@@ -2,10 +2,10 @@
 use Rattle.std.specs.Prelude.{ℕ, ◌+◌, ◌≤◌, ◌^◌, List, [], ◌∷◌, length}
 use Rattle.tp_opid.specs.declared.actor.Actor.{Actor}
 use Rattle.tp_opid.specs.declared.op_id.OpId.{OpId}
+use Rattle.tp_change.specs.OpIds.{ids_from}
 use Rattle.tp_edit.specs.declared.landing.Landing.{Landing}
 use Rattle.tp_edit.specs.declared.splice.Splice.{Splice}
 use Rattle.tp_edit.specs.Splices.{inserted, count_of, spliced}
-use Rattle.tp_edit.specs.EditRecords.{ids_from}
 
 -- the splice as a landing, where its first counter is n
 abbrev pub landing_of : ℕ → Splice → Landing

@@ -8,14 +8,14 @@ use Rattle.std.proofs.lemmas.Cmp.{tied_itself}
 use Rattle.std.proofs.lemmas.Bool.Decides.{nat_tests}
 use Rattle.std.proofs.lemmas.List.Edits.{length-insert, get_or-insert_below, get_or-insert_at, get_or-insert_above}
 use Rattle.tp_list.specs.Members.{In}
+use Rattle.tp_list.proofs.Tests.{truth, never, not_true}
+use Rattle.tp_list.proofs.Members.{In-slice_get}
 use Rattle.tp_opid.specs.declared.actor.Actor.{Actor}
 use Rattle.tp_opid.specs.Order.{actor_cmp}
 use Rattle.tp_opid.specs.Same.{same_actor}
 use Rattle.tp_opid.proofs.Orders.{actor_total, same_actor-same, same_actor-itself}
 use Rattle.tp_change.specs.declared.parts.ChangeParts.{ChangeParts}
 use Rattle.tp_graph.specs.ByActor.{is_above, after_by, is_after, StandsBefore, IsByActor, IsCut, IsWithin, IsLatest}
-use Rattle.tp_graph.proofs.Tests.{truth, never, not_true}
-use Rattle.tp_graph.proofs.PlacesLaws.{slice_get-In}
 
 -- ---- numbers
 
@@ -282,12 +282,12 @@ IsByActor-push C x order i o w small own = record {
       let one = newest k c s e in
       let at = old l d v f in
       let from : i ≤ v.0 = elim v.3 [ inl a ↦ let less : l < i = a.0 in absurd (omega arith) | inr b ↦ let less : i < l = b.0 in let back : l ≡ v.0 + 1 = b.1 in omega arith ] in
-      rw one (later d (slice_get-In C (get_or order v.0 0) d at) (w.behind v.0 from v.1 d at))
+      rw one (later d (In-slice_get C (get_or order v.0 0) d at) (w.behind v.0 from v.1 d at))
   sorted k l h c d e f (inr u) (inl t) =
       let one = newest l d t f in
       let at = old k c u e in
       let less : u.0 < i = elim u.3 [ inl a ↦ let small : k < i = a.0 in let same : u.0 ≡ k = a.1 in omega arith | inr b ↦ let big : i < k = b.0 in absurd (omega arith) ] in
-      rw one (earlier c (slice_get-In C (get_or order u.0 0) c at) (w.before u.0 less c at))
+      rw one (earlier c (In-slice_get C (get_or order u.0 0) c at) (w.before u.0 less c at))
   sorted k l h c d e f (inr u) (inr v) = o.sorted u.0 v.0 (ordered u v) v.1 c d (old k c u e) (old l d v f) where
     ordered : (u : Was order i (length C) k) (v : Was order i (length C) l) → u.0 < v.0
     ordered u v = by u.0 v.0 u.3 v.3 where

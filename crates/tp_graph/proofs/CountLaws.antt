@@ -1,30 +1,30 @@
 -- Laws of counts and counters in sound lists.
-use Rattle.std.proofs.Common.{◌≡◌, ℕ, ◌+◌, ◌<◌, ◌≤◌, ◌==◌, ◌⊎◌, inl, inr, List, [], ◌∷◌, ◌++◌, Bool, true, false, ◌||◌, ◌&&◌, cond, nat_lt, Some, None, refl, sym, ap, ◌∙◌, subst, arith}
-use Rattle.std.proofs.lemmas.Bool.{eq-eqb}
+use Rattle.std.proofs.Common.{◌≡◌, ℕ, ◌+◌, ◌<◌, ◌≤◌, ◌==◌, ◌⊎◌, inl, inr, List, [], ◌∷◌, ◌++◌, Bool, true, false, ◌||◌, cond, nat_lt, Some, None, refl, sym, ap, ◌∙◌, subst, arith}
 use Rattle.std.proofs.lemmas.Bool.Decides.{nat_tests}
 use Rattle.tp_list.specs.Members.{In, AllIn}
+use Rattle.tp_list.proofs.Tests.{truth, never, same_test}
+use Rattle.tp_list.proofs.Members.{In-left, In-right, In-append, In-last, In-split}
 use Rattle.tp_opid.specs.declared.actor.Actor.{Actor}
 use Rattle.tp_opid.specs.declared.hash.Hash.{Hash}
 use Rattle.tp_opid.specs.declared.op_id.OpId.{OpId}
-use Rattle.tp_opid.specs.Insert as element_of
 use Rattle.tp_opid.specs.Same.{same_actor}
 use Rattle.tp_opid.proofs.Orders.{same_actor-same, same_actor-itself}
 use Rattle.tp_change.specs.declared.parts.ChangeParts.{ChangeParts}
 use Rattle.tp_change.specs.ChangeHash.{hash_of}
-use Rattle.tp_change.specs.Operations.{op_count, ops_of}
+use Rattle.tp_change.specs.Operations.{ops_of}
+use Rattle.tp_change.specs.Elements.{inserts, is_inserted, refers, next_counter}
+use Rattle.tp_change.proofs.ElementLaws.{is_inserted-more, refers-same, inserts-more, le_both, next_counter-same}
 use Rattle.tp_graph.specs.declared.error.GraphError.TheVariants.{BadSeq, BadStart, BadReference}
 use Rattle.tp_graph.specs.Named.{names, is_needed}
 use Rattle.tp_graph.specs.Past.{past, with_reached}
-use Rattle.tp_change.specs.Elements.{inserts_in, inserts, is_inserted, refers, later, next_counter}
-use Rattle.tp_graph.specs.Fit.{count_by, clashes, misfit_behind}
+use Rattle.tp_graph.specs.Fit.{count_by, misfit_behind}
 use Rattle.tp_graph.specs.Sound.{Sound, Fits}
-use Rattle.tp_graph.proofs.Tests.{truth, never, same_test, both, or_left, or_right}
-use Rattle.tp_graph.proofs.NamedLaws.{In-left, In-right, In-cases, In-last, In-has}
-use Rattle.tp_graph.proofs.PastLaws.{past-In, kept, left_out, kept-In, In-with_reached}
-use Rattle.tp_graph.proofs.InsertLaws.{is_inserted-more, refers-same}
-use Rattle.tp_graph.proofs.SoundLaws.{In-split, sound-induct, sound_pasts}
 use Rattle.tp_graph.specs.GraphState.{HashesOnce}
+use Rattle.tp_graph.proofs.NamedLaws.{In-has}
+use Rattle.tp_graph.proofs.PastLaws.{past-In, kept, left_out, kept-In, In-with_reached}
+use Rattle.tp_graph.proofs.SoundLaws.{sound-induct, sound_pasts}
 use Rattle.tp_graph.proofs.MarksLaws.{hashes_once}
+use Rattle.tp_graph.proofs.ClashLaws.{In-clashes}
 
 -- ---- counts depend on the set alone
 
@@ -40,7 +40,7 @@ count_by-append a (x ∷ xs) ys =
 -- a member of a joined list that isn't the one between
 beside : (z x : ChangeParts) (A B : List ChangeParts) → In z (A ++ x ∷ B) → (z ≡ x → ⊥) → In z (A ++ B)
 beside z x A B i apart =
-    elim (In-cases z A (x ∷ B) i) [
+    elim (In-append z A (x ∷ B) i) [
       | inl l ↦ In-left z A B l
       | inr r ↦ elim r [ inl e ↦ absurd (apart e) | inr k ↦ In-right z A B k ]
     ]
@@ -61,56 +61,12 @@ count_by-le a (x ∷ xs) ys o more =
       one true n m k t h e = omega arith
       one false n m k t h e = omega arith
 
-le_both : (m n : ℕ) → m ≤ n → n ≤ m → m ≡ n
-le_both m n h k = omega arith
-
 pub count_by-same : (a : Actor) (xs ys : List ChangeParts) → HashesOnce xs → HashesOnce ys → AllIn xs ys → AllIn ys xs → count_by a xs ≡ count_by a ys
 count_by-same a xs ys o q f g = le_both (count_by a xs) (count_by a ys) (count_by-le a xs ys o f) (count_by-le a ys xs q g)
 
 -- ---- counters depend on the set alone
 
-pub next_counter-above : (C : List ChangeParts) (c : ChangeParts) → In c C → c.start + op_count c ≤ next_counter C
-next_counter-above [] c i = absurd i
-next_counter-above (x ∷ C) c (inl e) = subst (λ (y : ChangeParts). y.start + op_count y ≤ next_counter (x ∷ C)) (sym e) (left (x.start + op_count x) (next_counter C)) where
-  left : (a b : ℕ) → a ≤ later a b
-  left a b = grind (arith, nat_tests)
-next_counter-above (x ∷ C) c (inr i) = right (c.start + op_count c) (x.start + op_count x) (next_counter C) (next_counter-above C c i) where
-  right : (m a b : ℕ) → m ≤ b → m ≤ later a b
-  right m a b h = grind (arith, nat_tests)
-
-pub one-next_counter : (C : List ChangeParts) → 1 ≤ next_counter C
-one-next_counter [] = omega arith
-one-next_counter (c ∷ C) = let h = one-next_counter C in grind (arith, nat_tests)
-
-pub next_counter-least : (C : List ChangeParts) (n : ℕ) → 1 ≤ n → ((c : ChangeParts) → In c C → c.start + op_count c ≤ n) → next_counter C ≤ n
-next_counter-least [] n h f = h
-next_counter-least (x ∷ C) n h f = most (x.start + op_count x) (next_counter C) n (f x (inl refl)) (next_counter-least C n h (λ c i. f c (inr i))) where
-  most : (a b n : ℕ) → a ≤ n → b ≤ n → later a b ≤ n
-  most a b n h k = grind (arith, nat_tests)
-
-pub next_counter-more : (C D : List ChangeParts) → AllIn C D → next_counter C ≤ next_counter D
-next_counter-more C D more = next_counter-least C (next_counter D) (one-next_counter D) (λ c i. next_counter-above D c (more c i))
-
-pub next_counter-same : (C D : List ChangeParts) → AllIn C D → AllIn D C → next_counter C ≡ next_counter D
-next_counter-same C D f g = le_both (next_counter C) (next_counter D) (next_counter-more C D f) (next_counter-more D C g)
-
 -- ---- inserts depend on the set alone
-
-pub In-inserts : (C : List ChangeParts) (c : ChangeParts) (x : element_of.Insert) → In c C → In x (inserts_in (ops_of c)) → In x (inserts C)
-In-inserts [] c x i j = absurd i
-In-inserts (d ∷ C) c x (inl e) j = In-left x (inserts_in (ops_of d)) (inserts C) (subst (λ y. In x (inserts_in (ops_of y))) e j)
-In-inserts (d ∷ C) c x (inr i) j = In-right x (inserts_in (ops_of d)) (inserts C) (In-inserts C c x i j)
-
-pub inserts-In : (C : List ChangeParts) (x : element_of.Insert) → In x (inserts C) → (c : ChangeParts) × In c C × In x (inserts_in (ops_of c))
-inserts-In [] x i = absurd i
-inserts-In (d ∷ C) x i =
-    elim (In-cases x (inserts_in (ops_of d)) (inserts C) i) [
-      | inl l ↦ (d, inl refl, l)
-      | inr r ↦ let w = inserts-In C x r in (w.0, inr w.1, w.2)
-    ]
-
-pub inserts-more : (C D : List ChangeParts) → AllIn C D → AllIn (inserts C) (inserts D)
-inserts-more C D more x i = let w = inserts-In C x i in In-inserts D w.0 x (more w.0 w.1) w.2
 
 pub is_inserted-same : (C D : List ChangeParts) → AllIn C D → AllIn D C → (id : OpId) → is_inserted (inserts C) id ≡ is_inserted (inserts D) id
 is_inserted-same C D f g id =
@@ -134,13 +90,6 @@ pub record SeqsRun (C : List ChangeParts) : Type 0 where
   pub bounded : (c : ChangeParts) → In c C → c.seq ≤ count_by c.actor C
   pub there : (a : Actor) (s : ℕ) → 1 ≤ s → s ≤ count_by a C → (c : ChangeParts) × In c C × (same_actor c.actor a ≡ true) × (c.seq ≡ s)
 
-pub In-clashes : (C : List ChangeParts) (c d : ChangeParts) → In d C → same_actor d.actor c.actor ≡ true → d.seq ≡ c.seq → clashes C c ≡ true
-In-clashes [] c d i s e = absurd i
-In-clashes (x ∷ C) c d (inl z) s e =
-    or_left (same_actor x.actor c.actor && (x.seq == c.seq)) (clashes C c)
-    (both (same_actor x.actor c.actor) (x.seq == c.seq) (subst (λ (y : ChangeParts). same_actor y.actor c.actor ≡ true) z s) (eq-eqb x.seq c.seq (subst (λ (y : ChangeParts). y.seq ≡ c.seq) z e)))
-In-clashes (x ∷ C) c d (inr i) s e = or_right (same_actor x.actor c.actor && (x.seq == c.seq)) (clashes C c) (In-clashes C c d i s e)
-
 -- the past of a change that fits has all of its actor's changes
 own_count_by : (C : List ChangeParts) (c : ChangeParts) → Sound C → SeqsRun C → Fits C c → count_by c.actor (past C c.deps) ≡ count_by c.actor C
 own_count_by C c s r f =
@@ -163,7 +112,7 @@ seqs_step C x s r f =
     let own : count_by x.actor (past C x.deps) ≡ count_by x.actor C = own_count_by C x s r f in
     let number : x.seq ≡ count_by x.actor C + 1 = f.seq ∙ ap (λ n. n + 1) own in
     record {
-      bounded = λ c i. elim (In-cases c C (x ∷ []) i) [
+      bounded = λ c i. elim (In-append c C (x ∷ []) i) [
         | inl j ↦
             let h = r.bounded c j in
             let e = count_by-append c.actor C (x ∷ []) in

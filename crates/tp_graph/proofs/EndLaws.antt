@@ -3,6 +3,8 @@ use Rattle.std.proofs.Common.{◌≡◌, ℕ, suc, zero, ◌+◌, ◌<◌, ◌�
 use Rattle.std.proofs.lemmas.List.{drop_all}
 use Rattle.std.proofs.lemmas.Bool.Decides.{nat_tests}
 use Rattle.tp_list.specs.Members.{In, AllIn}
+use Rattle.tp_list.proofs.Tests.{truth, never, not_true, or_cases}
+use Rattle.tp_list.proofs.Members.{In-left, In-split}
 use Rattle.tp_opid.specs.declared.hash.Hash.{Hash}
 use Rattle.tp_opid.specs.Same.{same_hash}
 use Rattle.tp_opid.proofs.Orders.{same_hash-same, same_hash-itself}
@@ -10,20 +12,18 @@ use Rattle.tp_change.specs.declared.parts.ChangeParts.{ChangeParts}
 use Rattle.tp_change.specs.ChangeHash.{hash_of}
 use Rattle.tp_change.specs.Operations.{op_count}
 use Rattle.tp_change.specs.Elements.{later, next_counter}
+use Rattle.tp_change.proofs.ElementLaws.{later-left, later-right, later-most, next_counter-above, one-next_counter, next_counter-least, le_both, later-assoc, later-end}
 use Rattle.tp_graph.specs.Ends.{end_named, latest_end}
 use Rattle.tp_graph.specs.GraphState.{HashesOnce}
 use Rattle.tp_graph.specs.Named.{names, has, is_needed}
 use Rattle.tp_graph.specs.Past.{past}
 use Rattle.tp_graph.specs.Places.{place_from, ends_of}
 use Rattle.tp_graph.specs.Sound.{Sound}
-use Rattle.tp_graph.proofs.Tests.{truth, never, not_true, or_cases}
-use Rattle.tp_graph.proofs.NamedLaws.{names-In, In-has, has-In, has_all-In, In-left}
+use Rattle.tp_graph.proofs.NamedLaws.{names-In, In-has, has-In, has_all-In}
 use Rattle.tp_graph.proofs.PastLaws.{past-In, past-named, with_reached-In}
-use Rattle.tp_graph.proofs.SoundLaws.{In-split, Fits-at, hashes_apart}
+use Rattle.tp_graph.proofs.SoundLaws.{Fits-at, hashes_apart}
 use Rattle.tp_graph.proofs.MarksLaws.{hashes_once}
-use Rattle.tp_graph.proofs.CountLaws.{next_counter-above, next_counter-least, one-next_counter}
 use Rattle.tp_graph.proofs.PlacesLaws.{place_from-low, has-from_place}
-use Rattle.tp_graph.proofs.PickLaws.{later-assoc, later-end}
 
 -- ---- of one hash
 
@@ -108,15 +108,6 @@ top C (x ∷ D) H s more c i =
         | inr u ↦ let w = needing P x u in (w.0, inr w.1, w.2)
       ]
 
-later-left : (a b : ℕ) → a ≤ later a b
-later-left a b = grind (arith, nat_tests)
-
-later-right : (a b : ℕ) → b ≤ later a b
-later-right a b = grind (arith, nat_tests)
-
-later-most : (a b n : ℕ) → a ≤ n → b ≤ n → later a b ≤ n
-later-most a b n h k = grind (arith, nat_tests)
-
 pub one-latest_end : (C : List ChangeParts) (H : List Hash) → 1 ≤ latest_end C H
 one-latest_end C [] = omega arith
 one-latest_end C (h ∷ H) = let low = one-latest_end C H in let right = later-right (end_named C h) (latest_end C H) in omega arith
@@ -129,9 +120,6 @@ latest_end-above C (g ∷ H) h (inr i) = let up = latest_end-above C H h i in le
 latest_end-least : (C : List ChangeParts) (H : List Hash) (n : ℕ) → 1 ≤ n → ((h : Hash) → In h H → end_named C h ≤ n) → latest_end C H ≤ n
 latest_end-least C [] n low f = low
 latest_end-least C (h ∷ H) n low f = later-most (end_named C h) (latest_end C H) n (f h (inl refl)) (latest_end-least C H n low (λ g i. f g (inr i)))
-
-le_both : (m n : ℕ) → m ≤ n → n ≤ m → m ≡ n
-le_both m n h k = omega arith
 
 pub latest_end-past : (C : List ChangeParts) (H : List Hash) → Sound C → latest_end C H ≡ next_counter (past C H)
 latest_end-past C H s =

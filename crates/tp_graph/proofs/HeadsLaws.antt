@@ -2,6 +2,9 @@
 use Rattle.std.proofs.Common.{◌≡◌, ◌⊎◌, inl, inr, List, [], ◌∷◌, ◌++◌, true, false, ◌||◌, cond, refl, sym, ap, ◌∙◌, subst}
 use Rattle.tp_list.specs.Members.{In, AllIn}
 use Rattle.tp_list.specs.Rising.{IsRising, IsBelowAll, put}
+use Rattle.tp_list.proofs.Tests.{truth, never, not_true, or_cases, or_left, or_right, neither_left, neither_right, neither}
+use Rattle.tp_list.proofs.Members.{In-left, In-right, In-append, In-last}
+use Rattle.tp_list.proofs.RisingLaws.{put-In, In-put_other, In-put, rising-In, In-rising, put-rises, rising-rises, one_list}
 use Rattle.tp_opid.specs.declared.hash.Hash.{Hash}
 use Rattle.tp_opid.specs.Order.{hash_cmp}
 use Rattle.tp_opid.specs.Same.{same_hash}
@@ -12,11 +15,9 @@ use Rattle.tp_graph.specs.Named.{among, names, has_all, is_needed}
 use Rattle.tp_graph.specs.Past.{past, with_reached}
 use Rattle.tp_graph.specs.Heads.{not_needed, heads, without}
 use Rattle.tp_graph.specs.Sound.{Sound, Fits}
-use Rattle.tp_graph.proofs.Tests.{truth, never, not_true, or_cases, or_left, or_right, neither, neither_left, neither_right}
-use Rattle.tp_graph.proofs.NamedLaws.{In-left, In-right, In-cases, In-last, In-names, In-has, In-has_all, is_needed-In, In-is_needed, is_needed-append, is_needed-more}
+use Rattle.tp_graph.proofs.NamedLaws.{In-names, In-has, In-has_all, is_needed-In, In-is_needed, is_needed-append, is_needed-more}
 use Rattle.tp_graph.proofs.PastLaws.{kept}
 use Rattle.tp_graph.proofs.SoundLaws.{not_among, deps_there, DepsFirst}
-use Rattle.tp_graph.proofs.RisingLaws.{put-In, In-put, In-put_other, rising-In, In-rising, put-rises, rising-rises, one_list}
 
 -- ---- members
 
@@ -121,7 +122,7 @@ pub none_needs : (C : List ChangeParts) (c : ChangeParts) → Sound C → Fits C
 none_needs C c s f =
     not_true (is_needed (C ++ c ∷ []) c)
     (λ t. let w = is_needed-In (C ++ c ∷ []) c t in
-    elim (In-cases w.0 C (c ∷ []) w.1) [
+    elim (In-append w.0 C (c ∷ []) w.1) [
       | inl i ↦ never (In-names w.0.deps c w.2) (not_among C w.0.deps c (deps_there C s w.0 i) f.new)
       | inr j ↦ elim j [
         | inl e ↦ never (In-names c.deps c (subst (λ (x : ChangeParts). In (hash_of c) x.deps) e w.2)) (not_among C c.deps c f.deps f.new)
@@ -138,7 +139,7 @@ heads-push C c s f =
     (λ h i. let w = heads-In (C ++ c ∷ []) h i in
     let parts : (is_needed C w.0 || is_needed (c ∷ []) w.0) ≡ false = sym (is_needed-append C (c ∷ []) w.0) ∙ w.3 in
     subst (λ g. In g (put hash_cmp (hash_of c) (without c.deps (heads C)))) w.2
-    (elim (In-cases w.0 C (c ∷ []) w.1) [
+    (elim (In-append w.0 C (c ∷ []) w.1) [
       | inl j ↦
           In-put_other hash_cmp (hash_of w.0) (hash_of c) (without c.deps (heads C))
           (In-without c.deps (heads C) (hash_of w.0) (In-heads C w.0 j (neither_left (is_needed C w.0) (is_needed (c ∷ []) w.0) parts))
@@ -187,7 +188,7 @@ whole_from A (c ∷ D) C e o =
         let w = is_needed-In C c t in
         let q : DepsFirst (A ++ c ∷ D) = subst DepsFirst e o in
         or_right (names (heads C) c) (is_needed D c)
-        (elim (In-cases w.0 A (c ∷ D) (subst (λ l. In w.0 l) e w.1)) [
+        (elim (In-append w.0 A (c ∷ D) (subst (λ l. In w.0 l) e w.1)) [
           | inl i ↦ never (In-names w.0.deps c w.2) (apart A c D w.0 q i)
           | inr j ↦ elim j [
             | inl s ↦ never (In-names c.deps c (subst (λ (x : ChangeParts). In (hash_of c) x.deps) s w.2)) (itself A c D q)

@@ -1,72 +1,29 @@
 -- Laws of inserts and references.
-use Rattle.std.proofs.Common.{◌≡◌, ℕ, suc, zero, ◌+◌, ◌<◌, ◌≤◌, ◌==◌, inl, inr, List, [], ◌∷◌, ◌++◌, length, Bool, true, false, ◌||◌, ◌&&◌, nat_lt, nat_le, refl, sym, ap, ◌∙◌, subst, arith, append_assoc, take, drop, get_or, add-one, drop-cons}
+use Rattle.std.proofs.Common.{◌≡◌, ℕ, suc, zero, ◌+◌, ◌<◌, ◌≤◌, ◌==◌, inl, inr, List, [], ◌∷◌, ◌++◌, length, Bool, true, false, ◌||◌, ◌&&◌, nat_lt, nat_le, refl, sym, ap, ◌∙◌, subst, arith, take, drop, get_or, add-one, drop-cons}
 use Rattle.std.proofs.lemmas.List.{append-nil, take_more, drop_all}
 use Rattle.std.proofs.lemmas.Bool.{eqb-true, eq-eqb}
 use Rattle.std.proofs.lemmas.Bool.Decides.{nat_tests}
 use Rattle.std.specs.List.{AllByRecursion}
-use Rattle.tp_list.specs.Members.{In, AllIn}
+use Rattle.tp_list.proofs.Tests.{truth, same_test, or_left, or_right, both_left, both_right, both}
 use Rattle.tp_opid.specs.declared.actor.Actor.{Actor}
 use Rattle.tp_opid.specs.declared.op_id.OpId.{OpId}
 use Rattle.tp_opid.specs.declared.op_id.Place.{Place}
-use Rattle.tp_opid.specs.declared.op_id.Place.TheVariants.{Start, After}
+use Rattle.tp_opid.specs.declared.op_id.Place.TheVariants.{After}
 use Rattle.tp_opid.specs.Insert as element_of
 use Rattle.tp_opid.specs.Same.{same_actor, id_eq}
 use Rattle.tp_opid.proofs.Orders.{same_actor-same, same_actor-itself, id_eq-same, id_eq-itself}
-use Rattle.tp_change.specs.declared.op.Op.{Op}
-use Rattle.tp_change.specs.declared.op.Op.TheVariants as op_of
 use Rattle.tp_change.specs.declared.record.Record.{Record}
 use Rattle.tp_change.specs.declared.record.Record.TheVariants.{Insert, Delete}
 use Rattle.tp_change.specs.declared.parts.ChangeParts.{ChangeParts}
 use Rattle.tp_change.specs.Operations.{ops_of, ops_from, ops_in, run, id_of, count_in, count_of, op_count}
 use Rattle.tp_change.specs.Limits.{IsRecord, IsChange}
-use Rattle.tp_change.specs.Elements.{element, inserts_in, inserts, is_inserted, is_place, refers}
+use Rattle.tp_change.specs.Elements.{element, inserts_in, is_inserted, is_place, refers}
+use Rattle.tp_change.proofs.ElementLaws.{inserts_in-append, is_inserted-append, ops_from-append, SameIds, is_place-same, grown, refers-append, grown-ids}
 use Rattle.tp_graph.specs.Covers.{covers, only_inserts, is_there, all_there}
-use Rattle.tp_graph.proofs.Tests.{truth, same_test, or_cases, or_left, or_right, both, both_left, both_right}
 
 -- ---- joined lists
 
-pub inserts_in-append : (xs ys : List Op) → inserts_in (xs ++ ys) ≡ inserts_in xs ++ inserts_in ys
-inserts_in-append [] ys = refl
-inserts_in-append (op_of.Insert id after ch ∷ xs) ys = ap (λ l. element id after ch ∷ l) (inserts_in-append xs ys)
-inserts_in-append (op_of.Delete id target ∷ xs) ys = inserts_in-append xs ys
-
-pub is_inserted-append : (S T : List element_of.Insert) (id : OpId) → is_inserted (S ++ T) id ≡ (is_inserted S id || is_inserted T id)
-is_inserted-append [] T id = refl
-is_inserted-append (x ∷ S) T id =
-    elim (id_eq x.id id) as (λ b. (b || is_inserted (S ++ T) id) ≡ ((b || is_inserted S id) || is_inserted T id)) [
-      | true ↦ refl
-      | false ↦ is_inserted-append S T id
-    ]
-
-pub inserts-append : (C D : List ChangeParts) → inserts (C ++ D) ≡ inserts C ++ inserts D
-inserts-append [] D = refl
-inserts-append (c ∷ C) D = ap (λ l. inserts_in (ops_of c) ++ l) (inserts-append C D) ∙ sym (append_assoc (inserts_in (ops_of c)) (inserts C) (inserts D))
-
-pub ops_from-append : (a : Actor) (n : ℕ) (rs ss : List Record) → ops_from a n (rs ++ ss) ≡ ops_from a n rs ++ ops_from a (n + count_of rs) ss
-ops_from-append a n [] ss = let e : n ≡ n + 0 = omega arith in ap (λ m. ops_from a m ss) e
-ops_from-append a n (r ∷ rs) ss =
-    let e : n + count_in r + count_of rs ≡ n + (count_in r + count_of rs) = omega arith in
-    ap (λ l. ops_in a n r ++ l) (ops_from-append a (n + count_in r) rs ss)
-    ∙ ap (λ m. ops_in a n r ++ (ops_from a (n + count_in r) rs ++ ops_from a m ss)) e
-    ∙ sym (append_assoc (ops_in a n r) (ops_from a (n + count_in r) rs) (ops_from a (n + (count_in r + count_of rs)) ss))
-
 -- ---- which identifiers are inserted
-
-pub is_inserted-In : (S : List element_of.Insert) (id : OpId) → is_inserted S id ≡ true → (x : element_of.Insert) × In x S × (x.id ≡ id)
-is_inserted-In [] id e = cc
-is_inserted-In (x ∷ S) id e =
-    elim (or_cases (id_eq x.id id) (is_inserted S id) e) [
-      | inl s ↦ (x, inl refl, id_eq-same x.id id s)
-      | inr r ↦ let w = is_inserted-In S id r in (w.0, inr w.1, w.2)
-    ]
-
-pub In-is_inserted : (S : List element_of.Insert) (x : element_of.Insert) (id : OpId) → In x S → x.id ≡ id → is_inserted S id ≡ true
-In-is_inserted [] x id i e = absurd i
-In-is_inserted (y ∷ S) x id (inl s) e = or_left (id_eq y.id id) (is_inserted S id) (rw (← e, s) (id_eq-itself y.id))
-In-is_inserted (y ∷ S) x id (inr i) e = or_right (id_eq y.id id) (is_inserted S id) (In-is_inserted S x id i e)
-
-pub is_inserted-more : (S T : List element_of.Insert) (id : OpId) → AllIn S T → is_inserted S id ≡ true → is_inserted T id ≡ true
-is_inserted-more S T id more e = let w = is_inserted-In S id e in In-is_inserted T w.0 id (more w.0 w.1) w.2
 
 -- an identifier is another by its actor and its counter
 id_eq-parts : (a : Actor) (n : ℕ) (id : OpId) → id_eq (id_of a n) id ≡ (same_actor a id.actor && (n == id.counter))
@@ -119,54 +76,6 @@ is_inserted-covers a n (Insert after text ∷ rs) id =
 is_inserted-covers a n (Delete target ∷ rs) id = is_inserted-covers a (n + 1) rs id
 
 -- ---- references depend on which identifiers are inserted
-
-abbrev pub SameIds : List element_of.Insert → List element_of.Insert → Type 0
-SameIds S T = (id : OpId) → is_inserted S id ≡ is_inserted T id
-
-SameIds-more : (x : element_of.Insert) (S T : List element_of.Insert) → SameIds S T → SameIds (x ∷ S) (x ∷ T)
-SameIds-more x S T f id = ap (λ b. id_eq x.id id || b) (f id)
-
-pub is_place-same : (S T : List element_of.Insert) (p : Place) → SameIds S T → is_place S p ≡ is_place T p
-is_place-same S T Start f = refl
-is_place-same S T (After id) f = f id
-
-pub refers-same : (S T : List element_of.Insert) (ops : List Op) → SameIds S T → refers S ops ≡ refers T ops
-refers-same S T [] f = refl
-refers-same S T (op_of.Insert id after ch ∷ ops) f =
-    ap (λ b. b && refers (element id after ch ∷ S) ops) (is_place-same S T after f)
-    ∙ ap (λ b. is_place T after && b) (refers-same (element id after ch ∷ S) (element id after ch ∷ T) ops (SameIds-more (element id after ch) S T f))
-refers-same S T (op_of.Delete id target ∷ ops) f =
-    ap (λ b. b && refers S ops) (f target) ∙ ap (λ b. is_inserted T target && b) (refers-same S T ops f)
-
--- S with the inserts of the operations in front
-pub grown : List element_of.Insert → List Op → List element_of.Insert
-grown S [] = S
-grown S (op_of.Insert id after ch ∷ ops) = grown (element id after ch ∷ S) ops
-grown S (op_of.Delete id target ∷ ops) = grown S ops
-
-and_assoc : (a b c : Bool) → (a && (b && c)) ≡ ((a && b) && c)
-and_assoc true b c = refl
-and_assoc false b c = refl
-
-pub refers-append : (S : List element_of.Insert) (xs ys : List Op) → refers S (xs ++ ys) ≡ (refers S xs && refers (grown S xs) ys)
-unfolding grown
-refers-append S [] ys = refl
-refers-append S (op_of.Insert id after ch ∷ xs) ys =
-    ap (λ b. is_place S after && b) (refers-append (element id after ch ∷ S) xs ys) ∙ and_assoc (is_place S after) (refers (element id after ch ∷ S) xs) (refers (grown (element id after ch ∷ S) xs) ys)
-refers-append S (op_of.Delete id target ∷ xs) ys =
-    ap (λ b. is_inserted S target && b) (refers-append S xs ys) ∙ and_assoc (is_inserted S target) (refers S xs) (refers (grown S xs) ys)
-
-pub grown-ids : (S : List element_of.Insert) (xs : List Op) (id : OpId) → is_inserted (grown S xs) id ≡ (is_inserted (inserts_in xs) id || is_inserted S id)
-unfolding grown
-grown-ids S [] id = refl
-grown-ids S (op_of.Insert i after ch ∷ xs) id =
-    grown-ids (element i after ch ∷ S) xs id ∙ turn (is_inserted (inserts_in xs) id) (id_eq i id) (is_inserted S id) where
-      turn : (a b c : Bool) → (a || (b || c)) ≡ ((b || a) || c)
-      turn true true c = refl
-      turn true false c = refl
-      turn false true c = refl
-      turn false false c = refl
-grown-ids S (op_of.Delete i target ∷ xs) id = grown-ids S xs id
 
 -- of a run only the first reference matters
 run_goes_on : (a : Actor) (n : ℕ) (text : List ℕ) (S : List element_of.Insert) (p : OpId) → is_inserted S p ≡ true → refers S (run a n (After p) text) ≡ true

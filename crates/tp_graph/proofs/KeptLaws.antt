@@ -2,6 +2,7 @@
 use Rattle.std.proofs.Common.{◌≡◌, ℕ, ◌+◌, ◌<◌, ◌≤◌, ◌==◌, List, [], ◌∷◌, ◌++◌, length, Bool, true, false, cond, Option, Some, None, refl, sym, ap, ◌∙◌, arith, length-append}
 use Rattle.std.proofs.lemmas.Bool.Decides.{nat_tests}
 use Rattle.tp_list.specs.Rising as list
+use Rattle.tp_list.proofs.Tests.{never, not_true}
 use Rattle.tp_opid.specs.declared.hash.Hash.{Hash}
 use Rattle.tp_opid.specs.Order.{hash_cmp}
 use Rattle.tp_opid.specs.Same.{same_hash}
@@ -10,6 +11,7 @@ use Rattle.tp_change.specs.declared.parts.ChangeParts.{ChangeParts}
 use Rattle.tp_change.specs.ChangeHash.{hash_of}
 use Rattle.tp_change.specs.Elements.{later}
 use Rattle.tp_change.specs.Operations.{op_count}
+use Rattle.tp_change.proofs.ElementLaws.{next_counter-push}
 use Rattle.tp_graph.specs.declared.error.GraphError.{GraphError}
 use Rattle.tp_graph.specs.Named.{has}
 use Rattle.tp_graph.specs.Heads as head
@@ -18,12 +20,11 @@ use Rattle.tp_graph.specs.Places.{noted}
 use Rattle.tp_graph.specs.Sound.{Fits}
 use Rattle.tp_graph.specs.AppliedState.{IsKept}
 use Rattle.tp_graph.specs.ByActor.{IsByActor}
-use Rattle.tp_graph.proofs.Tests.{not_true, never}
 use Rattle.tp_graph.proofs.NamedLaws.{In-has}
 use Rattle.tp_graph.proofs.SoundLaws.{Fits-from_misfit, misfit-from_Fits, Sound-push}
 use Rattle.tp_graph.proofs.HeadsLaws.{heads-push}
 use Rattle.tp_graph.proofs.PlacesLaws.{NotesFrom-more, NotesFrom-push}
-use Rattle.tp_graph.proofs.PickLaws.{ends_of-push, next_counter-push}
+use Rattle.tp_graph.proofs.PickLaws.{ends_of-push}
 
 no_cause : (o : Option GraphError) (b : Bool) → or_full o b ≡ None → (o ≡ None) × (b ≡ false)
 no_cause (Some e) b h = cc

@@ -1,26 +1,17 @@
 -- Where an actor has reached a sequence number.
-use Rattle.std.proofs.Common.{◌≡◌, ◌+◌, ◌≤◌, ◌==◌, inl, inr, List, [], ◌∷◌, length, true, false, ◌&&◌, cond, nat_le, refl, ap, arith}
-use Rattle.std.proofs.lemmas.Bool.{eqb-true}
+use Rattle.std.proofs.Common.{◌≡◌, ◌+◌, ◌≤◌, List, [], ◌∷◌, length, true, false, cond, nat_le, ap, arith}
 use Rattle.std.proofs.lemmas.Bool.Decides.{nat_tests}
-use Rattle.tp_list.specs.Members.{In}
+use Rattle.tp_list.proofs.Tests.{same_test}
 use Rattle.tp_opid.specs.declared.actor.Actor.{Actor}
 use Rattle.tp_opid.specs.Same.{same_actor}
 use Rattle.tp_opid.proofs.Orders.{same_actor-same}
 use Rattle.tp_change.specs.declared.parts.ChangeParts.{ChangeParts}
 use Rattle.tp_graph.specs.Fit.{count_by, clashes}
 use Rattle.tp_graph.specs.Sound.{Sound}
-use Rattle.tp_graph.proofs.Tests.{same_test, or_cases, both_left, both_right}
-use Rattle.tp_graph.proofs.CountLaws.{seqs_run, In-clashes}
+use Rattle.tp_graph.proofs.CountLaws.{seqs_run}
+use Rattle.tp_graph.proofs.ClashLaws.{clash_of, In-clashes}
 
 -- a change clashes exactly where its actor has reached its sequence number
-clash_of : (D : List ChangeParts) (c : ChangeParts) → clashes D c ≡ true → (d : ChangeParts) × In d D × (same_actor d.actor c.actor ≡ true) × (d.seq ≡ c.seq)
-clash_of [] c e = cc
-clash_of (x ∷ D) c e =
-    elim (or_cases (same_actor x.actor c.actor && (x.seq == c.seq)) (clashes D c) e) [
-      | inl t ↦ (x, inl refl, both_left (same_actor x.actor c.actor) (x.seq == c.seq) t, eqb-true x.seq c.seq (both_right (same_actor x.actor c.actor) (x.seq == c.seq) t))
-      | inr r ↦ let w = clash_of D c r in (w.0, inr w.1, w.2, w.3)
-    ]
-
 pub clashes-reached : (C : List ChangeParts) (c : ChangeParts) → Sound C → 1 ≤ c.seq → nat_le c.seq (count_by c.actor C) ≡ clashes C c
 clashes-reached C c s low =
     same_test (nat_le c.seq (count_by c.actor C)) (clashes C c)

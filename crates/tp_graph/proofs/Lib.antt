@@ -1,9 +1,7 @@
-pub mod Tests
 pub mod NamedLaws
 pub mod PastLaws
 pub mod SoundLaws
 pub mod ReachLaws
-pub mod RisingLaws
 pub mod HeadsLaws
 pub mod PlacesLaws
 pub mod MarksLaws
@@ -24,3 +22,4 @@ pub mod ByActorLaws
 pub mod OwnLaws
 pub mod PartLaws
 pub mod EndLaws
+pub mod ClashLaws

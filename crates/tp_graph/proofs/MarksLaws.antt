@@ -6,6 +6,7 @@ use Rattle.std.proofs.lemmas.Option.{get_or_from_slice_get}
 use Rattle.std.proofs.Math.Seq.{take-append_seam}
 use Rattle.std.specs.List.{slice_get}
 use Rattle.tp_list.specs.Members.{In}
+use Rattle.tp_list.proofs.Tests.{truth, never, not_true, neither_left, neither_right}
 use Rattle.tp_opid.specs.declared.hash.Hash.{Hash}
 use Rattle.tp_opid.specs.Same.{same_hash}
 use Rattle.tp_opid.proofs.Orders.{same_hash-same, same_hash-itself}
@@ -17,11 +18,10 @@ use Rattle.tp_graph.specs.Places.{place_from}
 use Rattle.tp_graph.specs.Marks.{marks, pick, marked_more, marks_for, walked}
 use Rattle.tp_graph.specs.Sound.{Sound}
 use Rattle.tp_graph.specs.GraphState.{HashesOnce}
-use Rattle.tp_graph.proofs.Tests.{truth, never, not_true, neither_left, neither_right}
-use Rattle.tp_graph.proofs.NamedLaws.{In-has, has-In, names-append, names-In}
-use Rattle.tp_graph.proofs.PastLaws.{kept, left_out}
-use Rattle.tp_graph.proofs.PlacesLaws.{place_from-low}
 use Rattle.tp_graph.specs.Heads.{heads}
+use Rattle.tp_graph.proofs.NamedLaws.{In-has, has-In, names-append, names-In}
+use Rattle.tp_graph.proofs.PastLaws.{kept, left_out, length-past}
+use Rattle.tp_graph.proofs.PlacesLaws.{place_from-low}
 use Rattle.tp_graph.proofs.HeadsLaws.{past-heads}
 use Rattle.tp_graph.proofs.SoundLaws.{sound-induct, DepsFirst, deps_first}
 
@@ -279,17 +279,9 @@ walked-start C H bs e = e ∙ first C ∙ ends C where
       let rest : drop (length D) D ≡ [] = drop_all (length D) D (omega arith) in
       rw (whole, rest) (sym (append-nil (marks_for D [] H)))
 
-pub walked-end : (C : List ChangeParts) (H : List Hash) → walked C H 0 ≡ marks C H
-walked-end C H = refl
-
 -- a slice of a whole vector, written back
 pub written_back : {X : Type 0} (xs ys : List X) (n : ℕ) → length xs ≡ length ys → n ≡ length ys → take n (xs ++ drop (length xs) ys) ≡ xs
 written_back xs ys n e f = rw (f ∙ sym e) (take-append_seam xs (drop (length xs) ys))
-
-pub place_in : {X : Type 0} (xs : List X) (m : ℕ) → m < length xs → (x : X) × (slice_get xs m ≡ Some x)
-place_in [] m h = absurd (omega arith)
-place_in (x ∷ xs) zero h = (x, refl)
-place_in (x ∷ xs) (suc m) h = place_in xs m (omega arith)
 
 -- the start of the walk, in a vector
 pub walk_starts : (C : List ChangeParts) (H : List Hash) (xs ys : List Bool) (n : ℕ) → n ≡ length ys → ys ≡ replicate (length C) false → xs ≡ marked_more H C ys
@@ -302,12 +294,6 @@ walk_starts C H xs ys n e f g =
     (back ∙ walked-start C H xs (g ∙ ap (marked_more H C) f) ∙ ap (walked C H) none, ap length back ∙ whole)
 
 -- ---- the past of the heads
-
-length-past : (C : List ChangeParts) (H : List Hash) → length (past C H) ≤ length C
-length-past [] H = omega arith
-length-past (c ∷ C) H =
-    let h = length-past C H in
-    elim (names H c || is_needed (past C H) c) as (λ b. length (cond b (c ∷ past C H) (past C H)) ≤ length (c ∷ C)) [ true ↦ omega arith | false ↦ omega arith ]
 
 -- where the past is the whole, every change is marked
 all_marked : (C : List ChangeParts) (H : List Hash) → past C H ≡ C → marks C H ≡ replicate (length C) true

@@ -1,32 +1,15 @@
 -- The tests on hashes as membership, and what they say of joined lists.
-use Rattle.std.proofs.Common.{◌≡◌, ◌⊎◌, inl, inr, List, [], ◌∷◌, ◌++◌, true, false, ◌||◌, refl, sym, ◌∙◌}
+use Rattle.std.proofs.Common.{◌≡◌, inl, inr, List, [], ◌∷◌, ◌++◌, true, false, ◌||◌, refl, sym, ◌∙◌}
 use Rattle.tp_list.specs.Members.{In, AllIn}
+use Rattle.tp_list.proofs.Tests.{never, not_true, or_cases, or_left, or_right, both_left, both_right, both}
 use Rattle.tp_opid.specs.declared.hash.Hash.{Hash}
 use Rattle.tp_opid.specs.Same.{same_hash}
 use Rattle.tp_opid.proofs.Orders.{same_hash-same, same_hash-itself}
 use Rattle.tp_change.specs.declared.parts.ChangeParts.{ChangeParts}
 use Rattle.tp_change.specs.ChangeHash.{hash_of}
 use Rattle.tp_graph.specs.Named.{names, has, has_all, is_needed}
-use Rattle.tp_graph.proofs.Tests.{never, not_true, or_cases, or_left, or_right, both, both_left, both_right}
 
 -- ---- membership
-
-pub In-left : {X : Type 0} (x : X) (xs ys : List X) → In x xs → In x (xs ++ ys)
-In-left x [] ys i = absurd i
-In-left x (y ∷ xs) ys (inl e) = inl e
-In-left x (y ∷ xs) ys (inr i) = inr (In-left x xs ys i)
-
-pub In-right : {X : Type 0} (x : X) (xs ys : List X) → In x ys → In x (xs ++ ys)
-In-right x [] ys i = i
-In-right x (y ∷ xs) ys i = inr (In-right x xs ys i)
-
-pub In-cases : {X : Type 0} (x : X) (xs ys : List X) → In x (xs ++ ys) → In x xs ⊎ In x ys
-In-cases x [] ys i = inr i
-In-cases x (y ∷ xs) ys (inl e) = inl (inl e)
-In-cases x (y ∷ xs) ys (inr i) = elim (In-cases x xs ys i) [ inl l ↦ inl (inr l) | inr r ↦ inr r ]
-
-pub In-last : {X : Type 0} (x : X) (xs : List X) → In x (xs ++ x ∷ [])
-In-last x xs = In-right x xs (x ∷ []) (inl refl)
 
 -- ---- hashes that name a change
 

@@ -4,27 +4,24 @@ use Rattle.std.proofs.Common.{◌≡◌, ◌⊎◌, ℕ, ◌+◌, ◌<◌, ◌�
 use Rattle.std.specs.List.{slice_get}
 use Rattle.std.proofs.lemmas.Bool.Decides.{nat_tests}
 use Rattle.tp_list.specs.Members.{In, AllIn}
+use Rattle.tp_list.proofs.Tests.{truth, never, not_true, same_test, or_cases, or_left, or_right, both_left}
+use Rattle.tp_list.proofs.Members.{In-append, In-slice_get}
 use Rattle.tp_opid.specs.declared.actor.Actor.{Actor}
 use Rattle.tp_opid.specs.declared.op_id.OpId.{OpId}
 use Rattle.tp_opid.specs.Same.{same_actor}
-use Rattle.tp_opid.proofs.Orders.{same_actor-same, same_actor-itself}
+use Rattle.tp_opid.proofs.Orders.{same_actor-same, same_actor-itself, same_actor-flip}
 use Rattle.tp_change.specs.declared.parts.ChangeParts.{ChangeParts}
 use Rattle.tp_change.specs.Operations.{op_count, ops_of}
 use Rattle.tp_change.specs.Elements.{inserts_in, inserts, is_inserted, next_counter}
+use Rattle.tp_change.proofs.ElementLaws.{is_inserted-append, next_counter-above}
 use Rattle.tp_graph.specs.ByActor.{IsWithin, IsLatest}
 use Rattle.tp_graph.specs.Fit.{count_by}
 use Rattle.tp_graph.specs.Past.{past}
 use Rattle.tp_graph.specs.Sound.{Sound, Fits}
-use Rattle.tp_graph.proofs.Tests.{truth, never, not_true, same_test, or_cases, or_left, or_right, both_left}
-use Rattle.tp_graph.proofs.NamedLaws.{In-cases}
 use Rattle.tp_graph.proofs.SoundLaws.{sound-induct}
-use Rattle.tp_graph.proofs.CountLaws.{count_by-le, seqs_run, next_seq, own_past, next_counter-above}
+use Rattle.tp_graph.proofs.CountLaws.{count_by-le, seqs_run, next_seq, own_past}
 use Rattle.tp_graph.proofs.MarksLaws.{hashes_once}
-use Rattle.tp_graph.proofs.InsertLaws.{is_inserted-append, inserts_id-is, inserts_id-low, inserts_id-high}
-use Rattle.tp_graph.proofs.PlacesLaws.{slice_get-In}
-
-turned : (a b : Actor) → same_actor a b ≡ true → same_actor b a ≡ true
-turned a b e = rw (same_actor-same a b e) (same_actor-itself b)
+use Rattle.tp_graph.proofs.InsertLaws.{inserts_id-is, inserts_id-low, inserts_id-high}
 
 -- an actor's changes come before one that fits
 pub own_before : (C : List ChangeParts) (x c : ChangeParts) → Sound C → Fits C x → In c C → same_actor c.actor x.actor ≡ true → (c.seq < x.seq) × (c.start + op_count c ≤ x.start)
@@ -45,7 +42,7 @@ OwnApart C = (c d : ChangeParts) → In c C → In d C → same_actor c.actor d.
 
 own_step : (C : List ChangeParts) (x : ChangeParts) → Sound C → OwnApart C → Fits C x → OwnApart (C ++ x ∷ [])
 unfolding OwnApart
-own_step C x s p f c d i j e = by (In-cases c C (x ∷ []) i) (In-cases d C (x ∷ []) j) where
+own_step C x s p f c d i j e = by (In-append c C (x ∷ []) i) (In-append d C (x ∷ []) j) where
   by : (In c C ⊎ In c (x ∷ [])) → (In d C ⊎ In d (x ∷ [])) → (c.seq < d.seq → c.start + op_count c ≤ d.start) × (c.seq ≡ d.seq → c ≡ d)
   by (inl k) (inl l) = p c d k l e
   by (inl k) (inr (inl z)) =
@@ -54,7 +51,7 @@ own_step C x s p f c d i j e = by (In-cases c C (x ∷ []) i) (In-cases d C (x �
       (λ h. subst (λ (y : ChangeParts). c.start + op_count c ≤ y.start) (sym z) w.1, λ h. absurd (omega arith))
   by (inl k) (inr (inr z)) = absurd z
   by (inr (inl y)) (inl l) =
-      let w = own_before C x d s f l (turned x.actor d.actor (subst (λ (z : ChangeParts). same_actor z.actor d.actor ≡ true) y e)) in
+      let w = own_before C x d s f l (same_actor-flip x.actor d.actor (subst (λ (z : ChangeParts). same_actor z.actor d.actor ≡ true) y e)) in
       let less : d.seq < c.seq = subst (λ (z : ChangeParts). d.seq < z.seq) (sym y) w.0 in
       (λ h. absurd (omega arith), λ h. absurd (omega arith))
   by (inr (inr z)) (inl l) = absurd z
@@ -79,7 +76,7 @@ count-latest C a p c s w at =
     let h : Some w.0 ≡ Some c = sym w.1 ∙ at in
     let one : w.0 ≡ c = cc in
     let who : w.0.actor ≡ a = same_actor-same w.0.actor a w.2.actor in
-    let there : In w.0 C = slice_get-In C p w.0 w.1 in
+    let there : In w.0 C = In-slice_get C p w.0 w.1 in
     let bound : w.0.seq ≤ count_by a C = subst (λ b. w.0.seq ≤ count_by b C) who ((seqs_run C s).bounded w.0 there) in
     let all : w.0.seq ≡ count_by a C = elim (le_cases w.0.seq (count_by a C) bound) [
       | inl e ↦ e
@@ -168,7 +165,7 @@ inserted-latest C P id p c held b s more w at holds held_by is =
     let most : d.0.seq ≤ c.seq = subst (λ (x : ChangeParts). d.0.seq ≤ x.seq) one (w.3 d.0 (more d.0 d.1) within) in
     let mine : IsWithin id.actor (Some id.counter) c = subst (IsWithin id.actor (Some id.counter)) one w.2 in
     let who : same_actor d.0.actor c.actor ≡ true = rw (same_actor-same d.0.actor id.actor within.actor, same_actor-same c.actor id.actor mine.actor) (same_actor-itself id.actor) in
-    let apart = own_apart C s d.0 c (more d.0 d.1) (slice_get-In C p c at) who in
+    let apart = own_apart C s d.0 c (more d.0 d.1) (In-slice_get C p c at) who in
     let same : d.0 ≡ c = elim (le_cases d.0.seq c.seq most) [
       | inl e ↦ apart.1 e
       | inr l ↦

@@ -2,6 +2,8 @@
 use Rattle.std.proofs.Common.{◌≡◌, ℕ, suc, zero, ◌<◌, inl, inr, List, [], ◌∷◌, length, get_or, Bool, true, false, Some, refl, sym, ap, arith}
 use Rattle.std.specs.List.{slice_get}
 use Rattle.tp_list.specs.Members.{In, AllIn}
+use Rattle.tp_list.proofs.Tests.{never}
+use Rattle.tp_list.proofs.Members.{In-slice_get}
 use Rattle.tp_change.specs.declared.parts.ChangeParts.{ChangeParts}
 use Rattle.tp_change.specs.ChangeHash.{hash_of}
 use Rattle.tp_graph.specs.declared.part.Part.{Part}
@@ -9,9 +11,7 @@ use Rattle.tp_graph.specs.declared.part.Part.TheVariants.{Whole, Marked}
 use Rattle.tp_graph.specs.GraphState.{HashesOnce}
 use Rattle.tp_graph.specs.Marks.{pick}
 use Rattle.tp_graph.specs.Parts.{picked, IsPartOf, IsPlaceOf, holds}
-use Rattle.tp_graph.proofs.Tests.{never}
 use Rattle.tp_graph.proofs.NamedLaws.{In-has}
-use Rattle.tp_graph.proofs.PlacesLaws.{slice_get-In}
 
 pub pick-In : (bs : List Bool) (C : List ChangeParts) (c : ChangeParts) → In c (pick bs C) → In c C
 pick-In [] C c i = absurd i
@@ -35,7 +35,7 @@ marked-pick (b ∷ bs) [] p c o e i = absurd i
 marked-pick (true ∷ bs) (d ∷ C) zero c o e i = refl
 marked-pick (false ∷ bs) (d ∷ C) zero c o e i =
     let s : d ≡ c = cc in never (In-has C c (hash_of d) (pick-In bs C c i) (ap hash_of (sym s))) o.0
-marked-pick (true ∷ bs) (d ∷ C) (suc p) c o e (inl s) = never (In-has C c (hash_of d) (slice_get-In C p c e) (ap hash_of s)) o.0
+marked-pick (true ∷ bs) (d ∷ C) (suc p) c o e (inl s) = never (In-has C c (hash_of d) (In-slice_get C p c e) (ap hash_of s)) o.0
 marked-pick (true ∷ bs) (d ∷ C) (suc p) c o e (inr i) = marked-pick bs C p c o.1 e i
 marked-pick (false ∷ bs) (d ∷ C) (suc p) c o e i = marked-pick bs C p c o.1 e i
 
@@ -48,7 +48,7 @@ place_of_part Whole C p h less = tt
 place_of_part (Marked v) C p h less = omega arith
 
 pub holds-In : (part : Part) (C : List ChangeParts) (p : ℕ) (c : ChangeParts) → slice_get C p ≡ Some c → holds part p ≡ true → In c (picked part C)
-holds-In Whole C p c e t = slice_get-In C p c e
+holds-In Whole C p c e t = In-slice_get C p c e
 holds-In (Marked v) C p c e t = pick-marked v.items C p c e t
 
 pub In-holds : (part : Part) (C : List ChangeParts) (p : ℕ) (c : ChangeParts) → HashesOnce C → slice_get C p ≡ Some c → In c (picked part C) → holds part p ≡ true

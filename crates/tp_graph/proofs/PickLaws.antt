@@ -1,13 +1,10 @@
 -- Loops over marked changes: what is still to come, by places.
-use Rattle.std.proofs.Common.{◌≡◌, ℕ, suc, zero, ◌+◌, ◌≤◌, List, [], ◌∷◌, ◌++◌, length, Bool, true, false, cond, Some, drop, get_or, refl, sym, ap, ◌∙◌, subst, arith, add-one, append_assoc}
+use Rattle.std.proofs.Common.{◌≡◌, ℕ, suc, zero, ◌+◌, List, [], ◌∷◌, ◌++◌, length, Bool, true, false, cond, Some, drop, get_or, refl, sym, ap, ◌∙◌, subst, arith, add-one, append_assoc}
 use Rattle.std.specs.List.{slice_get}
-use Rattle.std.proofs.lemmas.Bool.Decides.{nat_tests}
 use Rattle.tp_opid.specs.declared.actor.Actor.{Actor}
-use Rattle.tp_opid.specs.Same.{same_actor}
 use Rattle.tp_change.specs.declared.parts.ChangeParts.{ChangeParts}
 use Rattle.tp_change.specs.Operations.{op_count}
 use Rattle.tp_graph.specs.Fit.{count_by}
-use Rattle.tp_change.specs.Elements.{next_counter, later}
 use Rattle.tp_graph.specs.Marks.{rest_of}
 use Rattle.tp_graph.specs.Places.{ends_of}
 use Rattle.tp_graph.specs.Since.{skip}
@@ -20,9 +17,6 @@ rest_of-step (b ∷ bs) (x ∷ C) (suc i) c l e =
     let less : length bs ≡ length C = omega arith in
     subst (λ k. rest_of bs C i ≡ cond (get_or bs i false) (c ∷ rest_of (b ∷ bs) (x ∷ C) k) (rest_of (b ∷ bs) (x ∷ C) k)) (sym (add-one (suc i)))
     (subst (λ k. rest_of bs C i ≡ cond (get_or bs i false) (c ∷ rest_of bs C k) (rest_of bs C k)) (add-one i) (rest_of-step bs C i c less e))
-
-pub rest_of-kept : (bs : List Bool) (C : List ChangeParts) (i : ℕ) (c : ChangeParts) → length bs ≡ length C → slice_get C i ≡ Some c → get_or bs i false ≡ true → rest_of bs C i ≡ c ∷ rest_of bs C (i + 1)
-rest_of-kept bs C i c l e t = rest_of-step bs C i c l e ∙ ap (λ b. cond b (c ∷ rest_of bs C (i + 1)) (rest_of bs C (i + 1))) t
 
 pub rest_of-left : (bs : List Bool) (C : List ChangeParts) (i : ℕ) (c : ChangeParts) → length bs ≡ length C → slice_get C i ≡ Some c → get_or bs i false ≡ false → rest_of bs C i ≡ rest_of bs C (i + 1)
 rest_of-left bs C i c l e t = rest_of-step bs C i c l e ∙ ap (λ b. cond b (c ∷ rest_of bs C (i + 1)) (rest_of bs C (i + 1))) t
@@ -42,41 +36,6 @@ ends_of-push [] c = refl
 ends_of-push (x ∷ C) c = ap (λ l. (x.start + op_count x) ∷ l) (ends_of-push C c)
 
 -- ---- the steps of the loops
-
-pub later-assoc : (a b c : ℕ) → later (later a b) c ≡ later a (later b c)
-later-assoc a b c = grind (arith, nat_tests)
-
-pub one_first : (C : List ChangeParts) → 1 ≤ next_counter C
-one_first [] = omega arith
-one_first (c ∷ C) = let h = one_first C in grind (arith, nat_tests)
-
-pub later-one : (C : List ChangeParts) → later 1 (next_counter C) ≡ next_counter C
-later-one C = let h = one_first C in grind (arith, nat_tests)
-
-pub later-end : (a : ℕ) → 1 ≤ a → later a 1 ≡ a
-later-end a h = grind (arith, nat_tests)
-
-next_counter-append : (C D : List ChangeParts) → next_counter (C ++ D) ≡ later (next_counter C) (next_counter D)
-next_counter-append [] D = sym (later-one D)
-next_counter-append (c ∷ C) D =
-    ap (λ n. later (c.start + op_count c) n) (next_counter-append C D) ∙ sym (later-assoc (c.start + op_count c) (next_counter C) (next_counter D))
-
-later-both : (a b : ℕ) → 1 ≤ a → later a (later b 1) ≡ later a b
-later-both a b h = grind (arith, nat_tests)
-
--- the next counter where a change entered
-pub next_counter-push : (C : List ChangeParts) (c : ChangeParts) → next_counter (C ++ c ∷ []) ≡ later (next_counter C) (c.start + op_count c)
-next_counter-push C c = next_counter-append C (c ∷ []) ∙ later-both (next_counter C) (c.start + op_count c) (one_first C)
-
-pub counted_one : (a : Actor) (bs : List Bool) (C : List ChangeParts) (i : ℕ) (c : ChangeParts) (same : Bool)
-    → length bs ≡ length C → slice_get C i ≡ Some c → get_or bs i false ≡ true → same_actor c.actor a ≡ same
-    → cond same 1 0 + count_by a (rest_of bs C (i + 1)) ≡ count_by a (rest_of bs C i)
-counted_one a bs C i c same l e t s =
-    let n : ℕ = count_by a (rest_of bs C (i + 1)) in
-    sums n same ∙ ap (λ b. cond b (n + 1) n) (sym s) ∙ ap (count_by a) (sym (rest_of-kept bs C i c l e t)) where
-      sums : (n : ℕ) (b : Bool) → cond b 1 0 + n ≡ cond b (n + 1) n
-      sums n true = omega arith
-      sums n false = omega arith
 
 pub counted_none : (a : Actor) (bs : List Bool) (C : List ChangeParts) (i : ℕ) (c : ChangeParts)
     → length bs ≡ length C → slice_get C i ≡ Some c → get_or bs i false ≡ false

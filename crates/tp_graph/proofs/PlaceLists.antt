@@ -6,6 +6,8 @@ use Rattle.std.specs.Cmp.{nat_cmp_is}
 use Rattle.std.specs.declared.cmp.Ordering.TheVariants.{Less}
 use Rattle.tp_list.specs.Members.{In, AllIn}
 use Rattle.tp_list.specs.Rising.{IsRising, IsBelowAll}
+use Rattle.tp_list.proofs.Tests.{truth, never}
+use Rattle.tp_list.proofs.Members.{In-slice_get}
 use Rattle.tp_opid.specs.declared.hash.Hash.{Hash}
 use Rattle.tp_change.specs.declared.parts.ChangeParts.{ChangeParts}
 use Rattle.tp_change.specs.ChangeHash.{hash_of}
@@ -14,11 +16,9 @@ use Rattle.tp_graph.specs.Past.{past}
 use Rattle.tp_graph.specs.Marks.{marks, places_from}
 use Rattle.tp_graph.specs.Since.{since, past_places}
 use Rattle.tp_graph.specs.Sound.{Sound}
-use Rattle.tp_graph.proofs.Tests.{truth, never}
+use Rattle.tp_graph.specs.GraphState.{HashesOnce}
 use Rattle.tp_graph.proofs.NamedLaws.{In-has}
 use Rattle.tp_graph.proofs.PastLaws.{past-In, with_reached-In, In-with_reached, kept-In}
-use Rattle.tp_graph.proofs.PlacesLaws.{slice_get-In}
-use Rattle.tp_graph.specs.GraphState.{HashesOnce}
 use Rattle.tp_graph.proofs.MarksLaws.{hashes_once}
 
 -- ---- places rise
@@ -77,7 +77,7 @@ place_In_past n (x ∷ C) H zero c o e =
 place_In_past n (x ∷ C) H (suc i) c o e =
     let shift : n + 1 + i ≡ n + suc i = omega arith in
     let rest = place_In_past (n + 1) C H i c o.1 e in
-    let other : x ≡ c → ⊥ = λ s. never (In-has C c (hash_of x) (slice_get-In C i c e) (ap hash_of (sym s))) o.0 in (
+    let other : x ≡ c → ⊥ = λ s. never (In-has C c (hash_of x) (In-slice_get C i c e) (ap hash_of (sym s))) o.0 in (
       λ k. In-with_reached H x c (past C H) (rest.0 (subst (λ m. In m (places_from (n + 1) (marks C H))) (sym shift) (not_first k))),
       λ k. first_or (subst (λ m. In m (places_from (n + 1) (marks C H))) shift (rest.1 (in_rest other k))),
     ) where

@@ -1,8 +1,10 @@
 -- Laws of places.
-use Rattle.std.proofs.Common.{◌≡◌, ℕ, suc, zero, ◌+◌, ◌<◌, ◌≤◌, inl, inr, List, [], ◌∷◌, ◌++◌, length, Bool, true, false, ◌||◌, cond, Some, None, refl, sym, ap, ◌∙◌, subst, arith, add-zero, add-one, IsTrue, ◌↔◌, ◌&&◌, drop, get_or, drop-cons, is_some}
+use Rattle.std.proofs.Common.{◌≡◌, ℕ, suc, ◌+◌, ◌<◌, ◌≤◌, inl, inr, List, [], ◌∷◌, ◌++◌, length, Bool, true, false, ◌||◌, cond, Some, None, refl, sym, ap, ◌∙◌, subst, arith, add-zero, add-one, IsTrue, ◌↔◌, ◌&&◌, drop, get_or, drop-cons, is_some}
 use Rattle.std.specs.List.{slice_get}
 use Rattle.std.proofs.lemmas.Option.{slice_get_past, slice_get_read}
 use Rattle.tp_list.specs.Members.{In}
+use Rattle.tp_list.proofs.Tests.{truth, not_true}
+use Rattle.tp_list.proofs.Members.{In-slice_get}
 use Rattle.tp_opid.specs.declared.hash.Hash.{Hash}
 use Rattle.tp_opid.specs.Same.{same_hash}
 use Rattle.tp_opid.proofs.Orders.{same_hash-same, same_hash-itself}
@@ -10,7 +12,6 @@ use Rattle.tp_change.specs.declared.parts.ChangeParts.{ChangeParts}
 use Rattle.tp_change.specs.ChangeHash.{hash_of}
 use Rattle.tp_graph.specs.Named.{has, has_all}
 use Rattle.tp_graph.specs.Places.{place_from, noted, NotesFrom, HasAt}
-use Rattle.tp_graph.proofs.Tests.{truth, not_true}
 use Rattle.tp_graph.proofs.NamedLaws.{In-has}
 
 -- a map that notes the places gives the place of each hash that is there
@@ -45,13 +46,8 @@ place_from-there n (c ∷ C) h e =
           (suc k, w.1 ∙ ap Some e, below_too, w.3)
     ] refl e
 
-pub slice_get-In : {X : Type 0} (xs : List X) (i : ℕ) (x : X) → slice_get xs i ≡ Some x → In x xs
-slice_get-In [] i x e = cc
-slice_get-In (y ∷ xs) zero x e = let f : y ≡ x = cc in inl (sym f)
-slice_get-In (y ∷ xs) (suc i) x e = inr (slice_get-In xs i x e)
-
 pub HasAt-has : (C : List ChangeParts) (i : ℕ) (h : Hash) → HasAt C i h → has C h ≡ true
-HasAt-has C i h w = In-has C w.0 h (slice_get-In C i w.0 w.1) w.2
+HasAt-has C i h w = In-has C w.0 h (In-slice_get C i w.0 w.1) w.2
 
 -- a place that the map notes, and that has the hash, is its place
 pub place_is : (C : List ChangeParts) (entries : List (Hash × ℕ)) (h : Hash) (i : ℕ) → NotesFrom 0 C entries → noted entries h ≡ Some i → HasAt C i h → Some i ≡ place_from 0 C h
@@ -169,4 +165,4 @@ change_at C h i x e r =
     let at = w.1 in
     let found : Some at.0 ≡ Some x = sym at.1 ∙ here in
     let one : at.0 ≡ x = cc in
-    (slice_get-In C i x here, ap hash_of (sym one) ∙ at.2)
+    (In-slice_get C i x here, ap hash_of (sym one) ∙ at.2)

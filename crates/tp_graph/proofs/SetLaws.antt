@@ -1,26 +1,27 @@
 -- What depends on the changes as a set, and what stays as changes enter.
-use Rattle.std.proofs.Common.{◌≡◌, ℕ, suc, zero, ◌+◌, ◌≤◌, ◌==◌, inl, inr, List, [], ◌∷◌, ◌++◌, Bool, true, false, ◌||◌, ◌&&◌, cond, Option, Some, None, refl, sym, ap, ◌∙◌, subst, arith, append_assoc}
-use Rattle.std.proofs.lemmas.Bool.{eqb-true}
+use Rattle.std.proofs.Common.{◌≡◌, ℕ, suc, zero, ◌+◌, ◌≤◌, inl, inr, List, ◌∷◌, ◌++◌, Bool, true, false, ◌||◌, cond, Option, Some, None, refl, sym, ap, ◌∙◌, subst, arith, append_assoc}
 use Rattle.tp_list.specs.Members.{In, AllIn, SameMembers}
+use Rattle.tp_list.proofs.Tests.{truth, never, not_true, same_test, neither}
+use Rattle.tp_list.proofs.Members.{In-left, In-right, In-split}
 use Rattle.tp_opid.specs.declared.hash.Hash.{Hash}
 use Rattle.tp_opid.specs.Same.{same_actor}
 use Rattle.tp_opid.proofs.Orders.{same_actor-same}
 use Rattle.tp_change.specs.declared.parts.ChangeParts.{ChangeParts}
 use Rattle.tp_change.specs.ChangeHash.{hash_of}
 use Rattle.tp_change.specs.Operations.{ops_of}
+use Rattle.tp_change.specs.Elements.{inserts, refers, next_counter}
 use Rattle.tp_graph.specs.declared.error.GraphError.{GraphError}
 use Rattle.tp_graph.specs.declared.error.GraphError.TheVariants.{Known, MissingDeps}
 use Rattle.tp_graph.specs.Named.{has, has_all}
 use Rattle.tp_graph.specs.Past.{past}
 use Rattle.tp_graph.specs.Reach.{Chain}
 use Rattle.tp_graph.specs.Heads.{heads}
-use Rattle.tp_change.specs.Elements.{inserts, refers, next_counter}
 use Rattle.tp_graph.specs.Fit.{misfit, misfit_behind, or_clash, clashes, count_by}
 use Rattle.tp_graph.specs.Sound.{Sound, Fits}
-use Rattle.tp_graph.proofs.Tests.{truth, never, not_true, same_test, or_cases, or_left, both_left, both_right, neither}
-use Rattle.tp_graph.proofs.NamedLaws.{In-left, In-right, has-In, has-append, has-more, lacks-fewer, has_all-In, has_all-more}
+use Rattle.tp_graph.proofs.NamedLaws.{has-In, has-append, has-more, lacks-fewer, has_all-In, has_all-more}
 use Rattle.tp_graph.proofs.PastLaws.{past-In}
-use Rattle.tp_graph.proofs.SoundLaws.{Fits-from_misfit, misfit-from_Fits, Sound-front, Fits-at, In-split, hashes_apart, deps_there, IsClosed, deps_first, Sound-before, sound_pasts, clashes-fewer}
+use Rattle.tp_graph.proofs.SoundLaws.{Fits-from_misfit, misfit-from_Fits, Sound-front, Fits-at, hashes_apart, deps_there, IsClosed, deps_first, Sound-before, sound_pasts}
+use Rattle.tp_graph.proofs.ClashLaws.{clashes-fewer, clashes-append, clash_of, In-clashes}
 use Rattle.tp_graph.proofs.ReachLaws.{InPast-from_past, past-held, past-held_back}
 use Rattle.tp_graph.proofs.HeadsLaws.{past-heads, has_all-heads}
 use Rattle.tp_graph.proofs.MarksLaws.{hashes_once}
@@ -61,13 +62,6 @@ past-same C D H s t all held = record {
 }
 
 -- ---- what stays as changes enter
-
-clashes-append : (C D : List ChangeParts) (c : ChangeParts) → clashes C c ≡ false → clashes D c ≡ false → clashes (C ++ D) c ≡ false
-clashes-append [] D c e f = f
-clashes-append (x ∷ C) D c e f = step (same_actor x.actor c.actor && (x.seq == c.seq)) (clashes C c) (clashes (C ++ D) c) e (clashes-append C D c) f where
-  step : (a b d : Bool) → (a || b) ≡ false → (b ≡ false → clashes D c ≡ false → d ≡ false) → clashes D c ≡ false → (a || d) ≡ false
-  step true b d e g f = cc
-  step false b d e g f = g e f
 
 -- a change that fits goes on fitting, unless its hash or a clash enters
 pub Fits-later : (C D : List ChangeParts) (c : ChangeParts) → Sound (C ++ D) → Fits C c → has D (hash_of c) ≡ false → clashes D c ≡ false → Fits (C ++ D) c
@@ -131,16 +125,8 @@ Fits-edit C c s deps seq start refs new =
       seq = seq ∙ ap (λ l. count_by c.actor l + 1) (sym whole);
       start = start ∙ ap next_counter (sym whole);
       refs = ap (λ l. refers (inserts l) (ops_of c)) whole ∙ refs;
-      free = not_true (clashes C c) (λ t. clash_not (clash_of C t));
+      free = not_true (clashes C c) (λ t. clash_not (clash_of C c t));
     } where
-      clash_of : (D : List ChangeParts) → clashes D c ≡ true → (d : ChangeParts) × In d D × (same_actor d.actor c.actor ≡ true) × (d.seq ≡ c.seq)
-      clash_of [] e = cc
-      clash_of (x ∷ D) e =
-          elim (or_cases (same_actor x.actor c.actor && (x.seq == c.seq)) (clashes D c) e) [
-            | inl t ↦ (x, inl refl, both_left (same_actor x.actor c.actor) (x.seq == c.seq) t, eqb-true x.seq c.seq (both_right (same_actor x.actor c.actor) (x.seq == c.seq) t))
-            | inr r ↦ let w = clash_of D r in (w.0, inr w.1, w.2, w.3)
-          ]
-
       clash_not : ((d : ChangeParts) × In d C × (same_actor d.actor c.actor ≡ true) × (d.seq ≡ c.seq)) → ⊥
       clash_not w =
           let bound : w.0.seq ≤ count_by w.0.actor C = (seqs_run C s).bounded w.0 w.1 in
@@ -193,19 +179,4 @@ Fits-part P C c p s more f new free =
 -- what fits a part that has all of its actor's changes fits the whole, unless it is there
 pub Fits-whole : (P C : List ChangeParts) (c : ChangeParts) → Sound P → Sound C → AllIn P C → ((d : ChangeParts) → In d C → same_actor d.actor c.actor ≡ true → In d P)
     → Fits P c → has C (hash_of c) ≡ false → Fits C c
-Fits-whole P C c p s more own f new = Fits-part P C c p s more f new (not_true (clashes C c) (λ t. never (held C own t) f.free)) where
-  held : (D : List ChangeParts) → ((d : ChangeParts) → In d D → same_actor d.actor c.actor ≡ true → In d P) → clashes D c ≡ true → clashes P c ≡ true
-  held [] g e = cc
-  held (x ∷ D) g e =
-      elim (or_cases (same_actor x.actor c.actor && (x.seq == c.seq)) (clashes D c) e) [
-        | inl t ↦ in_part P (g x (inl refl) (both_left (same_actor x.actor c.actor) (x.seq == c.seq) t)) t
-        | inr r ↦ held D (λ d i. g d (inr i)) r
-      ] where
-        right : (a b : Bool) → b ≡ true → (a || b) ≡ true
-        right true b h = refl
-        right false b h = h
-
-        in_part : (Q : List ChangeParts) → In x Q → (same_actor x.actor c.actor && (x.seq == c.seq)) ≡ true → clashes Q c ≡ true
-        in_part [] i t = absurd i
-        in_part (y ∷ Q) (inl z) t = or_left (same_actor y.actor c.actor && (y.seq == c.seq)) (clashes Q c) (subst (λ (w : ChangeParts). (same_actor w.actor c.actor && (w.seq == c.seq)) ≡ true) z t)
-        in_part (y ∷ Q) (inr i) t = right (same_actor y.actor c.actor && (y.seq == c.seq)) (clashes Q c) (in_part Q i t)
+Fits-whole P C c p s more own f new = Fits-part P C c p s more f new (not_true (clashes C c) (λ t. let w = clash_of C c t in never (In-clashes P c w.0 (own w.0 w.1 w.2) w.2 w.3) f.free))

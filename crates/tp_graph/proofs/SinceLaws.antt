@@ -2,6 +2,8 @@
 use Rattle.std.proofs.Common.{◌≡◌, ◌⊎◌, ◌↔◌, inl, inr, List, [], ◌∷◌, true, false, ◌||◌, cond, refl, sym, ap, subst}
 use Rattle.tp_list.specs.Members.{In}
 use Rattle.tp_list.specs.Rising.{IsRising, put}
+use Rattle.tp_list.proofs.Tests.{truth, or_cases, or_left, or_right, neither_left, neither_right, neither}
+use Rattle.tp_list.proofs.RisingLaws.{put-In, In-put_other, In-put, put-rises}
 use Rattle.tp_opid.specs.declared.hash.Hash.{Hash}
 use Rattle.tp_opid.specs.Order.{hash_cmp}
 use Rattle.tp_opid.proofs.Orders.{hash_total, hash_exact}
@@ -10,9 +12,7 @@ use Rattle.tp_graph.specs.Named.{among, names, has, is_needed}
 use Rattle.tp_graph.specs.Past.{past}
 use Rattle.tp_graph.specs.Marks.{marks}
 use Rattle.tp_graph.specs.Since.{since, skip, is_wanted, IsMissing, gather, gather_all}
-use Rattle.tp_graph.proofs.Tests.{truth, or_cases, or_left, or_right, neither, neither_left, neither_right}
 use Rattle.tp_graph.proofs.HeadsLaws.{among-In, In-among}
-use Rattle.tp_graph.proofs.RisingLaws.{put-In, In-put, In-put_other, put-rises}
 
 pub skip-marks : (C : List ChangeParts) (H : List Hash) → skip (marks C H) C ≡ since C H
 skip-marks [] H = refl

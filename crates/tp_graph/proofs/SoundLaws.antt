@@ -2,20 +2,22 @@
 use Rattle.std.proofs.Common.{◌≡◌, ◌+◌, ◌==◌, inl, inr, List, [], ◌∷◌, ◌++◌, Bool, true, false, ◌||◌, cond, Option, Some, None, refl, sym, ap, ◌∙◌, subst, append_assoc, append-nil}
 use Rattle.std.proofs.lemmas.Bool.{eqb-true, eq-eqb}
 use Rattle.tp_list.specs.Members.{In, AllIn}
+use Rattle.tp_list.proofs.Tests.{truth, never, not_true}
+use Rattle.tp_list.proofs.Members.{In-left, In-right, In-append}
 use Rattle.tp_opid.specs.declared.hash.Hash.{Hash}
 use Rattle.tp_change.specs.declared.parts.ChangeParts.{ChangeParts}
 use Rattle.tp_change.specs.ChangeHash.{hash_of}
 use Rattle.tp_change.specs.Operations.{ops_of}
+use Rattle.tp_change.specs.Elements.{inserts, refers, next_counter}
 use Rattle.tp_graph.specs.declared.error.GraphError.{GraphError}
 use Rattle.tp_graph.specs.declared.error.GraphError.TheVariants.{Known, MissingDeps, BadSeq, BadStart, BadReference, SeqClash}
-use Rattle.tp_graph.specs.Named.{names, has, has_all, is_needed}
+use Rattle.tp_graph.specs.Named.{names, has, has_all, is_needed, HashesApart}
 use Rattle.tp_graph.specs.Past.{past}
-use Rattle.tp_change.specs.Elements.{inserts, refers, next_counter}
 use Rattle.tp_graph.specs.Fit.{misfit, misfit_behind, or_clash, clashes, count_by}
 use Rattle.tp_graph.specs.Sound.{SoundAfter, Sound, Fits}
-use Rattle.tp_graph.proofs.Tests.{truth, never, not_true}
-use Rattle.tp_graph.proofs.NamedLaws.{In-left, In-right, In-cases, names-In, In-names, has-In, In-has, lacks-fewer, has_all-In, In-has_all, has_all-more, In-is_needed}
+use Rattle.tp_graph.proofs.NamedLaws.{names-In, In-names, has-In, In-has, lacks-fewer, has_all-In, In-has_all, has_all-more, In-is_needed}
 use Rattle.tp_graph.proofs.PastLaws.{past-In, past-push, past-push_other, past-of_part, past-named, with_reached-In, In-with_reached, kept-In}
+use Rattle.tp_graph.proofs.ClashLaws.{clashes-fewer}
 
 -- ---- fitting, part by part
 
@@ -81,14 +83,6 @@ Sound-push C c s f = SoundAfter-append [] C (c ∷ []) s (misfit-from_Fits C c f
 pub Fits-at : (A : List ChangeParts) (c : ChangeParts) (B : List ChangeParts) → Sound (A ++ c ∷ B) → Fits A c
 Fits-at A c B s = Fits-from_misfit A c (SoundAfter-rest [] A (c ∷ B) s).0
 
-pub Fits-last : (C : List ChangeParts) (c : ChangeParts) → Sound (C ++ c ∷ []) → Fits C c
-Fits-last C c s = Fits-at C c [] s
-
-pub In-split : {X : Type 0} (x : X) (xs : List X) → In x xs → (A : List X) × (B : List X) × (xs ≡ A ++ x ∷ B)
-In-split x [] i = absurd i
-In-split x (y ∷ xs) (inl e) = ([], xs, ap (λ z. z ∷ xs) (sym e))
-In-split x (y ∷ xs) (inr i) = let w = In-split x xs i in (y ∷ w.0, w.1, ap (λ l. y ∷ l) w.2)
-
 -- what holds of no changes, and is kept where a change enters that fits, holds of each sound list
 induct_after : (P : List ChangeParts → Type 0)
     → ((C : List ChangeParts) (c : ChangeParts) → Sound C → P C → Fits C c → P (C ++ c ∷ []))
@@ -106,19 +100,15 @@ sound-induct P none step C s = induct_after P step [] C tt none s
 
 -- ---- hashes apart, dependencies there
 
--- two changes of a sound list with one hash are one
-abbrev pub HashesApart : List ChangeParts → Type 0
-HashesApart C = (c d : ChangeParts) → In c C → In d C → hash_of c ≡ hash_of d → c ≡ d
-
 hashes_step : (C : List ChangeParts) (x : ChangeParts) → Sound C → HashesApart C → Fits C x → HashesApart (C ++ x ∷ [])
 hashes_step C x s p f c d i j e =
-    elim (In-cases c C (x ∷ []) i) [
-      | inl ic ↦ elim (In-cases d C (x ∷ []) j) [
+    elim (In-append c C (x ∷ []) i) [
+      | inl ic ↦ elim (In-append d C (x ∷ []) j) [
         | inl jd ↦ p c d ic jd e
         | inr jx ↦ elim jx [ inl dx ↦ never (In-has C c (hash_of x) ic (e ∙ ap hash_of dx)) f.new | inr n0 ↦ absurd n0 ]
       ]
       | inr ix ↦ elim ix [
-        | inl cx ↦ elim (In-cases d C (x ∷ []) j) [
+        | inl cx ↦ elim (In-append d C (x ∷ []) j) [
           | inl jd ↦ never (In-has C d (hash_of x) jd (sym e ∙ ap hash_of cx)) f.new
           | inr jx ↦ elim jx [ inl dx ↦ cx ∙ sym dx | inr n0 ↦ absurd n0 ]
         ]
@@ -136,7 +126,7 @@ IsClosed C = (c : ChangeParts) → In c C → has_all C c.deps ≡ true
 closed_step : (C : List ChangeParts) (x : ChangeParts) → Sound C → IsClosed C → Fits C x → IsClosed (C ++ x ∷ [])
 closed_step C x s p f c i =
     let more : AllIn C (C ++ x ∷ []) = λ d j. In-left d C (x ∷ []) j in
-    elim (In-cases c C (x ∷ []) i) [
+    elim (In-append c C (x ∷ []) i) [
       | inl ic ↦ has_all-more C (C ++ x ∷ []) c.deps more (p c ic)
       | inr ix ↦ elim ix [ inl e ↦ rw e (has_all-more C (C ++ x ∷ []) x.deps more f.deps) | inr n0 ↦ absurd n0 ]
     ]
@@ -153,7 +143,7 @@ pub DepsFirst-push : (C : List ChangeParts) (x : ChangeParts)
     → DepsFirst C → ((c : ChangeParts) → In c C → names c.deps x ≡ false) → names x.deps x ≡ false → DepsFirst (C ++ x ∷ [])
 DepsFirst-push [] x o f g = (λ d i. elim i [ inl e ↦ rw e g | inr n0 ↦ absurd n0 ], tt)
 DepsFirst-push (c ∷ C) x o f g = (
-  λ d i. elim (In-cases d (c ∷ C) (x ∷ []) i) [
+  λ d i. elim (In-append d (c ∷ C) (x ∷ []) i) [
     | inl j ↦ o.0 d j
     | inr j ↦ elim j [ inl e ↦ rw e (f c (inl refl)) | inr n0 ↦ absurd n0 ]
   ],
@@ -203,32 +193,6 @@ pub Sound-before : (C D : List ChangeParts) (H : List Hash) → has_all C H ≡ 
 Sound-before C D H all s = past-before C D H all (SoundAfter-rest [] C D s)
 
 -- ---- sound pasts
-
-clashes-In : (C : List ChangeParts) (c : ChangeParts) → clashes C c ≡ true → (d : ChangeParts) × In d C × (clashes (d ∷ []) c ≡ true)
-clashes-In [] c e = cc
-clashes-In (d ∷ C) c e =
-    elim (clashes (d ∷ []) c) as (λ b. clashes (d ∷ []) c ≡ b → (x : ChangeParts) × In x (d ∷ C) × (clashes (x ∷ []) c ≡ true)) [
-      | true ↦ λ t. (d, inl refl, t)
-      | false ↦ λ f. let w = clashes-In C c (later_one _ _ e f) in (w.0, inr w.1, w.2)
-    ] refl where
-      later_one : (a b : Bool) → (a || b) ≡ true → (a || false) ≡ false → b ≡ true
-      later_one true b h k = cc
-      later_one false b h k = h
-
-In-clashes : (C : List ChangeParts) (c d : ChangeParts) → In d C → clashes (d ∷ []) c ≡ true → clashes C c ≡ true
-In-clashes [] c d i e = absurd i
-In-clashes (x ∷ C) c d (inl s) e = first_one _ (clashes C c) (subst (λ y. clashes (y ∷ []) c ≡ true) s e) where
-  first_one : (a b : Bool) → (a || false) ≡ true → (a || b) ≡ true
-  first_one true b h = refl
-  first_one false b h = cc
-In-clashes (x ∷ C) c d (inr i) e = second_one _ (clashes C c) (In-clashes C c d i e) where
-  second_one : (a b : Bool) → b ≡ true → (a || b) ≡ true
-  second_one true b h = refl
-  second_one false b h = h
-
--- fewer changes clash no more
-pub clashes-fewer : (C D : List ChangeParts) (c : ChangeParts) → AllIn C D → clashes D c ≡ false → clashes C c ≡ false
-clashes-fewer C D c more e = not_true (clashes C c) (λ t. let w = clashes-In C c t in never (In-clashes D c w.0 (more w.0 w.1) w.2) e)
 
 -- what fits behind a list fits behind each past of it that holds its dependencies
 pub Fits-past : (C : List ChangeParts) (c : ChangeParts) (H : List Hash) → AllIn c.deps H → Fits C c → Fits (past C H) c

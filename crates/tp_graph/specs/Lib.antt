@@ -15,4 +15,3 @@ pub mod ByActor
 pub mod AppliedState
 pub mod Answers
 pub mod Since
-pub mod Tree

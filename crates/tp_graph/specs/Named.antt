@@ -1,5 +1,7 @@
 -- Changes by their hashes.
-use Rattle.std.specs.Prelude.{List, [], ◌∷◌, Bool, true, false, ◌||◌, ◌&&◌}
+use Rattle.std.specs.Prelude.{◌≡◌, List, [], ◌∷◌, Bool, true, false, ◌||◌, ◌&&◌}
+use Rattle.std.specs.List.{list_any}
+use Rattle.tp_list.specs.Members.{In}
 use Rattle.tp_opid.specs.declared.hash.Hash.{Hash}
 use Rattle.tp_opid.specs.Same.{same_hash}
 use Rattle.tp_change.specs.declared.parts.ChangeParts.{ChangeParts}
@@ -7,8 +9,7 @@ use Rattle.tp_change.specs.ChangeHash.{hash_of}
 
 -- the hash is one of the hashes
 abbrev pub among : List Hash → Hash → Bool
-among [] h = false
-among (g ∷ hs) h = same_hash g h || among hs h
+among hs h = list_any (λ g. same_hash g h) hs
 
 -- one of the hashes is the change's
 abbrev pub names : List Hash → ChangeParts → Bool
@@ -28,3 +29,7 @@ has_all C (h ∷ hs) = has C h && has_all C hs
 abbrev pub is_needed : List ChangeParts → ChangeParts → Bool
 is_needed [] c = false
 is_needed (d ∷ C) c = names d.deps c || is_needed C c
+
+-- Two of the changes with one hash are one.
+abbrev pub HashesApart : List ChangeParts → Type 0
+HashesApart C = (c d : ChangeParts) → In c C → In d C → hash_of c ≡ hash_of d → c ≡ d

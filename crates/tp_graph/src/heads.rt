@@ -4,7 +4,6 @@ ghost use Rattle.std.specs.Prelude.{◌≡◌, ◌<◌, ◌≤◌, length, Match
 ghost use Rattle.std.specs.List.{insert};
 ghost use Rattle.tp_list.specs.Rising as list;
 ghost use Rattle.tp_opid.specs.Order.{hash_cmp};
-ghost use Rattle.tp_graph.specs.Named as named;
 ghost use Rattle.tp_graph.specs.Heads as head;
 
 use std::cmp::Ordering;
@@ -17,25 +16,13 @@ fn order(a: &Hash, b: &Hash) -> Ordering
     a.cmp(b)
 }
 
-/// Whether the hash is one of the hashes.
-pub(crate) fn among(hashes: &[Hash], hash: &Hash) -> bool
-    ensures { result ≡ named.among hashes.now hash.now }
-{
-    for h in hashes {
-        if h.is(hash) {
-            return true;
-        }
-    }
-    false
-}
-
 // Takes out the hashes that are among others.
 fn take_out(heads: &mut Vec<Hash>, others: &[Hash])
     ensures items { heads.new.items ≡ head.without others.now heads.old.items }
     ensures fewer { vec_len heads.new ≤ vec_len heads.old }
     ensures room { vec_capacity heads.new ≡ vec_capacity heads.old }
 {
-    heads.retain(|h| !among(others, h));
+    heads.retain(|h| !h.is_among(others));
 }
 
 // The place at which the hash belongs, or None where it is there.

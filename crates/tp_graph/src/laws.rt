@@ -26,7 +26,7 @@ ghost use Rattle.tp_change.specs.Elements.{inserts_in, inserts, refers, next_cou
 ghost use Rattle.tp_graph.specs.Fit.{misfit, cause, most_changes, clashes, count_by};
 ghost use Rattle.tp_graph.specs.Since.{since, past_places};
 ghost use Rattle.tp_graph.specs.Sound.{SoundAfter, Sound, Fits};
-ghost use Rattle.tp_graph.specs.Tree.{IsTree, IsThere, CanInsert};
+ghost use Rattle.tp_opid.specs.Tree.{IsThere, IsTree, CanInsert};
 
 /// The rest of a sound list is sound behind its front.
 pub fn rest_is_sound()

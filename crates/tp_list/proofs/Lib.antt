@@ -1,1 +1,4 @@
 pub mod Utf8Laws
+pub mod Tests
+pub mod Members
+pub mod RisingLaws

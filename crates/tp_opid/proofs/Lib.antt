@@ -1,2 +1,3 @@
 pub mod Orders
 mod HexDigits
+pub mod Trees

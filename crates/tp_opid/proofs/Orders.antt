@@ -1,5 +1,5 @@
 -- The laws of the opaque orders: total, exact, transitive. Nothing above this crate needs to know more of them.
-use Rattle.std.proofs.Common.{◌≡◌, ℕ, ◌<◌, Bool, true, false, List, refl, sym, ap, ◌∙◌, ◌⊎◌, inl, inr, rules, arith}
+use Rattle.std.proofs.Common.{◌≡◌, ℕ, ◌<◌, Bool, true, false, List, refl, sym, ap, ◌⊎◌, inl, inr, arith}
 use Rattle.std.specs.Ordering.{nat_cmp, ordering_then, is_eq, ordering_reverse}
 use Rattle.std.specs.declared.cmp.Ordering.{Ordering}
 use Rattle.std.specs.declared.cmp.Ordering.TheVariants.{Less, Equal, Greater}
@@ -105,9 +105,6 @@ apart_by test itself a b apart e = let h : test a a ≡ true = itself a in let k
 pub same_actor-apart : (a b : Actor) → same_actor a b ≡ false → a ≡ b → ⊥
 same_actor-apart = apart_by same_actor same_actor-itself
 
-pub same_hash-apart : (a b : Hash) → same_hash a b ≡ false → a ≡ b → ⊥
-same_hash-apart = apart_by same_hash same_hash-itself
-
 pub same_doc-apart : (a b : DocId) → same_doc a b ≡ false → a ≡ b → ⊥
 same_doc-apart = apart_by same_doc same_doc-itself
 
@@ -124,8 +121,14 @@ pub place_eq-itself : (p : Place) → place_eq p p ≡ true
 place_eq-itself Start = refl
 place_eq-itself (After a) = id_eq-itself a
 
-pub place_eq-apart : (p q : Place) → place_eq p q ≡ false → p ≡ q → ⊥
-place_eq-apart = apart_by place_eq place_eq-itself
+-- ---- the other way round
+
+pub id_eq-flip : (a b : OpId) → id_eq a b ≡ false → id_eq b a ≡ false
+id_eq-flip a b e =
+    elim (id_eq b a) as (λ v. id_eq b a ≡ v → v ≡ false) [ true ↦ λ h. absurd (id_eq-apart a b e (sym (id_eq-same b a h))) | false ↦ λ h. refl ] refl
+
+pub same_actor-flip : (a b : Actor) → same_actor a b ≡ true → same_actor b a ≡ true
+same_actor-flip a b e = rw (same_actor-same a b e) (same_actor-itself b)
 
 -- ---- the order of identifiers
 

@@ -3,3 +3,4 @@ pub mod Same
 pub mod HexError
 pub mod HexText
 pub mod Insert
+pub mod Tree

@@ -1,6 +1,7 @@
 //! The hash of a change.
 
 ghost use Rattle.std.specs.Prelude.{◌≡◌, ◌↔◌, ℕ, List, length, Ok, IfOk, IsOkUnless};
+ghost use Rattle.std.specs.List.{list_any};
 ghost use Rattle.std.specs.String.{string_bytes};
 ghost use Rattle.hex.specs.Hex.{encode_lower};
 ghost use Rattle.tp_opid.specs.HexText.{IsHexOf};
@@ -22,6 +23,13 @@ impl Hash {
         ensures { result ≡ same_hash self.now other.now }
     {
         matches!(self.cmp(other), Ordering::Equal)
+    }
+
+    /// Whether it is one of the hashes. One pass over them.
+    pub fn is_among(&self, hashes: &[Hash]) -> bool
+        ensures { result ≡ list_any (λ h. same_hash h self.now) hashes.now }
+    {
+        hashes.iter().any(|h| h.is(self))
     }
 
     /// The bytes as 64 lower case hexadecimal digits. The only refusal is `OutOfMemory`.

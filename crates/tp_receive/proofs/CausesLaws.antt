@@ -9,7 +9,7 @@ use Rattle.tp_graph.specs.declared.error.GraphError.TheVariants.{Known, MissingD
 use Rattle.tp_graph.specs.Named.{has, has_all}
 use Rattle.tp_graph.specs.Fit.{misfit, or_full, cause, most_changes}
 use Rattle.tp_graph.specs.Sound.{Sound}
-use Rattle.tp_graph.proofs.Tests.{truth, never, not_true}
+use Rattle.tp_list.proofs.Tests.{truth, never, not_true}
 use Rattle.tp_graph.proofs.NamedLaws.{has-In, has-append, has-left, has_all-In}
 use Rattle.tp_graph.proofs.SoundLaws.{Sound-push}
 use Rattle.tp_graph.proofs.SetLaws.{misfit-later}

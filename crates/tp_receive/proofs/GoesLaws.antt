@@ -8,7 +8,8 @@ use Rattle.tp_graph.specs.declared.error.GraphError.{GraphError}
 use Rattle.tp_graph.specs.declared.error.GraphError.TheVariants.{MissingDeps}
 use Rattle.tp_graph.specs.Named.{has}
 use Rattle.tp_graph.specs.Fit.{cause}
-use Rattle.tp_graph.proofs.NamedLaws.{In-left, In-right, In-cases, In-has, has-In}
+use Rattle.tp_graph.proofs.NamedLaws.{In-has, has-In}
+use Rattle.tp_list.proofs.Members.{In-left, In-right, In-append}
 use Rattle.tp_receive.specs.declared.error.ReceiveError.{ReceiveError}
 use Rattle.tp_receive.specs.declared.error.ReceiveError.TheVariants.{PendingFull, NotKept, OutOfMemory}
 use Rattle.tp_receive.specs.declared.keeper.KeepError.{KeepError}
@@ -176,7 +177,7 @@ Goes-refused {S} keeps k F C W c e t r caused final i w cover = record {
     | inr wait ↦ inl wait
   ];
   more = λ p i. In-left p r ((hash_of c, e) ∷ []) i;
-  true_told = λ h f i. elim (In-cases (h, f) r ((hash_of c, e) ∷ []) i) [
+  true_told = λ h f i. elim (In-append (h, f) r ((hash_of c, e) ∷ []) i) [
     | inl j ↦ inl j
     | inr j ↦ elim j [
       | inl s ↦ inr (record {
@@ -205,7 +206,7 @@ Goes-dropped {S} keeps k C W c t r caused = record {
   kept = refl;
   told = sym (append-nil t);
   waits = λ d i. In-left d W (c ∷ []) i;
-  placed = λ apart d j. elim (In-cases d W (c ∷ []) j) [
+  placed = λ apart d j. elim (In-append d W (c ∷ []) j) [
     | inl wait ↦ inl wait
     | inr l ↦ elim l [
       | inl s ↦ inr (inr (In-right (hash_of d, MissingDeps) r ((hash_of c, MissingDeps) ∷ []) (inl (ap (λ (x : ChangeParts). let p : Hash × GraphError = (hash_of x, MissingDeps) in p) s))))
@@ -213,7 +214,7 @@ Goes-dropped {S} keeps k C W c t r caused = record {
     ]
   ];
   more = λ p i. In-left p r ((hash_of c, MissingDeps) ∷ []) i;
-  true_told = λ h f i. elim (In-cases (h, f) r ((hash_of c, MissingDeps) ∷ []) i) [
+  true_told = λ h f i. elim (In-append (h, f) r ((hash_of c, MissingDeps) ∷ []) i) [
     | inl j ↦ inl j
     | inr j ↦ elim j [
       | inl s ↦ inr (record {
@@ -245,7 +246,7 @@ Goes-waiting {S} keeps k C W c t r there = record {
   kept = refl;
   told = sym (append-nil t);
   waits = λ d i. In-left d W (c ∷ []) i;
-  placed = λ apart d j. elim (In-cases d W (c ∷ []) j) [
+  placed = λ apart d j. elim (In-append d W (c ∷ []) j) [
     | inl wait ↦ inl wait
     | inr l ↦ elim l [
       | inl s ↦

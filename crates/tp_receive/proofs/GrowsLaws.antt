@@ -6,7 +6,8 @@ use Rattle.tp_change.specs.ChangeHash.{hash_of}
 use Rattle.tp_graph.specs.declared.error.GraphError.{GraphError}
 use Rattle.tp_graph.specs.Fit.{cause}
 use Rattle.tp_graph.specs.Sound.{Sound}
-use Rattle.tp_graph.proofs.NamedLaws.{In-left, In-right, In-cases, In-has}
+use Rattle.tp_graph.proofs.NamedLaws.{In-has}
+use Rattle.tp_list.proofs.Members.{In-left, In-right, In-append}
 use Rattle.tp_graph.proofs.SoundLaws.{Sound-push}
 use Rattle.tp_graph.proofs.KeptLaws.{Fits-from_cause}
 use Rattle.tp_receive.specs.Receiving.{EntersAfter, Grows, Receives, Between, is_refusal}
@@ -22,7 +23,7 @@ pub Grows-then : (C D E K L M new more : List ChangeParts) → Grows C K D new �
 Grows-then C D E K L M new more a b f g = record {
   begins = b.begins ∙ ap (λ l. l ++ more) a.begins ∙ append_assoc C new more;
   fits = EntersAfter-append C new more a.fits (subst (λ l. EntersAfter l more) a.begins b.fits);
-  came = λ c i. elim (In-cases c new more i) [ inl j ↦ f c (a.came c j) | inr j ↦ g c (b.came c j) ];
+  came = λ c i. elim (In-append c new more i) [ inl j ↦ f c (a.came c j) | inr j ↦ g c (b.came c j) ];
 }
 
 pub Sound-grows : (C K D new : List ChangeParts) → Sound C → Grows C K D new → Sound D
@@ -59,9 +60,9 @@ exists_by (suc n) C K e s =
           let A = w.0 in let x = w.1 in let B = w.2 in
           let len : length (A ++ B) ≡ n = omega (arith, length-append A B, length-append A (x ∷ B), ap length w.3) in
           let r = exists_by n (C ++ x ∷ []) (A ++ B) len (Sound-push C x s (Fits-from_cause C x w.4)) in
-          let inside : AllIn (A ++ B) K = λ c i. subst (In c) (sym w.3) (elim (In-cases c A B i) [ inl j ↦ In-left c A (x ∷ B) j | inr j ↦ In-right c A (x ∷ B) (inr j) ]) in
+          let inside : AllIn (A ++ B) K = λ c i. subst (In c) (sym w.3) (elim (In-append c A B i) [ inl j ↦ In-left c A (x ∷ B) j | inr j ↦ In-right c A (x ∷ B) (inr j) ]) in
           let there : In x K = subst (In x) (sym w.3) (In-right x A (x ∷ B) (inl refl)) in
-          let closed : (c : ChangeParts) → In c K → IsSome (cause r.0 c) = λ c i. elim (In-cases c A (x ∷ B) (subst (In c) w.3 i)) [
+          let closed : (c : ChangeParts) → In c K → IsSome (cause r.0 c) = λ c i. elim (In-append c A (x ∷ B) (subst (In c) w.3 i)) [
             | inl j ↦ r.1.closed c (In-left c A B j)
             | inr j ↦ elim j [
               | inl same ↦ IsSome-refusal (cause r.0 c)

@@ -10,7 +10,7 @@ use Rattle.tp_opid.proofs.Orders.{same_hash-same, same_hash-itself}
 use Rattle.tp_change.specs.declared.parts.ChangeParts.{ChangeParts}
 use Rattle.tp_change.specs.ChangeHash.{hash_of}
 use Rattle.tp_graph.specs.Named.{among, has}
-use Rattle.tp_graph.proofs.Tests.{truth, never, not_true, or_cases, or_left, or_right, both, both_left, both_right}
+use Rattle.tp_list.proofs.Tests.{truth, never, not_true, or_cases, or_left, or_right, both_left, both_right, both}
 use Rattle.tp_receive.specs.Receiving.{hashes}
 use Rattle.tp_receive.specs.Loose.{all_there, with_hash, firm_with, loose_with}
 

@@ -4,7 +4,7 @@ use Rattle.std.specs.List.{slice_get, remove}
 use Rattle.tp_list.specs.Members.{AllIn}
 use Rattle.tp_change.specs.declared.parts.ChangeParts.{ChangeParts}
 use Rattle.tp_graph.specs.Fit.{cause}
-use Rattle.tp_graph.proofs.NamedLaws.{In-left, In-right}
+use Rattle.tp_list.proofs.Members.{In-left, In-right}
 use Rattle.tp_receive.specs.Receiving.{is_refusal}
 use Rattle.tp_receive.specs.Going.{LosesNone}
 use Rattle.tp_receive.proofs.StaysLaws.{refused-push}

@@ -10,8 +10,9 @@ use Rattle.tp_graph.specs.declared.error.GraphError.{GraphError}
 use Rattle.tp_graph.specs.Named.{has}
 use Rattle.tp_graph.specs.Fit.{cause, clashes, most_changes}
 use Rattle.tp_graph.specs.Sound.{Sound}
-use Rattle.tp_graph.proofs.Tests.{truth, never, not_true, or_cases, both_left, both_right}
-use Rattle.tp_graph.proofs.NamedLaws.{In-left, In-right, In-cases, has-In, In-has}
+use Rattle.tp_list.proofs.Tests.{truth, never, not_true, or_cases, both_left, both_right}
+use Rattle.tp_graph.proofs.NamedLaws.{has-In, In-has}
+use Rattle.tp_list.proofs.Members.{In-left, In-right, In-append}
 use Rattle.tp_graph.proofs.SoundLaws.{Sound-push}
 use Rattle.tp_graph.proofs.SetLaws.{Fits-part}
 use Rattle.tp_graph.proofs.KeptLaws.{Fits-from_cause, cause-from_Fits}
@@ -34,7 +35,7 @@ clashes-In (d ∷ D) c h =
 -- The changes of a result are of what was there and came.
 pub of_both : (C K long : List ChangeParts) → Receives C K long → AllIn long (C ++ K)
 of_both C K long r c i =
-    elim (In-cases c C r.new (subst (In c) r.entered.begins i)) [ inl j ↦ In-left c C K j | inr j ↦ In-right c C K (r.entered.came c j) ]
+    elim (In-append c C r.new (subst (In c) r.entered.begins i)) [ inl j ↦ In-left c C K j | inr j ↦ In-right c C K (r.entered.came c j) ]
 
 -- A change that enters behind a part of another result is there.
 there : (C K P other : List ChangeParts) (x : ChangeParts) → HashesApart (C ++ K) → SeqsApart (C ++ K) → length other < most_changes → Receives C K other
@@ -64,7 +65,7 @@ all_there C K P (x ∷ new) other apart seqs small r s part came fits =
     let i = there C K P other x apart seqs small r s part (came x (inl refl)) fits.0 in
     subst (λ l. AllIn l other) (append_assoc P (x ∷ []) new)
     (all_there C K (P ++ x ∷ []) new other apart seqs small r (Sound-push P x s (Fits-from_cause P x fits.0))
-    (λ y j. elim (In-cases y P (x ∷ []) j) [ inl k ↦ part y k | inr k ↦ elim k [ inl e ↦ rw e i | inr n ↦ absurd n ] ])
+    (λ y j. elim (In-append y P (x ∷ []) j) [ inl k ↦ part y k | inr k ↦ elim k [ inl e ↦ rw e i | inr n ↦ absurd n ] ])
     (λ y j. came y (inr j)) fits.1)
 
 within : (C K long other : List ChangeParts) → Sound C → HashesApart (C ++ K) → SeqsApart (C ++ K) → length other < most_changes → Receives C K long → Receives C K other → AllIn long other

@@ -9,8 +9,8 @@ use Rattle.tp_change.specs.ChangeHash.{hash_of}
 use Rattle.tp_graph.specs.declared.error.GraphError.{GraphError}
 use Rattle.tp_graph.specs.Named.{among, has}
 use Rattle.tp_graph.specs.GraphState.{HashesOnce}
-use Rattle.tp_graph.proofs.Tests.{truth, never, not_true, or_cases, or_left, or_right}
-use Rattle.tp_graph.proofs.NamedLaws.{In-right}
+use Rattle.tp_list.proofs.Tests.{truth, never, not_true, or_cases, or_left, or_right}
+use Rattle.tp_list.proofs.Members.{In-right}
 use Rattle.tp_graph.specs.Fit.{cause}
 use Rattle.tp_graph.specs.Sound.{Sound}
 use Rattle.tp_receive.specs.declared.error.ReceiveError.{ReceiveError}

@@ -12,7 +12,7 @@ use Rattle.tp_receive.specs.declared.keeper.KeepError.{KeepError}
 use Rattle.tp_receive.specs.declared.admit.Outcome.TheVariants as outcome
 use Rattle.tp_receive.specs.Admits.{Admits}
 use Rattle.tp_graph.specs.declared.error.GraphError.TheVariants.{MissingDeps}
-use Rattle.tp_graph.proofs.NamedLaws.{In-cases}
+use Rattle.tp_list.proofs.Members.{In-append}
 use Rattle.tp_receive.specs.Receiving.{is_refusal}
 use Rattle.tp_receive.specs.Going.{Goes, Leaves, Stops, LosesNone, DropsNone}
 use Rattle.tp_receive.proofs.GoesLaws.{Goes-entered, Goes-refused, Stops-left, Leaves-more}
@@ -52,7 +52,7 @@ settle_refused keeps k k' Wold i c C0 C C' Wmid Wend t t' r r' get out same left
 -- A change that was refused isn't told as dropped.
 pub drops_refused : (h : Hash) (f : GraphError) (r r' : List (Hash × GraphError)) → is_refusal (Some f) ≡ true → r' ≡ r ++ (h, f) ∷ [] → DropsNone r r'
 drops_refused h f r r' final e g i =
-    elim (In-cases (g, MissingDeps) r ((h, f) ∷ []) (subst (λ l. In (g, MissingDeps) l) e i)) [
+    elim (In-append (g, MissingDeps) r ((h, f) ∷ []) (subst (λ l. In (g, MissingDeps) l) e i)) [
       | inl j ↦ j
       | inr j ↦ elim j [
         | inl s ↦

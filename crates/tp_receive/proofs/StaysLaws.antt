@@ -9,8 +9,9 @@ use Rattle.tp_graph.specs.Named.{has, has_all}
 use Rattle.tp_graph.specs.Past.{past}
 use Rattle.tp_graph.specs.Fit.{misfit, misfit_behind, or_clash, or_full, cause, most_changes, clashes}
 use Rattle.tp_graph.specs.Sound.{Sound, Fits}
-use Rattle.tp_graph.proofs.Tests.{truth}
-use Rattle.tp_graph.proofs.NamedLaws.{In-left, has-left, has_all-more}
+use Rattle.tp_list.proofs.Tests.{truth}
+use Rattle.tp_graph.proofs.NamedLaws.{has-left, has_all-more}
+use Rattle.tp_list.proofs.Members.{In-left}
 use Rattle.tp_graph.proofs.PastLaws.{past-push_other}
 use Rattle.tp_graph.proofs.SoundLaws.{not_among, Sound-push}
 use Rattle.tp_graph.proofs.KeptLaws.{enters, Fits-from_cause}

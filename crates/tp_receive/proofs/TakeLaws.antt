@@ -9,7 +9,7 @@ use Rattle.tp_graph.specs.declared.error.GraphError.TheVariants.{MissingDeps}
 use Rattle.tp_graph.specs.GraphState.{most_waiting}
 use Rattle.tp_graph.specs.Named.{has}
 use Rattle.tp_graph.specs.Fit.{cause}
-use Rattle.tp_graph.proofs.NamedLaws.{In-left, In-right, In-cases, In-last}
+use Rattle.tp_list.proofs.Members.{In-left, In-right, In-append, In-last}
 use Rattle.tp_receive.specs.declared.error.ReceiveError.{ReceiveError}
 use Rattle.tp_receive.specs.declared.error.ReceiveError.TheVariants as error
 use Rattle.tp_receive.specs.declared.keeper.KeepError.{KeepError}
@@ -30,7 +30,7 @@ IfErr-map P Q (Ok x) f h = h
 IfErr-map P Q (Err x) f h = f x h
 
 pub In-pushed : (W : List ChangeParts) (c d : ChangeParts) → In d (W ++ c ∷ []) → (d ≡ c) ⊎ In d W
-In-pushed W c d i = elim (In-cases d W (c ∷ []) i) [ inl j ↦ inr j | inr j ↦ elim j [ inl e ↦ inl e | inr n ↦ absurd n ] ]
+In-pushed W c d i = elim (In-append d W (c ∷ []) i) [ inl j ↦ inr j | inr j ↦ elim j [ inl e ↦ inl e | inr n ↦ absurd n ] ]
 
 -- A change that came entered.
 pub take_entered : {S : Type 0} (keeps : S → ChangeParts → S → Type 0) (k k' : S) (c : ChangeParts) (C C' Wold Wmid : List ChangeParts) (t t' : List Hash) (r r' : List (Hash × GraphError))
@@ -96,9 +96,9 @@ wait_stopped {S} keeps refuses k k' c d C C1 C2 Wold Wmid Wend t t1 r r1 e w a c
 -- what was yielded and the next are among all
 pub AllIn-yielded : (W ys xs zs all : List ChangeParts) (x : ChangeParts) → ys ++ xs ≡ all → xs ≡ x ∷ zs → AllIn (W ++ (ys ++ x ∷ [])) (W ++ all)
 AllIn-yielded W ys xs zs all x e f d i =
-    elim (In-cases d W (ys ++ x ∷ []) i) [
+    elim (In-append d W (ys ++ x ∷ []) i) [
       | inl j ↦ In-left d W all j
-      | inr j ↦ In-right d W all (rw (← e, f) (elim (In-cases d ys (x ∷ []) j) [
+      | inr j ↦ In-right d W all (rw (← e, f) (elim (In-append d ys (x ∷ []) j) [
         | inl k ↦ In-left d ys (x ∷ zs) k
         | inr k ↦ In-right d ys (x ∷ zs) (elim k [ inl s ↦ inl s | inr n ↦ absurd n ])
       ]))
@@ -106,17 +106,17 @@ AllIn-yielded W ys xs zs all x e f d i =
 
 pub AllIn-grown : (W ys : List ChangeParts) (x : ChangeParts) → AllIn (W ++ ys) (W ++ (ys ++ x ∷ []))
 AllIn-grown W ys x d i =
-    elim (In-cases d W ys i) [ inl j ↦ In-left d W (ys ++ x ∷ []) j | inr j ↦ In-right d W (ys ++ x ∷ []) (In-left d ys (x ∷ []) j) ]
+    elim (In-append d W ys i) [ inl j ↦ In-left d W (ys ++ x ∷ []) j | inr j ↦ In-right d W (ys ++ x ∷ []) (In-left d ys (x ∷ []) j) ]
 
 pub AllIn-fresh : (W ys V : List ChangeParts) (x : ChangeParts) → AllIn V (W ++ ys) → AllIn (V ++ x ∷ []) (W ++ (ys ++ x ∷ []))
 AllIn-fresh W ys V x f d i =
-    elim (In-cases d V (x ∷ []) i) [ inl j ↦ AllIn-grown W ys x d (f d j) | inr j ↦ In-right d W (ys ++ x ∷ []) (In-right d ys (x ∷ []) j) ]
+    elim (In-append d V (x ∷ []) i) [ inl j ↦ AllIn-grown W ys x d (f d j) | inr j ↦ In-right d W (ys ++ x ∷ []) (In-right d ys (x ∷ []) j) ]
 
 pub cover_grown : (W ys V : List ChangeParts) (x d : ChangeParts) → In d (W ++ (ys ++ x ∷ [])) → In d (W ++ ys) ⊎ In d (V ++ x ∷ [])
 cover_grown W ys V x d i =
-    elim (In-cases d W (ys ++ x ∷ []) i) [
+    elim (In-append d W (ys ++ x ∷ []) i) [
       | inl j ↦ inl (In-left d W ys j)
-      | inr j ↦ elim (In-cases d ys (x ∷ []) j) [ inl k ↦ inl (In-right d W ys k) | inr k ↦ inr (In-right d V (x ∷ []) k) ]
+      | inr j ↦ elim (In-append d ys (x ∷ []) j) [ inl k ↦ inl (In-right d W ys k) | inr k ↦ inr (In-right d V (x ∷ []) k) ]
     ]
 
 pub IfErr-stays : {T E A : Type 0} {x y : A} (P Q : E → Type 0) (r : Result T E) → ((e : E) → P e → x ≡ y → Q e) → IfErr r P → OnErr r (x ≡ y) → IfErr r Q
@@ -129,7 +129,7 @@ pub spare_held : (C C2 Wmid Wold Wend : List ChangeParts) (c d : ChangeParts) (n
 spare_held C C2 Wmid Wold Wend c d n r r1 r2 w e s caused same (inl h) g i = inl (subst (λ l. In (g, MissingDeps) l) (h.2 ∙ e) i)
 spare_held C C2 Wmid Wold Wend c d n r r1 r2 w e s caused same (inr (inl h)) g i = inl (subst (λ l. In (g, MissingDeps) l) (h.2 ∙ e) i)
 spare_held C C2 Wmid Wold Wend c d n r r1 r2 w e s caused same (inr (inr h)) g i =
-    elim (In-cases (g, MissingDeps) r1 ((hash_of d, MissingDeps) ∷ []) (subst (λ l. In (g, MissingDeps) l) h.2 i)) [
+    elim (In-append (g, MissingDeps) r1 ((hash_of d, MissingDeps) ∷ []) (subst (λ l. In (g, MissingDeps) l) h.2 i)) [
       | inl j ↦ inl (subst (λ l. In (g, MissingDeps) l) e j)
       | inr j ↦ elim j [
         | inl p ↦ inr (

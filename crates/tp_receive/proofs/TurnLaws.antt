@@ -9,8 +9,9 @@ use Rattle.tp_graph.specs.declared.error.GraphError.TheVariants.{MissingDeps}
 use Rattle.tp_graph.specs.Named.{among, has}
 use Rattle.tp_graph.specs.Fit.{cause}
 use Rattle.tp_graph.specs.GraphState.{most_waiting}
-use Rattle.tp_graph.proofs.Tests.{truth, never, not_true}
-use Rattle.tp_graph.proofs.NamedLaws.{In-left, In-right, In-cases, has-In, In-has, has-left}
+use Rattle.tp_list.proofs.Tests.{truth, never, not_true}
+use Rattle.tp_graph.proofs.NamedLaws.{has-In, In-has, has-left}
+use Rattle.tp_list.proofs.Members.{In-left, In-right, In-append}
 use Rattle.tp_receive.specs.Receiving.{HashesApart, Begins, Grows, AllWait, is_refusal, hashes}
 use Rattle.tp_receive.specs.Going.{IsPlaced, IsDropped, DropsOne, DropsFirm}
 use Rattle.tp_receive.specs.Loose.{all_there, firm_with, loose_with, loose_in}
@@ -119,7 +120,7 @@ pub Turn-more : (F C0 W0 K ys zs newG newS C C' W W' : List ChangeParts) (r r' :
 Turn-more F C0 W0 K ys zs newG newS C C' W W' r r' x n apart whole split begins waits placed grows placed_now settled drops space t =
     record { firm = firm; barred = barred; apart = out } where
       part : AllIn (W0 ++ ys) F
-      part c i = subst (In c) (sym whole) (elim (In-cases c W0 ys i) [
+      part c i = subst (In c) (sym whole) (elim (In-append c W0 ys i) [
         | inl j ↦ In-left c W0 K j
         | inr j ↦ In-right c W0 K (subst (In c) (sym split) (In-left c ys (x ∷ zs) j))
       ])
@@ -128,7 +129,7 @@ Turn-more F C0 W0 K ys zs newG newS C C' W W' r r' x n apart whole split begins 
       here = subst (In x) (sym whole) (In-right x W0 K (subst (In x) (sym split) (In-right x ys (x ∷ zs) (inl refl))))
 
       came : AllIn newS F
-      came c i = elim (In-cases c W (x ∷ []) (grows.came c i)) [ inl j ↦ part c (waits c j) | inr j ↦ elim j [ inl e ↦ rw e here | inr b ↦ absurd b ] ]
+      came c i = elim (In-append c W (x ∷ []) (grows.came c i)) [ inl j ↦ part c (waits c j) | inr j ↦ elim j [ inl e ↦ rw e here | inr b ↦ absurd b ] ]
 
       later : (h : Hash) → has C h ≡ true → has C' h ≡ true
       later h e = subst (λ l. has l h ≡ true) (sym grows.begins) (has-left C newS h e)
@@ -203,4 +204,4 @@ Turn-last F C0 K ys C r t = record {
 pub turn_apart : (W ys xs K : List ChangeParts) → ys ++ xs ≡ K → HashesApart (W ++ K) → HashesApart (W ++ ys)
 turn_apart W ys xs K e apart c d i j same = apart c d (part c i) (part d j) same where
   part : AllIn (W ++ ys) (W ++ K)
-  part x k = elim (In-cases x W ys k) [ inl l ↦ In-left x W K l | inr l ↦ In-right x W K (subst (In x) e (In-left x ys xs l)) ]
+  part x k = elim (In-append x W ys k) [ inl l ↦ In-left x W K l | inr l ↦ In-right x W K (subst (In x) e (In-left x ys xs l)) ]

@@ -3,21 +3,23 @@ use Rattle.std.proofs.Common.{◌≡◌, inl, inr, ℕ, zero, suc, ◌+◌, ◌<
 use Rattle.std.specs.List.{AllWithin, HoldsAt, list_all}
 use Rattle.std.proofs.lemmas.Bool.Decides.{nat_tests}
 use Rattle.std.proofs.lemmas.List.{drop_more, drop_all, take_more, get_or-take, take-append-drop, length-take}
+use Rattle.std.proofs.lemmas.Bool.{and_parts, eqb-true}
 use Rattle.tp_list.specs.Members.{In, AllIn, SameMembers}
+use Rattle.tp_list.proofs.Members.{In-left, In-right, In-append, In-push, In-last, In-index, In-get_or, In-middle}
 use Rattle.tp_opid.specs.declared.op_id.OpId.{OpId}
 use Rattle.tp_opid.specs.declared.op_id.Place.{Place}
 use Rattle.tp_opid.specs.declared.op_id.Place.TheVariants.{Start, After}
 use Rattle.tp_opid.specs.Insert.{Insert}
 use Rattle.tp_opid.specs.Order.{Below}
 use Rattle.tp_opid.specs.Same.{id_eq, place_eq}
+use Rattle.tp_opid.specs.Tree.{Inserts, IsThere, IsNew, HasPlace, IsPlaceBelow, IsTree}
 use Rattle.tp_opid.proofs.Orders.{Below-irreflexive, Below-trans, Below-asym, Below-cases, id_eq-same, id_eq-itself, id_eq-apart, place_eq-same, place_eq-itself}
-use Rattle.tp_rga.specs.Tree.{Inserts, IsThere, IsNew, HasPlace, IsPlaceBelow, IsTree}
+use Rattle.tp_opid.proofs.Trees.{IsThere-member}
 use Rattle.tp_rga.specs.Order.{IsChain, Precedes, Before, IsSortedIn}
-use Rattle.tp_rga.proofs.Trees.{Before-chains, Before-trans, Before-cases}
 use Rattle.tp_rga.specs.Same.{same_insert, agrees, is_only}
-use Rattle.tp_rga.proofs.Sets.{In-left, In-right, In-append, In-push, In-last, IsThere-member}
+use Rattle.tp_rga.proofs.Trees.{Before-chains, Before-trans, Before-cases}
 use Rattle.tp_rga.proofs.Orderings.{IsSortedIn-front, IsSortedIn-back, IsSortedIn-across, IsSortedIn-join}
-use Rattle.tp_rga.proofs.Lookups.{IsFirst, In-middle, In-index, In-get_or}
+use Rattle.tp_rga.proofs.Lookups.{IsFirst}
 
 -- ---- how many elements stand below a place
 
@@ -241,7 +243,7 @@ same_more_put S i L n x lt at same =
       ];
       back = λ e j. subst (In e) (sym one) (elim (In-append e (take n L) (x ∷ drop n L) j) as (λ _. In e (take i S ++ x ∷ [])) [
         | inl k ↦ In-left e (take i S) (x ∷ []) (same.back e (subst (In e) whole (In-left e (take n L) (drop n L) k)))
-        | inr (inl k) ↦ subst (λ w. In w (take i S ++ x ∷ [])) (sym k) (In-last (take i S) x)
+        | inr (inl k) ↦ subst (λ w. In w (take i S ++ x ∷ [])) (sym k) (In-last x (take i S))
         | inr (inr k) ↦ In-left e (take i S) (x ∷ []) (same.back e (subst (In e) whole (In-right e (take n L) (drop n L) k)))
       ]);
     }
@@ -263,23 +265,14 @@ same_more_there S tree i L x lt at same there =
 
 -- ---- the test of a tree
 
--- both of two tests that hold together
-and_both : (a b : Bool) → (a && b) ≡ true → (a ≡ true) × (b ≡ true)
-and_both true b e = (refl, e)
-and_both false b e = cc
-
--- numbers that the test finds equal are
-eqb-same : (m n : ℕ) → (m == n) ≡ true → m ≡ n
-eqb-same m n e = grind (arith, nat_tests)
-
 -- inserts that the test finds equal are
 same_insert-same : (a b : Insert) → same_insert a b ≡ true → a ≡ b
 same_insert-same a b e =
-    let ab = and_both (id_eq a.id b.id && place_eq a.after b.after) (a.ch == b.ch) e in
-    let ids = and_both (id_eq a.id b.id) (place_eq a.after b.after) ab.0 in
+    let ab = and_parts (id_eq a.id b.id && place_eq a.after b.after) (a.ch == b.ch) e in
+    let ids = and_parts (id_eq a.id b.id) (place_eq a.after b.after) ab.0 in
     let i = id_eq-same a.id b.id ids.0 in
     let p = place_eq-same a.after b.after ids.1 in
-    let c : a.ch ≡ b.ch = eqb-same a.ch b.ch ab.1 in
+    let c : a.ch ≡ b.ch = eqb-true a.ch b.ch ab.1 in
     made_of a.id b.id a.after b.after a.ch b.ch i p c
   where
     made_of : (i j : OpId) (p q : Place) (c d : ℕ) → i ≡ j → p ≡ q → c ≡ d → (let x : Insert = record { id = i; after = p; ch = c } in x) ≡ record { id = j; after = q; ch = d }
@@ -310,8 +303,8 @@ agrees-is e a h =
 -- what passes in a whole list passes at each member
 list_all-member : (p : Insert → Bool) (xs : List Insert) → list_all p xs ≡ true → (x : Insert) → In x xs → p x ≡ true
 list_all-member p [] e x i = absurd i
-list_all-member p (y ∷ xs) e x (inl i) = ap p i ∙ (and_both (p y) (list_all p xs) e).0
-list_all-member p (y ∷ xs) e x (inr i) = list_all-member p xs (and_both (p y) (list_all p xs) e).1 x i
+list_all-member p (y ∷ xs) e x (inl i) = ap p i ∙ (and_parts (p y) (list_all p xs) e).0
+list_all-member p (y ∷ xs) e x (inr i) = list_all-member p xs (and_parts (p y) (list_all p xs) e).1 x i
 
 -- what passes at each member passes in the whole list
 list_all-from : (p : Insert → Bool) (xs : List Insert) → ((x : Insert) → In x xs → p x ≡ true) → list_all p xs ≡ true

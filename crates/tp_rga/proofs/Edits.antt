@@ -1,23 +1,17 @@
 -- What an insert and a delete at a place of the text do to the text.
-use Rattle.std.proofs.Common.{◌≡◌, ℕ, zero, suc, Bool, true, false, not, ◌||◌, cond, Some, None, List, [], ◌∷◌, ◌++◌, take, drop, insert, remove, filter, slice_get, refl, sym, ap, ◌∙◌, subst, inl, inr}
+use Rattle.std.proofs.Common.{◌≡◌, ℕ, zero, suc, Bool, true, false, not, ◌||◌, cond, Some, List, [], ◌∷◌, ◌++◌, insert, remove, slice_get, refl, sym, ap, ◌∙◌, subst}
 use Rattle.tp_list.specs.Members.{In}
+use Rattle.tp_list.proofs.Members.{In-slice_get, In-filter}
 use Rattle.tp_opid.specs.declared.op_id.OpId.{OpId}
 use Rattle.tp_opid.specs.declared.op_id.Place.TheVariants.{Start, After}
 use Rattle.tp_opid.specs.Insert.{Insert}
 use Rattle.tp_opid.specs.Same.{id_eq}
-use Rattle.tp_opid.proofs.Orders.{id_eq-same, id_eq-itself, id_eq-apart}
-use Rattle.tp_rga.specs.Tree.{AreApart}
+use Rattle.tp_opid.specs.Tree.{AreApart}
+use Rattle.tp_opid.proofs.Orders.{id_eq-same, id_eq-itself, id_eq-flip}
 use Rattle.tp_rga.specs.Order.{insert_after}
 use Rattle.tp_rga.specs.Shown.{is_removed, shown}
-use Rattle.tp_rga.proofs.OneOrder.{In-filter}
 use Rattle.tp_rga.proofs.Flagging.{filter_agree_in}
-use Rattle.tp_rga.proofs.Keeping.{removed-other, removed-itself, id_eq-apart_back}
-
--- what stands at a place is a member
-pub In-slice_get : {X : Type 0} (xs : List X) (k : ℕ) (x : X) → slice_get xs k ≡ Some x → In x xs
-In-slice_get [] k x e = cc
-In-slice_get (y ∷ xs) zero x e = inl cc
-In-slice_get (y ∷ xs) (suc k) x e = inr (In-slice_get xs k x e)
+use Rattle.tp_rga.proofs.Keeping.{removed-other, removed-itself}
 
 -- what is shown is in the list, and no delete names it
 shown_member : (R : List (OpId × OpId)) (L : List Insert) (k : ℕ) (e : Insert) → slice_get (shown R L) k ≡ Some e → In e L × (is_removed R e.id ≡ false)
@@ -40,7 +34,7 @@ shown_insert_after R (a ∷ L) x e k apart new at =
     elim (is_removed R a.id) as (λ b. is_removed R a.id ≡ b → slice_get (cond (not b) (a ∷ shown R L) (shown R L)) k ≡ Some e → shown R (insert_after (After e.id) x (a ∷ L)) ≡ insert (cond (not b) (a ∷ shown R L) (shown R L)) (suc k) x) [
       | true ↦ λ gone h.
           let member = shown_member R L k e h in
-          let other : id_eq a.id e.id ≡ false = id_eq-apart_back e.id a.id (apart.0 e member.0) in
+          let other : id_eq a.id e.id ≡ false = id_eq-flip e.id a.id (apart.0 e member.0) in
           ap (shown R) (behind a L x e.id other) ∙ ap (λ b. cond (not b) (a ∷ shown R (insert_after (After e.id) x L)) (shown R (insert_after (After e.id) x L))) gone ∙ shown_insert_after R L x e k apart.1 new h
       | false ↦ λ stays h. at_place R a L x e k apart new stays h (λ j g. shown_insert_after R L x e j apart.1 new g)
     ] refl at
@@ -58,7 +52,7 @@ shown_insert_after R (a ∷ L) x e k apart new at =
         ap (shown R) (here a L x e.id found) ∙ ap (λ b. cond (not b) (a ∷ shown R (x ∷ L)) (shown R (x ∷ L))) stays ∙ ap (λ z. a ∷ z) (shown_insert_start R L x new)
     at_place R a L x e (suc k) apart new stays h rest =
         let member = shown_member R L k e h in
-        let other : id_eq a.id e.id ≡ false = id_eq-apart_back e.id a.id (apart.0 e member.0) in
+        let other : id_eq a.id e.id ≡ false = id_eq-flip e.id a.id (apart.0 e member.0) in
         ap (shown R) (behind a L x e.id other) ∙ ap (λ b. cond (not b) (a ∷ shown R (insert_after (After e.id) x L)) (shown R (insert_after (After e.id) x L))) stays ∙ ap (λ z. a ∷ z) (rest k h)
 
 -- what is deleted stays deleted
@@ -87,7 +81,7 @@ shown_delete R (a ∷ L) e b k apart at =
         let found : id_eq e.id a.id ≡ true = ap (λ (w : Insert). id_eq w.id a.id) (sym same) ∙ id_eq-itself a.id in
         let others : shown (R ++ (e.id, b) ∷ []) L ≡ shown R L =
         filter_agree_in (λ (d : Insert). not (is_removed (R ++ (e.id, b) ∷ []) d.id)) (λ (d : Insert). not (is_removed R d.id)) L (λ d i.
-        ap not (removed-other R e.id b d.id (subst (λ (w : Insert). id_eq w.id d.id ≡ false) same (id_eq-apart_back d.id a.id (apart.0 d i))))) in
+        ap not (removed-other R e.id b d.id (subst (λ (w : Insert). id_eq w.id d.id ≡ false) same (id_eq-flip d.id a.id (apart.0 d i))))) in
         ap (λ v. cond (not v) (a ∷ shown (R ++ (e.id, b) ∷ []) L) (shown (R ++ (e.id, b) ∷ []) L)) (removed-itself R e.id b a.id found) ∙ others
     at_place R a L e b (suc k) apart stays h rest =
         let member = shown_member R L k e h in

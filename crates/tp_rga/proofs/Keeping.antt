@@ -4,31 +4,27 @@ use Rattle.std.specs.List.{list_any}
 use Rattle.std.specs.Option.{option_map}
 use Rattle.std.proofs.lemmas.List.{take-append-drop, set_at, length-map, map-append}
 use Rattle.tp_list.specs.Members.{In}
+use Rattle.tp_list.proofs.Members.{In-left, In-right, In-append, In-middle}
 use Rattle.tp_opid.specs.declared.op_id.OpId.{OpId}
 use Rattle.tp_opid.specs.Insert.{Insert}
 use Rattle.tp_opid.specs.Same.{id_eq}
-use Rattle.tp_opid.proofs.Orders.{id_eq-same, id_eq-itself, id_eq-apart}
-use Rattle.tp_rga.specs.Tree.{IsThere, IsNew, AreApart}
+use Rattle.tp_opid.specs.Tree.{IsThere, IsNew, AreApart}
+use Rattle.tp_opid.proofs.Orders.{id_eq-same, id_eq-itself, id_eq-flip}
+use Rattle.tp_opid.proofs.Trees.{IsThere-grow}
 use Rattle.tp_rga.specs.Shown.{is_removed, shown, shown_before}
 use Rattle.tp_rga.specs.Kept.{IsKept}
-use Rattle.tp_rga.proofs.Sets.{In-left, In-right, In-append, IsThere-grow}
-use Rattle.tp_rga.proofs.Lookups.{IsFirst, In-middle}
+use Rattle.tp_rga.proofs.Lookups.{IsFirst}
 use Rattle.tp_rga.proofs.Flagging.{map-insert, length-filter-insert, map_agree, filter_agree_in, length-left, slice_get-left, slice_get-past, take-map_lem}
 
 -- ---- an insert
 
--- apart is apart the other way round
-pub id_eq-apart_back : (a b : OpId) → id_eq a b ≡ false → id_eq b a ≡ false
-id_eq-apart_back a b e =
-    elim (id_eq b a) as (λ v. id_eq b a ≡ v → v ≡ false) [ true ↦ λ h. absurd (id_eq-apart a b e (sym (id_eq-same b a h))) | false ↦ λ h. refl ] refl
-
 -- a list without two of one identifier, with a new one put in
 AreApart-put : (A B : List Insert) (x : Insert) → AreApart (A ++ B) → IsNew (A ++ B) x.id → AreApart (A ++ x ∷ B)
-AreApart-put [] B x apart new = (λ e i. id_eq-apart_back x.id e.id (id_eq-apart_back e.id x.id (new e i)), apart)
+AreApart-put [] B x apart new = (λ e i. id_eq-flip x.id e.id (id_eq-flip e.id x.id (new e i)), apart)
 AreApart-put (a ∷ A) B x apart new = (
   λ e i. elim (In-append e A (x ∷ B) i) as (λ _. id_eq e.id a.id ≡ false) [
     | inl j ↦ apart.0 e (In-left e A B j)
-    | inr (inl j) ↦ subst (λ (w : Insert). id_eq w.id a.id ≡ false) (sym j) (id_eq-apart_back a.id x.id (new a (inl refl)))
+    | inr (inl j) ↦ subst (λ (w : Insert). id_eq w.id a.id ≡ false) (sym j) (id_eq-flip a.id x.id (new a (inl refl)))
     | inr (inr j) ↦ apart.0 e (In-right e A B j)
   ],
   AreApart-put A B x apart.1 (λ e i. new e (inr i)),
@@ -77,7 +73,7 @@ AreApart-front (a ∷ A) e B apart d (inr i) = AreApart-front A e B apart.1 d i
 
 -- and likewise what stands behind it
 AreApart-back : (A : List Insert) (e : Insert) (B : List Insert) → AreApart (A ++ e ∷ B) → (d : Insert) → In d B → id_eq e.id d.id ≡ false
-AreApart-back [] e B apart d i = id_eq-apart_back d.id e.id (apart.0 d i)
+AreApart-back [] e B apart d i = id_eq-flip d.id e.id (apart.0 d i)
 AreApart-back (a ∷ A) e B apart d i = AreApart-back A e B apart.1 d i
 
 -- the targets with one more

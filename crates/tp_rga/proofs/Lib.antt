@@ -1,6 +1,5 @@
 pub mod Chains
 pub mod Trees
-pub mod Sets
 pub mod Orderings
 pub mod Places
 pub mod Lookups

@@ -1,39 +1,24 @@
 -- Look-ups in a list, from indexes to members, and the place that the code finds.
 use Rattle.std.proofs.Common.{◌≡◌, inl, inr, ℕ, zero, suc, ◌+◌, ◌-◌, ◌<◌, ◌≤◌, Bool, true, false, not, cond, ltb, Option, Some, None, List, [], ◌∷◌, ◌++◌, length, take, drop, get_or, insert, position, refl, sym, ap, ◌∙◌, subst, arith, append_assoc, MatchBool, length-take}
 use Rattle.std.specs.List.{All, AllWithin, HoldsAt, position_or_len}
-use Rattle.std.specs.Option.{option_map, is_some}
+use Rattle.std.specs.Option.{option_map}
 use Rattle.std.proofs.lemmas.Bool.Decides.{nat_tests}
 use Rattle.std.proofs.lemmas.List.{take_more, get_or-take, get_or-drop, take-append-drop, drop-drop}
 use Rattle.tp_list.specs.Members.{In}
+use Rattle.tp_list.proofs.Members.{SameMembers-sym, In-index, In-get_or, All-member}
 use Rattle.tp_opid.specs.declared.op_id.OpId.{OpId}
 use Rattle.tp_opid.specs.declared.op_id.Place.{Place}
 use Rattle.tp_opid.specs.declared.op_id.Place.TheVariants.{After}
 use Rattle.tp_opid.specs.Insert.{Insert}
 use Rattle.tp_opid.specs.Order.{Below}
 use Rattle.tp_opid.specs.Same.{id_eq}
+use Rattle.tp_opid.specs.Tree.{IsThere, IsNew, IsPlaceBelow, CanInsert}
 use Rattle.tp_opid.proofs.Orders.{id_eq-same, id_eq-itself}
-use Rattle.tp_rga.specs.Tree.{IsThere, IsNew, IsPlaceBelow, CanInsert}
+use Rattle.tp_opid.proofs.Trees.{CanInsert-same}
 use Rattle.tp_rga.specs.Order.{EndsAt, IsInOrder, IsInserted}
-use Rattle.tp_rga.proofs.Sets.{SameMembers-sym, CanInsert-same}
 use Rattle.tp_rga.proofs.Places.{StopsAt, put_in_order}
 
 -- ---- members by index
-
--- a member stands at some index
-pub In-index : {X : Type 0} (x : X) (xs : List X) → In x xs → (k : ℕ) × (k < length xs) × ((d : X) → get_or xs k d ≡ x)
-In-index x [] i = absurd i
-In-index x (y ∷ xs) (inl e) = (zero, omega arith, λ d. sym e)
-In-index x (y ∷ xs) (inr i) = let r = In-index x xs i in (suc r.0, omega (arith, r.1), r.2)
-
--- what stands at an index is a member
-pub In-get_or : {X : Type 0} (xs : List X) (k : ℕ) (d : X) → k < length xs → In (get_or xs k d) xs
-In-get_or [] k d h = absurd (omega arith)
-In-get_or (x ∷ xs) zero d h = inl refl
-In-get_or (x ∷ xs) (suc k) d h = inr (In-get_or xs k d (omega arith))
-
--- what holds at each index holds of each member
-pub All-member : {X : Type 0} (P : X → Type 0) (xs : List X) → All P xs → (x : X) → In x xs → P x
-All-member P xs all x i = let r = In-index x xs i in subst P (r.2 x) (all r.0 x r.1)
 
 -- ---- the first that passes
 
@@ -73,11 +58,6 @@ position-first p (x ∷ xs) =
 
 -- ---- elements by identifier
 
--- what stands between two parts is a member
-pub In-middle : {X : Type 0} (A : List X) (e : X) (B : List X) → In e (A ++ e ∷ B)
-In-middle [] e B = inl refl
-In-middle (x ∷ A) e B = inr (In-middle A e B)
-
 -- an element that passes the test for an identifier shows that it is there
 pub IsThere-found : (L : List Insert) (x : OpId) (e : Insert) → In e L → id_eq e.id x ≡ true → IsThere L x
 IsThere-found L x e i t = (e.after, (e.ch, subst (λ w. In (record { id = w; after = e.after; ch = e.ch }) L) (id_eq-same e.id x t) i))
@@ -88,16 +68,6 @@ IsThere-not_new L x there new =
     let itself : id_eq x x ≡ true = id_eq-itself x in
     let apart : id_eq x x ≡ false = new _ there.1.1 in
     cc
-
--- whether a look-up finds an element
-pub found_or_new : (L : List Insert) (x : OpId) (r : Option ℕ) → IsFirst (λ e. id_eq e.id x) L r → MatchBool (is_some r) (IsThere L x) (IsNew L x)
-found_or_new L x None h = h
-found_or_new L x (Some i) h =
-    IsThere-found L x h.1 (subst (λ w. In h.1 w) (sym h.3) (In-middle h.0 h.1 h.2)) h.5
-
--- whether a look-up finds an element says whether it is there
-pub found-position : (L : List Insert) (x : OpId) → MatchBool (is_some (position (λ (e : Insert). id_eq e.id x) L)) (IsThere L x) (IsNew L x)
-found-position L x = found_or_new L x _ (position-first (λ (e : Insert). id_eq e.id x) L)
 
 -- ---- the place that the code finds
 

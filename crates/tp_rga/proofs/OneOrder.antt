@@ -1,19 +1,20 @@
 -- A tree has one list in order; it depends on the set alone, and its parts stand in order for parts of the tree.
 use Rattle.std.proofs.Common.{◌≡◌, inl, inr, Bool, true, false, not, cond, ◌||◌, List, [], ◌∷◌, ◌++◌, filter, take, drop, insert, refl, sym, ap, ◌∙◌, subst}
 use Rattle.std.proofs.lemmas.List.Elements.{filter_agree}
+use Rattle.std.proofs.lemmas.List.{take-append-drop}
 use Rattle.tp_list.specs.Members.{In, AllIn, SameMembers}
+use Rattle.tp_list.proofs.Members.{In-left, In-right, In-append, In-push, In-last, SameMembers-sym, In-filter, filter-In}
 use Rattle.tp_opid.specs.declared.op_id.OpId.{OpId}
 use Rattle.tp_opid.specs.declared.op_id.Place.{Place}
 use Rattle.tp_opid.specs.declared.op_id.Place.TheVariants.{Start, After}
 use Rattle.tp_opid.specs.Insert.{Insert}
 use Rattle.tp_opid.specs.Same.{id_eq}
+use Rattle.tp_opid.specs.Tree.{IsThere, AreApart, IsAboveAll, HasPlace, IsPlaceBelow, IsTree, CanInsert}
 use Rattle.tp_opid.proofs.Orders.{Below-asym, id_eq-same, id_eq-apart}
-use Rattle.tp_rga.specs.Tree.{IsThere, AreApart, IsAboveAll, HasPlace, IsPlaceBelow, IsTree, CanInsert}
+use Rattle.tp_opid.proofs.Trees.{IsThere-member, CanInsert-same, IsTree-push}
 use Rattle.tp_rga.specs.Order.{Before, IsSortedIn, IsInOrder, EndsAt, insert_after, IsInserted}
 use Rattle.tp_rga.specs.Shown.{is_removed, shown}
 use Rattle.tp_rga.proofs.Trees.{Leads-grow, Before-irreflexive, Before-trans, Before-cases, Before-chains, chain_exists}
-use Rattle.std.proofs.lemmas.List.{take-append-drop}
-use Rattle.tp_rga.proofs.Sets.{In-left, In-right, In-append, In-push, In-last, IsThere-grow, IsThere-member, SameMembers-sym, IsTree-push, CanInsert-same}
 use Rattle.tp_rga.proofs.Orderings.{IsSortedIn-grow, sorted_once}
 use Rattle.tp_rga.proofs.Places.{StopsAt, put_in_order}
 
@@ -130,26 +131,6 @@ Before-part S T tree part of x y i j h =
     let d = chain_exists T part y j in
     (c.0, d.0, c.1, d.1, Before-chains S tree x y h c.0 d.0 (Leads-grow T S of Start c.0 (After x) c.1) (Leads-grow T S of Start d.0 (After y) d.1))
 
--- what a filter keeps is a member that passes
-pub In-filter : {X : Type 0} (p : X → Bool) (xs : List X) (x : X) → In x (filter p xs) → In x xs × (p x ≡ true)
-In-filter p [] x i = absurd i
-In-filter p (y ∷ xs) x i =
-    elim (p y) as (λ b. p y ≡ b → In x (cond b (y ∷ filter p xs) (filter p xs)) → In x (y ∷ xs) × (p x ≡ true)) [
-      | true ↦ λ e j. elim j as (λ _. In x (y ∷ xs) × (p x ≡ true)) [
-        | inl k ↦ (inl k, ap p k ∙ e)
-        | inr k ↦ let r = In-filter p xs x k in (inr r.0, r.1)
-      ]
-      | false ↦ λ e j. let r = In-filter p xs x j in (inr r.0, r.1)
-    ] refl i
-
--- a member that passes is kept
-pub filter-In : {X : Type 0} (p : X → Bool) (xs : List X) (x : X) → In x xs → p x ≡ true → In x (filter p xs)
-filter-In p [] x i e = absurd i
-filter-In p (y ∷ xs) x (inl i) e = subst (λ b. In x (cond b (y ∷ filter p xs) (filter p xs))) (sym (sym (ap p i) ∙ e)) (inl i)
-filter-In p (y ∷ xs) x (inr i) e =
-    let rest = filter-In p xs x i e in
-    elim (p y) as (λ b. In x (cond b (y ∷ filter p xs) (filter p xs))) [ true ↦ inr rest | false ↦ rest ]
-
 -- a part of a sorted list is sorted in the part of the tree
 sorted_part : (S T : List Insert) (keep : Insert → Bool) → IsTree S → IsTree T → AllIn T S → (L : List Insert) → ((e : Insert) → In e L → keep e ≡ true → In e T) → IsSortedIn S L → IsSortedIn T (filter keep L)
 sorted_part S T keep tree part of [] kept h = tt
@@ -240,19 +221,14 @@ inserted_members old new x inserted =
       ]);
       back = λ e j. elim (In-append e (take i old) (x ∷ drop i old) (subst (In e) is j)) as (λ _. In e (old ++ x ∷ [])) [
         | inl k ↦ In-left e old (x ∷ []) (subst (In e) whole (In-left e (take i old) (drop i old) k))
-        | inr (inl k) ↦ subst (λ w. In w (old ++ x ∷ [])) (sym k) (In-last old x)
+        | inr (inl k) ↦ subst (λ w. In w (old ++ x ∷ [])) (sym k) (In-last x old)
         | inr (inr k) ↦ In-left e old (x ∷ []) (subst (In e) whole (In-right e (take i old) (drop i old) k))
       ];
     }
 
--- what was there still is
-pub inserted_keeps : (old new : List Insert) (x : Insert) → IsInserted old new x → (y : OpId) → IsThere old y → IsThere new y
-inserted_keeps old new x inserted y there =
-    IsThere-grow old new (λ e i. (inserted_members old new x inserted).there e (In-left e old (x ∷ []) i)) y there
-
 -- the new element is there
 pub inserted_there : (old new : List Insert) (x : Insert) → IsInserted old new x → IsThere new x.id
-inserted_there old new x inserted = IsThere-member new x ((inserted_members old new x inserted).there x (In-last old x))
+inserted_there old new x inserted = IsThere-member new x ((inserted_members old new x inserted).there x (In-last x old))
 
 -- ---- what is shown
 

@@ -1,10 +1,10 @@
 -- Lists in the order of a set: their parts, the same set in another order, and that there is one list.
 use Rattle.std.proofs.Common.{◌≡◌, inl, inr, List, [], ◌∷◌, ◌++◌, refl, sym, ◌∙◌, subst}
 use Rattle.tp_list.specs.Members.{In, AllIn, SameMembers}
+use Rattle.tp_list.proofs.Members.{In-left, In-right, In-append}
 use Rattle.tp_opid.specs.Insert.{Insert}
-use Rattle.tp_rga.specs.Tree.{IsTree}
+use Rattle.tp_opid.specs.Tree.{IsTree}
 use Rattle.tp_rga.specs.Order.{Before, IsSortedIn}
-use Rattle.tp_rga.proofs.Sets.{In-left, In-right, In-append}
 use Rattle.tp_rga.proofs.Trees.{Before-grow, Before-irreflexive, Before-asym}
 
 -- a sorted list stays sorted as the set grows

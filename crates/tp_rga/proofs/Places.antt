@@ -2,17 +2,18 @@
 -- order.
 use Rattle.std.proofs.Common.{◌≡◌, ◌⊎◌, inl, inr, List, [], ◌∷◌, ◌++◌, refl, sym, ◌∙◌, subst, append_assoc}
 use Rattle.tp_list.specs.Members.{In, AllIn, SameMembers}
+use Rattle.tp_list.proofs.Members.{In-left, In-right, In-append, In-push, In-last}
 use Rattle.tp_opid.specs.declared.op_id.OpId.{OpId}
 use Rattle.tp_opid.specs.declared.op_id.Place.{Place}
 use Rattle.tp_opid.specs.declared.op_id.Place.TheVariants.{Start, After}
 use Rattle.tp_opid.specs.Insert.{Insert}
 use Rattle.tp_opid.specs.Order.{Below}
+use Rattle.tp_opid.specs.Tree.{IsThere, IsNew, IsPlaceBelow, IsTree, CanInsert}
 use Rattle.tp_opid.proofs.Orders.{Below-cases, id_eq-apart}
-use Rattle.tp_rga.specs.Tree.{IsThere, IsNew, IsPlaceBelow, IsTree, CanInsert}
+use Rattle.tp_opid.proofs.Trees.{IsThere-member, IsTree-push}
 use Rattle.tp_rga.specs.Order.{Leads, IsChain, Precedes, Before, IsSortedIn, IsInOrder, EndsAt}
 use Rattle.tp_rga.proofs.Chains.{AllBelow, Precedes-irreflexive, Precedes-asym, Precedes-longer, Precedes-front, Precedes-beginning, stop_last, passed_first}
 use Rattle.tp_rga.proofs.Trees.{Leads-grow, Before-grow, Leads-push, Leads-front, Leads-same, chain_exists, chain_below, Before-trans, Before-chains}
-use Rattle.tp_rga.proofs.Sets.{In-left, In-right, In-append, In-push, In-last, IsThere-member, IsTree-push}
 use Rattle.tp_rga.proofs.Orderings.{IsSortedIn-grow, IsSortedIn-front, IsSortedIn-back, IsSortedIn-across, IsSortedIn-join}
 
 -- x is below each element
@@ -53,7 +54,7 @@ back_chains S F B tree sorted Start ends c l e i d k =
     subst (λ w. Precedes w d) (sym none) (not_empty S e.id d k)
 back_chains S F B tree sorted (After r) (A, f, is, names) c l e i d k =
     let at_f : IsChain S f.id c = subst (λ w. IsChain S w c) (sym names) l in
-    let f_in : In f F = subst (λ w. In f w) (sym is) (In-last A f) in
+    let f_in : In f F = subst (λ w. In f w) (sym is) (In-last f A) in
     Before-chains S tree f.id e.id (IsSortedIn-across S F B sorted f e f_in i) c d at_f k
 
 -- what is passed over stands before the new element
@@ -124,7 +125,7 @@ put_members S F G B x same = record {
   ];
   back = λ e i. elim (In-taken F G B x e i) as (λ _. In e (S ++ x ∷ [])) [
     | inl j ↦ In-left e S (x ∷ []) (same.back e j)
-    | inr j ↦ subst (λ w. In w (S ++ x ∷ [])) (sym j) (In-last S x)
+    | inr j ↦ subst (λ w. In w (S ++ x ∷ [])) (sym j) (In-last x S)
   ];
 }
 
@@ -138,7 +139,7 @@ new_before S F G (h ∷ B) x tree order new ends stops c l tree' b i =
     let more : AllIn S T = (λ e j. In-left e S (x ∷ []) j) in
     let h_in : In h (F ++ (G ++ h ∷ B)) = In-right h F (G ++ h ∷ B) (In-right h G (h ∷ B) (inl refl)) in
     let d = chain_exists S tree h.id (IsThere-member S h (order.same.back h h_in)) in
-    let x_chain : IsChain T x.id (c ++ x.id ∷ []) = Leads-push T x.after c x.id (Leads-grow S T more Start c x.after l) (x.ch, In-last S x) in
+    let x_chain : IsChain T x.id (c ++ x.id ∷ []) = Leads-push T x.after c x.id (Leads-grow S T more Start c x.after l) (x.ch, In-last x S) in
     let head : Before T x.id h.id = (c ++ x.id ∷ [], d.0, x_chain, Leads-grow S T more Start d.0 (After h.id) d.1, stopped_before S F G h B x tree order new ends stops c l d.0 d.1) in
     elim i as (λ _. Before T x.id b.id) [
       | inl e ↦ subst (λ (w : Insert). Before T x.id w.id) (sym e) head
@@ -153,7 +154,7 @@ put_in_order S F G B x tree order can ends above stops =
     let tree' : IsTree T = IsTree-push S x tree can in
     let more : AllIn S T = (λ e j. In-left e S (x ∷ []) j) in
     let up = place_chain S tree x.id x.after can.place in
-    let x_chain : IsChain T x.id (up.0 ++ x.id ∷ []) = Leads-push T x.after up.0 x.id (Leads-grow S T more Start up.0 x.after up.1) (x.ch, In-last S x) in
+    let x_chain : IsChain T x.id (up.0 ++ x.id ∷ []) = Leads-push T x.after up.0 x.id (Leads-grow S T more Start up.0 x.after up.1) (x.ch, In-last x S) in
     let sorted_f = IsSortedIn-front S F (G ++ B) order.sorted in
     let sorted_gb = IsSortedIn-back S F (G ++ B) order.sorted in
     let is_there : (e : Insert) → In e (F ++ (G ++ B)) → IsThere S e.id = (λ e i. IsThere-member S e (order.same.back e i)) in

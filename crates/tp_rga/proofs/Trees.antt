@@ -7,8 +7,8 @@ use Rattle.tp_opid.specs.declared.op_id.Place.{Place}
 use Rattle.tp_opid.specs.declared.op_id.Place.TheVariants.{Start, After}
 use Rattle.tp_opid.specs.Insert.{Insert}
 use Rattle.tp_opid.specs.Order.{Below}
+use Rattle.tp_opid.specs.Tree.{Inserts, IsThere, IsTree}
 use Rattle.tp_opid.proofs.Orders.{Below-irreflexive, Below-trans}
-use Rattle.tp_rga.specs.Tree.{Inserts, IsThere, IsTree}
 use Rattle.tp_rga.specs.Order.{Leads, IsChain, Precedes, Before}
 use Rattle.tp_rga.proofs.Chains.{AllBelow, Precedes-irreflexive, Precedes-trans, Precedes-cases}
 

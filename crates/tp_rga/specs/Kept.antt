@@ -3,7 +3,7 @@ use Rattle.std.specs.Prelude.{◌≡◌, ℕ, Bool, List, length, map}
 use Rattle.tp_list.specs.Members.{In}
 use Rattle.tp_opid.specs.declared.op_id.OpId.{OpId}
 use Rattle.tp_opid.specs.Insert.{Insert}
-use Rattle.tp_rga.specs.Tree.{IsThere, AreApart}
+use Rattle.tp_opid.specs.Tree.{IsThere, AreApart}
 use Rattle.tp_rga.specs.Shown.{is_removed, shown}
 
 -- Each delete names an element, and the flags and the count say what the deletes leave.

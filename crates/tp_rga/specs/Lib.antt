@@ -1,4 +1,3 @@
-pub mod Tree
 pub mod Order
 pub mod Shown
 pub mod State

@@ -9,7 +9,7 @@ use Rattle.tp_opid.specs.declared.op_id.Place.TheVariants.{Start, After}
 use Rattle.tp_opid.specs.Insert.{Insert}
 use Rattle.tp_opid.specs.Order.{Below}
 use Rattle.tp_opid.specs.Same.{id_eq}
-use Rattle.tp_rga.specs.Tree.{Inserts, IsTree}
+use Rattle.tp_opid.specs.Tree.{Inserts, IsTree}
 
 -- The identifiers lead from the place p to the place q: S inserts each after the one before it, and the first after p.
 abbrev pub Leads : List Insert → Place → List OpId → Place → Type 0

@@ -4,7 +4,7 @@ ghost use Rattle.std.specs.Prelude.{◌≡◌, ◌↔◌, ℕ, ◌<◌, ◌≤�
 ghost use Rattle.std.specs.List.{AllWithin, HoldsAt};
 ghost use Rattle.tp_list.specs.Members.{AllIn};
 ghost use Rattle.tp_opid.specs.Insert.{Insert};
-ghost use Rattle.tp_rga.specs.Tree.{Inserts, IsThere, IsTree};
+ghost use Rattle.tp_opid.specs.Tree.{Inserts, IsThere, IsTree};
 ghost use Rattle.tp_rga.specs.Same.{same_insert, agrees, is_only};
 ghost use Rattle.tp_rga.specs.Order.{IsChain, Precedes, Before, IsInOrder};
 

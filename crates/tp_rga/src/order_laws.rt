@@ -1,11 +1,12 @@
 //! The laws of the order of elements. Each function does nothing: its contract is the law, which holds of every set
-//! of inserts. A crate above cites the lemma of the same name in `proofs/OneOrder.antt`, `Trees.antt` or `Sets.antt`.
+//! of inserts. A crate above cites the lemma of the same name in `proofs/OneOrder.antt`, `proofs/Trees.antt` or tp_opid's
+//! `proofs/Trees.antt`.
 
 ghost use Rattle.std.specs.Prelude.{◌≡◌, ◌⊎◌, ℕ, Bool, List, [], ◌∷◌, ◌++◌, filter};
 ghost use Rattle.tp_list.specs.Members.{AllIn, SameMembers};
 ghost use Rattle.tp_opid.specs.declared.op_id.OpId.{OpId as Id};
 ghost use Rattle.tp_opid.specs.Insert.{Insert};
-ghost use Rattle.tp_rga.specs.Tree.{IsThere, AreApart, IsAboveAll, IsTree, CanInsert};
+ghost use Rattle.tp_opid.specs.Tree.{IsThere, AreApart, IsAboveAll, IsTree, CanInsert};
 ghost use Rattle.tp_rga.specs.Order.{Before, IsInOrder, IsInserted, insert_after};
 ghost use Rattle.tp_rga.specs.Shown.{shown};
 

@@ -5,7 +5,7 @@ ghost use Rattle.std.specs.List.{All, AllWithin, HoldsAt};
 ghost use Rattle.tp_opid.specs.Insert.{Insert};
 ghost use Rattle.tp_opid.specs.Order.{Below};
 ghost use Rattle.tp_opid.specs.Same.{id_eq};
-ghost use Rattle.tp_rga.specs.Tree.{IsThere, IsNew, HasPlace, IsPlaceBelow, CanInsert};
+ghost use Rattle.tp_opid.specs.Tree.{IsThere, IsNew, HasPlace, IsPlaceBelow, CanInsert};
 ghost use Rattle.tp_rga.specs.Order.{EndsAt, IsInserted};
 
 use crate::insertion::Insertion;

@@ -4,7 +4,7 @@ ghost use Rattle.std.specs.Prelude.{◌≡◌, ◌↔◌, ℕ, ◌+◌, ◌<◌,
 ghost use Rattle.std.specs.Option.{option_map};
 ghost use Rattle.tp_opid.specs.declared.op_id.OpId.{OpId as Id};
 ghost use Rattle.tp_opid.specs.Insert.{Insert};
-ghost use Rattle.tp_rga.specs.Tree.{IsThere, CanInsert};
+ghost use Rattle.tp_opid.specs.Tree.{IsThere, CanInsert};
 ghost use Rattle.tp_rga.specs.Order.{IsInserted};
 ghost use Rattle.tp_rga.specs.Shown.{shown, shown_before, element_of};
 

@@ -5,7 +5,7 @@ ghost use Rattle.std.specs.Prelude.{◌≡◌, ℕ, true, false, suc, Some, List
 ghost use Rattle.tp_opid.specs.declared.op_id.OpId.{OpId as Id};
 ghost use Rattle.tp_opid.specs.declared.op_id.Place.TheVariants.{Start, After};
 ghost use Rattle.tp_opid.specs.Insert.{Insert};
-ghost use Rattle.tp_rga.specs.Tree.{AreApart};
+ghost use Rattle.tp_opid.specs.Tree.{AreApart};
 ghost use Rattle.tp_rga.specs.Order.{insert_after};
 ghost use Rattle.tp_rga.specs.Shown.{is_removed, shown};
 

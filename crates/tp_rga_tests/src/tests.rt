@@ -1,6 +1,6 @@
 //! Worked examples: the texts are what the rules give by hand.
 
-ghost use Rattle.tp_rga.specs.Tree.{CanInsert};
+ghost use Rattle.tp_opid.specs.Tree.{CanInsert};
 
 use std::alloc::{AllocError, Global};
 use std::process::Abort;

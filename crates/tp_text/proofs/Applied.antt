@@ -1,46 +1,18 @@
 -- What operations leave, one after another.
-use Rattle.std.proofs.Common.{◌≡◌, ℕ, List, [], ◌∷◌, ◌++◌, inl, inr, refl, sym, ap, ◌∙◌, subst, append_assoc, append-nil, take, drop, take-append-drop}
-use Rattle.std.specs.Prelude.{insert}
+use Rattle.std.proofs.Common.{◌≡◌, ℕ, List, [], ◌∷◌, ◌++◌, sym, ap, ◌∙◌, subst, append_assoc, append-nil}
 use Rattle.tp_list.specs.Members.{SameMembers}
+use Rattle.tp_list.proofs.Members.{SameMembers-sym, SameMembers-refl, SameMembers-trans, SameMembers-append, SameMembers-insert}
 use Rattle.tp_opid.specs.declared.op_id.OpId.{OpId}
 use Rattle.tp_opid.specs.declared.op_id.Place.{Place}
 use Rattle.tp_opid.specs.Insert.{Insert}
+use Rattle.tp_opid.specs.Tree.{IsTree, CanInsert}
+use Rattle.tp_opid.proofs.Trees.{IsThere-grow, CanInsert-same, IsTree-push}
 use Rattle.tp_change.specs.declared.op.Op.{Op}
 use Rattle.tp_change.specs.declared.op.Op.TheVariants as op_of
-use Rattle.tp_change.specs.Elements.{element, inserts_in, deletes_in}
-use Rattle.tp_rga.specs.Tree.{IsTree, CanInsert}
+use Rattle.tp_change.specs.Elements.{element, inserts_in}
+use Rattle.tp_change.proofs.ElementLaws.{inserts_in-append}
 use Rattle.tp_rga.specs.Order.{IsInOrder, IsInserted}
-use Rattle.tp_rga.proofs.Sets.{In-left, In-right, In-append, In-push, SameMembers-sym, IsThere-grow, CanInsert-same, IsTree-push}
 use Rattle.tp_text.specs.Applying.{CanApply, Extends}
-
-SameMembers-refl : {X : Type 0} (xs : List X) → SameMembers xs xs
-SameMembers-refl xs = record { there = λ x h. h; back = λ x h. h }
-
-SameMembers-trans : {X : Type 0} (xs ys zs : List X) → SameMembers xs ys → SameMembers ys zs → SameMembers xs zs
-SameMembers-trans xs ys zs p q = record { there = λ x h. q.there x (p.there x h); back = λ x h. p.back x (q.back x h) }
-
-SameMembers-append : {X : Type 0} (xs ys zs : List X) → SameMembers xs ys → SameMembers (xs ++ zs) (ys ++ zs)
-SameMembers-append xs ys zs p = record {
-  there = λ x h. elim (In-append x xs zs h) [ inl a ↦ In-left x ys zs (p.there x a) | inr b ↦ In-right x ys zs b ];
-  back = λ x h. elim (In-append x ys zs h) [ inl a ↦ In-left x xs zs (p.back x a) | inr b ↦ In-right x xs zs b ];
-}
-
-SameMembers-between : {X : Type 0} (A B : List X) (y : X) → SameMembers ((A ++ B) ++ y ∷ []) (A ++ y ∷ B)
-SameMembers-between {X} A B y = record {
-  there = λ x h. elim (In-push x (A ++ B) y h) [
-    | inl old ↦ elim (In-append x A B old) [ inl a ↦ In-left x A (y ∷ B) a | inr b ↦ In-right x A (y ∷ B) (inr b) ]
-    | inr new ↦ In-right x A (y ∷ B) (inl new)
-  ];
-  back = λ x h. elim (In-append x A (y ∷ B) h) [
-    | inl a ↦ In-left x (A ++ B) (y ∷ []) (In-left x A B a)
-    | inr (inl new) ↦ In-right x (A ++ B) (y ∷ []) (inl new)
-    | inr (inr b) ↦ In-left x (A ++ B) (y ∷ []) (In-right x A B b)
-  ];
-}
-
--- an element put in somewhere is a member more
-SameMembers-insert : {X : Type 0} (xs : List X) (i : ℕ) (y : X) → SameMembers (xs ++ y ∷ []) (insert xs i y)
-SameMembers-insert xs i y = subst (λ l. SameMembers (l ++ y ∷ []) (take i xs ++ y ∷ drop i xs)) (take-append-drop i xs) (SameMembers-between (take i xs) (drop i xs) y)
 
 -- what may come depends on the elements as a set
 pub CanApply-same : (S T : List Insert) → SameMembers S T → (ops : List Op) → CanApply S ops → CanApply T ops
@@ -69,11 +41,6 @@ Extends-none old = record {
   order = λ T tree order. subst (λ l. IsTree l × IsInOrder l old) (sym (append-nil T)) (tree, order);
 }
 
-pub inserts_in-append : (xs ys : List Op) → inserts_in (xs ++ ys) ≡ inserts_in xs ++ inserts_in ys
-inserts_in-append [] ys = refl
-inserts_in-append (op_of.Insert id after ch ∷ xs) ys = ap (λ l. element id after ch ∷ l) (inserts_in-append xs ys)
-inserts_in-append (op_of.Delete id target ∷ xs) ys = inserts_in-append xs ys
-
 -- operations after operations
 pub Extends-join : (old mid new : List Insert) (xs ys : List Op) → Extends old mid xs → Extends mid new ys → Extends old new (xs ++ ys)
 Extends-join old mid new xs ys p q =
@@ -86,16 +53,6 @@ Extends-join old mid new xs ys p q =
           let second = q.order (T ++ inserts_in xs) first.0 first.1 in
           subst (λ l. IsTree l × IsInOrder l new) (append_assoc T (inserts_in xs) (inserts_in ys) ∙ ap (λ l. T ++ l) (sym joined)) second;
     }
-
-pub deletes_in-append : (xs ys : List Op) → deletes_in (xs ++ ys) ≡ deletes_in xs ++ deletes_in ys
-deletes_in-append [] ys = refl
-deletes_in-append (op_of.Insert id after ch ∷ xs) ys = deletes_in-append xs ys
-deletes_in-append (op_of.Delete id target ∷ xs) ys = ap (λ l. (target, id) ∷ l) (deletes_in-append xs ys)
-
--- the first operation of those that may come
-pub CanApply-first : (S : List Insert) (op : Op) (ops : List Op) → CanApply S (op ∷ ops) → CanApply S (op ∷ [])
-CanApply-first S (op_of.Insert id after ch) ops h = (h.0, tt)
-CanApply-first S (op_of.Delete id target) ops h = (h.0, tt)
 
 -- what may come after it, once it is in
 pub CanApply-rest : (S T : List Insert) (op : Op) (ops : List Op) → CanApply S (op ∷ ops) → Extends S T (op ∷ []) → CanApply T ops

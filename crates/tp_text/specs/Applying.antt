@@ -4,10 +4,10 @@ use Rattle.tp_list.specs.Members.{In, SameMembers}
 use Rattle.tp_opid.specs.declared.op_id.OpId.{OpId}
 use Rattle.tp_opid.specs.Insert.{Insert}
 use Rattle.tp_opid.specs.Order.{Below}
+use Rattle.tp_opid.specs.Tree.{IsThere, IsTree, CanInsert}
 use Rattle.tp_change.specs.declared.op.Op.{Op}
 use Rattle.tp_change.specs.declared.op.Op.TheVariants as op_of
 use Rattle.tp_change.specs.Elements.{element, inserts_in}
-use Rattle.tp_rga.specs.Tree.{IsTree, IsThere, CanInsert}
 use Rattle.tp_rga.specs.Order.{IsInOrder}
 
 -- The operations may come one after another where the elements S are there: each insert has a new identifier above

@@ -1,12 +1,11 @@
 -- What stands at the front of a log, against the pieces that are read of it.
 use Rattle.std.proofs.Common.{◌≡◌, ℕ, ◌<◌, ◌≤◌, true, false, eqb, ltb, List, ◌++◌, length, Option, Some, None, Ok, Err, refl, sym, ap, ◌∙◌, subst, append_assoc, append-nil, arith}
-use Rattle.std.specs.Prelude.{IfSome, slice_index}
+use Rattle.std.specs.Prelude.{IfSome}
 use Rattle.std.specs.Int.{w32, from_be_bytes, to_be_bytes}
 use Rattle.std.specs.Io.KnownBytes.{Consumes, IsAtEnd}
 use Rattle.std.proofs.lemmas.Bool.Decides.{nat_tests}
 use Rattle.std.proofs.lemmas.List.{take_at, drop_at, length-append}
-use Rattle.std.proofs.lemmas.Nat.{be_bytes_4, from_be_bytes-to_be_bytes_4}
-use Rattle.tp_change.specs.declared.error.ChangeError.{ChangeError}
+use Rattle.std.proofs.lemmas.Nat.{from_be_bytes-to_be_bytes_4}
 use Rattle.tp_change.specs.declared.error.ChangeError.TheVariants as change_error
 use Rattle.tp_change.specs.declared.parts.ChangeParts.{ChangeParts}
 use Rattle.tp_change.specs.Limits.{IsChange}
@@ -44,9 +43,6 @@ sized_zero rest = refl
 sized_limit : (n : ℕ) (rest : List ℕ) → 4194304 < n → sized_entry_at n rest ≡ Err (Change change_error.Limit)
 sized_limit n rest h = rw (not_zero n (omega arith), below 4194304 n h) refl
 
-sized_short : (n : ℕ) (rest : List ℕ) → 0 < n → n ≤ 4194304 → length rest < n → sized_entry_at n rest ≡ Err (Change change_error.Short)
-sized_short n rest some few missing = rw (not_zero n some, not_below 4194304 n few, below (length rest) n missing) refl
-
 sized_whole : (n : ℕ) (body more : List ℕ) → 0 < n → n ≤ 4194304 → length body ≡ n → sized_entry_at n (body ++ more) ≡ with_rest (change_at body) more
 sized_whole n body more some few is =
     let whole : n ≤ length (body ++ more) = let e = length-append body more in omega arith in
@@ -80,21 +76,6 @@ bad_zero after = every after (λ rest. sized_entry_at 0 rest ≡ Err (Change cha
 pub bad_limit : (after : Option (List ℕ)) (n : ℕ) → 4194304 < n → IfSome after (λ rest. sized_entry_at n rest ≡ Err (Change change_error.Limit))
 bad_limit after n h = every after (λ rest. sized_entry_at n rest ≡ Err (Change change_error.Limit)) (λ rest. sized_limit n rest h)
 
-pub bad_missing : (before after : Option (List ℕ)) (body : List ℕ) (n : ℕ) → Consumes before after body → IsAtEnd after → 0 < n → n ≤ 4194304 → length body < n
-    → IfSome before (λ rest. sized_entry_at n rest ≡ Err (Change change_error.Short))
-bad_missing None after body n took end some few missing = tt
-bad_missing (Some b) None body n took end some few missing = absurd took
-bad_missing (Some b) (Some x) body n took end some few missing =
-    let all : b ≡ body = took ∙ ap (λ l. body ++ l) end ∙ append-nil body in
-    subst (λ l. sized_entry_at n l ≡ Err (Change change_error.Short)) (sym all) (sized_short n body some few missing)
-
-pub bad_change : (before after : Option (List ℕ)) (body : List ℕ) (n : ℕ) (e : ChangeError) → Consumes before after body → 0 < n → n ≤ 4194304 → length body ≡ n → change_at body ≡ Err e
-    → IfSome before (λ rest. sized_entry_at n rest ≡ Err (Change e))
-bad_change None after body n e took some few is bad = tt
-bad_change (Some b) None body n e took some few is bad = absurd took
-bad_change (Some b) (Some x) body n e took some few is bad =
-    subst (λ l. sized_entry_at n l ≡ Err (Change e)) (sym took) (sized_whole n body x some few is ∙ ap (λ r. with_rest r x) bad)
-
 -- a change at the front of the bytes is read, whatever follows
 pub entry_again : (c : ChangeParts) (more : List ℕ) → IsChange c → entry_at (entry c ++ more) ≡ Ok (c, more)
 entry_again c more is =
@@ -105,12 +86,6 @@ entry_again c more is =
     ∙ sized_whole (length (spelling c)) (spelling c) more (omega arith) (omega arith) refl
     ∙ ap (λ r. with_rest r more) (change_again c is)
 
--- the length and the bytes that were read are the change's entry
-pub entry_read : (front body : List ℕ) (n : ℕ) (c : ChangeParts) → length front ≡ 4 → ((i : ℕ) → slice_index front i < 256) → n ≡ from_be_bytes w32 front → length body ≡ n → body ≡ spelling c → front ++ body ≡ entry c
-entry_read front body n c four bytes is size spelled =
-    let number : to_be_bytes w32 (length (spelling c)) ≡ front = be_bytes_4 front (length (spelling c)) four bytes (ap length (sym spelled) ∙ size ∙ is) in
-    ap (λ l. l ++ body) (sym number) ∙ ap (λ l. to_be_bytes w32 (length (spelling c)) ++ l) spelled
-
 -- a length whose test for 0 failed
 pub some_by_test : (m n : ℕ) → false ≡ eqb m 0 → m ≡ n → 0 < n
 some_by_test m n e same = grind (arith, nat_tests)
@@ -119,14 +94,3 @@ some_by_test m n e same = grind (arith, nat_tests)
 pub bad_behind : (before between : Option (List ℕ)) (n : ℕ) (f : ShowFault) → HasLength before between n → IfSome between (λ rest. sized_entry_at n rest ≡ Err f) → StartsBadly before f
 bad_behind before between n f read bad =
     bad_sized before between (to_be_bytes w32 n) n f read.bytes refl (let few = read.few in sym (from_be_bytes-to_be_bytes_4 n (omega arith))) bad
-
--- the length and the bytes that were read are the change's entry
-pub entry_joined : (before between after : Option (List ℕ)) (n : ℕ) (c : ChangeParts) → HasLength before between n → length (spelling c) ≡ n → Consumes between after (spelling c) → Consumes before after (entry c)
-entry_joined before between after n c read size took =
-    Consumes_joined before between after (to_be_bytes w32 (length (spelling c))) (spelling c) (subst (λ m. Consumes before between (to_be_bytes w32 m)) (sym size) read.bytes) took
-  where
-    Consumes_joined : (a b d : Option (List ℕ)) (bs cs : List ℕ) → Consumes a b bs → Consumes b d cs → Consumes a d (bs ++ cs)
-    Consumes_joined None b d bs cs p q = tt
-    Consumes_joined (Some x) None d bs cs p q = absurd p
-    Consumes_joined (Some x) (Some y) None bs cs p q = absurd q
-    Consumes_joined (Some x) (Some y) (Some z) bs cs p q = p ∙ ap (λ l. bs ++ l) q ∙ sym (append_assoc bs cs z)

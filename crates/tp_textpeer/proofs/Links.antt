@@ -2,21 +2,23 @@
 use Rattle.std.proofs.Common.{◌≡◌, ℕ, ◌+◌, ◌≤◌, Bool, true, false, ◌&&◌, cond, eqb, List, [], ◌∷◌, ◌++◌, length, Option, Some, None, inl, inr, refl, sym, ap, ◌∙◌, subst, arith}
 use Rattle.std.proofs.lemmas.Bool.Decides.{nat_tests}
 use Rattle.tp_list.specs.Members.{In}
+use Rattle.tp_list.proofs.Members.{In-append}
 use Rattle.tp_opid.specs.declared.actor.Actor.{Actor}
 use Rattle.tp_opid.specs.declared.hash.Hash.{Hash}
 use Rattle.tp_opid.specs.declared.op_id.OpId.{OpId}
 use Rattle.tp_opid.specs.Insert.{Insert}
+use Rattle.tp_opid.specs.Tree.{IsTree}
 use Rattle.tp_opid.proofs.Orders.{same_actor-same}
 use Rattle.tp_change.specs.declared.parts.ChangeParts.{ChangeParts}
 use Rattle.tp_change.specs.ChangeHash.{hash_of}
 use Rattle.tp_change.specs.Elements.{inserts, inserts_in, deletes_in, refers, later, next_counter}
 use Rattle.tp_change.specs.Operations.{ops_of, op_count, id_of}
-use Rattle.tp_rga.specs.Tree.{IsTree}
+use Rattle.tp_change.proofs.Numbered.{Numbered-ops_of}
+use Rattle.tp_change.proofs.OpsLaws.{length-ops_of}
+use Rattle.tp_change.proofs.ElementLaws.{inserts-push, deletes-push, next_counter-push, refers-same, SameIds-members}
 use Rattle.tp_rga.specs.Order.{IsInOrder}
-use Rattle.tp_rga.proofs.Sets.{In-append}
 use Rattle.tp_text.specs.Applying.{Extends, AllUnder}
-use Rattle.tp_text.proofs.Numbered.{AllUnder-ops, AllUnder-up, Numbered-ops_of, length-ops_of, inserts-push, deletes-push}
-use Rattle.tp_text.proofs.Checked.{refers-same}
+use Rattle.tp_text.proofs.Numbered.{AllUnder-ops, AllUnder-up}
 use Rattle.tp_textpeer.specs.declared.error.ShowFault.TheVariants.{NotChain, BadSeq, BadStart, BadReference}
 use Rattle.tp_textpeer.specs.Log.{first_actor, last_hash, is_by, depends_on, link_fault}
 use Rattle.tp_textpeer.specs.Chain.{Remembers, AllBelowCounter}
@@ -55,25 +57,8 @@ last_hash-push [] c = refl
 last_hash-push (d ∷ []) c = refl
 last_hash-push (d ∷ e ∷ C) c = last_hash-push (e ∷ C) c
 
-later-right : (a b : ℕ) → a ≤ b → later a b ≡ b
-later-right a b le = grind (arith, nat_tests)
-
-later-left : (a b : ℕ) → b ≤ a → later a b ≡ a
-later-left a b le = grind (arith, nat_tests)
-
-at_least-left : (a b : ℕ) → a ≤ later a b
-at_least-left a b = grind (arith, nat_tests)
-
-at_least-right : (a b : ℕ) → b ≤ later a b
-at_least-right a b = grind (arith, nat_tests)
-
-next_counter-push : (C : List ChangeParts) (c : ChangeParts) → 1 ≤ c.start → next_counter C ≤ c.start → next_counter (C ++ c ∷ []) ≡ c.start + op_count c
-next_counter-push [] c from le = later-left (c.start + op_count c) 1 (omega arith)
-next_counter-push (d ∷ C) c from le =
-    let a = at_least-left (d.start + op_count d) (next_counter C) in
-    let b = at_least-right (d.start + op_count d) (next_counter C) in
-    let rest = next_counter-push C c from (omega arith) in
-    ap (λ n. later (d.start + op_count d) n) rest ∙ later-right (d.start + op_count d) (c.start + op_count c) (omega arith)
+last_counter : (a b : ℕ) → a ≤ b → later a b ≡ b
+last_counter a b le = grind (arith, nat_tests)
 
 pub Remembers-push : (C : List ChangeParts) (c : ChangeParts) (L M : List Insert) (R Q : List (OpId × OpId)) (a : Option Actor) (h : Option Hash) (n : ℕ)
     → 1 ≤ c.start → is_by a c.actor ≡ true → c.start ≡ n → Remembers C L R a h n → Extends L M (ops_of c) → Q ≡ R ++ deletes_in (ops_of c)
@@ -86,7 +71,7 @@ Remembers-push C c L M R Q a h n from by start kept grown removed =
       removals = removed ∙ ap (λ l. l ++ deletes_in (ops_of c)) kept.removals ∙ sym (deletes-push C c);
       author = first_actor-push C c (subst (λ o. is_by o c.actor ≡ true) kept.author by);
       last = last_hash-push C c;
-      next = sym (next_counter-push C c from (let e = kept.next in omega arith));
+      next = sym (next_counter-push C c ∙ last_counter (next_counter C) (c.start + op_count c) (let e = kept.next in omega arith));
     }
 
 pub AllBelowCounter-push : (c : ChangeParts) (L M : List Insert) (n : ℕ) → c.start ≡ n → AllBelowCounter L n → Extends L M (ops_of c) → AllBelowCounter M (c.start + op_count c)
@@ -105,13 +90,9 @@ pub chain_test : (C : List ChangeParts) (c : ChangeParts) (L : List Insert) (R :
 chain_test C c L R a h n b kept e =
     subst (λ o. (is_by o c.actor && depends_on (last_hash C) c.deps) ≡ b) kept.author (subst (λ o. (is_by a c.actor && depends_on o c.deps) ≡ b) kept.last e)
 
-pub by_chain : (x y : Bool) → (x && y) ≡ true → x ≡ true
-by_chain true y h = refl
-by_chain false y h = cc
-
 pub refers_test : (C : List ChangeParts) (c : ChangeParts) (L : List Insert) (R : List (OpId × OpId)) (a : Option Actor) (h : Option Hash) (n : ℕ) (b : Bool) → Remembers C L R a h n
     → b ≡ refers L (ops_of c) → refers (inserts C) (ops_of c) ≡ b
-refers_test C c L R a h n b kept e = refers-same (ops_of c) (inserts C) L kept.order.same ∙ sym e
+refers_test C c L R a h n b kept e = refers-same (inserts C) L (ops_of c) (SameIds-members (inserts C) L kept.order.same) ∙ sym e
 
 -- ---- nothing came yet
 

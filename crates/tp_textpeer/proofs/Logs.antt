@@ -9,7 +9,7 @@ use Rattle.tp_change.specs.declared.parts.ChangeParts.{ChangeParts}
 use Rattle.tp_change.specs.Limits.{IsChange}
 use Rattle.tp_change.proofs.SpellingLaws.{spelling_bounds}
 use Rattle.tp_textpeer.specs.declared.error.ShowFault.{ShowFault}
-use Rattle.tp_textpeer.specs.Log.{entry, log_of, link_fault, LinkedAfter, IsLog, IsFault, Stands, StartsBadly, entry_at, fault_behind}
+use Rattle.tp_textpeer.specs.Log.{entry, log_of, link_fault, LinkedAfter, IsLog, IsFault, Stands, entry_at, fault_behind}
 use Rattle.tp_textpeer.proofs.Entries.{entry_again}
 
 log_of-push : (C : List ChangeParts) (c : ChangeParts) → log_of (C ++ c ∷ []) ≡ log_of C ++ entry c
@@ -55,21 +55,6 @@ IsLog-ended (Some b) (Some x) n C stands end = record {
   spelled = stands.bytes ∙ ap (λ l. log_of C ++ l) end ∙ append-nil (log_of C);
   each = stands.each;
   linked = stands.linked;
-}
-
--- what stands next is no change
-pub IsFault-entry : (whole left : Option (List ℕ)) (n : ℕ) (C : List ChangeParts) (f : ShowFault) → Stands whole left n C → StartsBadly left f → IfSome whole (λ b. IsFault b n f)
-IsFault-entry None left n C f stands bad = tt
-IsFault-entry (Some b) None n C f stands bad = absurd stands.bytes
-IsFault-entry (Some b) (Some rest) n C f stands bad = record {
-  good = C;
-  rest = rest;
-  count = stands.count;
-  spelled = stands.bytes;
-  each = stands.each;
-  linked = stands.linked;
-  more = bad.0;
-  wrong = ap (fault_behind C) bad.1;
 }
 
 some_bytes : (c : ChangeParts) (more : List ℕ) → IsChange c → 0 < length (entry c ++ more)
@@ -132,7 +117,3 @@ IfSome-map (Some b) P Q f h = f b h
 pub IfSome-each : (o : Option (List ℕ)) (P : List ℕ → Type 0) → ((b : List ℕ) → P b) → IfSome o P
 IfSome-each None P f = tt
 IfSome-each (Some b) P f = f b
-
-pub IfSome-both : (o : Option (List ℕ)) (P Q R : List ℕ → Type 0) → ((b : List ℕ) → P b → Q b → R b) → IfSome o P → IfSome o Q → IfSome o R
-IfSome-both None P Q R f h k = tt
-IfSome-both (Some b) P Q R f h k = f b h k

@@ -4,10 +4,10 @@ use Rattle.tp_opid.specs.declared.actor.Actor.{Actor}
 use Rattle.tp_opid.specs.declared.hash.Hash.{Hash}
 use Rattle.tp_opid.specs.declared.op_id.OpId.{OpId}
 use Rattle.tp_opid.specs.Insert.{Insert}
+use Rattle.tp_opid.specs.Tree.{IsTree}
 use Rattle.tp_change.specs.declared.parts.ChangeParts.{ChangeParts}
 use Rattle.tp_change.specs.Elements.{inserts, deletes, next_counter}
 use Rattle.tp_change.specs.Operations.{id_of}
-use Rattle.tp_rga.specs.Tree.{IsTree}
 use Rattle.tp_rga.specs.Order.{IsInOrder}
 use Rattle.tp_text.specs.Applying.{AllUnder}
 use Rattle.tp_textpeer.specs.Log.{first_actor, last_hash}

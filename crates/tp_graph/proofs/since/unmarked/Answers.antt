@@ -1,7 +1,7 @@
 use Rattle.std.proofs.Common.{◌∙◌, ap, refl, Vec, Global, [], ◌∷◌, ◌++◌}
 use Rattle.std.proofs.lemmas.Option.{slice_get_read}
+use Rattle.tp_list.proofs.Members.{slice_get-there}
 use Rattle.tp_change.specs.declared.parts.ChangeParts.{ChangeParts}
-use Rattle.tp_graph.proofs.MarksLaws.{place_in}
 use Rattle.tp_graph.proofs.PickLaws.{skip-on, skip-by}
 use Rattle.tp_graph.proofs.since.unmarked.Goals.{then-not-marks-i+in_ok-copy_of+in_ok-push, else-not-marks-i}
 use Rattle.tp_graph.proofs.since.unmarked.Goals as goal
@@ -16,7 +16,7 @@ loop-i-preserved c =
           (ap (λ (v : Vec ChangeParts Global). v.items) w.found-is ∙ w.in_ok-push.ensures.items ∙ ap (λ x. c.loop-i.found.items ++ x ∷ []) w.in_ok-copy_of.ensures.copied)
           c.loop-i.invariant
       | else-not-marks-i w ↦
-          let p = place_in c.args.applied.now c.loop-i.i c.loop-i-test.true in
+          let p = slice_get-there c.args.applied.now c.loop-i.i c.loop-i-test.true in
           skip-by c.args.marks.now c.args.applied.now c.loop-i.i p.0 c.loop-i.found.items c.if-not-marks-i.found.items c.requires p.1
           w.if-not-marks-i.false (ap (λ (v : Vec ChangeParts Global). v.items) w.found-is) c.loop-i.invariant
     ]

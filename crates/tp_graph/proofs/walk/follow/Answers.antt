@@ -1,8 +1,9 @@
 use Rattle.std.proofs.Common.{◌∙◌, ap, refl}
 use Rattle.std.proofs.lemmas.Option.{slice_get_read}
+use Rattle.tp_list.proofs.Members.{slice_get-there}
 use Rattle.tp_graph.specs.Marks.{marked_more}
 use Rattle.tp_graph.proofs.SoundLaws.{deps_first}
-use Rattle.tp_graph.proofs.MarksLaws.{followed, passed_by, place_in}
+use Rattle.tp_graph.proofs.MarksLaws.{followed, passed_by}
 use Rattle.tp_graph.proofs.walk.follow.Goals as goal
 
 pub returns-then-marks-place : goal.returns-then-marks-place
@@ -15,5 +16,5 @@ returns-then-marks-place c =
 
 pub returns-else-marks-place : goal.returns-else-marks-place
 returns-else-marks-place c =
-    let w = place_in c.args.applied.now c.args.place c.requires.place in
+    let w = slice_get-there c.args.applied.now c.args.place c.requires.place in
     passed_by c.args.applied.now c.args.hashes.now c.args.place w.0 c.args.marks.now w.1 c.requires.walked c.if-marks-place.false

@@ -1,5 +1,5 @@
 use Rattle.std.proofs.Common.{◌++◌, ◌+◌, length}
-use Rattle.tp_graph.proofs.NamedLaws.{In-left}
+use Rattle.tp_list.proofs.Members.{In-left}
 use Rattle.tp_receive.specs.declared.error.ReceiveError.{ReceiveError}
 use Rattle.tp_receive.specs.declared.error.ReceiveError.TheVariants.{OutOfMemory}
 use Rattle.tp_receive.specs.Replies.{Fails}

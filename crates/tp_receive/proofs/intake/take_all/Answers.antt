@@ -3,7 +3,7 @@ use Rattle.tp_receive.specs.declared.error.ReceiveError.{ReceiveError}
 use Rattle.tp_receive.specs.Going.{Goes, Stops}
 use Rattle.tp_change.specs.declared.parts.ChangeParts.{ChangeParts}
 use Rattle.tp_receive.proofs.GoesLaws.{Goes-then, Stops-then, Stops-members}
-use Rattle.tp_graph.proofs.NamedLaws.{In-left}
+use Rattle.tp_list.proofs.Members.{In-left, In-last}
 use Rattle.tp_receive.proofs.SettleLaws.{IfErr-residual}
 use Rattle.tp_receive.proofs.TakeLaws.{AllIn-grown, AllIn-fresh, cover_grown, AllIn-yielded, drops_on}
 use Rattle.tp_graph.specs.GraphState.{most_waiting}
@@ -13,7 +13,6 @@ use Rattle.tp_list.specs.Members.{In}
 use Rattle.tp_opid.specs.declared.hash.Hash.{Hash}
 use Rattle.tp_graph.specs.declared.error.GraphError.{GraphError}
 use Rattle.tp_graph.specs.declared.error.GraphError.TheVariants.{MissingDeps}
-use Rattle.tp_graph.proofs.NamedLaws.{In-last}
 use Rattle.tp_receive.proofs.GoesLaws.{HashesApart-less}
 use Rattle.tp_receive.proofs.RoomLaws.{turn_place, room_on, space_for, space_in, count_more, hashes-length}
 use Rattle.tp_receive.proofs.TurnLaws.{Turn-first, Turn-more, Turn-last, turn_apart}

@@ -3,7 +3,7 @@ use Rattle.tp_receive.specs.declared.error.ReceiveError.{ReceiveError}
 use Rattle.tp_receive.specs.declared.error.ReceiveError.TheVariants as error
 use Rattle.tp_receive.specs.Going.{Stops}
 use Rattle.tp_list.specs.Members.{In}
-use Rattle.tp_graph.proofs.NamedLaws.{In-left}
+use Rattle.tp_list.proofs.Members.{In-left}
 use Rattle.tp_receive.proofs.GoesLaws.{Goes-then, Stops-then}
 use Rattle.tp_receive.proofs.SettleLaws.{IfErr-residual, drops_refused}
 use Rattle.tp_receive.proofs.TakeLaws.{OnOk-map, IfErr-map, IfErr-stays, take_entered, take_refused, take_stopped, take_held, wait_held, wait_stopped, spare_held, count_held, count_on_one, stays_held, drops_one}

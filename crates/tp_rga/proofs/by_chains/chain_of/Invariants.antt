@@ -1,5 +1,5 @@
 use Rattle.tp_opid.specs.declared.op_id.Place.TheVariants.{After}
-use Rattle.tp_rga.specs.Tree.{HasPlace}
+use Rattle.tp_opid.specs.Tree.{HasPlace}
 use Rattle.tp_rga.specs.Order.{Leads}
 use Rattle.tp_rga.proofs.ByChains.{rank}
 use Rattle.tp_rga.proofs.by_chains.chain_of.Given as goal

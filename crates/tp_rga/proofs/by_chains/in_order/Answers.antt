@@ -1,8 +1,8 @@
 use Rattle.tp_opid.specs.Insert.{Insert}
-use Rattle.tp_rga.proofs.Sets.{IsThere-member}
+use Rattle.tp_opid.proofs.Trees.{IsThere-member}
 use Rattle.tp_rga.proofs.ByChains.{read_as, read_member, part_members, put_sorted, same_more_there, same_more_put, new_of, there_of}
-use Rattle.tp_rga.proofs.by_chains.in_order.Goals as goal
 use Rattle.tp_rga.proofs.by_chains.in_order.Goals.{then-not-contains+in_ok-at+in_ok-insert, else-not-contains}
+use Rattle.tp_rga.proofs.by_chains.in_order.Goals as goal
 
 pub place_in-requires-clause-there : goal.place_in-requires-clause-there
 place_in-requires-clause-there c =

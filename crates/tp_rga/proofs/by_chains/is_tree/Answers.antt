@@ -1,7 +1,7 @@
 use Rattle.std.proofs.Common.{◌≡◌, true, refl, sym, ◌∙◌}
 use Rattle.std.proofs.lemmas.List.Elements.{AllWithin-more, at_read}
 use Rattle.tp_opid.specs.Insert.{Insert}
-use Rattle.tp_rga.specs.Tree.{IsPlaceBelow}
+use Rattle.tp_opid.specs.Tree.{IsPlaceBelow}
 use Rattle.tp_rga.specs.Same.{is_only}
 use Rattle.tp_rga.proofs.ByChains.{IsTree-from, not_tree-place, not_tree-only, read_as, read_member}
 use Rattle.tp_rga.proofs.by_chains.is_tree.Goals as goal

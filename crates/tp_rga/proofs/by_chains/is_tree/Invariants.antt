@@ -1,6 +1,6 @@
 use Rattle.std.proofs.Common.{◌≡◌, true}
 use Rattle.std.specs.List.{AllWithin}
-use Rattle.tp_rga.specs.Tree.{IsPlaceBelow}
+use Rattle.tp_opid.specs.Tree.{IsPlaceBelow}
 use Rattle.tp_rga.specs.Same.{is_only}
 use Rattle.tp_rga.proofs.by_chains.is_tree.Given as goal
 

@@ -1,7 +1,7 @@
 use Rattle.std.proofs.lemmas.List.Elements.{AllWithin-more, at_read}
 use Rattle.tp_opid.specs.Insert.{Insert}
+use Rattle.tp_opid.proofs.Trees.{IsThere-member}
 use Rattle.tp_rga.specs.Order.{Before}
-use Rattle.tp_rga.proofs.Sets.{IsThere-member}
 use Rattle.tp_rga.proofs.ByChains.{read_as, read_member}
 use Rattle.tp_rga.proofs.by_chains.place_in.Goals as goal
 

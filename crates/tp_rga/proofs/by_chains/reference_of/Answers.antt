@@ -1,6 +1,6 @@
 use Rattle.std.proofs.Common.{sym, ◌∙◌, subst}
 use Rattle.tp_opid.specs.Insert.{Insert}
-use Rattle.tp_rga.specs.Tree.{Inserts}
+use Rattle.tp_opid.specs.Tree.{Inserts}
 use Rattle.tp_rga.proofs.Lookups.{IsFirst-position, IsThere-not_new}
 use Rattle.tp_rga.proofs.ByChains.{Inserts-found}
 use Rattle.tp_rga.proofs.by_chains.reference_of.Goals as goal

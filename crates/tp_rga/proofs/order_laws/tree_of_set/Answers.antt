@@ -1,4 +1,4 @@
-use Rattle.tp_rga.proofs.Sets.{IsTree-same}
+use Rattle.tp_opid.proofs.Trees.{IsTree-same}
 use Rattle.tp_rga.proofs.order_laws.tree_of_set.Goals as goal
 
 pub returns : goal.returns

@@ -1,6 +1,7 @@
 use Rattle.std.proofs.Common.{subst}
-use Rattle.tp_rga.specs.Tree.{HasPlace}
-use Rattle.tp_rga.proofs.Lookups.{IsThere-not_new, All-member, EndsAt-found}
+use Rattle.tp_list.proofs.Members.{All-member}
+use Rattle.tp_opid.specs.Tree.{HasPlace}
+use Rattle.tp_rga.proofs.Lookups.{IsThere-not_new, EndsAt-found}
 use Rattle.tp_rga.proofs.placed.up_to.Goals as goal
 
 pub unreachable-requires : goal.unreachable-requires

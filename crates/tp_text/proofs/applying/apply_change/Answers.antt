@@ -1,8 +1,9 @@
 use Rattle.std.proofs.Common.{◌≡◌, ◌+◌, ◌∙◌, ◌++◌, [], ◌∷◌, length, ap, sym, subst, arith, append_assoc}
 use Rattle.std.proofs.lemmas.List.{length-append}
 use Rattle.tp_change.specs.Elements.{deletes_in}
+use Rattle.tp_change.proofs.ElementLaws.{deletes_in-append}
 use Rattle.tp_text.specs.Applying.{CanApply}
-use Rattle.tp_text.proofs.Applied.{CanApply-rest, Extends-join, deletes_in-append}
+use Rattle.tp_text.proofs.Applied.{CanApply-rest, Extends-join}
 use Rattle.tp_text.proofs.applying.apply_change.Goals as goal
 
 pub loop-op-preserved : goal.loop-op-preserved

@@ -2,9 +2,10 @@ use Rattle.std.proofs.Common.{◌≡◌, ◌+◌, ◌∙◌, ◌++◌, [], ◌�
 use Rattle.std.proofs.lemmas.List.{length-append}
 use Rattle.tp_change.specs.Operations.{ops_of, id_of}
 use Rattle.tp_change.specs.Elements.{deletes_in, refers}
+use Rattle.tp_change.proofs.ElementLaws.{deletes_in-append}
+use Rattle.tp_change.proofs.Numbered.{Numbered-ops_of, Numbered}
 use Rattle.tp_text.specs.Applying.{CanApply, Extends, AllUnder}
-use Rattle.tp_text.proofs.Applied.{Extends-join, Extends-none, deletes_in-append}
-use Rattle.tp_text.proofs.Numbered.{Numbered, Numbered-ops_of}
+use Rattle.tp_text.proofs.Applied.{Extends-join, Extends-none}
 use Rattle.tp_text.proofs.Checked.{CanApply-next, Numbered-rest, AllUnder-next, refers-next}
 use Rattle.tp_text.proofs.applying.apply_checked.Goals as goal
 

@@ -1,8 +1,8 @@
 use Rattle.std.proofs.Common.{◌≡◌, ◌+◌, ◌++◌, length}
 use Rattle.tp_change.specs.Operations.{ops_of, id_of}
 use Rattle.tp_change.specs.Elements.{deletes_in, refers}
+use Rattle.tp_change.proofs.Numbered.{Numbered}
 use Rattle.tp_text.specs.Applying.{Extends, AllUnder}
-use Rattle.tp_text.proofs.Numbered.{Numbered}
 use Rattle.tp_text.proofs.applying.apply_checked.Given as goal
 
 -- the references so far were there, and the operations so far are in

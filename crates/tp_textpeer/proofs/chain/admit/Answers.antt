@@ -1,7 +1,8 @@
 use Rattle.std.proofs.Common.{◌≡◌, ◌+◌, true, false, cond, length, Some, None, inr, sym, ap, ◌∙◌}
+use Rattle.tp_list.proofs.Tests.{both_left}
 use Rattle.tp_change.specs.Elements.{next_counter}
 use Rattle.tp_textpeer.specs.declared.error.ShowFault.TheVariants.{BadReference}
-use Rattle.tp_textpeer.proofs.Links.{not_equal, are_equal, link_not_chain, link_bad_seq, link_bad_start, link_refers, Remembers-push, AllBelowCounter-push, chain_test, by_chain, refers_test}
+use Rattle.tp_textpeer.proofs.Links.{not_equal, are_equal, link_not_chain, link_bad_seq, link_bad_start, link_refers, Remembers-push, AllBelowCounter-push, chain_test, refers_test}
 use Rattle.tp_textpeer.proofs.chain.admit.Goals as goal
 
 pub returns-then-not-is_chained-clause-err : goal.returns-then-not-is_chained-clause-err
@@ -47,5 +48,5 @@ returns-clause-ok g c C count kept =
           (are_equal change.seq (length C + 1) (sym c.seq.ensures ∙ c.if-seq-count.false ∙ ap (λ n. n + 1) (sym count)))
           (are_equal change.start (next_counter C) (start ∙ kept.next))
           ∙ ap (λ b. cond b None (Some BadReference)) (refers_test C change _ _ _ _ _ c.in_ok-apply_checked.field-0 kept c.in_ok-apply_checked.ensures.refers ∙ c.if-not-branch.false),
-      rw (c.next_start-chain.ensures, c.actor.ensures, c.hash.ensures.hash) (Remembers-push C change _ _ _ _ _ _ _ c.hash.ensures.limits.start_from (by_chain _ _ chained) start kept grown removed),
+      rw (c.next_start-chain.ensures, c.actor.ensures, c.hash.ensures.hash) (Remembers-push C change _ _ _ _ _ _ _ c.hash.ensures.limits.start_from (both_left _ _ chained) start kept grown removed),
     )

@@ -1,6 +1,6 @@
 use Rattle.std.proofs.Common.{◌≡◌, ◌≤◌, None, subst, sym, ap, ◌∙◌}
 use Rattle.tp_change.specs.Operations.{op_count}
-use Rattle.tp_text.proofs.Numbered.{length-ops_of}
+use Rattle.tp_change.proofs.OpsLaws.{length-ops_of}
 use Rattle.tp_graph.specs.Fit.{cause}
 use Rattle.tp_document.specs.DocState.{DocState, Holds}
 use Rattle.tp_document.proofs.SoundText.{Holds-applies, Holds-push}

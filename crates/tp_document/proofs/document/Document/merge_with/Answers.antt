@@ -4,7 +4,7 @@ use Rattle.tp_opid.specs.Same.{same_doc}
 use Rattle.tp_opid.proofs.Orders.{same_doc-same, same_doc-apart}
 use Rattle.tp_change.specs.declared.parts.ChangeParts.{ChangeParts}
 use Rattle.tp_graph.specs.Sound.{Sound}
-use Rattle.tp_graph.proofs.NamedLaws.{In-left}
+use Rattle.tp_list.proofs.Members.{In-left}
 use Rattle.tp_receive.specs.Loose.{is_full}
 use Rattle.tp_receive.specs.declared.error.ReceiveError.TheVariants as receive
 use Rattle.tp_receive.proofs.GoesLaws.{Stops-still}

@@ -1,6 +1,6 @@
 use Rattle.std.proofs.Common.{sym, ◌∙◌, subst}
+use Rattle.tp_opid.specs.Tree.{IsThere}
 use Rattle.tp_rga.specs.State.{State}
-use Rattle.tp_rga.specs.Tree.{IsThere}
 use Rattle.tp_rga.proofs.Lookups.{IsFirst-position, IsThere-not_new}
 use Rattle.tp_rga.proofs.Keeping.{IsKept-delete, IsKept-delete_again}
 use Rattle.tp_rga.proofs.plain.PlainSequenceSequence.delete.Goals as goal

@@ -1,6 +1,6 @@
 use Rattle.std.proofs.Common.{arith, sym, subst}
+use Rattle.tp_opid.specs.Tree.{IsNew}
 use Rattle.tp_rga.specs.State.{State}
-use Rattle.tp_rga.specs.Tree.{IsNew}
 use Rattle.tp_rga.proofs.Keeping.{IsKept-insert, IsKept-left}
 use Rattle.tp_rga.proofs.plain.PlainSequenceSequence.insert.Goals as goal
 

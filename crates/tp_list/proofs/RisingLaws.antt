@@ -1,6 +1,6 @@
 -- Laws of rising lists under a total and exact order.
-use Rattle.std.proofs.Common.{◌≡◌, ◌⊎◌, inl, inr, List, [], ◌∷◌, refl, sym, ap, ◌∙◌, subst}
-use Rattle.std.specs.Ordering.{ordering_reverse}
+use Rattle.std.proofs.Common.{◌≡◌, ◌⊎◌, inl, inr, List, [], ◌∷◌, refl, sym, ap, ◌∙◌, subst, true}
+use Rattle.std.specs.Ordering.{ordering_reverse, is_lt}
 use Rattle.std.specs.declared.cmp.Ordering.{Ordering}
 use Rattle.std.specs.declared.cmp.Ordering.TheVariants.{Less, Equal, Greater}
 use Rattle.std.specs.Cmp.{IsTotalOrder}
@@ -111,3 +111,9 @@ one_list cmp total (x ∷ xs) (y ∷ ys) r s f g =
     (λ z i. same_rest cmp total x y z xs ys r.0 e i (f z (inr i)))
     (λ z i. same_rest cmp total y x z ys xs s.0 (sym e) i (g z (inr i))) in
     ap (λ w. w ∷ xs) e ∙ ap (λ l. y ∷ l) rest
+
+-- a test for Less, read
+pub less_of : (o : Ordering) → is_lt o ≡ true → o ≡ Less
+less_of Less h = refl
+less_of Equal h = cc
+less_of Greater h = cc

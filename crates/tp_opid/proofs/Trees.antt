@@ -1,49 +1,13 @@
--- Members of lists, and trees as sets of inserts.
-use Rattle.std.proofs.Common.{◌≡◌, ◌⊎◌, inl, inr, List, [], ◌∷◌, ◌++◌, refl, sym, ap, ◌∙◌, subst}
+-- Trees as sets of inserts: the words on them depend on members alone.
+use Rattle.std.proofs.Common.{◌≡◌, inl, inr, List, [], ◌∷◌, ◌++◌, sym, ap, ◌∙◌, subst}
 use Rattle.tp_list.specs.Members.{In, AllIn, SameMembers}
+use Rattle.tp_list.proofs.Members.{In-left, In-push}
 use Rattle.tp_opid.specs.declared.op_id.OpId.{OpId}
 use Rattle.tp_opid.specs.declared.op_id.Place.{Place}
 use Rattle.tp_opid.specs.declared.op_id.Place.TheVariants.{Start, After}
 use Rattle.tp_opid.specs.Insert.{Insert}
+use Rattle.tp_opid.specs.Tree.{IsThere, IsPlaceBelow, IsTree, CanInsert}
 use Rattle.tp_opid.proofs.Orders.{id_eq-apart}
-use Rattle.tp_rga.specs.Tree.{IsThere, IsPlaceBelow, IsTree, CanInsert}
-
--- a member of the front
-pub In-left : {X : Type 0} (x : X) (xs ys : List X) → In x xs → In x (xs ++ ys)
-In-left x [] ys h = absurd h
-In-left x (z ∷ xs) ys (inl h) = inl h
-In-left x (z ∷ xs) ys (inr h) = inr (In-left x xs ys h)
-
--- a member of the rest
-pub In-right : {X : Type 0} (x : X) (xs ys : List X) → In x ys → In x (xs ++ ys)
-In-right x [] ys h = h
-In-right x (z ∷ xs) ys h = inr (In-right x xs ys h)
-
--- a member of two lists joined is one of either
-pub In-append : {X : Type 0} (x : X) (xs ys : List X) → In x (xs ++ ys) → In x xs ⊎ In x ys
-In-append x [] ys h = inr h
-In-append x (z ∷ xs) ys (inl h) = inl (inl h)
-In-append x (z ∷ xs) ys (inr h) =
-    elim (In-append x xs ys h) as (λ _. In x (z ∷ xs) ⊎ In x ys) [ inl k ↦ inl (inr k) | inr k ↦ inr k ]
-
--- the list with one more at its end
-pub In-push : {X : Type 0} (x : X) (xs : List X) (y : X) → In x (xs ++ y ∷ []) → In x xs ⊎ (x ≡ y)
-In-push x xs y h =
-    elim (In-append x xs (y ∷ []) h) as (λ _. In x xs ⊎ (x ≡ y)) [
-      | inl k ↦ inl k
-      | inr (inl k) ↦ inr k
-      | inr (inr k) ↦ absurd k
-    ]
-
--- the last is a member
-pub In-last : {X : Type 0} (xs : List X) (y : X) → In y (xs ++ y ∷ [])
-In-last xs y = In-right y xs (y ∷ []) (inl refl)
-
--- the same set the other way round
-pub SameMembers-sym : {X : Type 0} (xs ys : List X) → SameMembers xs ys → SameMembers ys xs
-SameMembers-sym xs ys same = record { there = same.back; back = same.there }
-
--- ---- the words on trees depend on members alone
 
 -- what is there is there in a larger set
 pub IsThere-grow : (S T : List Insert) → AllIn S T → (x : OpId) → IsThere S x → IsThere T x
