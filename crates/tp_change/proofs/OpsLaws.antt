@@ -78,8 +78,6 @@ get_or-ids_from a n (suc k) (suc j) d lt =
     let e : n + suc j ≡ (n + 1) + j = omega arith in
     rw e (get_or-ids_from a (n + 1) k j d (omega arith))
 
--- ---- by membership
-
 -- ---- in order
 
 -- of one actor's identifiers the one with the lower counter stands below

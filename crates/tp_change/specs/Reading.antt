@@ -1,6 +1,6 @@
 -- Reading the bytes of a change from left to right, field by field: the first fault, and at one field the one with
 -- the lowest number.
-use Rattle.std.specs.Prelude.{◌≡◌, ℕ, zero, suc, ◌-◌, ◌^◌, min, List, length, Bool, true, Option, Some, None, Result, Ok, Err, nat_lt, nat_le, ◌==◌, if◌then◌else◌}
+use Rattle.std.specs.Prelude.{ℕ, zero, suc, ◌-◌, ◌^◌, min, List, length, Bool, true, Option, Some, None, Result, Ok, Err, nat_lt, nat_le, ◌==◌, if◌then◌else◌}
 use Rattle.std.specs.Int.{w16, w32, w64}
 use Rattle.std.specs.Ordering.{is_lt}
 use Rattle.tp_codec.specs.Front.{byte_at, bytes_at, number_at}

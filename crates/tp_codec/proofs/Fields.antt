@@ -297,33 +297,62 @@ repeat_none {S} {X} {E} short field step spell Fits s = record {
   stays = λ bytes more e fits r apart. absurd cc;
 }
 
+-- a value and then more, as bytes
+spelled_on : {X : Type 0} (spell : X → List ℕ) (x : X) (xs : List X) (bytes mid rest : List ℕ) → bytes ≡ spell x ++ mid → mid ≡ flat_map spell xs ++ rest → bytes ≡ flat_map spell (x ∷ xs) ++ rest
+spelled_on spell x xs bytes mid rest e f =
+    e ∙ ap (λ (r : List ℕ). spell x ++ r) f ∙ sym (append_assoc (spell x) (flat_map spell xs) rest) ∙ ap (λ (r : List ℕ). r ++ rest) (sym (flat_map-cons spell x xs))
+
+-- the values after the first, and with it
+rest_taken : {S X E : Type 0} (short : E) (field : S → Reads E X) (step : S → X → S) (spell : X → List ℕ) (Fits : S → X → Type 0) (n : ℕ) (s : S) (x : X) (bytes mid : List ℕ)
+    → bytes ≡ spell x ++ mid → Fits s x → AreBytes mid → IsField short (repeat_at field step n (step s x)) (flat_map spell) (λ xs. (length xs ≡ n) × EachFits Fits step (step s x) xs)
+    → (ys : List X) (rest : List ℕ) → (p : List X × List ℕ) × (repeat_at field step n (step s x) mid ≡ Ok p) × (give {E = E} (x ∷ p.0) p.1 ≡ Ok (ys, rest))
+    → (bytes ≡ flat_map spell ys ++ rest) × ((length ys ≡ suc n) × EachFits Fits step s ys)
+unfolding give
+rest_taken {S} {X} {E} short field step spell Fits n s x bytes mid front fit fits g ys rest ((xs, back), e, f) =
+    let u = g.takes mid xs back fits e in
+    subst (λ (y : List X × List ℕ). (bytes ≡ flat_map spell y.0 ++ y.1) × ((length y.0 ≡ suc n) × EachFits Fits step s y.0)) (pair_is {E = E} (x ∷ xs, back) (ys, rest) f)
+    (spelled_on spell x xs bytes mid back front u.0, (ap suc u.1.0, (fit, u.1.1)))
+
+one_taken : {S X E : Type 0} (short : E) (field : S → Reads E X) (step : S → X → S) (spell : X → List ℕ) (Fits : S → X → Type 0) (n : ℕ) (s : S)
+    → IsField short (field s) spell (Fits s)
+    → ((x : X) → IsField short (repeat_at field step n (step s x)) (flat_map spell) (λ xs. (length xs ≡ n) × EachFits Fits step (step s x) xs))
+    → (bytes : List ℕ) (ys : List X) (rest : List ℕ) → AreBytes bytes
+    → (p : X × List ℕ) × (field s bytes ≡ Ok p) × (and_then (repeat_at field step n (step s p.0)) (λ xs. give (p.0 ∷ xs)) p.1 ≡ Ok (ys, rest))
+    → (bytes ≡ flat_map spell ys ++ rest) × ((length ys ≡ suc n) × EachFits Fits step s ys)
+unfolding and_then
+one_taken short field step spell Fits n s f g bytes ys rest fits ((x, mid), e, r) =
+    let t = f.takes bytes x mid fits e in
+    rest_taken short field step spell Fits n s x bytes mid t.0 t.1 (AreBytes-rest (spell x) bytes mid t.0 fits) (g x) ys rest (next_ok (repeat_at field step n (step s x) mid) (λ xs. give (x ∷ xs)) (ys, rest) r)
+
+-- a fault behind the first value
+one_stays : {S X E : Type 0} (short : E) (field : S → Reads E X) (step : S → X → S) (spell : X → List ℕ) (Fits : S → X → Type 0) (n : ℕ) (s : S)
+    → IsField short (field s) spell (Fits s)
+    → ((x : X) → IsField short (repeat_at field step n (step s x)) (flat_map spell) (λ xs. (length xs ≡ n) × EachFits Fits step (step s x) xs))
+    → (bytes more : List ℕ) (e : E) → AreBytes bytes → (e ≡ short → ⊥)
+    → (p : X × List ℕ) × (field s bytes ≡ Ok p) × (and_then (repeat_at field step n (step s p.0)) (λ xs. give (p.0 ∷ xs)) p.1 ≡ Err e)
+    → repeat_at field step (suc n) s (bytes ++ more) ≡ Err e
+unfolding repeat_at and_then give
+one_stays {S} {X} {E} short field step spell Fits n s f g bytes more e fits apart ((x, mid), read, r) =
+    let t = f.takes bytes x mid fits read in
+    let after : AreBytes mid = AreBytes-rest (spell x) bytes mid t.0 fits in
+    next_of_ok (field s (bytes ++ more)) (λ x. and_then (repeat_at field step n (step s x)) (λ xs. give (x ∷ xs))) x (mid ++ more) (Err e) (reads_more short (field s) spell (Fits s) f bytes more x mid fits read)
+    (elim (next_err (repeat_at field step n (step s x) mid) (λ xs. give (x ∷ xs)) e r) [
+      | inl bad ↦ next_of_err (repeat_at field step n (step s x) (mid ++ more)) (λ xs. give (x ∷ xs)) e ((g x).stays mid more e after bad apart)
+      | inr b ↦ absurd (let no : (let r : Result (List X × List ℕ) E = Ok (x ∷ b.0.0, b.0.1) in r) ≡ Err e = b.2 in cc)
+    ])
+
 repeat_one : {S X E : Type 0} (short : E) (field : S → Reads E X) (step : S → X → S) (spell : X → List ℕ) (Fits : S → X → Type 0) (n : ℕ) (s : S)
     → IsField short (field s) spell (Fits s)
     → ((x : X) → IsField short (repeat_at field step n (step s x)) (flat_map spell) (λ xs. (length xs ≡ n) × EachFits Fits step (step s x) xs))
     → IsField short (repeat_at field step (suc n) s) (flat_map spell) (λ xs. (length xs ≡ suc n) × EachFits Fits step s xs)
-unfolding repeat_at and_then give
-repeat_one {S} {X} {E} short field step spell Fits n s f g = record {
-  takes = λ bytes ys rest fits e.
-      let a = next_ok (field s bytes) (λ x. and_then (repeat_at field step n (step s x)) (λ xs. give (x ∷ xs))) (ys, rest) e in
-      let x = a.0.0 in
-      let t = f.takes bytes x a.0.1 fits a.1 in
-      let b = next_ok (repeat_at field step n (step s x) a.0.1) (λ xs. give (x ∷ xs)) (ys, rest) a.2 in
-      let u = (g x).takes a.0.1 b.0.0 b.0.1 (AreBytes-rest (spell x) bytes a.0.1 t.0 fits) b.1 in
-      let parts : bytes ≡ flat_map spell (x ∷ b.0.0) ++ b.0.1 = t.0 ∙ ap (λ (r : List ℕ). spell x ++ r) u.0 ∙ sym (append_assoc (spell x) (flat_map spell b.0.0) b.0.1) ∙ ap (λ (r : List ℕ). r ++ b.0.1) (sym (flat_map-cons spell x b.0.0)) in
-      subst (λ (y : List X × List ℕ). (bytes ≡ flat_map spell y.0 ++ y.1) × ((length y.0 ≡ suc n) × EachFits Fits step s y.0)) (pair_is {E = E} (x ∷ b.0.0, b.0.1) (ys, rest) b.2) (parts, (ap suc u.1.0, (t.1, u.1.1)));
+unfolding repeat_at and_then
+repeat_one short field step spell Fits n s f g = record {
+  takes = λ bytes ys rest fits e. one_taken short field step spell Fits n s f g bytes ys rest fits (next_ok (field s bytes) (λ x. and_then (repeat_at field step n (step s x)) (λ xs. give (x ∷ xs))) (ys, rest) e);
   again = λ ys rest fit. one_again short field step spell Fits n s f g ys rest fit.0 fit.1;
   stays = λ bytes more e fits r apart.
       elim (next_err (field s bytes) (λ x. and_then (repeat_at field step n (step s x)) (λ xs. give (x ∷ xs))) e r) [
         | inl bad ↦ next_of_err (field s (bytes ++ more)) (λ x. and_then (repeat_at field step n (step s x)) (λ xs. give (x ∷ xs))) e (f.stays bytes more e fits bad apart)
-        | inr a ↦
-            let x = a.0.0 in
-            let t = f.takes bytes x a.0.1 fits a.1 in
-            let after : AreBytes a.0.1 = AreBytes-rest (spell x) bytes a.0.1 t.0 fits in
-            next_of_ok (field s (bytes ++ more)) (λ x. and_then (repeat_at field step n (step s x)) (λ xs. give (x ∷ xs))) x (a.0.1 ++ more) (Err e) (reads_more short (field s) spell (Fits s) f bytes more x a.0.1 fits a.1)
-            (elim (next_err (repeat_at field step n (step s x) a.0.1) (λ xs. give (x ∷ xs)) e a.2) [
-              | inl bad ↦ next_of_err (repeat_at field step n (step s x) (a.0.1 ++ more)) (λ xs. give (x ∷ xs)) e ((g x).stays a.0.1 more e after bad apart)
-              | inr b ↦ absurd (let no : (let r : Result (List X × List ℕ) E = Ok (x ∷ b.0.0, b.0.1) in r) ≡ Err e = b.2 in cc)
-            ])
+        | inr a ↦ one_stays short field step spell Fits n s f g bytes more e fits apart a
       ];
 }
 

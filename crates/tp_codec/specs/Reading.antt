@@ -1,5 +1,5 @@
 -- Reading from left to right, with the first fault that is met. E is the type of the faults.
-use Rattle.std.specs.Prelude.{◌≡◌, ℕ, zero, suc, List, [], ◌∷◌, length, Bool, true, false, Option, Some, None, Result, Ok, Err}
+use Rattle.std.specs.Prelude.{ℕ, zero, suc, List, [], ◌∷◌, Bool, true, false, Option, Some, None, Result, Ok, Err}
 use Rattle.std.specs.Int.{Width}
 use Rattle.std.specs.Str.{chars, is_utf8}
 use Rattle.tp_codec.specs.Front.{bytes_at, number_at}

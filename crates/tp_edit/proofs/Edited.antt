@@ -282,6 +282,36 @@ splice_leaves T L R a n s ready range =
           ∙ ap (λ l. take s.at (chars_of W) ++ (text ++ l)) (sym (drop-map ch (s.at + s.del) W));
     }
 
+-- the next splices, after what the first ones leave
+then_leave : (T L : List Insert) (R : List (OpId × OpId)) (a : Actor) (n : ℕ) (ops : List Op) (m : ℕ) (V : List OpId) (t : List ℕ) (first : Splices T L R a n ops m V t) (ss : List Splice) (k : ℕ)
+    → Splices (T ++ inserts_in ops) first.placed (R ++ deletes_in ops) a m (ops_of_edit a m first.placed (R ++ deletes_in ops) ss) k
+    (ids_after_all a m (ids_of (shown (R ++ deletes_in ops) first.placed)) ss) (all_spliced (chars_of (shown (R ++ deletes_in ops) first.placed)) ss)
+    → Splices T L R a n (ops ++ ops_from a m (records_of a m V ss)) k (ids_after_all a m V ss) (all_spliced t ss)
+then_leave T L R a n ops m V t first ss k rest =
+    let there : ids_of (shown (R ++ deletes_in ops) first.placed) ≡ V = ap ids_of first.leaves.shows ∙ first.ids in
+    let chars : chars_of (shown (R ++ deletes_in ops) first.placed) ≡ t = ap chars_of first.leaves.shows ∙ first.text in
+    let more : Splices (T ++ inserts_in ops) first.placed (R ++ deletes_in ops) a m (ops_from a m (records_of a m V ss)) k (ids_after_all a m V ss) (all_spliced t ss) =
+    subst (λ x. Splices (T ++ inserts_in ops) first.placed (R ++ deletes_in ops) a m (ops_from a m (records_of a m V ss)) k (ids_after_all a m V ss) (all_spliced x ss)) chars
+    (subst (λ U. Splices (T ++ inserts_in ops) first.placed (R ++ deletes_in ops) a m (ops_from a m (records_of a m U ss)) k (ids_after_all a m U ss) (all_spliced (chars_of (shown (R ++ deletes_in ops) first.placed)) ss)) there rest) in
+    record {
+      placed = more.placed;
+      visible = more.visible;
+      leaves = Leaves-join T L R a n ops m first.placed first.visible (ops_from a m (records_of a m V ss)) k more.placed more.visible first.leaves more.leaves;
+      ids = more.ids;
+      text = more.text;
+    }
+
+-- how long the text is after the first splice
+length_after : (T L : List Insert) (R : List (OpId × OpId)) (a : Actor) (n : ℕ) (ops : List Op) (m : ℕ) (s : Splice) (V : List OpId) (first : Splices T L R a n ops m V (spliced (chars_of (shown R L)) s.at s.del (inserted s)))
+    → IsInRange (length (shown R L)) s → length (shown R L) - s.del + length (inserted s) ≡ length (shown (R ++ deletes_in ops) first.placed)
+length_after T L R a n ops m s V first range =
+    let e = length-map (shown R L) (λ (x : Insert). x.ch) in
+    let f = length-map (shown (R ++ deletes_in ops) first.placed) (λ (x : Insert). x.ch) in
+    let within : s.at + s.del ≤ length (chars_of (shown R L)) = omega (arith, range, e) in
+    let g = ap length (ap chars_of first.leaves.shows ∙ first.text) in
+    let h = length-spliced (chars_of (shown R L)) s.at s.del (inserted s) within in
+    omega (arith, e, f, g, h)
+
 -- all splices
 all_leave : (ss : List Splice) (T L : List Insert) (R : List (OpId × OpId)) (a : Actor) (n : ℕ) → IsReady T L R a n → AllInRange (length (shown R L)) ss → Splices T L R a n (ops_of_edit a n L R ss) (n + total_count ss) (ids_after_all a n (ids_of (shown R L)) ss) (all_spliced (chars_of (shown R L)) ss)
 all_leave [] T L R a n ready range =
@@ -305,36 +335,16 @@ all_leave (s ∷ ss) T L R a n ready range =
     let rs = records_of_splice V s in
     let ops = ops_from a n rs in
     let M = first.placed in
-    let D = R ++ deletes_in ops in
     let m = n + count_of s in
-    let shows : shown D M ≡ first.visible = first.leaves.shows in
-    let there : ids_of (shown D M) ≡ ids_after a n V s = ap ids_of shows ∙ first.ids in
-    let chars : chars_of (shown D M) ≡ spliced (chars_of W) s.at s.del (inserted s) = ap chars_of shows ∙ first.text in
-    let within : s.at + s.del ≤ length (chars_of W) = (let e = length-map W (λ (x : Insert). x.ch) in omega (arith, range.0, e)) in
-    let size : length W - s.del + length (inserted s) ≡ length (shown D M) =
-    (let e = length-map W (λ (x : Insert). x.ch) in
-    let f = length-map (shown D M) (λ (x : Insert). x.ch) in
-    let g = ap length chars in
-    let h = length-spliced (chars_of W) s.at s.del (inserted s) within in
-    omega (arith, e, f, g, h)) in
-    let rest = all_leave ss (T ++ inserts_in ops) M D a m first.leaves.ready (subst (λ k. AllInRange k ss) size range.1) in
-    let later = ops_of_edit a m M D ss in
-    let joined = Leaves-join T L R a n ops m M first.visible later (m + total_count ss) rest.placed rest.visible first.leaves rest.leaves in
+    let rest = all_leave ss (T ++ inserts_in ops) M (R ++ deletes_in ops) a m first.leaves.ready (subst (λ k. AllInRange k ss) (length_after T L R a n ops m s (ids_after a n V s) first range.0) range.1) in
     let in_ids : s.at + s.del ≤ length V = (let e = length-map W (λ (x : Insert). x.id) in omega (arith, range.0, e)) in
-    let all : ops ++ later ≡ ops_of_edit a n L R (s ∷ ss) =
-    ap (λ U. ops ++ ops_from a m (records_of a m U ss)) there
-    ∙ ap (λ k. ops ++ ops_from a (n + k) (records_of a m (ids_after a n V s) ss)) (sym (count-splice V s in_ids))
+    let all : ops ++ ops_from a m (records_of a m (ids_after a n V s) ss) ≡ ops_of_edit a n L R (s ∷ ss) =
+    ap (λ k. ops ++ ops_from a (n + k) (records_of a m (ids_after a n V s) ss)) (sym (count-splice V s in_ids))
     ∙ sym (ops_from-append a n rs (records_of a m (ids_after a n V s) ss)) in
     let end : m + total_count ss ≡ n + total_count (s ∷ ss) = omega arith in
-    record {
-      placed = rest.placed;
-      visible = rest.visible;
-      leaves =
-          subst (λ k. Leaves T L R a n (ops_of_edit a n L R (s ∷ ss)) k rest.placed rest.visible) end
-          (subst (λ o. Leaves T L R a n o (m + total_count ss) rest.placed rest.visible) all joined);
-      ids = rest.ids ∙ ap (λ U. ids_after_all a m U ss) there;
-      text = rest.text ∙ ap (λ t. all_spliced t ss) chars;
-    }
+    subst (λ k. Splices T L R a n (ops_of_edit a n L R (s ∷ ss)) k (ids_after_all a n V (s ∷ ss)) (all_spliced (chars_of W) (s ∷ ss))) end
+    (subst (λ o. Splices T L R a n o (m + total_count ss) (ids_after_all a n V (s ∷ ss)) (all_spliced (chars_of W) (s ∷ ss))) all
+    (then_leave T L R a n ops m (ids_after a n V s) (spliced (chars_of W) s.at s.del (inserted s)) first ss (m + total_count ss) rest))
 
 -- ---- the law
 

@@ -64,8 +64,6 @@ count_by-le a (x ∷ xs) ys o more =
 pub count_by-same : (a : Actor) (xs ys : List ChangeParts) → HashesOnce xs → HashesOnce ys → AllIn xs ys → AllIn ys xs → count_by a xs ≡ count_by a ys
 count_by-same a xs ys o q f g = le_both (count_by a xs) (count_by a ys) (count_by-le a xs ys o f) (count_by-le a ys xs q g)
 
--- ---- counters depend on the set alone
-
 -- ---- inserts depend on the set alone
 
 pub is_inserted-same : (C D : List ChangeParts) → AllIn C D → AllIn D C → (id : OpId) → is_inserted (inserts C) id ≡ is_inserted (inserts D) id

@@ -21,8 +21,6 @@ use Rattle.tp_change.specs.Elements.{element, inserts_in, is_inserted, is_place,
 use Rattle.tp_change.proofs.ElementLaws.{inserts_in-append, is_inserted-append, ops_from-append, SameIds, is_place-same, grown, refers-append, grown-ids}
 use Rattle.tp_graph.specs.Covers.{covers, only_inserts, is_there, all_there}
 
--- ---- joined lists
-
 -- ---- which identifiers are inserted
 
 -- an identifier is another by its actor and its counter

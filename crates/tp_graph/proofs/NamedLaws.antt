@@ -9,8 +9,6 @@ use Rattle.tp_change.specs.declared.parts.ChangeParts.{ChangeParts}
 use Rattle.tp_change.specs.ChangeHash.{hash_of}
 use Rattle.tp_graph.specs.Named.{names, has, has_all, is_needed}
 
--- ---- membership
-
 -- ---- hashes that name a change
 
 pub names-In : (H : List Hash) (c : ChangeParts) → names H c ≡ true → In (hash_of c) H

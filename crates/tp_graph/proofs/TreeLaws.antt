@@ -25,8 +25,6 @@ use Rattle.tp_graph.proofs.PastLaws.{past-In}
 use Rattle.tp_graph.proofs.SoundLaws.{sound-induct}
 use Rattle.tp_graph.proofs.CountLaws.{own_past}
 
--- ---- operations with running counters
-
 -- ---- what a change that fits adds
 
 -- an insert of the past stands below the change's counters

@@ -1,7 +1,7 @@
 -- Laws on the characters of a text.
-use Rattle.std.proofs.Common.{◌≡◌, ℕ, List, [], ◌∷◌, length, eqb, ◌<◌, ◌≤◌, true, arith, sym, refl, ap, ◌∙◌}
+use Rattle.std.proofs.Common.{◌≡◌, ℕ, List, [], ◌∷◌, length, eqb, ◌<◌, ◌≤◌, arith, sym, ap}
 use Rattle.std.specs.Prelude.{encode_utf8_all}
-use Rattle.std.specs.Str.{IsUtf8, chars, all_scalars}
+use Rattle.std.specs.Str.{IsUtf8}
 use Rattle.std.proofs.lemmas.Str.{encodes-chars, scalars-chars, length-le-encodes}
 use Rattle.std.proofs.lemmas.Bool.Decides.{nat_tests}
 use Rattle.tp_list.specs.Utf8.{IsTextOf}

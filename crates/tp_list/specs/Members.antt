@@ -1,5 +1,5 @@
 -- Membership, and lists that are the same set.
-use Rattle.std.specs.Prelude.{◌≡◌, ◌⊎◌, ◌↔◌, List, [], ◌∷◌, Bool, true}
+use Rattle.std.specs.Prelude.{◌≡◌, ◌⊎◌, List, [], ◌∷◌}
 
 -- x is a member of the list.
 abbrev pub In : {X : Type 0} → X → List X → Type 0

@@ -2,7 +2,6 @@
 use Rattle.std.specs.Prelude.{◌≡◌, List, [], ◌∷◌}
 use Rattle.std.specs.declared.cmp.Ordering.TheVariants.{Less, Equal, Greater}
 use Rattle.std.specs.declared.cmp.Ordering.{Ordering}
-use Rattle.tp_list.specs.Members.{In}
 
 -- x is below each member of the list.
 abbrev pub IsBelowAll : {X : Type 0} → (X → X → Ordering) → X → List X → Type 0

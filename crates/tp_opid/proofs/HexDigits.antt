@@ -1,6 +1,7 @@
 -- Hexadecimal text by pairs of digits, against what the crate `hex` says of it.
-use Rattle.std.proofs.Common.{◌≡◌, ℕ, ◌+◌, ◌*◌, ◌/◌, ◌%◌, ◌<◌, List, [], ◌∷◌, length, Some, None, Option, Result, Ok, Err, refl, sym, ap, ◌∙◌, arith}
-use Rattle.hex.specs.Hex.{decode_pairs, decode_sized, decode_of, digit_or_error, hex_digit_value, pair_value, value_at, ◌>>=◌}
+use Rattle.std.proofs.Common.{◌≡◌, ℕ, ◌+◌, ◌*◌, ◌/◌, ◌%◌, ◌-◌, ◌<◌, ◌≤◌, Bool, true, false, ◌&&◌, cond, nat_le, List, [], ◌∷◌, length, Some, None, Option, Result, Ok, Err, refl, sym, ap, ◌∙◌, subst, arith}
+use Rattle.std.proofs.lemmas.Bool.{and_parts, leb-true}
+use Rattle.hex.specs.Hex.{decode_pairs, decode_sized, digit_or_error, hex_digit_value, pair_value, value_at, ◌>>=◌}
 use Rattle.hex.specs.declared.error.FromHexError.{FromHexError}
 use Rattle.hex.proofs.HexLemmas.{decode_of-even, decode_sized-ok, decode_sized-twice}
 use Rattle.tp_opid.specs.HexText.{IsHexOf}
@@ -17,9 +18,22 @@ digit_read : (c i : ℕ) (o : Option ℕ) (v : ℕ) → digit_or_error c i o ≡
 digit_read c i (Some w) v h = ap Some (ok_same w v h)
 digit_read c i None v h = cc h
 
+-- a value that one of two cases gives
+either_small : (b : Bool) (w v : ℕ) (o : Option ℕ) → (b ≡ true → w < 16) → (o ≡ Some v → v < 16) → cond b (Some w) o ≡ Some v → v < 16
+either_small true w v o f g h = let e : w ≡ v = cc in subst (λ n. n < 16) e (f refl)
+either_small false w v o f g h = g h
+
+range_small : (low high base c : ℕ) → high < base + 16 → (nat_le low c && nat_le c high) ≡ true → c - base < 16
+range_small low high base c room t = let le : c ≤ high = leb-true c high (and_parts (nat_le low c) (nat_le c high) t).1 in omega arith
+
 -- a digit's value is below 16
 digit_small : (c v : ℕ) → hex_digit_value c ≡ Some v → v < 16
-digit_small c v h = grind (arith)
+digit_small c v h =
+    let decimal : Option ℕ = cond (nat_le 48 c && nat_le c 57) (Some (c - 48)) None in
+    let lower : Option ℕ = cond (nat_le 97 c && nat_le c 102) (Some (c - 87)) decimal in
+    either_small (nat_le 65 c && nat_le c 70) (c - 55) v lower (range_small 65 70 55 c (omega arith))
+    (either_small (nat_le 97 c && nat_le c 102) (c - 87) v decimal (range_small 97 102 87 c (omega arith))
+    (either_small (nat_le 48 c && nat_le c 57) (c - 48) v None (range_small 48 57 48 c (omega arith)) (λ e. cc))) h
 
 high_digit : (b h l : ℕ) → h * 16 + l ≡ b → l < 16 → h ≡ b / 16
 high_digit b h l e small = omega arith

@@ -18,8 +18,6 @@ use Rattle.tp_opid.proofs.Trees.{CanInsert-same}
 use Rattle.tp_rga.specs.Order.{EndsAt, IsInOrder, IsInserted}
 use Rattle.tp_rga.proofs.Places.{StopsAt, put_in_order}
 
--- ---- members by index
-
 -- ---- the first that passes
 
 -- the first that passes, of a list with one more in front

@@ -1,8 +1,9 @@
-use Rattle.std.proofs.Common.{◌≡◌, ℕ, ◌<◌, ◌∙◌, List, Some, None, inl, inr, sym, ap, arith, length}
+use Rattle.std.proofs.Common.{◌≡◌, ℕ, ◌<◌, ◌∙◌, List, Option, Some, None, inl, inr, sym, ap, arith, length}
 use Rattle.std.specs.Prelude.{slice_get}
 use Rattle.std.specs.Option.{option_map}
 use Rattle.std.proofs.lemmas.List.{length-map}
 use Rattle.std.proofs.lemmas.Option.{slice_get-map, slice_get_cases}
+use Rattle.tp_opid.specs.declared.op_id.OpId.{OpId}
 use Rattle.tp_opid.specs.Insert.{Insert}
 use Rattle.tp_rga.specs.Shown.{shown}
 use Rattle.tp_edit.specs.declared.landing.Landing.{Landing}
@@ -11,11 +12,15 @@ use Rattle.tp_edit.proofs.Landed.{IsTraced-all, stepped, traced_before, traced_n
 use Rattle.tp_edit.proofs.landing.id_through.Goals as goal
 
 -- every place of the text has an element
-no_place : (L : List Insert) (k : ℕ) → k < length L → None ≡ option_map (λ (e : Insert). e.id) (slice_get L k) → ⊥
-no_place L k lt h = elim (slice_get_cases L k).1 [
-  | inl found ↦ let e : None ≡ option_map (λ (e : Insert). e.id) (Some found.0) = h ∙ ap (option_map (λ (e : Insert). e.id)) found.2 in cc
+no_place : (L : List Insert) (k : ℕ) (r : Option OpId) → k < length L → r ≡ None → r ≡ option_map (λ (e : Insert). e.id) (slice_get L k) → ⊥
+no_place L k r lt none h = elim (slice_get_cases L k).1 [
+  | inl found ↦ let e : None ≡ option_map (λ (e : Insert). e.id) (Some found.0) = sym none ∙ h ∙ ap (option_map (λ (e : Insert). e.id)) found.2 in cc
   | inr past ↦ absurd (omega arith)
 ]
+
+-- the identifier at the place that a landing was traced back to
+found_at : (L : List Insert) (k : ℕ) (whole r : Option OpId) (x : OpId) → whole ≡ slice_get (ids_of L) k → r ≡ option_map (λ (e : Insert). e.id) (slice_get L k) → r ≡ Some x → whole ≡ Some x
+found_at L k whole r x e f g = e ∙ slice_get-map (λ (e : Insert). e.id) L k ∙ sym f ∙ g
 
 pub loop-left-init : goal.loop-left-init
 loop-left-init g c =
@@ -69,10 +74,10 @@ unreachable-requires g c =
     let L = shown (g.S.Sequence.removals c.args.sequence.now) (g.S.Sequence.placed c.args.sequence.now) in
     let end = traced_end c.args.actor (ids_of L) c.args.landings.now c.args.place c.loop-left.left c.loop-left.place c.loop-left-test.false c.loop-left.invariant.traced in
     let size = length-map L (λ (e : Insert). e.id) in
-    no_place L c.loop-left.place (omega (arith, end.1, size)) (sym c.in-None.is ∙ c.id_at.ensures)
+    no_place L c.loop-left.place c.id_at.result (omega (arith, end.1, size)) c.in-None.is c.id_at.ensures
 
 pub returns : goal.returns
 returns g c =
     let L = shown (g.S.Sequence.removals c.args.sequence.now) (g.S.Sequence.placed c.args.sequence.now) in
     let end = traced_end c.args.actor (ids_of L) c.args.landings.now c.args.place c.loop-left.left c.loop-left.place c.loop-left-test.false c.loop-left.invariant.traced in
-    end.0 ∙ slice_get-map (λ (e : Insert). e.id) L c.loop-left.place ∙ sym c.id_at.ensures ∙ c.in-Some.is
+    found_at L c.loop-left.place _ c.id_at.result _ end.0 c.id_at.ensures c.in-Some.is

@@ -1,4 +1,4 @@
-use Rattle.std.proofs.Common.{◌≡◌, sym, ◌∙◌}
+use Rattle.std.proofs.Common.{sym, ◌∙◌}
 use Rattle.tp_opid.proofs.HexDigits.{read_is, is_read}
 use Rattle.tp_opid.proofs.hex_text.read_hex_16.Goals as goal
 

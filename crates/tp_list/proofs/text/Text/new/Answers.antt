@@ -1,5 +1,3 @@
-use Rattle.std.proofs.Common.{sym}
-use Rattle.tp_list.specs.Utf8.{IsTextOf}
 use Rattle.tp_list.proofs.Utf8Laws.{IsTextOf_utf8}
 use Rattle.tp_list.proofs.text.Text.new.Goals as goal
 
