@@ -1,19 +1,19 @@
 -- What is absent from a document: none of it has to wait.
-use Rattle.std.proofs.Common.{◌≡◌, ℕ, suc, ◌≤◌, ◌⊎◌, inl, inr, List, [], ◌∷◌, ◌++◌, length, true, false, ◌||◌, cond, refl, sym, ap, ◌∙◌, subst, arith, append_assoc, nat_lt}
+use Rattle.tp_list.proofs.Members.{In-last}
+use Rattle.tp_list.proofs.Tests.{truth, or_cases}
+use Rattle.std.proofs.Common.{◌≡◌, ℕ, ◌+◌, ◌≤◌, ◌⊎◌, inl, inr, List, [], ◌∷◌, ◌++◌, length, true, false, ◌||◌, cond, refl, sym, ap, ◌∙◌, subst, arith, append_assoc, nat_lt}
+use Rattle.std.proofs.lemmas.Bool.Decides.{nat_tests}
 use Rattle.tp_opid.specs.declared.hash.Hash.{Hash}
 use Rattle.tp_opid.specs.Same.{same_hash}
+use Rattle.tp_opid.proofs.Orders.{same_hash-same}
 use Rattle.tp_change.specs.declared.parts.ChangeParts.{ChangeParts}
 use Rattle.tp_change.specs.ChangeHash.{hash_of}
-use Rattle.tp_graph.specs.Named.{among, has, has_all}
-use Rattle.tp_graph.specs.Sound.{Sound}
-use Rattle.tp_opid.proofs.Orders.{same_hash-same}
 use Rattle.tp_graph.specs.GraphState.{most_waiting}
-use Rattle.tp_list.proofs.Tests.{truth, or_cases, or_left, or_right, both_left, both_right, both}
-use Rattle.tp_graph.proofs.NamedLaws.{has-append}
+use Rattle.tp_graph.specs.Named.{has, has_all}
+use Rattle.tp_graph.specs.Sound.{Sound}
+use Rattle.tp_graph.proofs.NamedLaws.{has-append, has-left, has_all-In, In-has_all, In-has}
 use Rattle.tp_graph.proofs.SoundLaws.{Fits-at}
-use Rattle.tp_receive.specs.Receiving.{hashes}
-use Rattle.tp_receive.specs.Loose.{all_there, loose_with, with_hash, is_full}
-use Rattle.std.proofs.lemmas.Bool.Decides.{nat_tests}
+use Rattle.tp_receive.specs.Delivery.{delivery, placing, places, is_full}
 use Rattle.tp_document.specs.Merging.{absent}
 
 pub absent-append : (C A B : List ChangeParts) → absent C (A ++ B) ≡ absent C A ++ absent C B
@@ -24,81 +24,39 @@ absent-append C (a ∷ A) B =
       | false ↦ ap (λ l. a ∷ l) (absent-append C A B)
     ]
 
--- ---- none of what is absent is loose
+-- ---- what is absent is deliverable
 
--- each hash of A is that of a change of C, or one of F
-abbrev Covers : List ChangeParts → List Hash → List ChangeParts → Type 0
-Covers C F A = (h : Hash) → has A h ≡ true → (has C h || among F h) ≡ true
+-- D has each hash of A
+abbrev Covers : List ChangeParts → List ChangeParts → Type 0
+Covers D A = (h : Hash) → has A h ≡ true → has D h ≡ true
 
-all_there-covered : (C : List ChangeParts) (F : List Hash) (A : List ChangeParts) (H : List Hash) → Covers C F A → has_all A H ≡ true → all_there C F H ≡ true
-all_there-covered C F A [] cover e = refl
-all_there-covered C F A (h ∷ H) cover e =
-    both (has C h || among F h) (all_there C F H) (cover h (both_left (has A h) (has_all A H) e)) (all_there-covered C F A H cover (both_right (has A h) (has_all A H) e))
-
-among-last : (F : List Hash) (g h : Hash) → same_hash g h ≡ true → among (F ++ g ∷ []) h ≡ true
-among-last [] g h e = or_left (same_hash g h) false e
-among-last (f ∷ F) g h e = or_right (same_hash f h) (among (F ++ g ∷ []) h) (among-last F g h e)
-
-among-more : (F : List Hash) (g h : Hash) → among F h ≡ true → among (F ++ g ∷ []) h ≡ true
-among-more [] g h e = cc
-among-more (f ∷ F) g h e =
-    elim (or_cases (same_hash f h) (among F h) e) [
-      | inl t ↦ or_left (same_hash f h) (among (F ++ g ∷ []) h) t
-      | inr t ↦ or_right (same_hash f h) (among (F ++ g ∷ []) h) (among-more F g h t)
+Covers-push : (D E A : List ChangeParts) (c : ChangeParts) → Covers D A → Covers E D → has E (hash_of c) ≡ true → Covers E (A ++ c ∷ [])
+Covers-push D E A c cover more there h t =
+    elim (or_cases (has A h) (has (c ∷ []) h) (sym (has-append A (c ∷ []) h) ∙ t)) [
+      | inl old ↦ more h (cover h old)
+      | inr own ↦ elim (or_cases (same_hash (hash_of c) h) false own) [
+        | inl s ↦ subst (λ g. has E g ≡ true) (same_hash-same (hash_of c) h s) there
+        | inr n ↦ cc
+      ]
     ]
 
--- the hash of one more change: one of A, or its own
-has_push : (A : List ChangeParts) (c : ChangeParts) (h : Hash) → has (A ++ c ∷ []) h ≡ true → (has A h ≡ true) ⊎ (same_hash (hash_of c) h ≡ true)
-has_push A c h e =
-    elim (or_cases (has A h) (has (c ∷ []) h) (sym (has-append A (c ∷ []) h) ∙ e)) [
-      | inl t ↦ inl t
-      | inr t ↦ elim (or_cases (same_hash (hash_of c) h) false t) [ inl u ↦ inr u | inr u ↦ absurd (no_false u) ]
-    ] where
-      no_false : false ≡ true → ⊥
-      no_false u = cc
-
-Covers-there : (C : List ChangeParts) (F : List Hash) (A : List ChangeParts) (c : ChangeParts) → Covers C F A → has C (hash_of c) ≡ true → Covers C F (A ++ c ∷ [])
-Covers-there C F A c cover e h t =
-    elim (has_push A c h t) [
-      | inl old ↦ cover h old
-      | inr own ↦ or_left (has C h) (among F h) (subst (λ g. has C g ≡ true) (same_hash-same (hash_of c) h own) e)
-    ]
-
-Covers-firm : (C : List ChangeParts) (F : List Hash) (A : List ChangeParts) (c : ChangeParts) → Covers C F A → Covers C (F ++ hash_of c ∷ []) (A ++ c ∷ [])
-Covers-firm C F A c cover h t =
-    elim (has_push A c h t) [
-      | inl old ↦
-          elim (or_cases (has C h) (among F h) (cover h old)) [
-            | inl there ↦ or_left (has C h) (among (F ++ hash_of c ∷ []) h) there
-            | inr firm ↦ or_right (has C h) (among (F ++ hash_of c ∷ []) h) (among-more F (hash_of c) h firm)
-          ]
-      | inr own ↦ or_right (has C h) (among (F ++ hash_of c ∷ []) h) (among-last F (hash_of c) h own)
-    ]
-
-none_loose : (C : List ChangeParts) (F : List Hash) (A D : List ChangeParts) (H : List Hash) → Covers C F A → Sound (A ++ D) → loose_with C F (absent C D) H ≡ H
-none_loose C F A [] H cover s = refl
-none_loose C F A (d ∷ D) H cover s =
-    let rest : Sound ((A ++ d ∷ []) ++ D) = subst Sound (sym (append_assoc A (d ∷ []) D)) s in
-    elim (truth (has C (hash_of d))) [
-      | inl t ↦
-          ap (λ b. loose_with C F (cond b (absent C D) (d ∷ absent C D)) H) t
-          ∙ none_loose C F (A ++ d ∷ []) D H (Covers-there C F A d cover t) rest
+-- Where D has what C has and the changes A before, none of those behind them that C lacks takes a place.
+none_placed : (C D A B V : List ChangeParts) → Covers D C → Covers D A → Sound (A ++ B) → places (placing V (delivery D (absent C B))) ≡ 0
+none_placed C D A [] V old cover s = refl
+none_placed C D A (b ∷ B) V old cover s =
+    let rest : Sound ((A ++ b ∷ []) ++ B) = subst Sound (sym (append_assoc A (b ∷ []) B)) s in
+    elim (truth (has C (hash_of b))) [
+      | inl t ↦ rw t (none_placed C D (A ++ b ∷ []) B V old (Covers-push D D A b cover (λ h e. e) (old (hash_of b) t)) rest)
       | inr f ↦
-          let firm : all_there C F d.deps ≡ true = all_there-covered C F A d.deps cover (Fits-at A d D s).deps in
-          ap (λ b. loose_with C F (cond b (absent C D) (d ∷ absent C D)) H) f
-          ∙ ap (λ b. cond b (loose_with C (F ++ hash_of d ∷ []) (absent C D) H) (loose_with C F (absent C D) (with_hash H (hash_of d)))) firm
-          ∙ none_loose C (F ++ hash_of d ∷ []) (A ++ d ∷ []) D H (Covers-firm C F A d cover) rest
+          let deps : has_all D b.deps ≡ true = In-has_all D b.deps (λ h i. cover h (has_all-In A b.deps (Fits-at A b B s).deps h i)) in
+          let more : Covers (D ++ b ∷ []) D = λ h e. has-left D (b ∷ []) h e in
+          rw (f, deps) (none_placed C (D ++ b ∷ []) (A ++ b ∷ []) B V (λ h e. more h (old h e))
+          (Covers-push D (D ++ b ∷ []) A b cover more (In-has (D ++ b ∷ []) b (hash_of b) (In-last b D) refl)) rest)
     ]
 
-length-hashes : (W : List ChangeParts) → length (hashes W) ≡ length W
-length-hashes [] = refl
-length-hashes (c ∷ W) = ap suc (length-hashes W)
-
--- what is absent from a list of sound changes never makes too many wait
+-- What is absent from a list of sound changes never makes too many wait.
 pub never_full : (C W D : List ChangeParts) → Sound D → length W ≤ most_waiting → is_full C W (absent C D) ≡ false
 never_full C W D s few =
-    ap (λ l. nat_lt most_waiting (length l)) (none_loose C [] [] D (hashes W) (λ h e. cc) s)
-    ∙ ap (nat_lt most_waiting) (length-hashes W)
-    ∙ within (length W) few where
-      within : (n : ℕ) → n ≤ most_waiting → nat_lt most_waiting n ≡ false
+    ap (λ n. nat_lt most_waiting (length W + n)) (none_placed C C [] D W (λ h e. e) (λ h e. cc) s) ∙ within (length W) few where
+      within : (n : ℕ) → n ≤ most_waiting → nat_lt most_waiting (n + 0) ≡ false
       within n le = grind (arith, nat_tests)

@@ -1,19 +1,16 @@
--- What a call that receives changes answers and leaves.
-use Rattle.std.specs.Prelude.{◌≡◌, ◌+◌, ◌≤◌, ◌++◌, List, [], length, Bool, true, false, Result, Ok, Err}
-use Rattle.tp_opid.specs.declared.hash.Hash.{Hash}
+-- What receiving does to a document.
+use Rattle.std.specs.Prelude.{◌≡◌, ◌⊎◌, List, [], Bool, true, false, Result, Ok, Err}
 use Rattle.tp_opid.specs.declared.doc_id.DocId.{DocId}
 use Rattle.tp_change.specs.declared.parts.ChangeParts.{ChangeParts}
 use Rattle.tp_receive.specs.declared.error.ReceiveError.{ReceiveError}
 use Rattle.tp_receive.specs.declared.error.ReceiveError.TheVariants as receive
+use Rattle.tp_receive.specs.declared.intake.Applied.{Applied}
 use Rattle.tp_receive.specs.declared.keeper.KeepError.{KeepError}
-use Rattle.tp_receive.specs.Receiving.{HashesApart, Receives, AllWait, hashes, held_of}
-use Rattle.tp_receive.specs.Going.{Goes}
-use Rattle.tp_receive.specs.Loose.{loose_in}
-use Rattle.tp_receive.specs.Replies.{AreRefused, AllPlaced, AreFirm, NoneDropped, EachOnce, Fails}
-use Rattle.tp_graph.specs.GraphState.{most_waiting}
-use Rattle.tp_graph.specs.declared.error.GraphError.{GraphError}
+use Rattle.tp_receive.specs.declared.keeper.NoKeeper.{NoKeeper}
+use Rattle.tp_receive.specs.Intake.{Fails, Received, Stopped, begin, intake}
 use Rattle.tp_document.specs.declared.error.DocError.{DocError}
 use Rattle.tp_document.specs.declared.error.DocError.TheVariants.{PendingFull, OutOfMemory, OtherDocument, NotKept}
+use Rattle.tp_document.specs.DocState.{DocState}
 
 -- the refusal of a document for one of receiving
 abbrev pub refusal_of : ReceiveError → DocError
@@ -21,50 +18,31 @@ refusal_of receive.PendingFull = PendingFull
 refusal_of receive.NotKept = NotKept
 refusal_of receive.OutOfMemory = OutOfMemory
 
--- keeping nothing, and refusing nothing
-abbrev pub keeps_nothing : Unit {0} → ChangeParts → Unit {0} → Type 0
+-- no keeper: it keeps nothing, and refuses nothing
+abbrev pub no_keeper : NoKeeper
+no_keeper = record {}
+
+abbrev pub keeps_nothing : NoKeeper → ChangeParts → NoKeeper → Type 0
 keeps_nothing k c k' = k ≡ k'
 
-abbrev pub refuses_nothing : Unit {0} → ChangeParts → KeepError → Unit {0} → Type 0
+abbrev pub refuses_nothing : NoKeeper → ChangeParts → KeepError → NoKeeper → Type 0
 refuses_nothing k c e k' = ⊥
 
--- What is answered where the changes `came` were received: C was applied and W waited before, C' is applied and W'
--- waits now, and the keeper went from k to k'.
-pub record Answered {S : Type 0} (keeps : S → ChangeParts → S → Type 0) (k k' : S) (came C C' W W' : List ChangeParts)
-    (applied held : List Hash) (refused : List (Hash × GraphError)) : Type 0 where
-  -- what entered is of what waited and came, had no cause at its turn, was kept first, and is told in its order
-  pub goes : Goes keeps k k' (W ++ came) C C' W' [] applied [] refused
-  -- every change of what waited and came has a cause now
-  pub receives : HashesApart (W ++ came) → Receives C (W ++ came) C'
-  -- each told cause is the cause now
-  pub causes : HashesApart (W ++ came) → AreRefused (W ++ came) C' refused
-  -- each change has entered, waits for a dependency, or is told as refused
-  pub placed : HashesApart (W ++ came) → AllPlaced (W ++ came) C' W' applied refused
-  -- what was dropped isn't loose, and nothing is dropped where no more than 1,024 waited and came
-  pub firm : HashesApart (W ++ came) → AreFirm (loose_in C came) refused
-  pub none_dropped : length W + length came ≤ most_waiting → NoneDropped refused
-  -- what waits lacks a dependency
-  pub waits : AllWait C' W'
-  -- held are those that came and wait, each hash once
-  pub holds : held ≡ held_of (hashes came) W'
-  pub once : EachOnce held
+-- The document d received the changes K, and answered r: a whole run, which left d' and the keeper k'.
+abbrev pub Takes : {S : Type 0} → (S → ChangeParts → S → Type 0) → S → S → List ChangeParts → DocState → DocState → Applied → Type 0
+Takes keeps k k' K d d' r =
+    Received keeps (begin k d.applied d.waiting K) K (intake k' d'.applied d'.waiting [] r.applied.items r.refused.items) r.held.items
 
--- How a refused call leaves the keeper, what is applied and what waits: PendingFull as they were, NotKept and
--- OutOfMemory between. No other refusal comes.
-abbrev pub ApplyFails : {S : Type 0} → (S → ChangeParts → S → Type 0) → (S → ChangeParts → KeepError → S → Type 0) → S → S
-    → List ChangeParts → List ChangeParts → List ChangeParts → List ChangeParts → List ChangeParts → DocError → Type 0
-ApplyFails keeps refuses k k' F C C' W W' PendingFull = Fails keeps refuses k k' F C C' W W' receive.PendingFull
-ApplyFails keeps refuses k k' F C C' W W' NotKept = Fails keeps refuses k k' F C C' W W' receive.NotKept
-ApplyFails keeps refuses k k' F C C' W W' OutOfMemory = Fails keeps refuses k k' F C C' W W' receive.OutOfMemory
-ApplyFails keeps refuses k k' F C C' W W' _ = ⊥
+-- It failed with the error: PendingFull left the document and the keeper as they were, the others stopped at some turn.
+abbrev pub TakesPart : {S : Type 0} → (S → ChangeParts → S → Type 0) → (S → ChangeParts → KeepError → S → Type 0) → S → S → List ChangeParts → DocState → DocState → DocError → Type 0
+TakesPart keeps refuses k k' K d d' error =
+    (e : ReceiveError) × (error ≡ refusal_of e) × Fails keeps refuses (begin k d.applied d.waiting K) e k' d'.applied d'.waiting
 
--- And how a refused merge does: that of another document as they were too, and PendingFull never comes.
-abbrev pub MergeFails : {S : Type 0} → (S → ChangeParts → S → Type 0) → (S → ChangeParts → KeepError → S → Type 0) → S → S
-    → List ChangeParts → List ChangeParts → List ChangeParts → List ChangeParts → List ChangeParts → DocError → Type 0
-MergeFails keeps refuses k k' F C C' W W' OtherDocument = (k' ≡ k) × (C' ≡ C) × (W' ≡ W)
-MergeFails keeps refuses k k' F C C' W W' NotKept = Fails keeps refuses k k' F C C' W W' receive.NotKept
-MergeFails keeps refuses k k' F C C' W W' OutOfMemory = Fails keeps refuses k k' F C C' W W' receive.OutOfMemory
-MergeFails keeps refuses k k' F C C' W W' _ = ⊥
+-- A merge failed: that of another document changed nothing, the others stopped at some turn. PendingFull never comes.
+abbrev pub MergesPart : {S : Type 0} → (S → ChangeParts → S → Type 0) → (S → ChangeParts → KeepError → S → Type 0) → S → S → List ChangeParts → DocState → DocState → DocError → Type 0
+MergesPart keeps refuses k k' K d d' error =
+    ((error ≡ OtherDocument) × (k' ≡ k) × (d'.applied ≡ d.applied) × (d'.waiting ≡ d.waiting))
+    ⊎ ((e : ReceiveError) × (error ≡ refusal_of e) × Stopped keeps refuses (begin k d.applied d.waiting K) e k' d'.applied d'.waiting)
 
 -- PendingFull is answered exactly where the test holds, memory aside.
 abbrev pub IsFullAlone : {T : Type 0} → Result T DocError → Bool → Type 0

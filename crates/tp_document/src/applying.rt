@@ -1,9 +1,10 @@
 //! Receiving changes, in a list or from another document.
 
-ghost use Rattle.std.specs.Prelude.{◌≡◌, ◌++◌, IfOk, IfErr};
-ghost use Rattle.tp_receive.specs.Going.{LosesNone};
-ghost use Rattle.tp_receive.specs.Loose as loose;
-ghost use Rattle.tp_document.specs.Applying.{Answered, refusal_of, keeps_nothing, refuses_nothing, ApplyFails, MergeFails, IsFullAlone, IsOtherAlone};
+ghost use Rattle.std.specs.Prelude.{◌≡◌, IfOk, IfErr, OnOk};
+ghost use Rattle.tp_graph.specs.Sound.{Sound};
+ghost use Rattle.tp_receive.specs.Delivery as delivery;
+ghost use Rattle.tp_receive.specs.Replies.{KeepsNew};
+ghost use Rattle.tp_document.specs.Applying.{refusal_of, no_keeper, keeps_nothing, refuses_nothing, Takes, TakesPart, MergesPart, IsFullAlone, IsOtherAlone};
 ghost use Rattle.tp_document.specs.Merging as merging;
 
 use crate::document::Document;
@@ -35,12 +36,11 @@ impl<S: Sequence> Document<S> {
         keeper: &mut K,
     ) -> Result<Applied, DocError>
         ensures id { self.new.id ≡ self.old.id }
-        ensures answered { IfOk result (λ r. Answered K.keeps keeper.old keeper.new changes.items self.old.applied self.new.applied
-            self.old.waiting self.new.waiting r.applied.items r.held.items r.refused.items) }
-        ensures stays { LosesNone self.old.applied self.new.applied self.old.waiting self.new.waiting }
-        ensures full { IsFullAlone result (loose.is_full self.old.applied self.old.waiting changes.items) }
-        ensures err { IfErr result (λ e. ApplyFails K.keeps K.refuses keeper.old keeper.new (self.old.waiting ++ changes.items) self.old.applied
-            self.new.applied self.old.waiting self.new.waiting e) }
+        ensures sound { Sound self.old.applied }
+        ensures ok { IfOk result (λ r. Takes K.keeps keeper.old keeper.new changes.items self.old self.new r) }
+        ensures kept { OnOk result (KeepsNew K.keeps keeper.old keeper.new self.old.applied self.new.applied) }
+        ensures full { IsFullAlone result (delivery.is_full self.old.applied self.old.waiting changes.items) }
+        ensures err { IfErr result (λ e. TakesPart K.keeps K.refuses keeper.old keeper.new changes.items self.old self.new e) }
     {
         let alloc = self.alloc;
         match receive(alloc, self, keeper, changes) {
@@ -62,12 +62,10 @@ impl<S: Sequence> Document<S> {
     /// something entered.
     pub fn apply(&mut self, changes: Vec<Change>) -> Result<Applied, DocError>
         ensures id { self.new.id ≡ self.old.id }
-        ensures answered { IfOk result (λ r. Answered keeps_nothing tt tt changes.items self.old.applied self.new.applied
-            self.old.waiting self.new.waiting r.applied.items r.held.items r.refused.items) }
-        ensures stays { LosesNone self.old.applied self.new.applied self.old.waiting self.new.waiting }
-        ensures full { IsFullAlone result (loose.is_full self.old.applied self.old.waiting changes.items) }
-        ensures err { IfErr result (λ e. ApplyFails keeps_nothing refuses_nothing tt tt (self.old.waiting ++ changes.items) self.old.applied
-            self.new.applied self.old.waiting self.new.waiting e) }
+        ensures sound { Sound self.old.applied }
+        ensures ok { IfOk result (λ r. Takes keeps_nothing no_keeper no_keeper changes.items self.old self.new r) }
+        ensures full { IsFullAlone result (delivery.is_full self.old.applied self.old.waiting changes.items) }
+        ensures err { IfErr result (λ e. TakesPart keeps_nothing refuses_nothing no_keeper no_keeper changes.items self.old self.new e) }
     {
         let mut keeper = NoKeeper;
         self.apply_with(changes, &mut keeper)
@@ -83,12 +81,12 @@ impl<S: Sequence> Document<S> {
         keeper: &mut K,
     ) -> Result<Applied, DocError>
         ensures id { self.new.id ≡ self.old.id }
-        ensures answered { IfOk result (λ r. Answered K.keeps keeper.old keeper.new (merging.absent self.old.applied other.now.applied) self.old.applied self.new.applied
-            self.old.waiting self.new.waiting r.applied.items r.held.items r.refused.items) }
-        ensures stays { LosesNone self.old.applied self.new.applied self.old.waiting self.new.waiting }
+        ensures sound { Sound self.old.applied }
+        ensures ok { IfOk result (λ r. Takes K.keeps keeper.old keeper.new (merging.absent self.old.applied other.now.applied) self.old self.new r) }
+        ensures kept { OnOk result (KeepsNew K.keeps keeper.old keeper.new self.old.applied self.new.applied) }
         ensures other { IsOtherAlone result self.old.id other.now.id }
-        ensures err { IfErr result (λ e. MergeFails K.keeps K.refuses keeper.old keeper.new (self.old.waiting ++ merging.absent self.old.applied other.now.applied)
-            self.old.applied self.new.applied self.old.waiting self.new.waiting e) }
+        ensures err { IfErr result (λ e. MergesPart K.keeps K.refuses keeper.old keeper.new
+            (merging.absent self.old.applied other.now.applied) self.old self.new e) }
     {
         let _pending = self.pending().len();
         if !self.id.is(&other.id) {
@@ -107,12 +105,11 @@ impl<S: Sequence> Document<S> {
     /// leaves the document as it does there. One look-up for each of the other's changes.
     pub fn merge(&mut self, other: &Document<S>) -> Result<Applied, DocError>
         ensures id { self.new.id ≡ self.old.id }
-        ensures answered { IfOk result (λ r. Answered keeps_nothing tt tt (merging.absent self.old.applied other.now.applied) self.old.applied self.new.applied
-            self.old.waiting self.new.waiting r.applied.items r.held.items r.refused.items) }
-        ensures stays { LosesNone self.old.applied self.new.applied self.old.waiting self.new.waiting }
+        ensures sound { Sound self.old.applied }
+        ensures ok { IfOk result (λ r. Takes keeps_nothing no_keeper no_keeper (merging.absent self.old.applied other.now.applied) self.old self.new r) }
         ensures other { IsOtherAlone result self.old.id other.now.id }
-        ensures err { IfErr result (λ e. MergeFails keeps_nothing refuses_nothing tt tt (self.old.waiting ++ merging.absent self.old.applied other.now.applied)
-            self.old.applied self.new.applied self.old.waiting self.new.waiting e) }
+        ensures err { IfErr result (λ e. MergesPart keeps_nothing refuses_nothing no_keeper no_keeper
+            (merging.absent self.old.applied other.now.applied) self.old self.new e) }
     {
         let mut keeper = NoKeeper;
         self.merge_with(other, &mut keeper)

@@ -1,207 +1,169 @@
--- What holds between the turns of a list, where two changes with one hash are one.
-use Rattle.std.proofs.Common.{◌≡◌, ℕ, ◌+◌, ◌<◌, ◌⊎◌, inl, inr, List, [], ◌∷◌, ◌++◌, length, true, false, Some, refl, sym, ap, ◌∙◌, subst, arith}
+-- Turns: what each takes out and leaves, and how runs add up.
+use Rattle.tp_list.proofs.Members.{In-left, In-right, In-append}
+use Rattle.tp_list.proofs.Tests.{truth}
+use Rattle.std.proofs.Common.{◌≡◌, ℕ, zero, suc, ◌+◌, ◌<◌, ◌≤◌, ◌⊎◌, inl, inr, List, [], ◌∷◌, ◌++◌, length, Bool, true, false, cond, Some, None, refl, sym, ap, ◌∙◌, subst, arith, length-append, nat_lt}
+use Rattle.std.proofs.lemmas.Bool.Decides.{nat_tests}
 use Rattle.tp_list.specs.Members.{In, AllIn}
-use Rattle.tp_opid.specs.declared.hash.Hash.{Hash}
 use Rattle.tp_change.specs.declared.parts.ChangeParts.{ChangeParts}
 use Rattle.tp_change.specs.ChangeHash.{hash_of}
 use Rattle.tp_graph.specs.declared.error.GraphError.{GraphError}
 use Rattle.tp_graph.specs.declared.error.GraphError.TheVariants.{MissingDeps}
-use Rattle.tp_graph.specs.Named.{among, has}
+use Rattle.tp_graph.specs.Named.{has}
 use Rattle.tp_graph.specs.Fit.{cause}
 use Rattle.tp_graph.specs.GraphState.{most_waiting}
-use Rattle.tp_list.proofs.Tests.{truth, never, not_true}
-use Rattle.tp_graph.proofs.NamedLaws.{has-In, In-has, has-left}
-use Rattle.tp_list.proofs.Members.{In-left, In-right, In-append}
-use Rattle.tp_receive.specs.Receiving.{HashesApart, Begins, Grows, AllWait, is_refusal, hashes}
-use Rattle.tp_receive.specs.Going.{IsPlaced, IsDropped, DropsOne, DropsFirm}
-use Rattle.tp_receive.specs.Loose.{all_there, firm_with, loose_with, loose_in}
-use Rattle.tp_receive.proofs.CausesLaws.{Never, StaysOut, Barred, Never-later, Never-out, Barred-later, Barred-cause, out_of_dep, out_of_refusal, lacks_cause, waits_for, lacking}
-use Rattle.tp_receive.proofs.LooseLaws.{among-pushed, among-hashes, all_there-In, firm_with-append, loose_with-append, loose_with-of, loose_with-out}
+use Rattle.tp_receive.specs.declared.error.ReceiveError.{ReceiveError}
+use Rattle.tp_receive.specs.declared.keeper.KeepError.{KeepError}
+use Rattle.tp_receive.specs.Receiving.{lacks_deps, is_refusal}
+use Rattle.tp_receive.specs.Delivery.{places}
+use Rattle.tp_receive.specs.Intake.{Intake, enter, refuse, hold, Meets, NextWaits, NextComes, Next, Turn, Turns, Run, Stopped}
 
--- Behind the turns of ys, where F is what waited and came, and C0 was applied when the list K began: each firm change
--- is there or never comes, and what was dropped is barred and not loose.
-pub record Turn (F C0 K ys C : List ChangeParts) (r : List (Hash × GraphError)) : Type 0 where
-  pub firm : (h : Hash) → among (firm_with C0 [] ys) h ≡ true → (has C h ≡ true) ⊎ Never F C h
-  pub barred : (c : ChangeParts) → In c F → In (hash_of c, MissingDeps) r → Barred F C c
-  pub apart : (h : Hash) → In (h, MissingDeps) r → among (loose_in C0 K) h ≡ false
+-- ---- runs add up
 
--- Nothing had its turn, and nothing was dropped.
-pub Turn-first : (F C0 K C : List ChangeParts) (r : List (Hash × GraphError)) → ((h : Hash) → In (h, MissingDeps) r → ⊥) → Turn F C0 K [] C r
-Turn-first F C0 K C r none = record {
-  firm = λ h e. cc;
-  barred = λ c i j. absurd (none (hash_of c) j);
-  apart = λ h j. absurd (none h j);
+pub Run-none : {S : Type 0} (keeps : S → ChangeParts → S → Type 0) (s : Intake S) → Run keeps s s
+Run-none keeps s = record { count = 0; turns = refl }
+
+turns_then : {S : Type 0} (keeps : S → ChangeParts → S → Type 0) (n : ℕ) (s m t : Intake S) → Turns keeps n s m → Run keeps m t → Run keeps s t
+turns_then {S} keeps zero s m t a b = subst (λ (x : Intake S). Run keeps x t) (sym a) b
+turns_then {S} keeps (suc n) s m t a b = let r = turns_then keeps n a.0 m t a.2 b in record { count = suc r.count; turns = (a.0, a.1, r.turns) }
+
+pub Run-then : {S : Type 0} (keeps : S → ChangeParts → S → Type 0) (s m t : Intake S) → Run keeps s m → Run keeps m t → Run keeps s t
+Run-then keeps s m t a b = turns_then keeps a.count s m t a.turns b
+
+pub Run-turn : {S : Type 0} (keeps : S → ChangeParts → S → Type 0) (s m t : Intake S) → Turn keeps s m → Run keeps m t → Run keeps s t
+Run-turn keeps s m t a b = record { count = suc b.count; turns = (m, a, b.turns) }
+
+pub Run-one : {S : Type 0} (keeps : S → ChangeParts → S → Type 0) (s t : Intake S) → Turn keeps s t → Run keeps s t
+Run-one keeps s t a = record { count = 1; turns = (t, a, refl) }
+
+pub Stopped-then : {S : Type 0} (keeps : S → ChangeParts → S → Type 0) (refuses : S → ChangeParts → KeepError → S → Type 0) (s m : Intake S) (e : ReceiveError) (k : S) (C W : List ChangeParts)
+    → Run keeps s m → Stopped keeps refuses m e k C W → Stopped keeps refuses s e k C W
+Stopped-then keeps refuses s m e k C W a b = record { at = b.at; run = Run-then keeps s m b.at a b.run; applied = b.applied; waiting = b.waiting; by = b.by }
+
+turns_keep : {S : Type 0} (keeps : S → ChangeParts → S → Type 0) (P : Intake S → Type 0) → ((s t : Intake S) → Turn keeps s t → P s → P t)
+    → (n : ℕ) (s t : Intake S) → Turns keeps n s t → P s → P t
+turns_keep keeps P step zero s t a p = subst P a p
+turns_keep keeps P step (suc n) s t a p = turns_keep keeps P step n a.0 t a.2 (step s a.0 a.1 p)
+
+-- What each turn keeps, a run keeps.
+pub Run-keeps : {S : Type 0} (keeps : S → ChangeParts → S → Type 0) (P : Intake S → Type 0) → ((s t : Intake S) → Turn keeps s t → P s → P t)
+    → (s t : Intake S) → Run keeps s t → P s → P t
+Run-keeps keeps P step s t r p = turns_keep keeps P step r.count s t r.turns p
+
+-- ---- what a turn takes out
+
+-- the changes that are still to come
+abbrev pub changes_of : List (ChangeParts × Bool) → List ChangeParts
+changes_of [] = []
+changes_of (p ∷ P) = p.0 ∷ changes_of P
+
+-- The change waits, or is still to come.
+abbrev pub IsHere : List ChangeParts → List (ChangeParts × Bool) → ChangeParts → Type 0
+IsHere W P d = In d W ⊎ In d (changes_of P)
+
+-- It is the turn of c, where W waits and P is to come; without it V waits and Q is to come.
+pub record TakesOut (W : List ChangeParts) (P : List (ChangeParts × Bool)) (c : ChangeParts) (V : List ChangeParts) (Q : List (ChangeParts × Bool)) : Type 0 where
+  pub here : IsHere W P c
+  pub less : (d : ChangeParts) → IsHere V Q d → IsHere W P d
+  pub cover : (d : ChangeParts) → IsHere W P d → (d ≡ c) ⊎ IsHere V Q d
+  pub waits : (d : ChangeParts) → In d W → (d ≡ c) ⊎ In d V
+  pub still : (d : ChangeParts) → In d V → In d W
+  pub few : length V + places Q ≤ length W + places P
+  pub fewer : length V + length Q < length W + length P
+  pub comes : (Q ≡ P) ⊎ ((place : Bool) × (P ≡ (c, place) ∷ Q))
+
+In-without : (A B : List ChangeParts) (c d : ChangeParts) → In d (A ++ c ∷ B) → (d ≡ c) ⊎ In d (A ++ B)
+In-without A B c d i =
+    elim (In-append d A (c ∷ B) i) [ inl j ↦ inr (In-left d A B j) | inr j ↦ elim j [ inl e ↦ inl e | inr k ↦ inr (In-right d A B k) ] ]
+
+In-with : (A B : List ChangeParts) (c d : ChangeParts) → In d (A ++ B) → In d (A ++ c ∷ B)
+In-with A B c d i = elim (In-append d A B i) [ inl j ↦ In-left d A (c ∷ B) j | inr j ↦ In-right d A (c ∷ B) (inr j) ]
+
+takes_waiting : (A B : List ChangeParts) (P : List (ChangeParts × Bool)) (c : ChangeParts) → TakesOut (A ++ c ∷ B) P c (A ++ B) P
+takes_waiting A B P c = record {
+  here = inl (In-right c A (c ∷ B) (inl refl));
+  less = λ d h. elim h [ inl i ↦ inl (In-with A B c d i) | inr i ↦ inr i ];
+  cover = λ d h. elim h [ inl i ↦ elim (In-without A B c d i) [ inl e ↦ inl e | inr j ↦ inr (inl j) ] | inr i ↦ inr (inr i) ];
+  waits = In-without A B c;
+  still = In-with A B c;
+  few = omega (arith, length-append A B, length-append A (c ∷ B));
+  fewer = omega (arith, length-append A B, length-append A (c ∷ B));
+  comes = inl refl;
 }
 
--- a dependency that isn't there never comes, where all are there or firm
-barred_dep : (F C0 C : List ChangeParts) (H : List Hash) (c : ChangeParts)
-    → ((h : Hash) → has C0 h ≡ true → has C h ≡ true) → ((h : Hash) → among H h ≡ true → (has C h ≡ true) ⊎ Never F C h)
-    → all_there C0 H c.deps ≡ true → cause C c ≡ Some MissingDeps → (d : Hash) × In d c.deps × Never F C d
-barred_dep F C0 C H c grown firm all waits =
-    let lack = lacking C c.deps ((waits_for C c waits).1) in
-    elim (all_there-In C0 H c.deps lack.0 all lack.1) [
-      | inl old ↦ absurd (never (grown lack.0 old) lack.2)
-      | inr f ↦ elim (firm lack.0 f) [ inl there ↦ absurd (never there lack.2) | inr n ↦ (lack.0, lack.1, n) ]
+takes_coming : (W : List ChangeParts) (Q : List (ChangeParts × Bool)) (c : ChangeParts) (place : Bool) → TakesOut W ((c, place) ∷ Q) c W Q
+takes_coming W Q c place = record {
+  here = inr (inl refl);
+  less = λ d h. elim h [ inl i ↦ inl i | inr i ↦ inr (inr i) ];
+  cover = λ d h. elim h [ inl i ↦ inr (inl i) | inr i ↦ elim i [ inl e ↦ inl e | inr j ↦ inr (inr j) ] ];
+  waits = λ d i. inr i;
+  still = λ d i. i;
+  few = few place;
+  fewer = omega arith;
+  comes = inr (place, refl);
+} where
+  few : (b : Bool) → length W + places Q ≤ length W + cond b (places Q + 1) (places Q)
+  few true = omega arith
+  few false = omega arith
+
+-- ---- what a turn leaves
+
+-- what it sees and has told, but V waits and Q is to come
+abbrev pub with_rest : {S : Type 0} → Intake S → List ChangeParts → List (ChangeParts × Bool) → Intake S
+with_rest s V Q = record s { waiting = V; coming = Q }
+
+-- A turn left something that holds where the change entered, was refused for good, waited already, waits now, or was
+-- dropped.
+pub record Cases {S : Type 0} (keeps : S → ChangeParts → S → Type 0) (P : Intake S → Type 0) (s : Intake S) : Type 0 where
+  pub entered : (c : ChangeParts) (V : List ChangeParts) (Q : List (ChangeParts × Bool)) (k : S) → TakesOut s.waiting s.coming c V Q
+      → cause s.applied c ≡ None → keeps s.keeper c k → P (enter (with_rest s V Q) c k)
+  pub refused : (c : ChangeParts) (V : List ChangeParts) (Q : List (ChangeParts × Bool)) (e : GraphError) → TakesOut s.waiting s.coming c V Q
+      → cause s.applied c ≡ Some e → is_refusal (Some e) ≡ true → P (refuse (with_rest s V Q) c e)
+  pub again : (c : ChangeParts) (Q : List (ChangeParts × Bool)) (place : Bool) → TakesOut s.waiting s.coming c s.waiting Q → s.coming ≡ (c, place) ∷ Q
+      → cause s.applied c ≡ Some MissingDeps → has s.waiting (hash_of c) ≡ true → P (with_rest s s.waiting Q)
+  pub held : (c : ChangeParts) (Q : List (ChangeParts × Bool)) (place : Bool) → TakesOut s.waiting s.coming c s.waiting Q → s.coming ≡ (c, place) ∷ Q
+      → cause s.applied c ≡ Some MissingDeps → has s.waiting (hash_of c) ≡ false → length s.waiting + places Q < most_waiting
+      → P (with_rest s (s.waiting ++ c ∷ []) Q)
+  pub dropped : (c : ChangeParts) (Q : List (ChangeParts × Bool)) (place : Bool) → TakesOut s.waiting s.coming c s.waiting Q → s.coming ≡ (c, place) ∷ Q
+      → cause s.applied c ≡ Some MissingDeps → has s.waiting (hash_of c) ≡ false → most_waiting ≤ length s.waiting + places Q
+      → P (refuse (with_rest s s.waiting Q) c MissingDeps)
+
+below : (n : ℕ) → nat_lt n most_waiting ≡ true → n < most_waiting
+below n e = grind (arith, nat_tests)
+
+above : (n : ℕ) → nat_lt n most_waiting ≡ false → most_waiting ≤ n
+above n e = grind (arith, nat_tests)
+
+hold_cases : {S : Type 0} (keeps : S → ChangeParts → S → Type 0) (P : Intake S → Type 0) (s : Intake S) (c : ChangeParts) (Q : List (ChangeParts × Bool)) (place : Bool)
+    → Cases keeps P s → TakesOut s.waiting s.coming c s.waiting Q → s.coming ≡ (c, place) ∷ Q → cause s.applied c ≡ Some MissingDeps → P (hold (with_rest s s.waiting Q) c)
+hold_cases {S} keeps P s c Q place h out is lacks =
+    elim (truth (has s.waiting (hash_of c))) [
+      | inl t ↦ subst (λ b. P (cond b (with_rest s s.waiting Q) (cond (nat_lt (length s.waiting + places Q) most_waiting) (with_rest s (s.waiting ++ c ∷ []) Q) (refuse (with_rest s s.waiting Q) c MissingDeps)))) (sym t) (h.again c Q place out is lacks t)
+      | inr f ↦ subst (λ b. P (cond b (with_rest s s.waiting Q) (cond (nat_lt (length s.waiting + places Q) most_waiting) (with_rest s (s.waiting ++ c ∷ []) Q) (refuse (with_rest s s.waiting Q) c MissingDeps)))) (sym f)
+          (elim (truth (nat_lt (length s.waiting + places Q) most_waiting)) [
+            | inl l ↦ subst (λ b. P (cond b (with_rest s (s.waiting ++ c ∷ []) Q) (refuse (with_rest s s.waiting Q) c MissingDeps))) (sym l) (h.held c Q place out is lacks f (below (length s.waiting + places Q) l))
+            | inr l ↦ subst (λ b. P (cond b (with_rest s (s.waiting ++ c ∷ []) Q) (refuse (with_rest s s.waiting Q) c MissingDeps))) (sym l) (h.dropped c Q place out is lacks f (above (length s.waiting + places Q) l))
+          ])
     ]
 
--- What a change that came is dropped for: it was dropped before, or none with its hash waited or came before and it
--- is firm.
-dropped_firm : (F C0 W0 K ys new C C' W : List ChangeParts) (r : List (Hash × GraphError)) (x : ChangeParts) (n : ℕ)
-    → HashesApart F → AllIn (W0 ++ ys) F → In x F
-    → ((c : ChangeParts) → In c (W0 ++ ys) → IsPlaced new C W r c)
-    → (all_there C0 (firm_with C0 [] ys) x.deps ≡ false → among (loose_with C0 [] ys (hashes W0)) (hash_of x) ≡ false → length W + n < most_waiting)
-    → IsDropped C C' W x n
-    → In (hash_of x, MissingDeps) r ⊎ ((has (W0 ++ ys) (hash_of x) ≡ false) × (all_there C0 (firm_with C0 [] ys) x.deps ≡ true))
-dropped_firm F C0 W0 K ys new C C' W r x n apart part i placed space d =
-    elim (truth (has (W0 ++ ys) (hash_of x))) [
-      | inl t ↦
-          let w = has-In (W0 ++ ys) (hash_of x) t in
-          let here : In x (W0 ++ ys) = subst (λ (y : ChangeParts). In y (W0 ++ ys)) (apart w.0 x (part w.0 w.1) i w.2) w.1 in
-          elim (placed x here) [
-            | inl wait ↦ absurd (never (In-has W x (hash_of x) wait refl) d.new)
-            | inr rest ↦ elim rest [
-              | inl done ↦
-                  let no : false ≡ true = sym (ap is_refusal d.caused) ∙ done.refused in
-                  cc
-              | inr told ↦ inl told
-            ]
-          ]
-      | inr f ↦ elim (truth (all_there C0 (firm_with C0 [] ys) x.deps)) [
-        | inl t ↦ inr (f, t)
-        | inr lacks ↦
-            let fresh : among (loose_with C0 [] ys (hashes W0)) (hash_of x) ≡ false = not_true (among (loose_with C0 [] ys (hashes W0)) (hash_of x)) (λ a.
-            elim (loose_with-of C0 [] ys (hashes W0) (hash_of x) a) [
-              | inl o ↦ never (has-left W0 ys (hash_of x) (sym (among-hashes W0 (hash_of x)) ∙ o)) f
-              | inr o ↦ never (has-right W0 ys (hash_of x) o) f
-            ]) in
-            let less : length W + n < most_waiting = space lacks fresh in
-            absurd (omega (arith, d.full))
-      ]
-    ] where
-      has-right : (A B : List ChangeParts) (h : Hash) → has B h ≡ true → has (A ++ B) h ≡ true
-      has-right A B h e = let w = has-In B h e in In-has (A ++ B) w.0 h (In-right w.0 A B w.1) w.2
+meets_cases : {S : Type 0} (keeps : S → ChangeParts → S → Type 0) (P : Intake S → Type 0) (s t : Intake S) (c : ChangeParts) (V : List ChangeParts) (Q : List (ChangeParts × Bool))
+    → Cases keeps P s → TakesOut s.waiting s.coming c V Q → (cause s.applied c ≡ Some MissingDeps → P (hold (with_rest s V Q) c)) → Meets keeps (with_rest s V Q) c t → P t
+meets_cases keeps P s t c V Q h out lacks (inl m) = subst P (sym m.3) (h.entered c V Q m.1 out m.0 m.2)
+meets_cases keeps P s t c V Q h out lacks (inr (inl m)) = subst P (sym m.1) (lacks m.0)
+meets_cases keeps P s t c V Q h out lacks (inr (inr m)) = subst P (sym m.3) (h.refused c V Q m.0 out m.1 m.2)
 
--- a firm change that didn't come before is no loose one
-firm_out : (C0 K ys zs : List ChangeParts) (x : ChangeParts) → HashesApart K → K ≡ ys ++ x ∷ zs → has ys (hash_of x) ≡ false
-    → all_there C0 (firm_with C0 [] ys) x.deps ≡ true → among (loose_in C0 K) (hash_of x) ≡ false
-firm_out C0 K ys zs x apart e new firm =
-    subst (λ (l : List ChangeParts). among (loose_in C0 l) (hash_of x) ≡ false) (sym e)
-    (ap (λ l. among l (hash_of x)) (loose_with-append C0 [] ys (x ∷ zs) [])
-    ∙ loose_with-out C0 (firm_with C0 [] ys) (x ∷ zs) (loose_with C0 [] ys []) (hash_of x)
-    (λ c i same. rw (apart c x (subst (In c) (sym e) (In-right c ys (x ∷ zs) i)) (subst (In x) (sym e) (In-right x ys (x ∷ zs) (inl refl))) same) firm)
-    (not_true (among (loose_with C0 [] ys []) (hash_of x)) (λ a. elim (loose_with-of C0 [] ys [] (hash_of x) a) [ inl o ↦ cc | inr o ↦ never o new ])))
+next_cases : {S : Type 0} (keeps : S → ChangeParts → S → Type 0) (P : Intake S → Type 0) (s t rest : Intake S) (c : ChangeParts)
+    → Cases keeps P s → Next s c rest → Meets keeps rest c t → P t
+next_cases {S} keeps P s t rest c h (inl n) m =
+    let out : TakesOut s.waiting s.coming c (n.before ++ n.behind) s.coming = subst (λ W. TakesOut W s.coming c (n.before ++ n.behind) s.coming) (sym n.waits) (takes_waiting n.before n.behind s.coming c) in
+    meets_cases keeps P s t c (n.before ++ n.behind) s.coming h out
+    (λ lacks. let no : false ≡ true = sym n.ready ∙ ap lacks_deps lacks in cc)
+    (subst (λ (r : Intake S). Meets keeps r c t) n.without m)
+next_cases {S} keeps P s t rest c h (inr n) m =
+    let out : TakesOut s.waiting s.coming c s.waiting n.behind = subst (λ Q. TakesOut s.waiting Q c s.waiting n.behind) (sym n.comes) (takes_coming s.waiting n.behind c n.place) in
+    meets_cases keeps P s t c s.waiting n.behind h out
+    (hold_cases keeps P s c n.behind n.place h out n.comes)
+    (subst (λ (r : Intake S). Meets keeps r c t) n.without m)
 
--- what is in the list stays out of it behind
-step_firm : (F C0 C C' W' zs ys newS : List ChangeParts) (r' : List (Hash × GraphError)) (x : ChangeParts)
-    → HashesApart F → In x F → ((h : Hash) → has C0 h ≡ true → has C' h ≡ true)
-    → ((h : Hash) → among (firm_with C0 [] ys) h ≡ true → (has C' h ≡ true) ⊎ Never F C' h)
-    → AllWait C' W' → IsPlaced newS C' W' r' x → (In (hash_of x, MissingDeps) r' → Barred F C' x)
-    → all_there C0 (firm_with C0 [] ys) x.deps ≡ true → (has C' (hash_of x) ≡ true) ⊎ Never F C' (hash_of x)
-step_firm F C0 C C' W' zs ys newS r' x apart i grown firm settled placed barred all =
-    elim (truth (has C' (hash_of x))) [
-      | inl t ↦ inl t
-      | inr f ↦ inr (Never-out F C' x apart i f (out placed))
-    ] where
-      out : IsPlaced newS C' W' r' x → StaysOut F C' x
-      out (inl wait) =
-          let w = barred_dep F C0 C' (firm_with C0 [] ys) x grown firm all (lacks_cause (cause C' x) (settled x wait)) in
-          out_of_dep F C' x w.0 w.1 w.2
-      out (inr (inl done)) = out_of_refusal F C' x done.refused
-      out (inr (inr told)) = let b = barred told in out_of_dep F C' x b.dep b.needs b.lacks
-
--- The turn of one more change.
-pub Turn-more : (F C0 W0 K ys zs newG newS C C' W W' : List ChangeParts) (r r' : List (Hash × GraphError)) (x : ChangeParts) (n : ℕ)
-    → HashesApart F → F ≡ W0 ++ K → K ≡ ys ++ x ∷ zs
-    → Begins C0 C → AllIn W (W0 ++ ys) → ((c : ChangeParts) → In c (W0 ++ ys) → IsPlaced newG C W r c)
-    → Grows C (W ++ x ∷ []) C' newS → IsPlaced newS C' W' r' x
-    → AllWait C' W' → DropsOne r r' C C' W x n
-    → (all_there C0 (firm_with C0 [] ys) x.deps ≡ false → among (loose_with C0 [] ys (hashes W0)) (hash_of x) ≡ false → length W + n < most_waiting)
-    → Turn F C0 K ys C r → Turn F C0 K (ys ++ x ∷ []) C' r'
-Turn-more F C0 W0 K ys zs newG newS C C' W W' r r' x n apart whole split begins waits placed grows placed_now settled drops space t =
-    record { firm = firm; barred = barred; apart = out } where
-      part : AllIn (W0 ++ ys) F
-      part c i = subst (In c) (sym whole) (elim (In-append c W0 ys i) [
-        | inl j ↦ In-left c W0 K j
-        | inr j ↦ In-right c W0 K (subst (In c) (sym split) (In-left c ys (x ∷ zs) j))
-      ])
-
-      here : In x F
-      here = subst (In x) (sym whole) (In-right x W0 K (subst (In x) (sym split) (In-right x ys (x ∷ zs) (inl refl))))
-
-      came : AllIn newS F
-      came c i = elim (In-append c W (x ∷ []) (grows.came c i)) [ inl j ↦ part c (waits c j) | inr j ↦ elim j [ inl e ↦ rw e here | inr b ↦ absurd b ] ]
-
-      later : (h : Hash) → has C h ≡ true → has C' h ≡ true
-      later h e = subst (λ l. has l h ≡ true) (sym grows.begins) (has-left C newS h e)
-
-      grown_now : (h : Hash) → has C0 h ≡ true → has C h ≡ true
-      grown_now h e = subst (λ l. has l h ≡ true) (sym begins.1) (has-left C0 begins.0 h e)
-
-      grown : (h : Hash) → has C0 h ≡ true → has C' h ≡ true
-      grown h e = later h (grown_now h e)
-
-      firm_old : (h : Hash) → among (firm_with C0 [] ys) h ≡ true → (has C' h ≡ true) ⊎ Never F C' h
-      firm_old h e = elim (t.firm h e) [
-        | inl there ↦ inl (later h there)
-        | inr never_now ↦ inr (subst (λ l. Never F l h) (sym grows.begins) (Never-later F C newS h grows.fits came never_now))
-      ]
-
-      barred_later : (c : ChangeParts) → In c F → Barred F C c → Barred F C' c
-      barred_later c i b = subst (λ l. Barred F l c) (sym grows.begins) (Barred-later F C newS c apart i grows.fits came b)
-
-      barred_new : IsDropped C C' W x n → Barred F C' x
-      barred_new d = elim (dropped_firm F C0 W0 K ys newG C C' W r x n apart part here placed space d) [
-        | inl told ↦ barred_later x here (t.barred x here told)
-        | inr f ↦
-            let w = barred_dep F C0 C (firm_with C0 [] ys) x grown_now t.firm f.1 d.caused in
-            subst (λ l. Barred F l x) (sym d.same) (record { new = (waits_for C x d.caused).0; dep = w.0; needs = w.1; lacks = w.2 })
-      ]
-
-      barred : (c : ChangeParts) → In c F → In (hash_of c, MissingDeps) r' → Barred F C' c
-      barred c i told = elim (drops (hash_of c) told) [
-        | inl old ↦ barred_later c i (t.barred c i old)
-        | inr w ↦ subst (λ (y : ChangeParts). Barred F C' y) (sym (apart c x i here w.0)) (barred_new w.1)
-      ]
-
-      apart_list : HashesApart K
-      apart_list c d i j e = apart c d (subst (In c) (sym whole) (In-right c W0 K i)) (subst (In d) (sym whole) (In-right d W0 K j)) e
-
-      lacks_right : (A B : List ChangeParts) (h : Hash) → has (A ++ B) h ≡ false → has B h ≡ false
-      lacks_right A B h e = not_true (has B h) (λ y. let w = has-In B h y in never (In-has (A ++ B) w.0 h (In-right w.0 A B w.1) w.2) e)
-
-      out : (h : Hash) → In (h, MissingDeps) r' → among (loose_in C0 K) h ≡ false
-      out h told = elim (drops h told) [
-        | inl old ↦ t.apart h old
-        | inr w ↦ elim (dropped_firm F C0 W0 K ys newG C C' W r x n apart part here placed space w.1) [
-          | inl old ↦ subst (λ (g : Hash). among (loose_in C0 K) g ≡ false) (sym w.0) (t.apart (hash_of x) old)
-          | inr f ↦ subst (λ (g : Hash). among (loose_in C0 K) g ≡ false) (sym w.0)
-              (firm_out C0 K ys zs x apart_list split (lacks_right W0 ys (hash_of x) f.0) f.1)
-        ]
-      ]
-
-      firm : (h : Hash) → among (firm_with C0 [] (ys ++ x ∷ [])) h ≡ true → (has C' h ≡ true) ⊎ Never F C' h
-      firm h e = elim (truth (all_there C0 (firm_with C0 [] ys) x.deps)) [
-        | inl all ↦
-            let step : firm_with C0 (firm_with C0 [] ys) (x ∷ []) ≡ firm_with C0 [] ys ++ hash_of x ∷ [] = rw all refl in
-            let e2 : among (firm_with C0 [] ys ++ hash_of x ∷ []) h ≡ true = sym (ap (λ l. among l h) (firm_with-append C0 [] ys (x ∷ []) ∙ step)) ∙ e in
-            elim (among-pushed (firm_with C0 [] ys) (hash_of x) h e2) [
-              | inl old ↦ firm_old h old
-              | inr same ↦ subst (λ (g : Hash). (has C' g ≡ true) ⊎ Never F C' g) same
-                  (step_firm F C0 C C' W' zs ys newS r' x apart here grown firm_old settled placed_now (barred x here) all)
-            ]
-        | inr lacks ↦
-            let step : firm_with C0 (firm_with C0 [] ys) (x ∷ []) ≡ firm_with C0 [] ys = rw lacks refl in
-            firm_old h (sym (ap (λ l. among l h) (firm_with-append C0 [] ys (x ∷ []) ∙ step)) ∙ e)
-      ]
-
--- In the end what was dropped lacks a dependency still, and is none of the loose ones.
-pub Turn-last : (F C0 K ys C : List ChangeParts) (r : List (Hash × GraphError)) → Turn F C0 K ys C r → DropsFirm F C (loose_in C0 K) r
-Turn-last F C0 K ys C r t = record {
-  waits = λ c i told. Barred-cause F C c (t.barred c i told);
-  firm = t.apart;
-}
-
-pub turn_apart : (W ys xs K : List ChangeParts) → ys ++ xs ≡ K → HashesApart (W ++ K) → HashesApart (W ++ ys)
-turn_apart W ys xs K e apart c d i j same = apart c d (part c i) (part d j) same where
-  part : AllIn (W ++ ys) (W ++ K)
-  part x k = elim (In-append x W ys k) [ inl l ↦ In-left x W K l | inr l ↦ In-right x W K (subst (In x) e (In-left x ys xs l)) ]
+-- By the five cases.
+pub Turn-cases : {S : Type 0} (keeps : S → ChangeParts → S → Type 0) (P : Intake S → Type 0) (s t : Intake S) → Cases keeps P s → Turn keeps s t → P t
+Turn-cases keeps P s t h u = next_cases keeps P s t u.rest u.change h u.next u.meets

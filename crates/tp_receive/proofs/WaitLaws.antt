@@ -1,55 +1,62 @@
--- The list of what waits: taking one out, and going over it.
-use Rattle.std.proofs.Common.{◌≡◌, ℕ, suc, zero, ◌+◌, ◌<◌, ◌≤◌, ◌⊎◌, inl, inr, List, [], ◌∷◌, length, true, false, ◌||◌, Some, drop, get_or, sym, ap, ◌∙◌, arith, add-one, drop-cons, below_more}
+-- The list of what waits: going over it, and taking one out.
+use Rattle.tp_list.proofs.Members.{In-append}
+use Rattle.std.proofs.Common.{◌≡◌, ℕ, suc, zero, ◌+◌, ◌<◌, inl, inr, List, [], ◌∷◌, ◌++◌, length, Bool, true, false, ◌||◌, Some, take, drop, refl, sym, ap, ◌∙◌, subst, arith, drop-cons, add-one, get_or}
+use Rattle.std.proofs.lemmas.List.{take_more}
 use Rattle.std.specs.List.{slice_get, remove}
 use Rattle.tp_list.specs.Members.{In}
 use Rattle.tp_opid.specs.declared.hash.Hash.{Hash}
 use Rattle.tp_opid.specs.Same.{same_hash}
 use Rattle.tp_change.specs.declared.parts.ChangeParts.{ChangeParts}
 use Rattle.tp_change.specs.ChangeHash.{hash_of}
+use Rattle.tp_graph.specs.declared.error.GraphError.{GraphError}
 use Rattle.tp_graph.specs.Named.{has}
 use Rattle.tp_graph.specs.Fit.{cause}
 use Rattle.tp_receive.specs.Receiving.{AllWait, lacks_deps}
+use Rattle.tp_receive.specs.Intake.{Intake, NextWaits, intake}
+use Rattle.tp_receive.specs.Trying.{IsEarliest}
 
-pub slice_get-In : {X : Type 0} (xs : List X) (i : ℕ) (c : X) → slice_get xs i ≡ Some c → In c xs
-slice_get-In [] i c e = cc
-slice_get-In (x ∷ xs) zero c e = inl cc
-slice_get-In (x ∷ xs) (suc i) c e = inr (slice_get-In xs i c e)
+-- There is an element within a list.
+pub slice_get_there : {X : Type 0} (xs : List X) (i : ℕ) → i < length xs → (x : X) × (slice_get xs i ≡ Some x)
+slice_get_there [] i h = absurd (omega arith)
+slice_get_there (x ∷ xs) zero h = (x, refl)
+slice_get_there (x ∷ xs) (suc i) h = slice_get_there xs i (omega arith)
 
-pub In-slice_get : {X : Type 0} (xs : List X) (c : X) → In c xs → (i : ℕ) × (i < length xs) × (slice_get xs i ≡ Some c)
-In-slice_get [] c i = absurd i
-In-slice_get (x ∷ xs) c (inl s) = (0, omega arith, ap Some (sym s))
-In-slice_get (x ∷ xs) c (inr j) = let w = In-slice_get xs c j in (suc w.0, omega arith, w.2)
+-- a list around one of its elements
+pub record IsSplit {X : Type 0} (xs : List X) (i : ℕ) (x : X) : Type 0 where
+  pub before : List X
+  pub behind : List X
+  pub front : take i xs ≡ before
+  pub whole : xs ≡ before ++ x ∷ behind
+  pub rest : remove xs i ≡ before ++ behind
 
--- what was taken out, or what is left
-pub In-removed : {X : Type 0} (xs : List X) (i : ℕ) (c : X) → slice_get xs i ≡ Some c → (d : X) → In d xs → (d ≡ c) ⊎ In d (remove xs i)
-In-removed [] i c e d j = absurd j
-In-removed (x ∷ xs) zero c e d (inl s) = inl cc
-In-removed (x ∷ xs) zero c e d (inr j) = inr j
-In-removed (x ∷ xs) (suc i) c e d (inl s) = inr (inl s)
-In-removed (x ∷ xs) (suc i) c e d (inr j) = elim (In-removed xs i c e d j) [ inl s ↦ inl s | inr k ↦ inr (inr k) ]
+pub split_at : {X : Type 0} (xs : List X) (i : ℕ) (x : X) → slice_get xs i ≡ Some x → IsSplit xs i x
+split_at [] i x e = cc
+split_at (y ∷ xs) zero x e = let same : y ≡ x = cc in record { before = []; behind = xs; front = refl; whole = ap (λ z. z ∷ xs) same; rest = refl }
+split_at (y ∷ xs) (suc i) x e =
+    let w = split_at xs i x e in
+    record { before = y ∷ w.before; behind = w.behind; front = ap (λ l. y ∷ l) w.front; whole = ap (λ l. y ∷ l) w.whole; rest = ap (λ l. y ∷ l) w.rest }
 
-pub removed-In : {X : Type 0} (xs : List X) (i : ℕ) (d : X) → In d (remove xs i) → In d xs
-removed-In [] zero d j = j
-removed-In [] (suc i) d j = j
-removed-In (x ∷ xs) zero d j = inr j
-removed-In (x ∷ xs) (suc i) d (inl s) = inl s
-removed-In (x ∷ xs) (suc i) d (inr j) = inr (removed-In xs i d j)
+-- The earliest waiting change that lacks nothing has its turn.
+pub next_waits : {S : Type 0} (k : S) (C W : List ChangeParts) (P : List (ChangeParts × Bool)) (t : List Hash) (r : List (Hash × GraphError)) (i : ℕ) (c : ChangeParts)
+    → IsEarliest C W i → slice_get W i ≡ Some c → NextWaits (intake k C W P t r) c (intake k C (remove W i) P t r)
+next_waits k C W P t r i c e get =
+    let w = split_at W i c get in
+    record {
+      before = w.before;
+      behind = w.behind;
+      waits = w.whole;
+      earliest = subst (AllWait C) w.front e.before;
+      ready = e.ready c get;
+      without = ap (λ (l : List ChangeParts). intake k C l P t r) w.rest;
+    }
 
--- each below i waits
-abbrev pub WaitBelow : List ChangeParts → List ChangeParts → ℕ → Type 0
-WaitBelow C W i = (k : ℕ) → k < i → (c : ChangeParts) → slice_get W k ≡ Some c → lacks_deps (cause C c) ≡ true
+pub AllWait-push : (C W : List ChangeParts) (c : ChangeParts) → lacks_deps (cause C c) ≡ true → AllWait C W → AllWait C (W ++ c ∷ [])
+AllWait-push C W c h all d i = elim (In-append d W (c ∷ []) i) [ inl j ↦ all d j | inr j ↦ elim j [ inl e ↦ rw e h | inr n ↦ absurd n ] ]
 
-pub AllWait-below : (C W : List ChangeParts) (i : ℕ) → length W ≤ i → WaitBelow C W i → AllWait C W
-AllWait-below C W i past w c j =
-    let s = In-slice_get W c j in
-    let within : s.0 < length W = s.1 in
-    let below : s.0 < i = omega arith in
-    w s.0 below c s.2
-
-pub WaitBelow-more : (C W : List ChangeParts) (i : ℕ) (d : ChangeParts) → slice_get W i ≡ Some d → lacks_deps (cause C d) ≡ true → WaitBelow C W i → WaitBelow C W (i + 1)
-WaitBelow-more C W i d e h w =
-    below_more (λ (k : ℕ). (c : ChangeParts) → slice_get W k ≡ Some c → lacks_deps (cause C c) ≡ true) i w
-    (λ c g. let same : Some d ≡ Some c = sym e ∙ g in let one : d ≡ c = cc in ap (λ (x : ChangeParts). lacks_deps (cause C x)) (sym one) ∙ h)
+-- one more of them
+pub AllWait-more : (C W : List ChangeParts) (i : ℕ) (d : ChangeParts) → i < length W → d ≡ get_or W i d → lacks_deps (cause C d) ≡ true → AllWait C (take i W) → AllWait C (take (i + 1) W)
+AllWait-more C W i d small is h all =
+    subst (AllWait C) (sym (take_more W i d small ∙ ap (λ (x : ChangeParts). take i W ++ x ∷ []) (sym is))) (AllWait-push C (take i W) d h all)
 
 has-drop : (W : List ChangeParts) (i : ℕ) (d : ChangeParts) (h : Hash) → i < length W → has (drop i W) h ≡ (same_hash (hash_of (get_or W i d)) h || has (drop (i + 1) W) h)
 has-drop W i d h small =

@@ -1,6 +1,6 @@
 pub mod Receiving
-pub mod Going
-pub mod Judges
-pub mod Admits
+pub mod Delivery
+pub mod Intake
 pub mod Replies
-pub mod Loose
+pub mod Judges
+pub mod Trying

@@ -87,3 +87,8 @@ hashes (c ∷ C) = hash_of c ∷ hashes C
 abbrev pub held_of : List Hash → List ChangeParts → List Hash
 held_of H [] = []
 held_of H (c ∷ W) = cond (among H (hash_of c)) (hash_of c ∷ held_of H W) (held_of H W)
+
+-- each of the hashes stands in the list once
+abbrev pub EachOnce : List Hash → Type 0
+EachOnce [] = Unit {0}
+EachOnce (h ∷ H) = (among H h ≡ false) × EachOnce H

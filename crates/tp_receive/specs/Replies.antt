@@ -1,18 +1,43 @@
--- What a call that receives changes answers.
-use Rattle.std.specs.Prelude.{◌≡◌, ◌⊎◌, List, [], ◌∷◌, Some, false}
-use Rattle.tp_list.specs.Members.{In}
+-- What receiving promises of where the changes are in the end, and of what it tells.
+use Rattle.std.specs.Prelude.{◌≡◌, ◌⊎◌, List, [], ◌∷◌, ◌++◌, Some, true, false}
+use Rattle.tp_list.specs.Members.{In, AllIn}
 use Rattle.tp_opid.specs.declared.hash.Hash.{Hash}
 use Rattle.tp_change.specs.declared.parts.ChangeParts.{ChangeParts}
 use Rattle.tp_change.specs.ChangeHash.{hash_of}
-use Rattle.tp_graph.specs.Named.{among}
+use Rattle.tp_graph.specs.Named.{has}
 use Rattle.tp_graph.specs.Fit.{cause}
 use Rattle.tp_graph.specs.declared.error.GraphError.{GraphError}
 use Rattle.tp_graph.specs.declared.error.GraphError.TheVariants.{MissingDeps}
-use Rattle.tp_receive.specs.declared.error.ReceiveError.{ReceiveError}
-use Rattle.tp_receive.specs.declared.error.ReceiveError.TheVariants.{PendingFull, NotKept, OutOfMemory}
-use Rattle.tp_receive.specs.declared.keeper.KeepError.{KeepError}
-use Rattle.tp_receive.specs.Receiving.{Between}
-use Rattle.tp_receive.specs.Going.{Stops}
+use Rattle.tp_receive.specs.Receiving.{Grows, Receives, is_refusal, hashes}
+use Rattle.tp_receive.specs.Delivery.{delivery, undeliverable}
+use Rattle.tp_receive.specs.Intake.{Intake}
+
+-- The keeper went from k to k' by keeping the changes one after another.
+abbrev pub KeepsAll : {S : Type 0} → (S → ChangeParts → S → Type 0) → S → List ChangeParts → S → Type 0
+KeepsAll keeps k [] k' = k ≡ k'
+KeepsAll {S} keeps k (c ∷ cs) k' = (m : S) × keeps k c m × KeepsAll keeps m cs k'
+
+-- The keeper kept just what entered behind C, in that order.
+pub record KeepsNew {S : Type 0} (keeps : S → ChangeParts → S → Type 0) (k k' : S) (C C' : List ChangeParts) : Type 0 where
+  pub new : List ChangeParts
+  pub entered : C' ≡ C ++ new
+  pub kept : KeepsAll keeps k new k'
+
+-- How far receiving F behind C came: what entered is of F, each had no cause at its turn and was kept first, and it
+-- is told in its order; what waits is of F.
+pub record Entered {S : Type 0} (keeps : S → ChangeParts → S → Type 0) (k : S) (C F : List ChangeParts) (t : Intake S) : Type 0 where
+  pub new : List ChangeParts
+  pub grows : Grows C F t.applied new
+  pub kept : KeepsAll keeps k new t.keeper
+  pub told : t.entered ≡ hashes new
+  pub waits : AllIn t.waiting F
+
+-- What becomes of the changes W that waited behind C, where C' is applied and W' waits: each waits still, entered,
+-- or is refused for good. What was applied or refused for good is so still.
+pub record LosesNone (C C' W W' : List ChangeParts) : Type 0 where
+  pub grown : AllIn C C'
+  pub final : (c : ChangeParts) → is_refusal (cause C c) ≡ true → is_refusal (cause C' c) ≡ true
+  pub stays : (c : ChangeParts) → In c W → In c W' ⊎ (In c C' ⊎ (is_refusal (cause C' c) ≡ true))
 
 -- No change was dropped for want of space.
 abbrev pub NoneDropped : List (Hash × GraphError) → Type 0
@@ -30,18 +55,15 @@ pub record AllPlaced (F C' W' : List ChangeParts) (applied : List Hash) (refused
   pub waiting : (c : ChangeParts) → In c W' → cause C' c ≡ Some MissingDeps
   pub told : (c : ChangeParts) → In c F → In (hash_of c) applied ⊎ (In c W' ⊎ ((e : GraphError) × In (hash_of c, e) refused))
 
--- Each of the hashes stands in the list once.
-abbrev pub EachOnce : List Hash → Type 0
-EachOnce [] = Unit {0}
-EachOnce (h ∷ H) = (among H h ≡ false) × EachOnce H
+-- No change that was dropped is one of these.
+abbrev pub DropsNoneOf : List ChangeParts → List (Hash × GraphError) → Type 0
+DropsNoneOf K refused = (h : Hash) → In (h, MissingDeps) refused → has K h ≡ false
 
--- No change that was dropped is one of the loose ones.
-abbrev pub AreFirm : List Hash → List (Hash × GraphError) → Type 0
-AreFirm loose refused = (h : Hash) → In (h, MissingDeps) refused → among loose h ≡ false
-
--- How an error leaves what is applied, what waits and the keeper: PendingFull as they were, the others between.
-abbrev pub Fails : {S : Type 0} → (S → ChangeParts → S → Type 0) → (S → ChangeParts → KeepError → S → Type 0) → S → S
-    → List ChangeParts → List ChangeParts → List ChangeParts → List ChangeParts → List ChangeParts → ReceiveError → Type 0
-Fails keeps refuses k k' F C C' W W' PendingFull = (k' ≡ k) × (C' ≡ C) × (W' ≡ W)
-Fails keeps refuses k k' F C C' W W' NotKept = Between C F C' × Stops keeps refuses k k' F C C' W' NotKept
-Fails keeps refuses k k' F C C' W W' OutOfMemory = Between C F C' × Stops keeps refuses k k' F C C' W' OutOfMemory
+-- What a whole run promises where no two different changes of what waited and came have one hash, where W waited
+-- behind C and K came: the result is complete, each told cause is the cause now, each change is somewhere, and what
+-- was dropped is none of the undeliverable ones.
+pub record Results {S : Type 0} (C W K : List ChangeParts) (t : Intake S) : Type 0 where
+  pub receives : Receives C (W ++ K) t.applied
+  pub causes : AreRefused (W ++ K) t.applied t.refused
+  pub placed : AllPlaced (W ++ K) t.applied t.waiting t.entered t.refused
+  pub deliverable : DropsNoneOf (undeliverable (delivery C K)) t.refused

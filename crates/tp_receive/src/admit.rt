@@ -1,10 +1,10 @@
 //! Trying one change: it enters, is refused, or must wait.
 
-ghost use Rattle.std.specs.Prelude.{◌≡◌, ◌++◌, ◌∷◌, [], Some, None, OnOk, OnErr, IfOk, IfErr};
+ghost use Rattle.std.specs.Prelude.{◌≡◌, ◌++◌, ◌∷◌, [], List, None, OnOk, OnErr, IfOk, IfErr};
 ghost use Rattle.tp_change.specs.ChangeHash.{hash_of};
 ghost use Rattle.tp_graph.specs.Fit.{cause};
-ghost use Rattle.tp_receive.specs.Going.{Leaves};
-ghost use Rattle.tp_receive.specs.Admits.{Admits};
+ghost use Rattle.tp_change.specs.declared.parts.ChangeParts.{ChangeParts};
+ghost use Rattle.tp_receive.specs.Trying.{Tried, TryFails};
 
 use crate::error::ReceiveError;
 use crate::keeper::{KeepError, Keeper};
@@ -27,7 +27,8 @@ pub(crate) enum Outcome {
 /// Keeps a change, with the refusal as this crate's.
 pub(crate) fn keep<K: Keeper>(keeper: &mut K, change: &Change) -> Result<(), ReceiveError>
     ensures ok { OnOk result (K.keeps keeper.old change.now keeper.new) }
-    ensures err { IfErr result (λ e. Leaves K.refuses e (change.now ∷ []) keeper.old keeper.new) }
+    ensures err { (C : List ChangeParts) → cause C change.now ≡ None
+        → IfErr result (λ e. TryFails K.refuses C e change.now keeper.old keeper.new) }
 {
     match keeper.keep(change) {
         Ok(()) => Ok(()),
@@ -51,7 +52,7 @@ fn enter_kept<R: Replica, K: Keeper>(
     ensures applied { OnOk result (R.applied replica.new ≡ R.applied replica.old ++ change ∷ []) }
     ensures told { OnOk result (told.new.applied.items ≡ told.old.applied.items ++ hash_of change ∷ []) }
     ensures refused { OnOk result (told.new.refused.items ≡ told.old.refused.items) }
-    ensures err { IfErr result (λ e. Leaves K.refuses e (change ∷ []) keeper.old keeper.new) }
+    ensures err { IfErr result (λ e. TryFails K.refuses (R.applied replica.old) e change keeper.old keeper.new) }
     ensures stays { OnErr result (R.applied replica.new ≡ R.applied replica.old) }
 {
     told.applied.push(change.hash())?;
@@ -70,9 +71,9 @@ pub(crate) fn admit<R: Replica, K: Keeper>(
 ) -> Result<Outcome, ReceiveError>
     ensures id { R.id replica.new ≡ R.id replica.old }
     ensures waiting { R.waiting replica.new ≡ R.waiting replica.old }
-    ensures ok { IfOk result (λ o. Admits K.keeps keeper.old keeper.new change (R.applied replica.old) (R.applied replica.new)
+    ensures ok { IfOk result (λ o. Tried K.keeps keeper.old keeper.new change (R.applied replica.old) (R.applied replica.new)
         told.old.applied.items told.new.applied.items told.old.refused.items told.new.refused.items o) }
-    ensures err { IfErr result (λ e. Leaves K.refuses e (change ∷ []) keeper.old keeper.new) }
+    ensures err { IfErr result (λ e. TryFails K.refuses (R.applied replica.old) e change keeper.old keeper.new) }
     ensures stays { OnErr result (R.applied replica.new ≡ R.applied replica.old) }
 {
     match judge(replica.ready(&change))? {

@@ -1,12 +1,19 @@
 //! Laws of receiving, each the contract of a function that does nothing.
 
-ghost use Rattle.std.specs.Prelude.{List, ◌≡◌, ◌++◌, ◌<◌, true, Some, length};
+ghost use Rattle.std.specs.Prelude.{List, ◌≡◌, ◌+◌, ◌++◌, ◌<◌, ◌≤◌, true, false, Some, length};
 ghost use Rattle.tp_change.specs.declared.parts.ChangeParts.{ChangeParts};
 ghost use Rattle.tp_list.specs.Members.{In, AllIn, SameMembers};
 ghost use Rattle.tp_graph.specs.declared.error.GraphError.{GraphError};
 ghost use Rattle.tp_graph.specs.Fit.{cause, most_changes};
 ghost use Rattle.tp_graph.specs.Sound.{Sound};
+ghost use Rattle.tp_graph.specs.GraphState.{most_waiting};
 ghost use Rattle.tp_receive.specs.Receiving.{Receives, Between, Grows, EntersAfter, HashesApart, SeqsApart, is_refusal};
+ghost use Rattle.tp_receive.specs.Delivery.{is_full};
+ghost use Rattle.tp_receive.specs.Intake.{Ends, Intake, Run, Stopped, begin};
+ghost use Rattle.tp_receive.specs.Replies.{Entered, LosesNone, NoneDropped, Results};
+ghost use Rattle.tp_receive.specs.declared.error.ReceiveError.{ReceiveError};
+
+use crate::keeper::Keeper;
 
 /// Whatever changes are received behind a sound list, there is a result.
 pub fn result_exists()
@@ -35,4 +42,41 @@ pub fn refusal_stays_the_same()
 pub fn one_set()
     ensures { (C K long other : List ChangeParts) → Sound C → HashesApart (C ++ K) → SeqsApart (C ++ K)
         → length long < most_changes → length other < most_changes → Receives C K long → Receives C K other → SameMembers long other }
+{}
+
+/// Wherever a run stops: what entered is of what waited and came, each change could enter at its turn and was kept
+/// first, and it is told in its order. What waits is of what waited and came.
+pub fn what_entered<K: Keeper>()
+    ensures { (k : K) (C W L : List ChangeParts) (t : Intake K) → Run K.keeps (begin k C W L) t → Entered K.keeps k C (W ++ L) t }
+{}
+
+/// Wherever a run goes on to, nothing that waits is lost: each waits still, entered or is refused for good.
+pub fn nothing_is_lost<K: Keeper>()
+    ensures { (s t : Intake K) → Run K.keeps s t → LosesNone s.applied t.applied s.waiting t.waiting }
+{}
+
+/// At most 1,024 wait wherever a run stops, but where it had to be refused.
+pub fn few_wait<K: Keeper>()
+    ensures { (k : K) (C W L : List ChangeParts) (t : Intake K) → is_full C W L ≡ false
+        → Run K.keeps (begin k C W L) t → length t.waiting ≤ most_waiting }
+{}
+
+/// None is dropped where no more than 1,024 waited and came.
+pub fn none_is_dropped<K: Keeper>()
+    ensures { (k : K) (C W L : List ChangeParts) (t : Intake K) → length W + length L ≤ most_waiting
+        → Run K.keeps (begin k C W L) t → NoneDropped t.refused }
+{}
+
+/// Where no two different changes of what waited and came have one hash, a whole run is a result of receiving: every
+/// change entered or has a cause, each told cause is the cause now, each change is somewhere, and what was dropped is
+/// none of the undeliverable ones.
+pub fn a_whole_run_is_a_result<K: Keeper>()
+    ensures { (k : K) (C W L : List ChangeParts) (t : Intake K) → Sound C → HashesApart (W ++ L) → is_full C W L ≡ false
+        → Run K.keeps (begin k C W L) t → Ends t → Results C W L t }
+{}
+
+/// Where a run stopped, what is applied stands between.
+pub fn a_stop_is_between<K: Keeper>()
+    ensures { (k k' : K) (C C' W W' L : List ChangeParts) (e : ReceiveError) → Sound C
+        → Stopped K.keeps K.refuses (begin k C W L) e k' C' W' → Between C (W ++ L) C' }
 {}

@@ -5,12 +5,12 @@
 #![tactic(auto)]
 
 mod admit;
+mod coming;
 mod error;
 mod hashes;
 mod intake;
 mod keeper;
 pub mod laws;
-mod loose;
 mod replica;
 mod settle;
 mod take;

@@ -1,13 +1,13 @@
 //! Trying the changes that wait.
 
-ghost use Rattle.std.specs.Prelude.{◌≡◌, ◌+◌, ◌<◌, ◌≤◌, ◌++◌, ◌∷◌, [], ℕ, None, Some, false, length, OnOk, OnErr, IfOk, IfErr, MatchOption};
+ghost use Rattle.std.specs.Prelude.{◌≡◌, ◌+◌, ◌<◌, ◌++◌, ◌∷◌, [], Bool, List, None, Some, length, OnOk, OnErr, IfOk, IfErr, MatchOption};
 ghost use Rattle.std.specs.List.{slice_get, remove};
 ghost use Rattle.tp_change.specs.declared.parts.ChangeParts.{ChangeParts};
 ghost use Rattle.tp_change.specs.ChangeHash.{hash_of};
 ghost use Rattle.tp_graph.specs.Fit.{cause};
-ghost use Rattle.tp_receive.specs.Admits.{Admits};
+ghost use Rattle.tp_receive.specs.Trying.{IsEarliest, Tried, TryFails};
 ghost use Rattle.tp_receive.specs.Receiving.{AllWait, lacks_deps};
-ghost use Rattle.tp_receive.specs.Going.{Goes, Leaves, Stops, LosesNone, DropsNone};
+ghost use Rattle.tp_receive.specs.Intake.{Run, Stopped, Turn, intake};
 
 use crate::admit::{Outcome, keep};
 use crate::error::ReceiveError;
@@ -33,8 +33,7 @@ fn must_wait<R: Replica>(replica: &R, change: &Change) -> Result<bool, ReceiveEr
 // The number of the earliest pending change that needn't wait.
 fn first_ready<R: Replica>(replica: &R) -> Result<Option<usize>, ReceiveError>
     ensures ok { IfOk result (λ found. MatchOption found (AllWait (R.applied replica.now) (R.waiting replica.now))
-        (λ i. (i < length (R.waiting replica.now))
-        × ((c : ChangeParts) → slice_get (R.waiting replica.now) i ≡ Some c → lacks_deps (cause (R.applied replica.now) c) ≡ false))) }
+        (λ i. IsEarliest (R.applied replica.now) (R.waiting replica.now) i)) }
     ensures err { IfErr result (λ e. e ≡ ReceiveError.OutOfMemory) }
 {
     let pending = replica.pending();
@@ -57,10 +56,11 @@ fn enter_waiting<R: Replica, K: Keeper>(
     requires enters { (c : ChangeParts) → slice_get (R.waiting replica.old) i ≡ Some c → cause (R.applied replica.old) c ≡ None }
     requires room { (c : ChangeParts) → slice_get (R.waiting replica.old) i ≡ Some c → R.has_room replica.old c }
     ensures id { R.id replica.new ≡ R.id replica.old }
-    ensures ok { (c : ChangeParts) → slice_get (R.waiting replica.old) i ≡ Some c → OnOk result (Admits K.keeps keeper.old keeper.new c (R.applied replica.old) (R.applied replica.new)
+    ensures ok { (c : ChangeParts) → slice_get (R.waiting replica.old) i ≡ Some c → OnOk result (Tried K.keeps keeper.old keeper.new c (R.applied replica.old) (R.applied replica.new)
         told.old.applied.items told.new.applied.items told.old.refused.items told.new.refused.items Outcome.Entered) }
     ensures out { OnOk result (R.waiting replica.new ≡ remove (R.waiting replica.old) i) }
-    ensures err { (c : ChangeParts) → slice_get (R.waiting replica.old) i ≡ Some c → IfErr result (λ e. Leaves K.refuses e (c ∷ []) keeper.old keeper.new) }
+    ensures err { (c : ChangeParts) → slice_get (R.waiting replica.old) i ≡ Some c
+        → IfErr result (λ e. TryFails K.refuses (R.applied replica.old) e c keeper.old keeper.new) }
     ensures applied { OnErr result (R.applied replica.new ≡ R.applied replica.old) }
     ensures waiting { OnErr result (R.waiting replica.new ≡ R.waiting replica.old) }
 {
@@ -94,23 +94,23 @@ fn refuse_waiting<R: Replica>(
     Ok(())
 }
 
-// Tries a pending change that needn't wait: it enters or is refused, and waits no longer. An error leaves it waiting.
+// Gives the earliest pending change that needn't wait its turn: it enters or is refused, and waits no longer. An error
+// leaves it waiting.
 fn settle_one<R: Replica, K: Keeper>(
     replica: &mut R,
     keeper: &mut K,
     i: usize,
     told: &mut Told,
 ) -> Result<(), ReceiveError>
-    requires within { i < length (R.waiting replica.old) }
-    requires ready { (c : ChangeParts) → slice_get (R.waiting replica.old) i ≡ Some c → lacks_deps (cause (R.applied replica.old) c) ≡ false }
+    requires { IsEarliest (R.applied replica.old) (R.waiting replica.old) i }
     ensures id { R.id replica.new ≡ R.id replica.old }
-    ensures ok { OnOk result (Goes K.keeps keeper.old keeper.new (R.waiting replica.old) (R.applied replica.old) (R.applied replica.new)
-        (R.waiting replica.new) told.old.applied.items told.new.applied.items told.old.refused.items told.new.refused.items) }
-    ensures err { IfErr result (λ e. Stops K.keeps K.refuses keeper.old keeper.new (R.waiting replica.old) (R.applied replica.old)
-        (R.applied replica.new) (R.waiting replica.new) e) }
-    ensures undropped { OnOk result (DropsNone told.old.refused.items told.new.refused.items) }
+    ensures ok { (P : List (ChangeParts × Bool)) → OnOk result (Turn K.keeps
+        (intake keeper.old (R.applied replica.old) (R.waiting replica.old) P told.old.applied.items told.old.refused.items)
+        (intake keeper.new (R.applied replica.new) (R.waiting replica.new) P told.new.applied.items told.new.refused.items)) }
+    ensures err { (P : List (ChangeParts × Bool)) → IfErr result (λ e. Stopped K.keeps K.refuses
+        (intake keeper.old (R.applied replica.old) (R.waiting replica.old) P told.old.applied.items told.old.refused.items)
+        e keeper.new (R.applied replica.new) (R.waiting replica.new)) }
     ensures fewer { OnOk result (length (R.waiting replica.new) + 1 ≡ length (R.waiting replica.old)) }
-    ensures stays { LosesNone (R.applied replica.old) (R.applied replica.new) (R.waiting replica.old) (R.waiting replica.new) }
 {
     match judge(replica.ready_waiting(i))? {
         Verdict::Enters => enter_waiting(replica, keeper, i, told),
@@ -119,22 +119,21 @@ fn settle_one<R: Replica, K: Keeper>(
     }
 }
 
-/// Tries the pending changes from the earliest until each of those left must wait. After each that enters it
-/// begins again from the earliest: at most 1,024 times 1,024 checks. An error loses none of them.
+/// Gives the pending changes their turns, from the earliest, until each of those left must wait. After each that
+/// enters it begins again from the earliest: at most 1,024 times 1,024 checks. An error loses none of them.
 pub(crate) fn settle<R: Replica, K: Keeper>(
     replica: &mut R,
     keeper: &mut K,
     told: &mut Told,
 ) -> Result<(), ReceiveError>
     ensures id { R.id replica.new ≡ R.id replica.old }
-    ensures ok { OnOk result (Goes K.keeps keeper.old keeper.new (R.waiting replica.old) (R.applied replica.old) (R.applied replica.new)
-        (R.waiting replica.new) told.old.applied.items told.new.applied.items told.old.refused.items told.new.refused.items) }
-    ensures undropped { OnOk result (DropsNone told.old.refused.items told.new.refused.items) }
-    ensures fewer { OnOk result (length (R.waiting replica.new) ≤ length (R.waiting replica.old)) }
+    ensures ok { (P : List (ChangeParts × Bool)) → OnOk result (Run K.keeps
+        (intake keeper.old (R.applied replica.old) (R.waiting replica.old) P told.old.applied.items told.old.refused.items)
+        (intake keeper.new (R.applied replica.new) (R.waiting replica.new) P told.new.applied.items told.new.refused.items)) }
     ensures settled { OnOk result (AllWait (R.applied replica.new) (R.waiting replica.new)) }
-    ensures stays { LosesNone (R.applied replica.old) (R.applied replica.new) (R.waiting replica.old) (R.waiting replica.new) }
-    ensures err { IfErr result (λ e. Stops K.keeps K.refuses keeper.old keeper.new (R.waiting replica.old) (R.applied replica.old)
-        (R.applied replica.new) (R.waiting replica.new) e) }
+    ensures err { (P : List (ChangeParts × Bool)) → IfErr result (λ e. Stopped K.keeps K.refuses
+        (intake keeper.old (R.applied replica.old) (R.waiting replica.old) P told.old.applied.items told.old.refused.items)
+        e keeper.new (R.applied replica.new) (R.waiting replica.new)) }
 {
     while let Some(i) = first_ready(replica)? {
         settle_one(replica, keeper, i, told)?;

@@ -1,12 +1,12 @@
 //! Taking one change that came.
 
-ghost use Rattle.std.specs.Prelude.{◌≡◌, ◌++◌, ◌∷◌, [], ◌⊎◌, ◌+◌, ◌<◌, ◌≤◌, ℕ, Some, length, OnOk, OnErr, IfOk, IfErr};
+ghost use Rattle.std.specs.Prelude.{◌≡◌, ◌∷◌, Bool, List, OnOk, OnErr, IfErr};
 ghost use Rattle.tp_change.specs.declared.parts.ChangeParts.{ChangeParts};
 ghost use Rattle.tp_graph.specs.Named as named;
-ghost use Rattle.tp_graph.specs.Fit.{cause};
-ghost use Rattle.tp_receive.specs.Receiving.{AllWait, lacks_deps};
-ghost use Rattle.tp_receive.specs.Going.{Goes, Stops, LosesNone, IsHeld, DropsOne};
-ghost use Rattle.tp_graph.specs.GraphState.{most_waiting};
+ghost use Rattle.tp_receive.specs.Receiving.{AllWait};
+ghost use Rattle.tp_receive.specs.Delivery.{places};
+ghost use Rattle.tp_receive.specs.Intake.{Run, Stopped, intake};
+ghost use Rattle.tp_receive.specs.Trying.{IsHeld};
 
 use crate::admit::{Outcome, admit};
 use crate::error::ReceiveError;
@@ -64,8 +64,9 @@ fn let_wait<R: Replica>(
     }
 }
 
-/// Takes a change that came: it enters, and what it lets enter of those that wait; or it is refused and told, or
-/// waits, where the waiting changes and the reserved places are fewer than 1,024. An error loses none of those that waited.
+/// Gives the next change that came its turn: it enters, and what it lets enter of those that wait; or it is refused
+/// and told, or waits, where the waiting changes and the reserved places are fewer than 1,024. An error loses none of
+/// those that waited.
 pub(crate) fn take<R: Replica, K: Keeper>(
     replica: &mut R,
     keeper: &mut K,
@@ -75,15 +76,13 @@ pub(crate) fn take<R: Replica, K: Keeper>(
 ) -> Result<(), ReceiveError>
     requires settled { AllWait (R.applied replica.old) (R.waiting replica.old) }
     ensures id { R.id replica.new ≡ R.id replica.old }
-    ensures ok { OnOk result (Goes K.keeps keeper.old keeper.new (R.waiting replica.old ++ change ∷ []) (R.applied replica.old) (R.applied replica.new)
-        (R.waiting replica.new) told.old.applied.items told.new.applied.items told.old.refused.items told.new.refused.items) }
-    ensures spare { OnOk result (DropsOne told.old.refused.items told.new.refused.items (R.applied replica.old) (R.applied replica.new) (R.waiting replica.old) change reserved) }
-    ensures count { OnOk result ((length (R.waiting replica.new) ≤ length (R.waiting replica.old))
-        ⊎ ((length (R.waiting replica.new) ≤ length (R.waiting replica.old) + 1) × (length (R.waiting replica.old) + reserved < most_waiting))) }
+    ensures ok { (place : Bool) (P : List (ChangeParts × Bool)) → reserved ≡ places P → OnOk result (Run K.keeps
+        (intake keeper.old (R.applied replica.old) (R.waiting replica.old) ((change, place) ∷ P) told.old.applied.items told.old.refused.items)
+        (intake keeper.new (R.applied replica.new) (R.waiting replica.new) P told.new.applied.items told.new.refused.items)) }
     ensures settled { OnOk result (AllWait (R.applied replica.new) (R.waiting replica.new)) }
-    ensures stays { LosesNone (R.applied replica.old) (R.applied replica.new) (R.waiting replica.old) (R.waiting replica.new) }
-    ensures err { IfErr result (λ e. Stops K.keeps K.refuses keeper.old keeper.new (R.waiting replica.old ++ change ∷ []) (R.applied replica.old)
-        (R.applied replica.new) (R.waiting replica.new) e) }
+    ensures err { (place : Bool) (P : List (ChangeParts × Bool)) → reserved ≡ places P → IfErr result (λ e. Stopped K.keeps K.refuses
+        (intake keeper.old (R.applied replica.old) (R.waiting replica.old) ((change, place) ∷ P) told.old.applied.items told.old.refused.items)
+        e keeper.new (R.applied replica.new) (R.waiting replica.new)) }
 {
     match admit(replica, keeper, change, told)? {
         Outcome::Entered => settle(replica, keeper, told),

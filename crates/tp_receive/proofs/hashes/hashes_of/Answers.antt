@@ -1,4 +1,4 @@
-use Rattle.tp_receive.proofs.ReplyLaws.{hashes-more}
+use Rattle.tp_receive.proofs.HashLaws.{hashes-more}
 use Rattle.std.proofs.Common.{◌∙◌, ap}
 use Rattle.tp_change.specs.ChangeHash.{hash_of}
 use Rattle.tp_receive.proofs.hashes.hashes_of.Goals as goal

@@ -1,7 +1,7 @@
 use Rattle.std.proofs.Common.{◌∙◌, ap, ◌++◌, ◌∷◌, []}
 use Rattle.tp_change.specs.declared.parts.ChangeParts.{ChangeParts}
 use Rattle.tp_receive.specs.Receiving as receiving
-use Rattle.tp_receive.proofs.ReplyLaws.{held_of-more}
+use Rattle.tp_receive.proofs.HashLaws.{held_of-more}
 use Rattle.tp_receive.proofs.hashes.held_of.Goals as goal
 
 pub loop-change-preserved : goal.loop-change-preserved

@@ -1,5 +1,6 @@
-use Rattle.tp_receive.proofs.WaitLaws.{WaitBelow}
+use Rattle.std.proofs.Common.{take}
+use Rattle.tp_receive.specs.Receiving.{AllWait}
 use Rattle.tp_receive.proofs.settle.first_ready.Given as goal
 
 abbrev pub invariant-loop-i : goal.invariant-loop-i
-invariant-loop-i g l = WaitBelow (g.R.Replica.applied l.replica) (g.R.Replica.waiting l.replica) l.i
+invariant-loop-i g l = AllWait (g.R.Replica.applied l.replica) (take l.i (g.R.Replica.waiting l.replica))

@@ -1,128 +1,84 @@
-use Rattle.std.proofs.Common.{◌≡◌, ◌++◌, ◌∷◌, [], inl, ap, subst, ◌∙◌, length, arith}
-use Rattle.tp_receive.specs.declared.error.ReceiveError.{ReceiveError}
-use Rattle.tp_receive.specs.declared.error.ReceiveError.TheVariants as error
-use Rattle.tp_receive.specs.Going.{Stops}
-use Rattle.tp_list.specs.Members.{In}
-use Rattle.tp_list.proofs.Members.{In-left}
-use Rattle.tp_receive.proofs.GoesLaws.{Goes-then, Stops-then}
-use Rattle.tp_receive.proofs.SettleLaws.{IfErr-residual, drops_refused}
-use Rattle.tp_receive.proofs.TakeLaws.{OnOk-map, IfErr-map, IfErr-stays, take_entered, take_refused, take_stopped, take_held, wait_held, wait_stopped, spare_held, count_held, count_on_one, stays_held, drops_one}
-use Rattle.tp_change.specs.ChangeHash.{hash_of}
-use Rattle.tp_receive.proofs.LosesLaws.{LosesNone-then, LosesNone-at, LosesNone-enters}
+use Rattle.std.proofs.Common.{inr, ◌∷◌, ◌∙◌, ap, subst, List}
+use Rattle.tp_change.specs.declared.parts.ChangeParts.{ChangeParts}
+use Rattle.tp_receive.specs.Intake.{intake}
+use Rattle.tp_receive.proofs.TurnLaws.{Run-none, Run-one, Run-turn}
+use Rattle.tp_receive.proofs.TakingLaws.{OnOk-map, came, meets_entered, meets_refused, meets_held, next_comes, Stopped-trying, stops_later, stops_on, turn_untold, wait_held}
 use Rattle.tp_receive.proofs.take.take.Goals as goal
 
 pub returns-in_err-admit-clause-err : goal.returns-in_err-admit-clause-err
-returns-in_err-admit-clause-err g c =
-    IfErr-residual
-    (λ (e : ReceiveError). Stops g.K.Keeper.keeps g.K.Keeper.refuses c.args.keeper.now c.admit.new.keeper (g.R.Replica.waiting c.args.replica.now ++ c.args.change ∷ []) (g.R.Replica.applied c.args.replica.now) (g.R.Replica.applied c.admit.new.replica) (g.R.Replica.waiting c.admit.new.replica) e)
-    c.from_residual.result c.in_err-admit.field-0.0
-    (take_stopped g.K.Keeper.keeps g.K.Keeper.refuses c.args.keeper.now c.admit.new.keeper c.args.change (g.R.Replica.applied c.args.replica.now) (g.R.Replica.applied c.admit.new.replica) (g.R.Replica.waiting c.args.replica.now) (g.R.Replica.waiting c.admit.new.replica) c.in_err-admit.field-0.0
-    c.admit.ensures.waiting c.in_err-admit.ensures.stays c.in_err-admit.ensures.err)
+returns-in_err-admit-clause-err g c place P few =
+    let R = g.R.Replica in
+    let k = c.args.keeper.now in
+    let C = R.applied c.args.replica.now in
+    let W = R.waiting c.args.replica.now in
+    let t = c.args.told.now.applied.items in
+    let r = c.args.told.now.refused.items in
+    let begun = intake k C W ((c.args.change, place) ∷ P) t r in
+    stops_on g.K.Keeper.keeps g.K.Keeper.refuses begun begun c.admit.new.keeper (R.applied c.admit.new.replica) (R.waiting c.admit.new.replica) c.from_residual.result c.in_err-admit.field-0.0
+    (Run-none g.K.Keeper.keeps begun)
+    (Stopped-trying g.K.Keeper.keeps g.K.Keeper.refuses begun c.args.change (intake k C W P t r) c.in_err-admit.field-0.0 c.admit.new.keeper (R.applied c.admit.new.replica) (R.waiting c.admit.new.replica)
+    (inr (next_comes k C W P t r c.args.change place c.requires.settled)) c.in_err-admit.ensures.stays c.admit.ensures.waiting c.in_err-admit.ensures.err)
     c.from_residual.ensures.1
 
-pub returns-in-Refused-clause-ok : goal.returns-in-Refused-clause-ok
-returns-in-Refused-clause-ok g c =
-    take_refused g.K.Keeper.keeps c.args.keeper.now c.admit.new.keeper c.args.change (g.R.Replica.applied c.args.replica.now) (g.R.Replica.applied c.admit.new.replica) (g.R.Replica.waiting c.args.replica.now) (g.R.Replica.waiting c.admit.new.replica) c.args.told.now.applied.items c.admit.new.told.applied.items c.args.told.now.refused.items c.admit.new.told.refused.items c.admit.ensures.waiting
-    (rw c.in-Refused.is at c.in_ok-admit.ensures.ok)
-
 pub returns-in-Entered-clause-ok : goal.returns-in-Entered-clause-ok
-returns-in-Entered-clause-ok g c =
+returns-in-Entered-clause-ok g c place P few =
+    let R = g.R.Replica in
     OnOk-map c.settle.result
-    (λ h. Goes-then g.K.Keeper.keeps c.args.keeper.now c.admit.new.keeper c.settle.new.keeper (g.R.Replica.waiting c.args.replica.now ++ c.args.change ∷ []) (g.R.Replica.waiting c.admit.new.replica) (g.R.Replica.waiting c.args.replica.now ++ c.args.change ∷ []) (g.R.Replica.applied c.args.replica.now) (g.R.Replica.applied c.admit.new.replica) (g.R.Replica.applied c.settle.new.replica) (g.R.Replica.waiting c.admit.new.replica) (g.R.Replica.waiting c.settle.new.replica)
-    c.args.told.now.applied.items c.admit.new.told.applied.items c.settle.new.told.applied.items c.args.told.now.refused.items c.admit.new.told.refused.items c.settle.new.told.refused.items
-    (take_entered g.K.Keeper.keeps c.args.keeper.now c.admit.new.keeper c.args.change (g.R.Replica.applied c.args.replica.now) (g.R.Replica.applied c.admit.new.replica) (g.R.Replica.waiting c.args.replica.now) (g.R.Replica.waiting c.admit.new.replica) c.args.told.now.applied.items c.admit.new.told.applied.items c.args.told.now.refused.items c.admit.new.told.refused.items c.admit.ensures.waiting
-    (rw c.in-Entered.is at c.in_ok-admit.ensures.ok))
-    h (λ d i. i) (λ d j. In-left d (g.R.Replica.waiting c.args.replica.now) (c.args.change ∷ []) (subst (In d) c.admit.ensures.waiting j)) (λ d i. i) (λ d i. inl i))
-    c.settle.ensures.ok
+    (λ run. Run-turn g.K.Keeper.keeps _ _ _
+    (came g.K.Keeper.keeps c.args.keeper.now c.admit.new.keeper c.args.change place (R.applied c.args.replica.now) (R.applied c.admit.new.replica) (R.waiting c.args.replica.now) (R.waiting c.admit.new.replica) P
+    c.args.told.now.applied.items c.admit.new.told.applied.items c.args.told.now.refused.items c.admit.new.told.refused.items c.requires.settled
+    (meets_entered g.K.Keeper.keeps c.args.keeper.now c.admit.new.keeper c.args.change (R.applied c.args.replica.now) (R.applied c.admit.new.replica) (R.waiting c.args.replica.now) (R.waiting c.admit.new.replica) P
+    c.args.told.now.applied.items c.admit.new.told.applied.items c.args.told.now.refused.items c.admit.new.told.refused.items c.admit.ensures.waiting (rw c.in-Entered.is at c.in_ok-admit.ensures.ok)))
+    run)
+    (c.settle.ensures.ok P)
 
 pub returns-in-Entered-clause-err : goal.returns-in-Entered-clause-err
-returns-in-Entered-clause-err g c =
-    IfErr-map
-    (λ (e : ReceiveError). Stops g.K.Keeper.keeps g.K.Keeper.refuses c.admit.new.keeper c.settle.new.keeper (g.R.Replica.waiting c.admit.new.replica) (g.R.Replica.applied c.admit.new.replica) (g.R.Replica.applied c.settle.new.replica) (g.R.Replica.waiting c.settle.new.replica) e)
-    (λ (e : ReceiveError). Stops g.K.Keeper.keeps g.K.Keeper.refuses c.args.keeper.now c.settle.new.keeper (g.R.Replica.waiting c.args.replica.now ++ c.args.change ∷ []) (g.R.Replica.applied c.args.replica.now) (g.R.Replica.applied c.settle.new.replica) (g.R.Replica.waiting c.settle.new.replica) e)
-    c.settle.result
-    (λ e h. Stops-then g.K.Keeper.keeps g.K.Keeper.refuses c.args.keeper.now c.admit.new.keeper c.settle.new.keeper (g.R.Replica.waiting c.args.replica.now ++ c.args.change ∷ []) (g.R.Replica.waiting c.admit.new.replica) (g.R.Replica.waiting c.args.replica.now ++ c.args.change ∷ []) (g.R.Replica.applied c.args.replica.now) (g.R.Replica.applied c.admit.new.replica) (g.R.Replica.applied c.settle.new.replica) (g.R.Replica.waiting c.admit.new.replica) (g.R.Replica.waiting c.settle.new.replica)
-    c.args.told.now.applied.items c.admit.new.told.applied.items c.args.told.now.refused.items c.admit.new.told.refused.items e
-    (take_entered g.K.Keeper.keeps c.args.keeper.now c.admit.new.keeper c.args.change (g.R.Replica.applied c.args.replica.now) (g.R.Replica.applied c.admit.new.replica) (g.R.Replica.waiting c.args.replica.now) (g.R.Replica.waiting c.admit.new.replica) c.args.told.now.applied.items c.admit.new.told.applied.items c.args.told.now.refused.items c.admit.new.told.refused.items c.admit.ensures.waiting
-    (rw c.in-Entered.is at c.in_ok-admit.ensures.ok))
-    h (λ d i. i) (λ d j. In-left d (g.R.Replica.waiting c.args.replica.now) (c.args.change ∷ []) (subst (In d) c.admit.ensures.waiting j)))
-    c.settle.ensures.err
+returns-in-Entered-clause-err g c place P few =
+    let R = g.R.Replica in
+    stops_later g.K.Keeper.keeps g.K.Keeper.refuses _ _ c.settle.new.keeper (R.applied c.settle.new.replica) (R.waiting c.settle.new.replica) c.settle.result
+    (Run-one g.K.Keeper.keeps _ _
+    (came g.K.Keeper.keeps c.args.keeper.now c.admit.new.keeper c.args.change place (R.applied c.args.replica.now) (R.applied c.admit.new.replica) (R.waiting c.args.replica.now) (R.waiting c.admit.new.replica) P
+    c.args.told.now.applied.items c.admit.new.told.applied.items c.args.told.now.refused.items c.admit.new.told.refused.items c.requires.settled
+    (meets_entered g.K.Keeper.keeps c.args.keeper.now c.admit.new.keeper c.args.change (R.applied c.args.replica.now) (R.applied c.admit.new.replica) (R.waiting c.args.replica.now) (R.waiting c.admit.new.replica) P
+    c.args.told.now.applied.items c.admit.new.told.applied.items c.args.told.now.refused.items c.admit.new.told.refused.items c.admit.ensures.waiting (rw c.in-Entered.is at c.in_ok-admit.ensures.ok))))
+    (c.settle.ensures.err P)
+
+pub returns-in-Refused-clause-ok : goal.returns-in-Refused-clause-ok
+returns-in-Refused-clause-ok g c place P few =
+    let R = g.R.Replica in
+    Run-one g.K.Keeper.keeps _ _
+    (came g.K.Keeper.keeps c.args.keeper.now c.admit.new.keeper c.args.change place (R.applied c.args.replica.now) (R.applied c.admit.new.replica) (R.waiting c.args.replica.now) (R.waiting c.admit.new.replica) P
+    c.args.told.now.applied.items c.admit.new.told.applied.items c.args.told.now.refused.items c.admit.new.told.refused.items c.requires.settled
+    (meets_refused g.K.Keeper.keeps c.args.keeper.now c.admit.new.keeper c.args.change (R.applied c.args.replica.now) (R.applied c.admit.new.replica) (R.waiting c.args.replica.now) (R.waiting c.admit.new.replica) P
+    c.args.told.now.applied.items c.admit.new.told.applied.items c.args.told.now.refused.items c.admit.new.told.refused.items c.admit.ensures.waiting (rw c.in-Refused.is at c.in_ok-admit.ensures.ok)))
 
 pub returns-in-Waits-clause-ok : goal.returns-in-Waits-clause-ok
-returns-in-Waits-clause-ok g c =
+returns-in-Waits-clause-ok g c place P few =
+    let R = g.R.Replica in
     OnOk-map c.let_wait.result
-    (λ h. take_held g.K.Keeper.keeps c.args.keeper.now c.admit.new.keeper c.args.change c.in-Waits.change c.args.reserved (g.R.Replica.applied c.args.replica.now) (g.R.Replica.applied c.admit.new.replica) (g.R.Replica.applied c.let_wait.new.replica) (g.R.Replica.waiting c.args.replica.now) (g.R.Replica.waiting c.admit.new.replica) (g.R.Replica.waiting c.let_wait.new.replica)
+    (λ held. Run-one g.K.Keeper.keeps _ _
+    (came g.K.Keeper.keeps c.args.keeper.now c.admit.new.keeper c.args.change place (R.applied c.args.replica.now) (R.applied c.let_wait.new.replica) (R.waiting c.args.replica.now) (R.waiting c.let_wait.new.replica) P
+    c.args.told.now.applied.items c.let_wait.new.told.applied.items c.args.told.now.refused.items c.let_wait.new.told.refused.items c.requires.settled
+    (meets_held g.K.Keeper.keeps c.args.keeper.now c.admit.new.keeper c.args.change c.in-Waits.change c.args.reserved (R.applied c.args.replica.now) (R.applied c.admit.new.replica) (R.applied c.let_wait.new.replica)
+    (R.waiting c.args.replica.now) (R.waiting c.admit.new.replica) (R.waiting c.let_wait.new.replica) P
     c.args.told.now.applied.items c.admit.new.told.applied.items c.let_wait.new.told.applied.items c.args.told.now.refused.items c.admit.new.told.refused.items c.let_wait.new.told.refused.items
-    c.admit.ensures.waiting (rw c.in-Waits.is at c.in_ok-admit.ensures.ok) c.let_wait.ensures.applied c.let_wait.ensures.told h)
+    c.admit.ensures.waiting (rw c.in-Waits.is at c.in_ok-admit.ensures.ok) c.let_wait.ensures.applied c.let_wait.ensures.told few held)))
     c.let_wait.ensures.ok
 
 pub returns-in-Waits-clause-settled : goal.returns-in-Waits-clause-settled
 returns-in-Waits-clause-settled g c =
+    let R = g.R.Replica in
+    let a = rw c.in-Waits.is at c.in_ok-admit.ensures.ok in
     OnOk-map c.let_wait.result
-    (λ h. wait_held g.K.Keeper.keeps c.args.keeper.now c.admit.new.keeper c.args.change c.in-Waits.change c.args.reserved (g.R.Replica.applied c.args.replica.now) (g.R.Replica.applied c.admit.new.replica) (g.R.Replica.applied c.let_wait.new.replica) (g.R.Replica.waiting c.args.replica.now) (g.R.Replica.waiting c.admit.new.replica) (g.R.Replica.waiting c.let_wait.new.replica)
-    c.args.told.now.applied.items c.admit.new.told.applied.items c.args.told.now.refused.items c.admit.new.told.refused.items c.let_wait.new.told.refused.items
-    c.requires.settled c.admit.ensures.waiting (rw c.in-Waits.is at c.in_ok-admit.ensures.ok) c.let_wait.ensures.applied h)
+    (λ held. wait_held (R.applied c.args.replica.now) (R.applied c.let_wait.new.replica) (R.waiting c.args.replica.now) (R.waiting c.let_wait.new.replica) c.args.change c.args.reserved c.admit.new.told.refused.items c.let_wait.new.told.refused.items
+    (c.let_wait.ensures.applied ∙ a.4) c.requires.settled a.0 (rw (a.1, c.admit.ensures.waiting) at held))
     c.let_wait.ensures.ok
 
 pub returns-in-Waits-clause-err : goal.returns-in-Waits-clause-err
-returns-in-Waits-clause-err g c =
-    IfErr-stays (λ (e : ReceiveError). e ≡ error.OutOfMemory)
-    (λ (e : ReceiveError). Stops g.K.Keeper.keeps g.K.Keeper.refuses c.args.keeper.now c.admit.new.keeper (g.R.Replica.waiting c.args.replica.now ++ c.args.change ∷ []) (g.R.Replica.applied c.args.replica.now) (g.R.Replica.applied c.let_wait.new.replica) (g.R.Replica.waiting c.let_wait.new.replica) e)
-    c.let_wait.result
-    (λ e h s. wait_stopped g.K.Keeper.keeps g.K.Keeper.refuses c.args.keeper.now c.admit.new.keeper c.args.change c.in-Waits.change (g.R.Replica.applied c.args.replica.now) (g.R.Replica.applied c.admit.new.replica) (g.R.Replica.applied c.let_wait.new.replica) (g.R.Replica.waiting c.args.replica.now) (g.R.Replica.waiting c.admit.new.replica) (g.R.Replica.waiting c.let_wait.new.replica)
-    c.args.told.now.applied.items c.admit.new.told.applied.items c.args.told.now.refused.items c.admit.new.told.refused.items e
-    c.admit.ensures.waiting (rw c.in-Waits.is at c.in_ok-admit.ensures.ok) c.let_wait.ensures.applied s h)
-    c.let_wait.ensures.err c.let_wait.ensures.stays
-
-pub returns-in-Entered-clause-spare : goal.returns-in-Entered-clause-spare
-returns-in-Entered-clause-spare g c =
-    let a = rw c.in-Entered.is at c.in_ok-admit.ensures.ok in
-    OnOk-map c.settle.result
-    (λ h. drops_one c.args.told.now.refused.items c.admit.new.told.refused.items c.settle.new.told.refused.items (g.R.Replica.applied c.args.replica.now) (g.R.Replica.applied c.settle.new.replica) (g.R.Replica.waiting c.args.replica.now) c.args.change c.args.reserved a.4 h)
-    c.settle.ensures.undropped
-
-pub returns-in-Entered-clause-count : goal.returns-in-Entered-clause-count
-returns-in-Entered-clause-count g c =
-    OnOk-map c.settle.result
-    (λ h. inl (count_on_one (g.R.Replica.waiting c.args.replica.now) (g.R.Replica.waiting c.admit.new.replica) (g.R.Replica.waiting c.settle.new.replica) c.admit.ensures.waiting h))
-    c.settle.ensures.fewer
-
-pub returns-in-Entered-clause-stays : goal.returns-in-Entered-clause-stays
-returns-in-Entered-clause-stays g c =
-    let a = rw c.in-Entered.is at c.in_ok-admit.ensures.ok in
-    LosesNone-then (g.R.Replica.applied c.args.replica.now) (g.R.Replica.applied c.admit.new.replica) (g.R.Replica.applied c.settle.new.replica)
-    (g.R.Replica.waiting c.args.replica.now) (g.R.Replica.waiting c.admit.new.replica) (g.R.Replica.waiting c.settle.new.replica)
-    (LosesNone-at (g.R.Replica.applied c.args.replica.now) (g.R.Replica.applied c.args.replica.now ++ c.args.change ∷ []) (g.R.Replica.applied c.admit.new.replica)
-    (g.R.Replica.waiting c.args.replica.now) (g.R.Replica.waiting c.args.replica.now) (g.R.Replica.waiting c.admit.new.replica)
-    (LosesNone-enters (g.R.Replica.applied c.args.replica.now) (g.R.Replica.waiting c.args.replica.now) c.args.change a.0) a.2 c.admit.ensures.waiting)
-    c.settle.ensures.stays
-
-pub returns-in-Waits-clause-stays : goal.returns-in-Waits-clause-stays
-returns-in-Waits-clause-stays g c =
+returns-in-Waits-clause-err g c place P few =
+    let R = g.R.Replica in
     let a = rw c.in-Waits.is at c.in_ok-admit.ensures.ok in
-    stays_held (g.R.Replica.applied c.args.replica.now) (g.R.Replica.applied c.let_wait.new.replica)
-    (g.R.Replica.waiting c.args.replica.now) (g.R.Replica.waiting c.admit.new.replica) (g.R.Replica.waiting c.let_wait.new.replica)
-    c.in-Waits.change c.args.reserved c.admit.new.told.refused.items c.let_wait.new.told.refused.items c.let_wait.result
-    (c.let_wait.ensures.applied ∙ a.0.applied) c.admit.ensures.waiting c.let_wait.ensures.ok c.let_wait.ensures.stays
-
-pub returns-in-Refused-clause-spare : goal.returns-in-Refused-clause-spare
-returns-in-Refused-clause-spare g c =
-    let a = rw c.in-Refused.is at c.in_ok-admit.ensures.ok in
-    λ h i. inl (drops_refused (hash_of c.args.change) a.1 c.args.told.now.refused.items c.admit.new.told.refused.items a.3 a.4 h i)
-
-pub returns-in-Refused-clause-count : goal.returns-in-Refused-clause-count
-returns-in-Refused-clause-count g c = inl (omega (arith, ap length c.admit.ensures.waiting))
-
-pub returns-in-Waits-clause-spare : goal.returns-in-Waits-clause-spare
-returns-in-Waits-clause-spare g c =
-    let a = rw c.in-Waits.is at c.in_ok-admit.ensures.ok in
-    OnOk-map c.let_wait.result
-    (λ h. spare_held (g.R.Replica.applied c.args.replica.now) (g.R.Replica.applied c.let_wait.new.replica) (g.R.Replica.waiting c.admit.new.replica) (g.R.Replica.waiting c.args.replica.now) (g.R.Replica.waiting c.let_wait.new.replica) c.args.change c.in-Waits.change c.args.reserved
-    c.args.told.now.refused.items c.admit.new.told.refused.items c.let_wait.new.told.refused.items c.admit.ensures.waiting a.3 a.2 a.1 (c.let_wait.ensures.applied ∙ a.0.applied) h)
-    c.let_wait.ensures.ok
-
-pub returns-in-Waits-clause-count : goal.returns-in-Waits-clause-count
-returns-in-Waits-clause-count g c =
-    OnOk-map c.let_wait.result
-    (λ h. count_held (g.R.Replica.waiting c.admit.new.replica) (g.R.Replica.waiting c.args.replica.now) (g.R.Replica.waiting c.let_wait.new.replica) c.in-Waits.change c.args.reserved c.admit.new.told.refused.items c.let_wait.new.told.refused.items c.admit.ensures.waiting h)
-    c.let_wait.ensures.ok
+    turn_untold g.K.Keeper.keeps g.K.Keeper.refuses
+    (intake c.args.keeper.now (R.applied c.args.replica.now) (R.waiting c.args.replica.now) ((c.args.change, place) ∷ P) c.args.told.now.applied.items c.args.told.now.refused.items)
+    c.admit.new.keeper (R.applied c.let_wait.new.replica) (R.waiting c.let_wait.new.replica) c.let_wait.result
+    c.let_wait.ensures.err a.3 (c.let_wait.ensures.applied ∙ a.4) (rw c.admit.ensures.waiting at c.let_wait.ensures.stays)

@@ -1,0 +1,193 @@
+-- What a tried change adds to a run.
+use Rattle.std.proofs.Common.{◌≡◌, ℕ, ◌+◌, ◌<◌, ◌≤◌, ◌⊎◌, inl, inr, List, [], ◌∷◌, ◌++◌, length, Bool, true, false, cond, Some, None, Result, Ok, Err, IfErr, OnOk, OnErr, refl, sym, ap, ◌∙◌, subst, arith, nat_lt}
+use Rattle.std.proofs.lemmas.Bool.Decides.{nat_tests}
+use Rattle.std.specs.Result.{IsErrAnd}
+use Rattle.std.specs.List.{slice_get, remove}
+use Rattle.tp_opid.specs.declared.hash.Hash.{Hash}
+use Rattle.tp_change.specs.declared.parts.ChangeParts.{ChangeParts}
+use Rattle.tp_change.specs.ChangeHash.{hash_of}
+use Rattle.tp_graph.specs.declared.error.GraphError.{GraphError}
+use Rattle.tp_graph.specs.declared.error.GraphError.TheVariants.{MissingDeps}
+use Rattle.tp_graph.specs.Named.{has}
+use Rattle.tp_graph.specs.Fit.{cause}
+use Rattle.tp_graph.specs.GraphState.{most_waiting}
+use Rattle.tp_receive.specs.declared.error.ReceiveError.{ReceiveError}
+use Rattle.tp_receive.specs.declared.error.ReceiveError.TheVariants.{PendingFull, NotKept, OutOfMemory}
+use Rattle.tp_receive.specs.declared.keeper.KeepError.{KeepError}
+use Rattle.tp_receive.specs.declared.admit.Outcome.TheVariants as outcome
+use Rattle.tp_receive.specs.Delivery.{delivery, placing, places}
+use Rattle.tp_receive.specs.Receiving.{AllWait, lacks_deps, is_refusal}
+use Rattle.tp_receive.specs.Intake.{Fails, Intake, Meets, Next, NextComes, Run, Stopped, Turn, begin, hold, intake}
+use Rattle.tp_receive.specs.Trying.{Tried, TryFails, IsEarliest, IsHeld}
+use Rattle.tp_receive.proofs.TurnLaws.{Run-none, Stopped-then}
+use Rattle.tp_receive.proofs.WaitLaws.{AllWait-push, slice_get_there, next_waits}
+
+-- what holds of the error that `?` hands on holds of the result
+pub IfErr-residual : {T : Type 0} (P : ReceiveError → Type 0) (r : Result T ReceiveError) (e : ReceiveError) → P e → IsErrAnd r (λ x. x ≡ e) → IfErr r P
+IfErr-residual P (Ok x) e p k = absurd k
+IfErr-residual P (Err x) e p k = subst P (sym k) p
+
+pub OnOk-map : {T E P Q : Type 0} (r : Result T E) → (P → Q) → OnOk r P → OnOk r Q
+OnOk-map (Ok x) f h = f h
+OnOk-map (Err x) f h = h
+
+pub OnOk-both : {T E P Q R : Type 0} (r : Result T E) → (P → Q → R) → OnOk r P → OnOk r Q → OnOk r R
+OnOk-both (Ok x) f p q = f p q
+OnOk-both (Err x) f p q = p
+
+pub IfErr-map : {T E : Type 0} (P Q : E → Type 0) (r : Result T E) → ((e : E) → P e → Q e) → IfErr r P → IfErr r Q
+IfErr-map P Q (Ok x) f h = h
+IfErr-map P Q (Err x) f h = f x h
+
+pub IfErr-both : {T E A : Type 0} (P Q : E → Type 0) (r : Result T E) → ((e : E) → P e → A → Q e) → IfErr r P → OnErr r A → IfErr r Q
+IfErr-both P Q (Ok v) f h s = h
+IfErr-both P Q (Err v) f h s = f v h s
+
+-- ---- what the change met
+
+pub meets_entered : {S : Type 0} (keeps : S → ChangeParts → S → Type 0) (k k' : S) (c : ChangeParts) (C C' V W : List ChangeParts) (P : List (ChangeParts × Bool)) (t t' : List Hash) (r r' : List (Hash × GraphError))
+    → W ≡ V → Tried keeps k k' c C C' t t' r r' outcome.Entered → Meets keeps (intake k C V P t r) c (intake k' C' W P t' r')
+meets_entered keeps k k' c C C' V W P t t' r r' w a = inl (a.0, k', a.1, rw (w, a.2, a.3, a.4) refl)
+
+pub meets_refused : {S : Type 0} (keeps : S → ChangeParts → S → Type 0) (k k' : S) (c : ChangeParts) (C C' V W : List ChangeParts) (P : List (ChangeParts × Bool)) (t t' : List Hash) (r r' : List (Hash × GraphError))
+    → W ≡ V → Tried keeps k k' c C C' t t' r r' outcome.Refused → Meets keeps (intake k C V P t r) c (intake k' C' W P t' r')
+meets_refused keeps k k' c C C' V W P t t' r r' w a = inr (inr (a.0, a.1, a.2, rw (w, a.3, a.4, a.5, a.6) refl))
+
+within : (n : ℕ) → n < most_waiting → nat_lt n most_waiting ≡ true
+within n h = grind (arith, nat_tests)
+
+past : (n : ℕ) → most_waiting ≤ n → nat_lt n most_waiting ≡ false
+past n h = grind (arith, nat_tests)
+
+held_is : {S : Type 0} (k : S) (C V : List ChangeParts) (P : List (ChangeParts × Bool)) (t : List Hash) (r : List (Hash × GraphError)) (c : ChangeParts) (W : List ChangeParts) (r' : List (Hash × GraphError))
+    → IsHeld V c (places P) W r r' → intake k C W P t r' ≡ hold (intake k C V P t r) c
+held_is k C V P t r c W r' (inl h) = rw (h.0, h.1, h.2) refl
+held_is k C V P t r c W r' (inr (inl h)) = rw (h.0, within (length V + places P) h.1, h.2, h.3) refl
+held_is k C V P t r c W r' (inr (inr h)) = rw (h.0, past (length V + places P) h.1, h.2, h.3) refl
+
+pub meets_held : {S : Type 0} (keeps : S → ChangeParts → S → Type 0) (k k1 : S) (c d : ChangeParts) (n : ℕ) (C C1 C2 V V1 W : List ChangeParts) (P : List (ChangeParts × Bool)) (t t1 t2 : List Hash) (r r1 r2 : List (Hash × GraphError))
+    → V1 ≡ V → Tried keeps k k1 c C C1 t t1 r r1 (outcome.Waits d) → C2 ≡ C1 → t2 ≡ t1 → n ≡ places P → IsHeld V1 d n W r1 r2
+    → Meets keeps (intake k C V P t r) c (intake k1 C2 W P t2 r2)
+meets_held {S} keeps k k1 c d n C C1 C2 V V1 W P t t1 t2 r r1 r2 v a cs ts few h =
+    let h2 : IsHeld V c (places P) W r r2 = subst (λ (x : List (Hash × GraphError)). IsHeld V c (places P) W x r2) a.2
+    (subst (λ (x : ChangeParts). IsHeld V x (places P) W r1 r2) a.1 (subst (λ (x : List ChangeParts). IsHeld x d (places P) W r1 r2) v (subst (λ (x : ℕ). IsHeld V1 d x W r1 r2) few h))) in
+    inr (inl (a.0, rw (a.3, cs, a.4, ts, a.5) (held_is k C V P t r c W r2 h2)))
+
+-- ---- where a run stopped
+
+-- Memory was refused while the keeper stood still.
+pub Stopped-still : {S : Type 0} (keeps : S → ChangeParts → S → Type 0) (refuses : S → ChangeParts → KeepError → S → Type 0) (s : Intake S) (k : S) (C W : List ChangeParts)
+    → k ≡ s.keeper → C ≡ s.applied → W ≡ s.waiting → Stopped keeps refuses s OutOfMemory k C W
+Stopped-still keeps refuses s k C W still applied waiting = record { at = s; run = Run-none keeps s; applied = applied; waiting = waiting; by = inl still }
+
+-- Trying the change whose turn it was failed.
+pub Stopped-trying : {S : Type 0} (keeps : S → ChangeParts → S → Type 0) (refuses : S → ChangeParts → KeepError → S → Type 0) (s : Intake S) (c : ChangeParts) (rest : Intake S) (e : ReceiveError) (k : S) (C W : List ChangeParts)
+    → Next s c rest → C ≡ s.applied → W ≡ s.waiting → TryFails refuses s.applied e c s.keeper k → Stopped keeps refuses s e k C W
+Stopped-trying keeps refuses s c rest PendingFull k C W next applied waiting f = absurd f
+Stopped-trying keeps refuses s c rest NotKept k C W next applied waiting f =
+    record { at = s; run = Run-none keeps s; applied = applied; waiting = waiting; by = record { change = c; rest = rest; next = next; fits = f.0; refused = f.1 } }
+Stopped-trying keeps refuses s c rest OutOfMemory k C W next applied waiting (inl f) = Stopped-still keeps refuses s k C W f applied waiting
+Stopped-trying keeps refuses s c rest OutOfMemory k C W next applied waiting (inr f) =
+    record { at = s; run = Run-none keeps s; applied = applied; waiting = waiting; by = inr (record { change = c; rest = rest; next = next; fits = f.0; refused = f.1 }) }
+
+-- Memory was refused before anything happened.
+pub stops_for_memory : {S T : Type 0} (keeps : S → ChangeParts → S → Type 0) (refuses : S → ChangeParts → KeepError → S → Type 0) (s : Intake S) (k : S) (C W : List ChangeParts) (r : Result T ReceiveError) (e : ReceiveError)
+    → e ≡ OutOfMemory → k ≡ s.keeper → C ≡ s.applied → W ≡ s.waiting → IsErrAnd r (λ x. x ≡ e) → IfErr r (λ e. Stopped keeps refuses s e k C W)
+stops_for_memory keeps refuses s k C W r e memory still applied waiting is =
+    IfErr-residual (λ (x : ReceiveError). Stopped keeps refuses s x k C W) r e
+    (subst (λ (x : ReceiveError). Stopped keeps refuses s x k C W) (sym memory) (Stopped-still keeps refuses s k C W still applied waiting)) is
+
+-- A run stopped later.
+pub stops_on : {S T : Type 0} (keeps : S → ChangeParts → S → Type 0) (refuses : S → ChangeParts → KeepError → S → Type 0) (s m : Intake S) (k : S) (C W : List ChangeParts) (r : Result T ReceiveError) (e : ReceiveError)
+    → Run keeps s m → Stopped keeps refuses m e k C W → IsErrAnd r (λ x. x ≡ e) → IfErr r (λ e. Stopped keeps refuses s e k C W)
+stops_on keeps refuses s m k C W r e run x is = IfErr-residual (λ (x : ReceiveError). Stopped keeps refuses s x k C W) r e (Stopped-then keeps refuses s m e k C W run x) is
+
+pub stops_later : {S T : Type 0} (keeps : S → ChangeParts → S → Type 0) (refuses : S → ChangeParts → KeepError → S → Type 0) (s m : Intake S) (k : S) (C W : List ChangeParts) (r : Result T ReceiveError)
+    → Run keeps s m → IfErr r (λ e. Stopped keeps refuses m e k C W) → IfErr r (λ e. Stopped keeps refuses s e k C W)
+stops_later keeps refuses s m k C W (Ok x) run h = h
+stops_later keeps refuses s m k C W (Err e) run h = Stopped-then keeps refuses s m e k C W run h
+
+-- ---- a waiting change that had its turn
+
+pub turn_entered : {S T : Type 0} (keeps : S → ChangeParts → S → Type 0) (k k' : S) (C C' W W' : List ChangeParts) (i : ℕ) (P : List (ChangeParts × Bool)) (t t' : List Hash) (r r' : List (Hash × GraphError)) (res : Result T ReceiveError)
+    → IsEarliest C W i → ((c : ChangeParts) → slice_get W i ≡ Some c → OnOk res (Tried keeps k k' c C C' t t' r r' outcome.Entered)) → OnOk res (W' ≡ remove W i)
+    → OnOk res (Turn keeps (intake k C W P t r) (intake k' C' W' P t' r'))
+turn_entered keeps k k' C C' W W' i P t t' r r' res first ok out =
+    let there = slice_get_there W i first.within in
+    OnOk-both res
+    (λ a o. record {
+      change = there.0;
+      rest = intake k C (remove W i) P t r;
+      next = inl (next_waits k C W P t r i there.0 first there.1);
+      meets = meets_entered keeps k k' there.0 C C' (remove W i) W' P t t' r r' o a;
+    })
+    (ok there.0 there.1) out
+
+pub turn_refused : {S T : Type 0} (keeps : S → ChangeParts → S → Type 0) (k : S) (C C' W W' : List ChangeParts) (i : ℕ) (f : GraphError) (P : List (ChangeParts × Bool)) (t t' : List Hash) (r r' : List (Hash × GraphError)) (res : Result T ReceiveError)
+    → IsEarliest C W i → ((c : ChangeParts) → slice_get W i ≡ Some c → (cause C c ≡ Some f) × (is_refusal (Some f) ≡ true))
+    → ((c : ChangeParts) → slice_get W i ≡ Some c → OnOk res (r' ≡ r ++ (hash_of c, f) ∷ [])) → t' ≡ t → C' ≡ C → OnOk res (W' ≡ remove W i)
+    → OnOk res (Turn keeps (intake k C W P t r) (intake k C' W' P t' r'))
+turn_refused keeps k C C' W W' i f P t t' r r' res first judged ok told same out =
+    let there = slice_get_there W i first.within in
+    let j = judged there.0 there.1 in
+    OnOk-both res
+    (λ a o. record {
+      change = there.0;
+      rest = intake k C (remove W i) P t r;
+      next = inl (next_waits k C W P t r i there.0 first there.1);
+      meets = meets_refused keeps k k there.0 C C' (remove W i) W' P t t' r r' o (f, j.0, j.1, a, refl, same, told);
+    })
+    (ok there.0 there.1) out
+
+pub turn_stopped : {S T : Type 0} (keeps : S → ChangeParts → S → Type 0) (refuses : S → ChangeParts → KeepError → S → Type 0) (k k' : S) (C C' W W' : List ChangeParts) (i : ℕ) (P : List (ChangeParts × Bool)) (t : List Hash) (r : List (Hash × GraphError)) (res : Result T ReceiveError)
+    → IsEarliest C W i → ((c : ChangeParts) → slice_get W i ≡ Some c → IfErr res (λ e. TryFails refuses C e c k k')) → OnErr res (C' ≡ C) → OnErr res (W' ≡ W)
+    → IfErr res (λ e. Stopped keeps refuses (intake k C W P t r) e k' C' W')
+turn_stopped keeps refuses k k' C C' W W' i P t r (Ok x) first err applied waiting = tt
+turn_stopped keeps refuses k k' C C' W W' i P t r (Err e) first err applied waiting =
+    let there = slice_get_there W i first.within in
+    Stopped-trying keeps refuses (intake k C W P t r) there.0 (intake k C (remove W i) P t r) e k' C' W'
+    (inl (next_waits k C W P t r i there.0 first there.1)) applied waiting (err there.0 there.1)
+
+-- Memory was refused before the change was told.
+pub turn_untold : {S T : Type 0} (keeps : S → ChangeParts → S → Type 0) (refuses : S → ChangeParts → KeepError → S → Type 0) (s : Intake S) (k : S) (C W : List ChangeParts) (res : Result T ReceiveError)
+    → IfErr res (λ e. e ≡ OutOfMemory) → k ≡ s.keeper → C ≡ s.applied → OnErr res (W ≡ s.waiting) → IfErr res (λ e. Stopped keeps refuses s e k C W)
+turn_untold keeps refuses s k C W (Ok x) err still applied waiting = tt
+turn_untold keeps refuses s k C W (Err e) err still applied waiting =
+    subst (λ (x : ReceiveError). Stopped keeps refuses s x k C W) (sym err) (Stopped-still keeps refuses s k C W still applied waiting)
+
+-- ---- a change that came and had its turn
+
+-- Where all that waits lacks something, the next that came has its turn.
+pub next_comes : {S : Type 0} (k : S) (C W : List ChangeParts) (P : List (ChangeParts × Bool)) (t : List Hash) (r : List (Hash × GraphError)) (c : ChangeParts) (place : Bool)
+    → AllWait C W → NextComes (intake k C W ((c, place) ∷ P) t r) c (intake k C W P t r)
+next_comes k C W P t r c place settled = record { place = place; behind = P; comes = refl; settled = settled; without = refl }
+
+pub came : {S : Type 0} (keeps : S → ChangeParts → S → Type 0) (k k' : S) (c : ChangeParts) (place : Bool) (C C' W W' : List ChangeParts) (P : List (ChangeParts × Bool)) (t t' : List Hash) (r r' : List (Hash × GraphError))
+    → AllWait C W → Meets keeps (intake k C W P t r) c (intake k' C' W' P t' r') → Turn keeps (intake k C W ((c, place) ∷ P) t r) (intake k' C' W' P t' r')
+came keeps k k' c place C C' W W' P t t' r r' settled meets = record { change = c; rest = intake k C W P t r; next = inr (next_comes k C W P t r c place settled); meets = meets }
+
+-- Those that wait still do, with the one that was held.
+pub wait_held : (C C' V W : List ChangeParts) (c : ChangeParts) (n : ℕ) (r r' : List (Hash × GraphError)) → C' ≡ C → AllWait C V → cause C c ≡ Some MissingDeps → IsHeld V c n W r r' → AllWait C' W
+wait_held C C' V W c n r r' same all lacks (inl h) = rw (same, h.1) all
+wait_held C C' V W c n r r' same all lacks (inr (inl h)) = rw (same, h.2) (AllWait-push C V c (ap lacks_deps lacks) all)
+wait_held C C' V W c n r r' same all lacks (inr (inr h)) = rw (same, h.2) all
+
+-- ---- a call
+
+pub Run-begun : {S : Type 0} (keeps : S → ChangeParts → S → Type 0) (k : S) (C W K : List ChangeParts) (P : List (ChangeParts × Bool)) (a : List Hash) (r : List (Hash × GraphError)) (t : Intake S)
+    → P ≡ placing W (delivery C K) → a ≡ [] → r ≡ [] → Run keeps (intake k C W P a r) t → Run keeps (begin k C W K) t
+Run-begun {S} keeps k C W K P a r t p entered refused run = subst (λ (s : Intake S). Run keeps s t) (same p entered refused) run where
+  same : P ≡ placing W (delivery C K) → a ≡ [] → r ≡ [] → intake k C W P a r ≡ begin k C W K
+  same p entered refused = rw (p, entered, refused) refl
+
+-- Memory was refused where a run had come.
+pub fails_at : {S T : Type 0} (keeps : S → ChangeParts → S → Type 0) (refuses : S → ChangeParts → KeepError → S → Type 0) (s t : Intake S) (r : Result T ReceiveError)
+    → Run keeps s t → IsErrAnd r (λ x. x ≡ OutOfMemory) → IfErr r (λ e. Fails keeps refuses s e t.keeper t.applied t.waiting)
+fails_at keeps refuses s t r run is =
+    IfErr-residual (λ (x : ReceiveError). Fails keeps refuses s x t.keeper t.applied t.waiting) r OutOfMemory
+    (Stopped-then keeps refuses s t OutOfMemory t.keeper t.applied t.waiting run (Stopped-still keeps refuses t t.keeper t.applied t.waiting refl refl refl)) is
+
+pub fails_for_memory : {S T : Type 0} (keeps : S → ChangeParts → S → Type 0) (refuses : S → ChangeParts → KeepError → S → Type 0) (s : Intake S) (k : S) (C W : List ChangeParts) (r : Result T ReceiveError)
+    → k ≡ s.keeper → C ≡ s.applied → W ≡ s.waiting → IsErrAnd r (λ x. x ≡ OutOfMemory) → IfErr r (λ e. Fails keeps refuses s e k C W)
+fails_for_memory keeps refuses s k C W r still applied waiting is =
+    IfErr-residual (λ (x : ReceiveError). Fails keeps refuses s x k C W) r OutOfMemory (Stopped-still keeps refuses s k C W still applied waiting) is

@@ -1,0 +1,16 @@
+use Rattle.std.proofs.Common.{◌||◌, true, false, ap, sym, ◌∙◌}
+use Rattle.tp_graph.specs.Named.{among, has}
+use Rattle.tp_receive.proofs.ComingLaws.{has-both}
+use Rattle.tp_receive.proofs.coming.is_there.Goals as goal
+
+pub returns-then-contains : goal.returns-then-contains
+returns-then-contains g c D e =
+    let C = g.R.Replica.applied c.args.replica.now in
+    let h = c.args.hash.now in
+    sym (has-both C D c.args.delivered.now h e ∙ ap (λ b. b || among c.args.delivered.now h) (sym c.contains.ensures ∙ c.if-contains.true))
+
+pub returns : goal.returns
+returns g c D e =
+    let C = g.R.Replica.applied c.args.replica.now in
+    let h = c.args.hash.now in
+    c.among.ensures ∙ sym (has-both C D c.args.delivered.now h e ∙ ap (λ b. b || among c.args.delivered.now h) (sym c.contains.ensures ∙ c.if-contains.false))

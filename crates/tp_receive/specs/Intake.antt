@@ -1,0 +1,143 @@
+-- Receiving, by three rules over what it sees and has told.
+use Rattle.std.specs.Prelude.{◌≡◌, ◌⊎◌, ℕ, zero, suc, ◌+◌, List, [], ◌∷◌, ◌++◌, length, Bool, true, false, cond, Some, None, nat_lt}
+use Rattle.tp_opid.specs.declared.hash.Hash.{Hash}
+use Rattle.tp_change.specs.declared.parts.ChangeParts.{ChangeParts}
+use Rattle.tp_change.specs.ChangeHash.{hash_of}
+use Rattle.tp_graph.specs.declared.error.GraphError.{GraphError}
+use Rattle.tp_graph.specs.declared.error.GraphError.TheVariants.{MissingDeps}
+use Rattle.tp_graph.specs.Named.{has}
+use Rattle.tp_graph.specs.Fit.{cause}
+use Rattle.tp_graph.specs.GraphState.{most_waiting}
+use Rattle.tp_receive.specs.declared.error.ReceiveError.{ReceiveError}
+use Rattle.tp_receive.specs.declared.error.ReceiveError.TheVariants.{PendingFull, NotKept, OutOfMemory}
+use Rattle.tp_receive.specs.declared.keeper.KeepError.{KeepError}
+use Rattle.tp_receive.specs.declared.keeper.KeepError.TheVariants as keep
+use Rattle.tp_receive.specs.Receiving.{AllWait, EachOnce, lacks_deps, is_refusal, hashes, held_of}
+use Rattle.tp_receive.specs.Delivery.{delivery, placing, places}
+
+-- What receiving sees: the keeper, the applied changes, those that wait, and those of the list that are still to
+-- come, each with whether a place is reserved for it. And what it has told: the hashes of those that entered, and of
+-- those that were refused, each with why.
+pub record Intake (S : Type 0) : Type 0 where
+  pub keeper : S
+  pub applied : List ChangeParts
+  pub waiting : List ChangeParts
+  pub coming : List (ChangeParts × Bool)
+  pub entered : List Hash
+  pub refused : List (Hash × GraphError)
+
+abbrev pub intake : {S : Type 0} → S → List ChangeParts → List ChangeParts → List (ChangeParts × Bool) → List Hash → List (Hash × GraphError) → Intake S
+intake k C W P t r = record { keeper = k; applied = C; waiting = W; coming = P; entered = t; refused = r }
+
+-- ---- what becomes of a change whose turn it is
+
+-- it enters, and is told
+abbrev pub enter : {S : Type 0} → Intake S → ChangeParts → S → Intake S
+enter s c k = record s { keeper = k; applied = s.applied ++ c ∷ []; entered = s.entered ++ hash_of c ∷ [] }
+
+-- it is dropped, and told with why
+abbrev pub refuse : {S : Type 0} → Intake S → ChangeParts → GraphError → Intake S
+refuse s c e = record s { refused = s.refused ++ (hash_of c, e) ∷ [] }
+
+-- It waits as the last. Where its hash waits already nothing changes, and where no place is left beside the reserved
+-- ones it is dropped, and told as lacking a dependency.
+abbrev pub hold : {S : Type 0} → Intake S → ChangeParts → Intake S
+hold s c =
+    cond (has s.waiting (hash_of c)) s
+    (cond (nat_lt (length s.waiting + places s.coming) most_waiting) (record s { waiting = s.waiting ++ c ∷ [] }) (refuse s c MissingDeps))
+
+-- The change c, whose turn it was, took s to t: it entered, and the keeper kept it first; it lacks a dependency; or it
+-- was refused for good.
+abbrev pub Meets : {S : Type 0} → (S → ChangeParts → S → Type 0) → Intake S → ChangeParts → Intake S → Type 0
+Meets {S} keeps s c t =
+    ((cause s.applied c ≡ None) × (k : S) × keeps s.keeper c k × (t ≡ enter s c k))
+    ⊎ (((cause s.applied c ≡ Some MissingDeps) × (t ≡ hold s c))
+    ⊎ ((e : GraphError) × (cause s.applied c ≡ Some e) × (is_refusal (Some e) ≡ true) × (t ≡ refuse s c e)))
+
+-- ---- the three rules
+
+-- The earliest waiting change that lacks nothing has its turn.
+pub record NextWaits {S : Type 0} (s : Intake S) (c : ChangeParts) (rest : Intake S) : Type 0 where
+  pub before : List ChangeParts
+  pub behind : List ChangeParts
+  pub waits : s.waiting ≡ before ++ c ∷ behind
+  pub earliest : AllWait s.applied before
+  pub ready : lacks_deps (cause s.applied c) ≡ false
+  pub without : rest ≡ record s { waiting = before ++ behind }
+
+-- Where there is none, the next that came has its turn.
+pub record NextComes {S : Type 0} (s : Intake S) (c : ChangeParts) (rest : Intake S) : Type 0 where
+  pub place : Bool
+  pub behind : List (ChangeParts × Bool)
+  pub comes : s.coming ≡ (c, place) ∷ behind
+  pub settled : AllWait s.applied s.waiting
+  pub without : rest ≡ record s { coming = behind }
+
+-- It ends where none is left: all that waits lacks something, and none is still to come.
+pub record Ends {S : Type 0} (s : Intake S) : Type 0 where
+  pub settled : AllWait s.applied s.waiting
+  pub came : s.coming ≡ []
+
+-- It is the turn of c, and the rest is s without it.
+abbrev pub Next : {S : Type 0} → Intake S → ChangeParts → Intake S → Type 0
+Next s c rest = NextWaits s c rest ⊎ NextComes s c rest
+
+-- One change had its turn.
+pub record Turn {S : Type 0} (keeps : S → ChangeParts → S → Type 0) (s t : Intake S) : Type 0 where
+  pub change : ChangeParts
+  pub rest : Intake S
+  pub next : Next s change rest
+  pub meets : Meets keeps rest change t
+
+-- n changes had their turns, one after another.
+abbrev pub Turns : {S : Type 0} → (S → ChangeParts → S → Type 0) → ℕ → Intake S → Intake S → Type 0
+Turns keeps zero s t = s ≡ t
+Turns {S} keeps (suc n) s t = (m : Intake S) × Turn keeps s m × Turns keeps n m t
+
+-- Some changes had their turns.
+pub record Run {S : Type 0} (keeps : S → ChangeParts → S → Type 0) (s t : Intake S) : Type 0 where
+  pub count : ℕ
+  pub turns : Turns keeps count s t
+
+-- ---- a call
+
+-- The changes K come where C is applied and W waits.
+abbrev pub begin : {S : Type 0} → S → List ChangeParts → List ChangeParts → List ChangeParts → Intake S
+begin k C W K = intake k C W (placing W (delivery C K)) [] []
+
+-- What is answered where the changes K were received from s on, and what is left: a run to its end. Held are those
+-- of K that wait now, each hash once.
+pub record Received {S : Type 0} (keeps : S → ChangeParts → S → Type 0) (s : Intake S) (K : List ChangeParts) (t : Intake S) (held : List Hash) : Type 0 where
+  pub run : Run keeps s t
+  pub ends : Ends t
+  pub held_are : held ≡ held_of (hashes K) t.waiting
+  pub once : EachOnce held
+
+-- The keeper refused the change whose turn it was.
+pub record RefusesTurn {S : Type 0} (refuses : S → ChangeParts → KeepError → S → Type 0) (why : KeepError) (at : Intake S) (k : S) : Type 0 where
+  pub change : ChangeParts
+  pub rest : Intake S
+  pub next : Next at change rest
+  pub fits : cause at.applied change ≡ None
+  pub refused : refuses at.keeper change why k
+
+-- What stopped a run at that turn, and left the keeper as k.
+abbrev pub StoppedBy : {S : Type 0} → (S → ChangeParts → KeepError → S → Type 0) → ReceiveError → Intake S → S → Type 0
+StoppedBy refuses PendingFull at k = ⊥
+StoppedBy refuses NotKept at k = RefusesTurn refuses keep.NotKept at k
+StoppedBy refuses OutOfMemory at k = (k ≡ at.keeper) ⊎ RefusesTurn refuses keep.OutOfMemory at k
+
+-- A run from s stopped with the error, and left the keeper as k, C applied and W waiting.
+pub record Stopped {S : Type 0} (keeps : S → ChangeParts → S → Type 0) (refuses : S → ChangeParts → KeepError → S → Type 0)
+    (s : Intake S) (error : ReceiveError) (k : S) (C W : List ChangeParts) : Type 0 where
+  pub at : Intake S
+  pub run : Run keeps s at
+  pub applied : C ≡ at.applied
+  pub waiting : W ≡ at.waiting
+  pub by : StoppedBy refuses error at k
+
+-- How an error leaves the keeper, what is applied and what waits: PendingFull as they were, the others at some turn.
+abbrev pub Fails : {S : Type 0} → (S → ChangeParts → S → Type 0) → (S → ChangeParts → KeepError → S → Type 0) → Intake S → ReceiveError
+    → S → List ChangeParts → List ChangeParts → Type 0
+Fails keeps refuses s PendingFull k C W = (k ≡ s.keeper) × (C ≡ s.applied) × (W ≡ s.waiting)
+Fails keeps refuses s error k C W = Stopped keeps refuses s error k C W

@@ -1,0 +1,98 @@
+//! The changes of a list that are still to come, and the places that are reserved for them.
+
+ghost use Rattle.std.specs.Prelude.{◌≡◌, ◌++◌, List, IfOk};
+ghost use Rattle.tp_change.specs.declared.parts.ChangeParts.{ChangeParts};
+ghost use Rattle.tp_graph.specs.Named as named;
+ghost use Rattle.tp_receive.specs.Receiving as receiving;
+ghost use Rattle.tp_receive.specs.Delivery.{delivery, placing};
+ghost use Rattle.tp_receive.specs.Trying.{IsNoted};
+ghost use Rattle.tp_receive.specs.Delivery as delivery_of;
+
+use crate::hashes::{among, hashes_of};
+use crate::replica::Replica;
+use std::alloc::{AllocError, Global};
+use tp_change::Change;
+use tp_opid::Hash;
+
+// Whether the hash is that of an applied change, or one of the hashes of the deliverable ones.
+fn is_there<R: Replica>(replica: &R, delivered: &[Hash], hash: &Hash) -> bool
+    ensures { (D : List ChangeParts) → delivered.now ≡ receiving.hashes D
+        → result ≡ named.has (R.applied replica.now ++ D) hash.now }
+{
+    if replica.contains(hash) {
+        return true;
+    }
+    among(delivered, hash)
+}
+
+// Whether each of the hashes is there.
+fn all_there<R: Replica>(replica: &R, delivered: &[Hash], hashes: &[Hash]) -> bool
+    ensures { (D : List ChangeParts) → delivered.now ≡ receiving.hashes D
+        → result ≡ named.has_all (R.applied replica.now ++ D) hashes.now }
+{
+    for hash in hashes {
+        if !is_there(replica, delivered, hash) {
+            return false;
+        }
+    }
+    true
+}
+
+// Whether the next change takes a place of its own. It is noted as deliverable, or as one that has a place.
+fn note<R: Replica>(
+    replica: &R,
+    delivered: &mut Vec<Hash>,
+    placed: &mut Vec<Hash>,
+    change: &Change,
+) -> Result<bool, AllocError>
+    ensures { (D V : List ChangeParts) → delivered.old.items ≡ receiving.hashes D → placed.old.items ≡ receiving.hashes V
+        → IfOk result (λ place. IsNoted (R.applied replica.now) D V change.now delivered.new.items placed.new.items place) }
+{
+    let hash = change.hash();
+    if all_there(replica, delivered, change.deps()) {
+        delivered.push(hash)?;
+        return Ok(false);
+    }
+    if among(placed, &hash) {
+        return Ok(false);
+    }
+    placed.push(hash)?;
+    Ok(true)
+}
+
+/// The changes that are still to come, each with whether a place is reserved for it.
+#[derive(Drop)]
+pub(crate) struct Coming {
+    /// The changes, in their order.
+    pub(crate) changes: Vec<(Change, bool)>,
+    /// How many places are reserved.
+    pub(crate) reserved: usize,
+}
+
+/// The changes of a list, each with whether a place is reserved for it: it is undeliverable, and neither a pending
+/// change nor an earlier undeliverable one has its hash. It compares each dependency with the earlier hashes of the list.
+pub(crate) fn reserve<R: Replica>(
+    alloc: Global,
+    replica: &R,
+    changes: Vec<Change>,
+) -> Result<Coming, AllocError>
+    ensures changes { IfOk result (λ coming. coming.changes.items
+        ≡ placing (R.waiting replica.now) (delivery (R.applied replica.now) changes.items)) }
+    ensures reserved { IfOk result (λ coming. coming.reserved ≡ delivery_of.places coming.changes.items) }
+{
+    let mut delivered = Vec::new(alloc);
+    let mut placed = hashes_of(alloc, replica.pending())?;
+    let mut coming = Vec::new(alloc);
+    let mut reserved = 0;
+    for change in changes {
+        let place = note(replica, &mut delivered, &mut placed, &change)?;
+        if place {
+            reserved += 1;
+        }
+        coming.push((change, place))?;
+    }
+    Ok(Coming {
+        changes: coming,
+        reserved,
+    })
+}
