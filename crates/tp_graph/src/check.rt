@@ -14,14 +14,12 @@ ghost use Rattle.tp_change.specs.Elements as made;
 use crate::error::GraphError;
 use crate::index::Index;
 use crate::judge::{count_all, count_in, refers, start_after};
+use crate::limits::MOST_CHANGES;
 use crate::part::{Part, part_of};
 use crate::walk::{contains, has_all};
 use std::alloc::Global;
 use tp_change::Change;
 use tp_opid::Hash;
-
-/// How many changes a graph has at most.
-pub(crate) const MOST_CHANGES: usize = 4294967295;
 
 // The numbers and references of the change behind its past, where one that fits starts at `start`.
 #[tactic(auto, unfolding(crate::specs::Fit::misfit_behind))]
