@@ -1,9 +1,9 @@
 //! What is wrong with the parts of a change.
 
-ghost use Rattle.std.specs.Prelude.{◌≡◌, ◌↔◌, ◌<◌, ◌^◌, ◌≤◌, IsTrue, OnOk, IfOk, MatchResult, Ok, Err, List, length, true, nat_le, encode_utf8_all};
+ghost use Rattle.std.specs.Prelude.{◌≡◌, ◌↔◌, ◌<◌, ◌^◌, ◌≤◌, IsTrue, OnOk, IfOk, IfErr, MatchResult, Ok, Err, List, length, true, nat_le, encode_utf8_all};
 ghost use Rattle.std.specs.Str.{all_scalars};
 ghost use Rattle.tp_change.specs.declared.limits.TheConstants.{MAX_MESSAGE_BYTES, COUNTERS_END};
-ghost use Rattle.tp_change.specs.declared.error.ChangeError.TheVariants.{Limit};
+ghost use Rattle.tp_change.specs.declared.error.ChangeError.TheVariants.{Limit, OutOfMemory};
 ghost use Rattle.std.specs.List.{All};
 ghost use Rattle.std.specs.declared.cmp.Ordering.TheVariants.{Less};
 ghost use Rattle.tp_opid.specs.Order.{hash_cmp};
@@ -144,6 +144,7 @@ pub(crate) fn judge(parts: &ChangeParts) -> Result<(), ChangeError>
     ensures value { result ≡ judged parts.now }
     ensures within { OnOk result (IsChange parts.now) }
     ensures only { IsChange parts.now → result ≡ Ok tt }
+    ensures memory { IfErr result (λ e. e ≡ OutOfMemory → ⊥) }
 {
     judge_fields(parts)
 }
