@@ -1,6 +1,6 @@
 -- No fault is found exactly in what is within the limits and the grammar.
 use Rattle.std.proofs.Common.{◌≡◌, ℕ, ◌+◌, ◌-◌, ◌^◌, ◌<◌, ◌≤◌, min, Bool, true, false, ◌&&◌, List, [], ◌∷◌, length, Some, None, Result, Ok, Err, refl, sym, ap, ◌∙◌, arith, length-append}
-use Rattle.std.specs.Prelude.{encode_utf8_all, nat_lt, nat_le, OnOk}
+use Rattle.std.specs.Prelude.{encode_utf8_all, nat_lt, nat_le, OnOk, IfErr}
 use Rattle.std.specs.List.{flat_map, AllByRecursion}
 use Rattle.std.specs.Ordering.{is_lt}
 use Rattle.std.specs.declared.cmp.Ordering.TheVariants.{Less}
@@ -12,7 +12,8 @@ use Rattle.tp_opid.specs.declared.hash.Hash.{Hash}
 use Rattle.tp_opid.specs.Order.{hash_cmp}
 use Rattle.tp_opid.proofs.Orders.{hash_total}
 use Rattle.tp_change.specs.declared.error.ChangeError.{ChangeError}
-use Rattle.tp_change.specs.declared.error.ChangeError.TheVariants.{Limit}
+use Rattle.tp_change.specs.declared.limits.TheConstants.{MAX_BYTES, MAX_OPS, MAX_DEPS, MAX_MESSAGE_BYTES, COUNTERS_END}
+use Rattle.tp_change.specs.declared.error.ChangeError.TheVariants.{Limit, ZeroSeqOrStart, DepsOrder, NoRecords, EmptyRun, OutOfMemory}
 use Rattle.tp_change.specs.declared.record.Record.{Record}
 use Rattle.tp_change.specs.declared.record.Record.TheVariants.{Insert, Delete}
 use Rattle.tp_change.specs.declared.parts.ChangeParts.{ChangeParts}
@@ -176,3 +177,62 @@ ok_change c h =
 pub on_change : (c : ChangeParts) (r : Result (Unit {0}) ChangeError) → r ≡ judged c → OnOk r (IsTyped c) → OnOk r (IsChange c)
 on_change c (Ok tt) e typed = change_of c typed (sym e)
 on_change c (Err _) e typed = tt
+
+-- ---- memory is no fault of parts
+
+-- no fault of this judgement is want of memory
+abbrev pub IsNever : Result (Unit {0}) ChangeError → Type 0
+IsNever r = r ≡ Err OutOfMemory → ⊥
+
+never_and : (a b : Result (Unit {0}) ChangeError) → IsNever a → IsNever b → IsNever (a and_then b)
+never_and (Ok _) b f g h = g h
+never_and (Err e) b f g h = f h
+
+never_unless : (b : Bool) (e : ChangeError) (rest : Result (Unit {0}) ChangeError) → IsNever (Err e) → IsNever rest → IsNever (unless b e and_then rest)
+never_unless true e rest f g h = g h
+never_unless false e rest f g h = f h
+
+never_last : (b : Bool) (e : ChangeError) → IsNever (Err e) → IsNever (unless b e)
+never_last true e f h = cc
+never_last false e f h = f h
+
+never_limit : IsNever (Err Limit)
+never_limit h = cc
+
+never_record : (room : ℕ) (r : Record) → IsNever (judged_record room r)
+never_record room r = never_unless (nat_lt 0 (count_in r)) EmptyRun (unless (nat_le (count_in r) room) Limit) (λ h. cc) (never_last (nat_le (count_in r) room) Limit never_limit)
+
+never_records : (room : ℕ) (rs : List Record) → IsNever (judged_records room rs)
+never_records room [] h = cc
+never_records room (r ∷ rs) h = never_and (judged_record room r) (judged_records (room - count_in r) rs) (never_record room r) (never_records (room - count_in r) rs) h
+
+never_list : (start : ℕ) (rs : List Record) → IsNever (judged_list start rs)
+never_list start rs =
+    let records = judged_records (min (COUNTERS_END - start) MAX_OPS) rs in
+    never_unless (nat_lt 0 (length rs)) NoRecords (unless (nat_le (length rs) MAX_OPS) Limit and_then records) (λ h. cc)
+    (never_unless (nat_le (length rs) MAX_OPS) Limit records never_limit (never_records (min (COUNTERS_END - start) MAX_OPS) rs))
+
+never_deps : (hs : List Hash) → IsNever (judged_deps hs)
+never_deps hs = never_unless (nat_le (length hs) MAX_DEPS) Limit (unless (rises_after None hs) DepsOrder) never_limit (never_last (rises_after None hs) DepsOrder (λ h. cc))
+
+never_numbers : (seq start : ℕ) → IsNever (judged_numbers seq start)
+never_numbers seq start =
+    let top = unless (nat_lt start COUNTERS_END) Limit in
+    never_unless (nat_lt 0 seq) ZeroSeqOrStart (unless (nat_lt 0 start) ZeroSeqOrStart and_then top) (λ h. cc)
+    (never_unless (nat_lt 0 start) ZeroSeqOrStart top (λ h. cc) (never_last (nat_lt start COUNTERS_END) Limit never_limit))
+
+judged_never : (c : ChangeParts) → IsNever (judged c)
+unfolding judged
+judged_never c =
+    let list = judged_list c.start c.records in
+    let deps = judged_deps c.deps and_then list in
+    let short = nat_le (length (encode_utf8_all c.message)) MAX_MESSAGE_BYTES in
+    let message = unless short Limit and_then deps in
+    never_unless (nat_le (length (spelling c)) MAX_BYTES) Limit (judged_numbers c.seq c.start and_then message) never_limit
+    (never_and (judged_numbers c.seq c.start) message (never_numbers c.seq c.start)
+    (never_unless short Limit deps never_limit (never_and (judged_deps c.deps) list (never_deps c.deps) (never_list c.start c.records))))
+
+-- no fault of parts is want of memory
+pub never_memory : (c : ChangeParts) (r : Result (Unit {0}) ChangeError) → r ≡ judged c → IfErr r (λ e. e ≡ OutOfMemory → ⊥)
+never_memory c (Ok tt) h = tt
+never_memory c (Err e) h = λ m. judged_never c (sym h ∙ ap Err m)

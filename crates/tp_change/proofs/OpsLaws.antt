@@ -1,16 +1,14 @@
 -- The operations of a change, by place: how many they are, and their identifiers.
-use Rattle.std.proofs.Common.{◌≡◌, ℕ, cond, eqb, zero, suc, ◌+◌, ◌<◌, List, [], ◌∷◌, ◌++◌, length, map, get_or, refl, sym, ap, ◌∙◌, subst, arith}
+use Rattle.std.proofs.Common.{◌≡◌, ℕ, zero, suc, ◌+◌, ◌<◌, List, [], ◌∷◌, ◌++◌, length, map, get_or, refl, sym, ap, ◌∙◌, subst, arith}
 use Rattle.std.proofs.lemmas.List.{map-append}
-use Rattle.std.proofs.lemmas.Bool.{lt-ltb}
-use Rattle.std.specs.Cmp.Lexicographic.{slice_cmp}
-use Rattle.std.specs.Ordering.{nat_cmp, ordering_then}
-use Rattle.std.specs.declared.cmp.Ordering.TheVariants.{Less, Equal, Greater}
+use Rattle.std.specs.declared.cmp.Ordering.TheVariants.{Less}
 use Rattle.tp_list.specs.Rising.{IsBelowAll, IsRising}
 use Rattle.tp_opid.specs.declared.actor.Actor.{Actor}
 use Rattle.tp_opid.specs.declared.op_id.OpId.{OpId}
 use Rattle.tp_opid.specs.declared.op_id.Place.{Place}
 use Rattle.tp_opid.specs.declared.op_id.Place.TheVariants.{After}
 use Rattle.tp_opid.specs.Order.{id_cmp}
+use Rattle.tp_opid.proofs.Orders.{id_cmp-counter}
 use Rattle.tp_change.specs.declared.op.Op.{Op}
 use Rattle.tp_change.specs.declared.record.Record.{Record}
 use Rattle.tp_change.specs.declared.record.Record.TheVariants as record_of
@@ -82,10 +80,7 @@ get_or-ids_from a n (suc k) (suc j) d lt =
 
 -- of one actor's identifiers the one with the lower counter stands below
 id_below : (a : Actor) (n m : ℕ) → n < m → id_cmp (id_of a n) (id_of a m) ≡ Less
-unfolding id_cmp
-id_below a n m lt =
-    let first : nat_cmp n m ≡ Less = ap (λ b. cond b Less (cond (eqb n m) Equal Greater)) (lt-ltb n m lt) in
-    ap (λ o. ordering_then o (slice_cmp nat_cmp a.0 a.0)) first
+id_below a n m lt = id_cmp-counter (id_of a n) (id_of a m) lt
 
 -- an identifier stands below those in a row after it
 ids_below : (a : Actor) (n m k : ℕ) → n < m → IsBelowAll id_cmp (id_of a n) (ids_from a m k)

@@ -1,5 +1,6 @@
 -- Which part of the bytes a refusal is about.
 use Rattle.std.specs.Prelude.{◌≡◌, ℕ, ◌<◌, ◌≤◌, ◌⊎◌, List, ◌++◌, length, Err}
+use Rattle.tp_change.specs.declared.limits.TheConstants.{MAX_BYTES}
 use Rattle.tp_change.specs.declared.error.ChangeError.{ChangeError}
 use Rattle.tp_change.specs.declared.error.ChangeError.TheVariants.{Short}
 use Rattle.tp_change.specs.declared.parts.ChangeParts.{ChangeParts}
@@ -18,7 +19,7 @@ pub record IsToBlame (front : List ℕ) (e : ChangeError) : Type 0 where
   -- each shorter front is a change, or nothing is wrong with it but that bytes are missing
   pub shorter : (begin more : List ℕ) → front ≡ begin ++ more → 0 < length more → IsSpelling begin ⊎ (change_at begin ≡ Err Short)
   -- all bytes within the limit that begin with it have the fault
-  pub longer : (more : List ℕ) → length (front ++ more) ≤ 4194304 → change_at (front ++ more) ≡ Err e
+  pub longer : (more : List ℕ) → length (front ++ more) ≤ MAX_BYTES → change_at (front ++ more) ≡ Err e
 
 -- Some front of the bytes is to blame for the fault.
 abbrev pub SomeFrontIsToBlame : List ℕ → ChangeError → Type 0

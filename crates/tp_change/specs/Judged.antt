@@ -1,8 +1,9 @@
 -- What is wrong with the parts of a change: the whole size first, and then the first fault in the order of the fields.
-use Rattle.std.specs.Prelude.{ℕ, ◌-◌, ◌^◌, ◌&&◌, nat_le, nat_lt, min, Bool, true, List, [], ◌∷◌, length, encode_utf8_all, Option, Some, None, Result, Ok, Err, if◌then◌else◌}
+use Rattle.std.specs.Prelude.{ℕ, ◌-◌, ◌&&◌, nat_le, nat_lt, min, Bool, true, List, [], ◌∷◌, length, encode_utf8_all, Option, Some, None, Result, Ok, Err, if◌then◌else◌}
 use Rattle.std.specs.Ordering.{is_lt}
 use Rattle.tp_opid.specs.declared.hash.Hash.{Hash}
 use Rattle.tp_opid.specs.Order.{hash_cmp}
+use Rattle.tp_change.specs.declared.limits.TheConstants.{MAX_BYTES, MAX_OPS, MAX_DEPS, MAX_MESSAGE_BYTES, COUNTERS_END}
 use Rattle.tp_change.specs.declared.error.ChangeError.{ChangeError}
 use Rattle.tp_change.specs.declared.error.ChangeError.TheVariants.{ZeroSeqOrStart, DepsOrder, NoRecords, EmptyRun, Limit}
 use Rattle.tp_change.specs.declared.record.Record.{Record}
@@ -32,7 +33,7 @@ rises_after before (h ∷ hs) = is_above before h && rises_after (Some h) hs
 
 -- at most 65,535 dependencies, rising
 abbrev pub judged_deps : List Hash → Result (Unit {0}) ChangeError
-judged_deps hs = unless (nat_le (length hs) 65535) Limit and_then unless (rises_after None hs) DepsOrder
+judged_deps hs = unless (nat_le (length hs) MAX_DEPS) Limit and_then unless (rises_after None hs) DepsOrder
 
 -- where room is how many operations may still come: a run has a character, and the operations have room
 abbrev pub judged_record : ℕ → Record → Result (Unit {0}) ChangeError
@@ -45,17 +46,17 @@ judged_records room (r ∷ rs) = judged_record room r and_then judged_records (r
 
 -- the sequence number and the start: from 1, the start below 2^48
 abbrev pub judged_numbers : ℕ → ℕ → Result (Unit {0}) ChangeError
-judged_numbers seq start = unless (nat_lt 0 seq) ZeroSeqOrStart and_then unless (nat_lt 0 start) ZeroSeqOrStart and_then unless (nat_lt start (2 ^ 48)) Limit
+judged_numbers seq start = unless (nat_lt 0 seq) ZeroSeqOrStart and_then unless (nat_lt 0 start) ZeroSeqOrStart and_then unless (nat_lt start COUNTERS_END) Limit
 
 -- the record count, and the records: at most 65,536 operations, and at most those whose counters are below 2^48
 abbrev pub judged_list : ℕ → List Record → Result (Unit {0}) ChangeError
-judged_list start rs = unless (nat_lt 0 (length rs)) NoRecords and_then unless (nat_le (length rs) 65536) Limit and_then judged_records (min (2 ^ 48 - start) 65536) rs
+judged_list start rs = unless (nat_lt 0 (length rs)) NoRecords and_then unless (nat_le (length rs) MAX_OPS) Limit and_then judged_records (min (COUNTERS_END - start) MAX_OPS) rs
 
 -- the fault of the parts of a change
 unfoldable pub judged : ChangeParts → Result (Unit {0}) ChangeError
 judged c =
-    unless (nat_le (length (spelling c)) 4194304) Limit and_then
+    unless (nat_le (length (spelling c)) MAX_BYTES) Limit and_then
     judged_numbers c.seq c.start and_then
-    unless (nat_le (length (encode_utf8_all c.message)) 65535) Limit and_then
+    unless (nat_le (length (encode_utf8_all c.message)) MAX_MESSAGE_BYTES) Limit and_then
     judged_deps c.deps and_then
     judged_list c.start c.records

@@ -9,6 +9,7 @@ use Rattle.tp_opid.specs.declared.op_id.OpId.{OpId}
 use Rattle.tp_opid.specs.declared.op_id.Place.{Place}
 use Rattle.tp_opid.specs.declared.op_id.Place.TheVariants.{Start, After}
 use Rattle.tp_opid.specs.Order.{hash_cmp}
+use Rattle.tp_change.specs.declared.limits.TheConstants.{MAX_BYTES, MAX_OPS, MAX_DEPS, MAX_MESSAGE_BYTES, COUNTERS_END}
 use Rattle.tp_change.specs.declared.record.Record.{Record}
 use Rattle.tp_change.specs.declared.record.Record.TheVariants.{Insert, Delete}
 use Rattle.tp_change.specs.declared.parts.ChangeParts.{ChangeParts}
@@ -41,7 +42,7 @@ pub record IsText (limit : ℕ) (text : List ℕ) : Type 0 where
 
 -- An insert run has a character at least.
 abbrev pub IsRecord : Record → Type 0
-IsRecord (Insert after text) = IsPlace after × IsText 4194304 text × (0 < length text)
+IsRecord (Insert after text) = IsPlace after × IsText MAX_BYTES text × (0 < length text)
 IsRecord (Delete target) = IsId target
 
 -- A change within the limits and the grammar: all that has a spelling.
@@ -51,16 +52,16 @@ pub record IsChange (c : ChangeParts) : Type 0 where
   pub seq_to : c.seq < 2 ^ 64
   pub start_from : 1 ≤ c.start
   pub time : c.time < 2 ^ 64
-  pub message : IsText 65535 c.message
+  pub message : IsText MAX_MESSAGE_BYTES c.message
   pub deps : AllByRecursion IsHash c.deps
   pub deps_rise : IsRising hash_cmp c.deps
-  pub deps_count : length c.deps ≤ 65535
+  pub deps_count : length c.deps ≤ MAX_DEPS
   pub records : AllByRecursion IsRecord c.records
   pub records_some : 1 ≤ length c.records
-  pub operations : count_of c.records ≤ 65536
+  pub operations : count_of c.records ≤ MAX_OPS
   -- the last counter is at most 2^48 - 1
-  pub counters : c.start + count_of c.records ≤ 2 ^ 48
-  pub size : length (spelling c) ≤ 4194304
+  pub counters : c.start + count_of c.records ≤ COUNTERS_END
+  pub size : length (spelling c) ≤ MAX_BYTES
 
 -- What the types of a program say of a record: no limit is known yet.
 abbrev pub IsTypedRecord : Record → Type 0

@@ -1,7 +1,8 @@
 -- The operations that a walk over a change still has to give.
-use Rattle.std.specs.Prelude.{◌+◌, ◌≤◌, ◌^◌, List, ◌++◌, length}
+use Rattle.std.specs.Prelude.{◌+◌, ◌≤◌, List, ◌++◌, length}
 use Rattle.std.specs.List.{AllByRecursion}
 use Rattle.std.specs.Str.{chars}
+use Rattle.tp_change.specs.declared.limits.TheConstants.{COUNTERS_END}
 use Rattle.tp_change.specs.declared.op.Op.{Op}
 use Rattle.tp_change.specs.declared.ops.Walk.{Walk}
 use Rattle.tp_change.specs.Operations.{count_of, run, ops_from}
@@ -14,4 +15,4 @@ ops_left w = run w.actor w.counter w.after (chars w.text.now) ++ ops_from w.acto
 -- no counter that is to come passes its limit
 pub record IsWalk (w : Walk) : Type 0 where
   pub records : AllByRecursion IsRecord w.records.now
-  pub counters : w.counter + length (chars w.text.now) + count_of w.records.now ≤ 2 ^ 48
+  pub counters : w.counter + length (chars w.text.now) + count_of w.records.now ≤ COUNTERS_END

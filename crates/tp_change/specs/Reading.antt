@@ -1,6 +1,6 @@
 -- Reading the bytes of a change from left to right, field by field: the first fault, and at one field the one with
 -- the lowest number.
-use Rattle.std.specs.Prelude.{ℕ, zero, suc, ◌-◌, ◌^◌, min, List, length, Bool, true, Option, Some, None, Result, Ok, Err, nat_lt, nat_le, ◌==◌, if◌then◌else◌}
+use Rattle.std.specs.Prelude.{ℕ, zero, suc, ◌-◌, min, List, length, Bool, true, Option, Some, None, Result, Ok, Err, nat_lt, nat_le, ◌==◌, if◌then◌else◌}
 use Rattle.std.specs.Int.{w16, w32, w64}
 use Rattle.std.specs.Ordering.{is_lt}
 use Rattle.tp_codec.specs.Front.{byte_at, bytes_at, number_at}
@@ -11,6 +11,7 @@ use Rattle.tp_opid.specs.declared.op_id.OpId.{OpId}
 use Rattle.tp_opid.specs.declared.op_id.Place.{Place}
 use Rattle.tp_opid.specs.declared.op_id.Place.TheVariants.{Start, After}
 use Rattle.tp_opid.specs.Order.{hash_cmp}
+use Rattle.tp_change.specs.declared.limits.TheConstants.{MAX_BYTES, MAX_OPS, COUNTERS_END}
 use Rattle.tp_change.specs.declared.error.ChangeError.{ChangeError}
 use Rattle.tp_change.specs.declared.error.ChangeError.TheVariants.{Version, Short, Trailing, ZeroSeqOrStart, BadUtf8, DepsOrder, NoRecords, BadTag, EmptyRun, Limit}
 use Rattle.tp_change.specs.declared.record.Record.{Record}
@@ -55,7 +56,7 @@ unfoldable pub start_at : Reads ChangeError ℕ
 start_at = do
   start ← or_fail Short (number_at w64)
   require (nat_le 1 start) ZeroSeqOrStart
-  require (nat_lt start (2 ^ 48)) Limit
+  require (nat_lt start COUNTERS_END) Limit
   give start
 
 -- the hash is greater than the one before it
@@ -128,13 +129,13 @@ unfoldable pub records_at : ℕ → Reads ChangeError (List Record)
 records_at room = do
   count ← or_fail Short (number_at w32)
   require (nat_le 1 count) NoRecords
-  require (nat_le count 65536) Limit
+  require (nat_le count MAX_OPS) Limit
   repeat_at record_at room_after count room
 
 -- How many operations a change may have whose first counter is start: at most 65,536, the last counter at most
 -- 2^48 - 1.
 abbrev pub room_from : ℕ → ℕ
-room_from start = min 65536 (2 ^ 48 - start)
+room_from start = min MAX_OPS (COUNTERS_END - start)
 
 -- all that follows the version
 unfoldable pub parts_at : Reads ChangeError ChangeParts
@@ -152,7 +153,7 @@ parts_at = do
 unfoldable pub sized_at : ℕ → Reads ChangeError ChangeParts
 sized_at size = do
   version_at
-  require (nat_le size 4194304) Limit
+  require (nat_le size MAX_BYTES) Limit
   parts_at
 
 -- Nothing follows.

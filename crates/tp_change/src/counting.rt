@@ -1,6 +1,7 @@
 //! How many operations a change has.
 
 ghost use Rattle.std.specs.Prelude.{◌≡◌, ◌≤◌, ◌+◌};
+ghost use Rattle.tp_change.specs.declared.limits.TheConstants.{MAX_OPS};
 ghost use Rattle.tp_change.specs.Operations.{count_of, op_count};
 
 use crate::change::Change;
@@ -9,7 +10,7 @@ use crate::record::Record;
 
 /// How many operations the records have together.
 fn count_ops(records: &[Record]) -> usize
-    requires { count_of records.now ≤ 65536 }
+    requires { count_of records.now ≤ MAX_OPS }
     ensures { result ≡ count_of records.now }
 {
     let mut total = 0;

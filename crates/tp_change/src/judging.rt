@@ -1,8 +1,9 @@
 //! What is wrong with the parts of a change.
 
-ghost use Rattle.std.specs.Prelude.{◌≡◌, ◌↔◌, ◌<◌, ◌^◌, ◌≤◌, IsTrue, OnOk, IfOk, MatchResult, Ok, Err, List, length, true, nat_le, encode_utf8_all};
+ghost use Rattle.std.specs.Prelude.{◌≡◌, ◌↔◌, ◌<◌, ◌^◌, ◌≤◌, IsTrue, OnOk, IfOk, IfErr, MatchResult, Ok, Err, List, length, true, nat_le, encode_utf8_all};
 ghost use Rattle.std.specs.Str.{all_scalars};
-ghost use Rattle.tp_change.specs.declared.error.ChangeError.TheVariants.{Limit};
+ghost use Rattle.tp_change.specs.declared.limits.TheConstants.{MAX_MESSAGE_BYTES, COUNTERS_END};
+ghost use Rattle.tp_change.specs.declared.error.ChangeError.TheVariants.{Limit, OutOfMemory};
 ghost use Rattle.std.specs.List.{All};
 ghost use Rattle.std.specs.declared.cmp.Ordering.TheVariants.{Less};
 ghost use Rattle.tp_opid.specs.Order.{hash_cmp};
@@ -16,7 +17,6 @@ use crate::limits::{COUNTERS_END, MAX_BYTES, MAX_DEPS, MAX_MESSAGE_BYTES, MAX_OP
 use crate::parts::ChangeParts;
 use crate::record::Record;
 use crate::size::parts_len;
-use std::cmp::Ordering;
 use tp_list::{Items, Text};
 use tp_opid::Hash;
 
@@ -28,13 +28,12 @@ fn ensure(fine: bool, fault: ChangeError) -> Result<(), ChangeError>
 }
 
 /// Whether a hash stands above the one before it, if there is one.
-#[tactic(auto, unfolding(tp_opid::specs::Order::hash_cmp))]
 fn is_next(before: Option<Hash>, hash: &Hash) -> bool
     ensures { result ≡ is_above before hash.now }
 {
     match before {
         None => true,
-        Some(last) => last.cmp(hash).is_lt(),
+        Some(last) => last.order(hash).is_lt(),
     }
 }
 
@@ -98,7 +97,7 @@ fn judge_numbers(seq: u64, start: u64) -> Result<(), ChangeError>
 
 /// The length of the message.
 fn judge_message(message: &Text) -> Result<(), ChangeError>
-    ensures value { result ≡ unless (nat_le (length (encode_utf8_all message.now)) 65535) Limit }
+    ensures value { result ≡ unless (nat_le (length (encode_utf8_all message.now)) MAX_MESSAGE_BYTES) Limit }
     ensures typed { all_scalars message.now ≡ true }
 {
     ensure(
@@ -109,7 +108,7 @@ fn judge_message(message: &Text) -> Result<(), ChangeError>
 
 /// The record count, and the records.
 fn judge_list(start: u64, records: &Items<Record>) -> Result<(), ChangeError>
-    requires { start < 2 ^ 48 }
+    requires { start < COUNTERS_END }
     ensures value { result ≡ judged_list start records.now }
     ensures typed { OnOk result (All IsTypedRecord records.now) }
 {
@@ -145,6 +144,7 @@ pub(crate) fn judge(parts: &ChangeParts) -> Result<(), ChangeError>
     ensures value { result ≡ judged parts.now }
     ensures within { OnOk result (IsChange parts.now) }
     ensures only { IsChange parts.now → result ≡ Ok tt }
+    ensures memory { IfErr result (λ e. e ≡ OutOfMemory → ⊥) }
 {
     judge_fields(parts)
 }

@@ -5,6 +5,7 @@
 //! are laws of what it answers.
 
 ghost use Rattle.std.specs.Prelude.{◌≡◌, ℕ, ◌<◌, ◌≤◌, List, [], ◌++◌, length, slice_index, Err};
+ghost use Rattle.tp_change.specs.declared.limits.TheConstants.{MAX_BYTES};
 ghost use Rattle.tp_change.specs.declared.parts.ChangeParts.{ChangeParts};
 ghost use Rattle.tp_change.specs.declared.error.ChangeError.{ChangeError};
 ghost use Rattle.tp_change.specs.declared.error.ChangeError.TheVariants.{Short};
@@ -26,7 +27,7 @@ pub fn nothing_begins_another()
 
 /// A change has from 1 to 4,194,304 bytes, and a hash of 32 bytes.
 pub fn sizes()
-    ensures bytes { (c : ChangeParts) → IsChange c → (1 ≤ length (spelling c)) × (length (spelling c) ≤ 4194304) }
+    ensures bytes { (c : ChangeParts) → IsChange c → (1 ≤ length (spelling c)) × (length (spelling c) ≤ MAX_BYTES) }
     ensures hash { (c : ChangeParts) → IsHash (hash_of c) }
 {}
 
@@ -34,11 +35,11 @@ pub fn sizes()
 /// blame: no change's bytes begin with it, each shorter front is a change or only misses bytes, and all bytes within
 /// the limit that begin with it are refused for the same reason.
 pub fn a_front_is_to_blame()
-    ensures { (bytes : List ℕ) (e : ChangeError) → ((i : ℕ) → slice_index bytes i < 256) → length bytes ≤ 4194304 → change_at bytes ≡ Err e → (e ≡ Short → ⊥) → SomeFrontIsToBlame bytes e }
+    ensures { (bytes : List ℕ) (e : ChangeError) → ((i : ℕ) → slice_index bytes i < 256) → length bytes ≤ MAX_BYTES → change_at bytes ≡ Err e → (e ≡ Short → ⊥) → SomeFrontIsToBlame bytes e }
 {}
 
 /// Where bytes within the size limit are refused as `Short`, nothing is wrong with any front of them but that bytes
 /// are missing.
 pub fn short_says_missing_alone()
-    ensures { (front more : List ℕ) → ((i : ℕ) → slice_index front i < 256) → length (front ++ more) ≤ 4194304 → change_at (front ++ more) ≡ Err Short → change_at front ≡ Err Short }
+    ensures { (front more : List ℕ) → ((i : ℕ) → slice_index front i < 256) → length (front ++ more) ≤ MAX_BYTES → change_at (front ++ more) ≡ Err Short → change_at front ≡ Err Short }
 {}

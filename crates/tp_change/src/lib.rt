@@ -26,6 +26,7 @@ mod writing;
 
 pub use change::Change;
 pub use error::ChangeError;
+pub use limits::{COUNTERS_END, MAX_BYTES, MAX_DEPS, MAX_MESSAGE_BYTES, MAX_OPS};
 pub use op::Op;
 pub use ops::Ops;
 pub use parts::ChangeParts;

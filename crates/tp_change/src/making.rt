@@ -1,8 +1,7 @@
 //! Making changes.
 
-ghost use Rattle.std.specs.Prelude.{◌≡◌, IfOk, IsOkUnless};
+ghost use Rattle.std.specs.Prelude.{◌≡◌, Ok, Err, IsOk, IfOk, IfErr, MatchResult};
 ghost use Rattle.tp_change.specs.ChangeHash.{hash_of};
-ghost use Rattle.tp_change.specs.Gives.{Gives};
 ghost use Rattle.tp_change.specs.Judged.{judged};
 ghost use Rattle.tp_change.specs.Limits.{IsChange};
 ghost use Rattle.tp_change.specs.declared.error.ChangeError.TheVariants.{OutOfMemory};
@@ -17,14 +16,16 @@ use std::alloc::Global;
 use tp_opid::Hash;
 
 /// The hash of the parts, from their bytes as they come: no copy is made.
-fn hash_parts(parts: &ChangeParts) -> Result<Hash, ChangeError>
+fn hash_parts(parts: &ChangeParts) -> Hash
     requires { IsChange parts.now }
-    ensures hash { IfOk result (λ hash. hash ≡ hash_of parts.now) }
-    ensures err { IsOkUnless result OutOfMemory }
+    ensures { result ≡ hash_of parts.now }
 {
     let mut hasher = Sha256::new();
-    put_change(&mut hasher, parts)?;
-    Ok(Hash(hasher.finalize()))
+    match put_change(&mut hasher, parts) {
+        Ok(()) => {}
+        Err(_) => unreachable!(),
+    }
+    Hash(hasher.finalize())
 }
 
 impl Change {
@@ -35,17 +36,18 @@ impl Change {
     /// is past 2^48 - 1, where the message has more than 65,535 bytes, or where there are more than 65,535
     /// dependencies; `DepsOrder` where these don't rise strictly; `NoRecords`; `Limit` for more than 65,536
     /// records; and at a record `EmptyRun` where its run has no character, and `Limit` where with it the
-    /// operations are more than 65,536 or the last counter is past 2^48 - 1. `OutOfMemory` comes only where a
-    /// growth was refused.
+    /// operations are more than 65,536 or the last counter is past 2^48 - 1. It takes no memory and never answers
+    /// `OutOfMemory`: the change keeps the allocator for what is made of it later.
     ///
     /// The cost is that of going over the parts twice, and of hashing their bytes.
     pub fn new(alloc: Global, parts: ChangeParts) -> Result<Change, ChangeError>
         ensures made { IfOk result (λ c. (c ≡ parts) × IsChange c) }
-        ensures only { IsChange parts → IsOkUnless result OutOfMemory }
-        ensures exact { Gives (λ _. tt) result (judged parts) }
+        ensures only { IsChange parts → IsOk result }
+        ensures exact { MatchResult result (λ _. judged parts ≡ Ok tt) (λ e. judged parts ≡ Err e) }
+        ensures memory { IfErr result (λ e. e ≡ OutOfMemory → ⊥) }
     {
         judge(&parts)?;
-        let hash = hash_parts(&parts)?;
+        let hash = hash_parts(&parts);
         Ok(Change { alloc, parts, hash })
     }
 }

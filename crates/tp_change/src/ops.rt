@@ -3,6 +3,7 @@
 ghost use Rattle.std.specs.Prelude.{◌≡◌, ◌+◌, ◌<◌, ◌^◌, ◌∷◌, [], MatchOption};
 ghost use Rattle.std.specs.Iterator.{YieldsFirst, item_count};
 ghost use Rattle.std.specs.Str.{chars};
+ghost use Rattle.tp_change.specs.declared.limits.TheConstants.{COUNTERS_END};
 ghost use Rattle.tp_change.specs.Operations.{id_of, ops_of};
 ghost use Rattle.tp_change.specs.OpsLeft.{ops_left, IsWalk};
 
@@ -34,7 +35,7 @@ fn first_char(text: &str) -> Option<(char, &str)>
 
 /// The identifier of the next operation. The one after it has the next counter.
 fn next_id(walk: &mut Walk) -> OpId
-    requires { walk.old.counter < 2 ^ 48 }
+    requires { walk.old.counter < COUNTERS_END }
     ensures id { result ≡ id_of walk.old.actor walk.old.counter }
     ensures goes_on { walk.new ≡ record walk.old { counter = walk.old.counter + 1 } }
 {

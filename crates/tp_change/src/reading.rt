@@ -172,13 +172,12 @@ fn start_of(reader: &mut Reader<'_>) -> Result<u64, ChangeError>
 }
 
 // Whether a dependency is greater than the one before it.
-#[tactic(auto, unfolding(tp_opid::specs::Order::hash_cmp))]
 fn follows(before: Option<Hash>, hash: &Hash) -> bool
     ensures { result ≡ rises before hash.now }
 {
     match before {
         None => true,
-        Some(before) => matches!(before.cmp(hash), Ordering::Less),
+        Some(before) => matches!(before.order(hash), Ordering::Less),
     }
 }
 

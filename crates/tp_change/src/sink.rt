@@ -1,6 +1,6 @@
 //! What bytes are put into: a `Vec` that keeps them, or a hasher that only takes their digest.
 
-ghost use Rattle.std.specs.Prelude.{◌≡◌, ℕ, List, OnOk};
+ghost use Rattle.std.specs.Prelude.{◌≡◌, ℕ, List, IsOk, OnOk};
 ghost use Rattle.tp_change.specs.Puts.{Puts};
 
 use sha2::{Digest, Sha256};
@@ -10,13 +10,19 @@ use std::alloc::AllocError;
 pub(crate) trait Sink: Drop {
     ghost holds: { Self → List ℕ → Type 0 };
 
+    /// That it takes no memory, and so refuses no bytes.
+    ghost takes_all: { Type 0 };
+
     /// Puts the bytes after those that it has. The cost is that of copying or hashing them.
     fn put(&mut self, bytes: &[u8]) -> Result<(), AllocError>
-        ensures { OnOk result (Puts holds self.old self.new bytes.now) };
+        ensures puts { OnOk result (Puts holds self.old self.new bytes.now) }
+        ensures taken { takes_all → IsOk result };
 }
 
 impl Sink for Vec<u8> {
     ghost holds = { λ v m. v.items ≡ m };
+
+    ghost takes_all = { ⊥ };
 
     fn put(&mut self, bytes: &[u8]) -> Result<(), AllocError> {
         self.extend_from_slice(bytes)
@@ -27,6 +33,8 @@ impl Sink for Sha256 {
     ghost use Rattle.sha2.specs.Hashers.{Holds256};
 
     ghost holds = { λ s m. Holds256 s m };
+
+    ghost takes_all = { Unit {0} };
 
     fn put(&mut self, bytes: &[u8]) -> Result<(), AllocError> {
         self.update(bytes);

@@ -1,6 +1,6 @@
 //! The bytes of a change, written front to back.
 
-ghost use Rattle.std.specs.Prelude.{◌<◌, ◌≤◌, ◌^◌, length, encode_utf8_all, OnOk};
+ghost use Rattle.std.specs.Prelude.{◌<◌, ◌≤◌, ◌^◌, length, encode_utf8_all, IsOk, OnOk};
 ghost use Rattle.std.specs.Int.{w64, to_be_bytes};
 ghost use Rattle.std.specs.List.{flat_map, AllByRecursion};
 ghost use Rattle.tp_opid.specs.declared.hash.Hash.{Hash};
@@ -20,14 +20,16 @@ use tp_opid::{Hash, OpId, Place};
 
 /// Eight bytes.
 fn put_u64<S: Sink>(out: &mut S, number: u64) -> Result<(), AllocError>
-    ensures { OnOk result (Puts S.holds out.old out.new (to_be_bytes w64 number)) }
+    ensures puts { OnOk result (Puts S.holds out.old out.new (to_be_bytes w64 number)) }
+    ensures taken { S.takes_all → IsOk result }
 {
     out.put(&number.to_be_bytes())
 }
 
 /// A counter and an actor.
 fn put_id<S: Sink>(out: &mut S, id: &OpId) -> Result<(), AllocError>
-    ensures { OnOk result (Puts S.holds out.old out.new (spelling_of_id id.now)) }
+    ensures puts { OnOk result (Puts S.holds out.old out.new (spelling_of_id id.now)) }
+    ensures taken { S.takes_all → IsOk result }
 {
     put_u64(out, id.counter)?;
     out.put(&id.actor.0)
@@ -35,7 +37,8 @@ fn put_id<S: Sink>(out: &mut S, id: &OpId) -> Result<(), AllocError>
 
 /// The tag of a place, and what stands behind it.
 fn put_place<S: Sink>(out: &mut S, place: &Place) -> Result<(), AllocError>
-    ensures { OnOk result (Puts S.holds out.old out.new (spelling_of_place place.now)) }
+    ensures puts { OnOk result (Puts S.holds out.old out.new (spelling_of_place place.now)) }
+    ensures taken { S.takes_all → IsOk result }
 {
     match place {
         Place::Start => out.put(&[0]),
@@ -49,7 +52,8 @@ fn put_place<S: Sink>(out: &mut S, place: &Place) -> Result<(), AllocError>
 /// The length and the text of a run.
 fn put_run<S: Sink>(out: &mut S, text: &Text) -> Result<(), AllocError>
     requires { length (encode_utf8_all text.now) < 2 ^ 32 }
-    ensures { OnOk result (Puts S.holds out.old out.new (spelling_of_run text.now)) }
+    ensures puts { OnOk result (Puts S.holds out.old out.new (spelling_of_run text.now)) }
+    ensures taken { S.takes_all → IsOk result }
 {
     out.put(&(text.byte_len() as u32).to_be_bytes())?;
     out.put(text.as_str().as_bytes())
@@ -58,7 +62,8 @@ fn put_run<S: Sink>(out: &mut S, text: &Text) -> Result<(), AllocError>
 /// The length and the text of the message.
 fn put_message<S: Sink>(out: &mut S, text: &Text) -> Result<(), AllocError>
     requires { length (encode_utf8_all text.now) < 2 ^ 16 }
-    ensures { OnOk result (Puts S.holds out.old out.new (spelling_of_message text.now)) }
+    ensures puts { OnOk result (Puts S.holds out.old out.new (spelling_of_message text.now)) }
+    ensures taken { S.takes_all → IsOk result }
 {
     out.put(&(text.byte_len() as u16).to_be_bytes())?;
     out.put(text.as_str().as_bytes())
@@ -67,7 +72,8 @@ fn put_message<S: Sink>(out: &mut S, text: &Text) -> Result<(), AllocError>
 /// The tag of a record, and what stands behind it.
 fn put_record<S: Sink>(out: &mut S, entry: &Record) -> Result<(), AllocError>
     requires { IsRecord entry.now }
-    ensures { OnOk result (Puts S.holds out.old out.new (spelling_of_record entry.now)) }
+    ensures puts { OnOk result (Puts S.holds out.old out.new (spelling_of_record entry.now)) }
+    ensures taken { S.takes_all → IsOk result }
 {
     match entry {
         Record::Insert { after, text } => {
@@ -84,7 +90,8 @@ fn put_record<S: Sink>(out: &mut S, entry: &Record) -> Result<(), AllocError>
 
 /// The hashes, one after another.
 fn put_hashes<S: Sink>(out: &mut S, hashes: &[Hash]) -> Result<(), AllocError>
-    ensures { OnOk result (Puts S.holds out.old out.new (flat_map (λ (h : Hash). h.0) hashes.now)) }
+    ensures puts { OnOk result (Puts S.holds out.old out.new (flat_map (λ (h : Hash). h.0) hashes.now)) }
+    ensures taken { S.takes_all → IsOk result }
 {
     for hash in hashes {
         out.put(&hash.0)?;
@@ -95,7 +102,8 @@ fn put_hashes<S: Sink>(out: &mut S, hashes: &[Hash]) -> Result<(), AllocError>
 /// The records, one after another.
 fn put_records<S: Sink>(out: &mut S, records: &[Record]) -> Result<(), AllocError>
     requires { AllByRecursion IsRecord records.now }
-    ensures { OnOk result (Puts S.holds out.old out.new (flat_map spelling_of_record records.now)) }
+    ensures puts { OnOk result (Puts S.holds out.old out.new (flat_map spelling_of_record records.now)) }
+    ensures taken { S.takes_all → IsOk result }
 {
     for entry in records {
         put_record(out, entry)?;
@@ -106,7 +114,8 @@ fn put_records<S: Sink>(out: &mut S, records: &[Record]) -> Result<(), AllocErro
 /// The dependency count and the dependencies.
 fn put_deps<S: Sink>(out: &mut S, deps: &Items<Hash>) -> Result<(), AllocError>
     requires { length deps.now < 2 ^ 16 }
-    ensures { OnOk result (Puts S.holds out.old out.new (spelling_of_deps deps.now)) }
+    ensures puts { OnOk result (Puts S.holds out.old out.new (spelling_of_deps deps.now)) }
+    ensures taken { S.takes_all → IsOk result }
 {
     out.put(&(deps.len() as u16).to_be_bytes())?;
     put_hashes(out, deps.as_slice())
@@ -116,7 +125,8 @@ fn put_deps<S: Sink>(out: &mut S, deps: &Items<Hash>) -> Result<(), AllocError>
 #[tactic(auto, using(crate::proofs::Counts::few_records))]
 fn put_counted<S: Sink>(out: &mut S, parts: &ChangeParts) -> Result<(), AllocError>
     requires { IsChange parts.now }
-    ensures { OnOk result (Puts S.holds out.old out.new (spelling_of_records parts.now.records)) }
+    ensures puts { OnOk result (Puts S.holds out.old out.new (spelling_of_records parts.now.records)) }
+    ensures taken { S.takes_all → IsOk result }
 {
     out.put(&(parts.records.len() as u32).to_be_bytes())?;
     put_records(out, parts.records.as_slice())
@@ -125,7 +135,8 @@ fn put_counted<S: Sink>(out: &mut S, parts: &ChangeParts) -> Result<(), AllocErr
 /// Puts the bytes of a change.
 pub(crate) fn put_change<S: Sink>(out: &mut S, parts: &ChangeParts) -> Result<(), AllocError>
     requires { IsChange parts.now }
-    ensures { OnOk result (Puts S.holds out.old out.new (spelling parts.now)) }
+    ensures puts { OnOk result (Puts S.holds out.old out.new (spelling parts.now)) }
+    ensures taken { S.takes_all → IsOk result }
 {
     out.put(&[1])?;
     out.put(&parts.actor.0)?;

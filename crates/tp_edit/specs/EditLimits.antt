@@ -4,6 +4,7 @@ use Rattle.std.specs.List.{AllByRecursion, flat_map}
 use Rattle.tp_list.specs.Members.{In}
 use Rattle.tp_opid.specs.declared.actor.Actor.{Actor}
 use Rattle.tp_opid.specs.declared.op_id.OpId.{OpId}
+use Rattle.tp_change.specs.declared.limits.TheConstants.{MAX_BYTES}
 use Rattle.tp_change.specs.Operations as operations
 use Rattle.tp_change.specs.Spelling.{spelling_of_record}
 use Rattle.tp_change.specs.Limits.{IsActor, IsId, IsText, IsRecord}
@@ -18,7 +19,7 @@ AllIds V = (x : OpId) → In x V → IsId x
 -- Each inserted text is within the limit of a run.
 abbrev pub AllTexts : List Splice → Type 0
 AllTexts [] = Unit {0}
-AllTexts (s ∷ ss) = IsText 4194304 (inserted s) × AllTexts ss
+AllTexts (s ∷ ss) = IsText MAX_BYTES (inserted s) × AllTexts ss
 
 -- The records of an edit in range are as many operations as its splices take.
 abbrev pub CountLaw : Type 0
@@ -31,4 +32,4 @@ RecordLaw = (actor : Actor) (n : ℕ) (V : List OpId) (ss : List Splice) → IsA
 
 -- Where the records are spelled within the limit of a change, each text is within that of a run.
 abbrev pub SizeLaw : Type 0
-SizeLaw = (actor : Actor) (n : ℕ) (V : List OpId) (ss : List Splice) → AllScalars ss → length (flat_map spelling_of_record (records_of actor n V ss)) ≤ 4194304 → AllTexts ss
+SizeLaw = (actor : Actor) (n : ℕ) (V : List OpId) (ss : List Splice) → AllScalars ss → length (flat_map spelling_of_record (records_of actor n V ss)) ≤ MAX_BYTES → AllTexts ss

@@ -13,7 +13,7 @@ use Rattle.tp_list.proofs.Members.{In-slice_get}
 use Rattle.tp_opid.specs.declared.actor.Actor.{Actor}
 use Rattle.tp_opid.specs.Order.{actor_cmp}
 use Rattle.tp_opid.specs.Same.{same_actor}
-use Rattle.tp_opid.proofs.Orders.{actor_total, same_actor-same, same_actor-itself}
+use Rattle.tp_opid.proofs.Orders.{actor_total, same_actor-same, same_actor-itself, same_actor-tied}
 use Rattle.tp_change.specs.declared.parts.ChangeParts.{ChangeParts}
 use Rattle.tp_graph.specs.ByActor.{is_above, after_by, is_after, StandsBefore, IsByActor, IsCut, IsWithin, IsLatest}
 
@@ -33,10 +33,6 @@ above-more (Some k) m n h e = grind (arith, nat_tests)
 
 equal-actors : (a b : Actor) → same_actor a b ≡ true → actor_cmp a b ≡ Equal
 equal-actors a b e = subst (λ x. actor_cmp a x ≡ Equal) (same_actor-same a b e) (tied_itself actor_total a)
-
-actors-equal : (a b : Actor) → actor_cmp a b ≡ Equal → same_actor a b ≡ true
-unfolding same_actor
-actors-equal a b e = rw e refl
 
 turned : (a b : Actor) (o : Ordering) → actor_cmp a b ≡ o → actor_cmp b a ≡ ordering_reverse o
 turned a b o e = actor_total.antisymm b a ∙ ap ordering_reverse e
@@ -189,7 +185,7 @@ latest-other C order a limit i c o w some small at other d j within =
     ] where
       by : (o : Ordering) → actor_cmp c.actor a ≡ o → after_by o limit c.start ≡ false → (actor_cmp c.actor a ≡ Less → ⊥) → ⊥
       by Less e f out = out e
-      by Equal e f out = never (actors-equal c.actor a e) other
+      by Equal e f out = never (same_actor-tied c.actor a e) other
       by Greater e f out = cc
 
 -- ---- one more

@@ -1,7 +1,11 @@
 -- What a call answers, where a cause says whether a change can enter.
-use Rattle.std.specs.Prelude.{◌≡◌, Option, Some, None, Result, Ok, Err}
+use Rattle.std.specs.Prelude.{◌≡◌, List, Bool, true, false, Option, Some, None, Result, Ok, Err}
+use Rattle.tp_change.specs.declared.parts.ChangeParts.{ChangeParts}
+use Rattle.tp_change.specs.ChangeHash.{hash_of}
 use Rattle.tp_graph.specs.declared.error.GraphError.{GraphError}
 use Rattle.tp_graph.specs.declared.error.GraphError.TheVariants.{Known, MissingDeps, BadSeq, BadStart, BadReference, SeqClash, UnknownHead, Full, OutOfMemory}
+use Rattle.tp_graph.specs.Named.{has, has_all}
+use Rattle.tp_graph.specs.Heads.{heads}
 
 -- The refusal is the cause. Memory can be refused whatever the cause.
 abbrev pub IsCause : GraphError → Option GraphError → Type 0
@@ -14,6 +18,13 @@ IsCause BadReference o = o ≡ Some BadReference
 IsCause SeqClash o = o ≡ Some SeqClash
 IsCause UnknownHead o = o ≡ Some UnknownHead
 IsCause Full o = o ≡ Some Full
+
+-- Memory was refused only where the change isn't known, its dependencies are all there, and they aren't the heads: else
+-- the answer takes none.
+pub record TakesMemory (C : List ChangeParts) (c : ChangeParts) : Type 0 where
+  pub new : has C (hash_of c) ≡ false
+  pub deps : has_all C c.deps ≡ true
+  pub behind : c.deps ≡ heads C → ⊥
 
 -- Ok exactly where there is no cause, and the cause as the refusal.
 abbrev pub Answers : {T : Type 0} → Result T GraphError → Option GraphError → Type 0

@@ -5,6 +5,7 @@ use Rattle.tp_opid.specs.Same.{same_actor}
 use Rattle.tp_change.specs.declared.parts.ChangeParts.{ChangeParts}
 use Rattle.tp_change.specs.ChangeHash.{hash_of}
 use Rattle.tp_change.specs.Operations.{ops_of}
+use Rattle.tp_graph.specs.declared.limits.TheConstants.{MOST_CHANGES}
 use Rattle.tp_graph.specs.declared.error.GraphError.{GraphError}
 use Rattle.tp_graph.specs.declared.error.GraphError.TheVariants.{Known, MissingDeps, BadSeq, BadStart, BadReference, SeqClash, Full}
 use Rattle.tp_graph.specs.Named.{has, has_all}
@@ -43,7 +44,7 @@ misfit C c =
 
 -- how many changes a graph has at most
 abbrev pub most_changes : ℕ
-most_changes = 4294967295
+most_changes = MOST_CHANGES
 
 -- the misfit, or else Full where the list has as many changes as a graph may have
 abbrev pub or_full : Option GraphError → Bool → Option GraphError

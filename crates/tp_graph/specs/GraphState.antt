@@ -3,6 +3,7 @@ use Rattle.std.specs.Prelude.{◌≡◌, ℕ, ◌≤◌, List, [], ◌∷◌, le
 use Rattle.tp_opid.specs.declared.hash.Hash.{Hash}
 use Rattle.tp_change.specs.declared.parts.ChangeParts.{ChangeParts}
 use Rattle.tp_change.specs.ChangeHash.{hash_of}
+use Rattle.tp_graph.specs.declared.limits.TheConstants.{MOST_WAITING}
 use Rattle.tp_graph.specs.Named.{has}
 
 -- The changes that are applied, in the order in which they entered; those that wait, in the order in which they
@@ -14,7 +15,7 @@ pub record GraphState : Type 0 where
 
 -- how many changes wait at most
 abbrev pub most_waiting : ℕ
-most_waiting = 1024
+most_waiting = MOST_WAITING
 
 -- No two of the changes have one hash.
 abbrev pub HashesOnce : List ChangeParts → Type 0

@@ -1,6 +1,6 @@
 //! The applied changes, with what is kept beside them.
 
-ghost use Rattle.std.specs.Prelude.{◌≡◌, ◌↔◌, ◌+◌, ◌<◌, ◌≤◌, [], ◌∷◌, ◌++◌, false, length, Some, None, vec_len, vec_capacity, MatchOption, IfOk, OnOk, OnErr};
+ghost use Rattle.std.specs.Prelude.{◌≡◌, ◌↔◌, ◌+◌, ◌<◌, ◌≤◌, [], ◌∷◌, ◌++◌, false, length, Some, None, Err, vec_len, vec_capacity, MatchOption, IfOk, OnOk, OnErr};
 ghost use Rattle.tp_list.specs.Members.{In};
 ghost use Rattle.tp_list.specs.Rising.{IsRising};
 ghost use Rattle.tp_opid.specs.Order.{hash_cmp};
@@ -15,7 +15,7 @@ ghost use Rattle.tp_graph.specs.Marks.{marks};
 ghost use Rattle.tp_graph.specs.Places.{place_from};
 ghost use Rattle.tp_graph.specs.ByActor.{IsByActor};
 ghost use Rattle.tp_graph.specs.Sound.{Sound, Fits};
-ghost use Rattle.tp_graph.specs.Answers.{Answers};
+ghost use Rattle.tp_graph.specs.Answers.{Answers, TakesMemory};
 ghost use Rattle.tp_graph.specs.Since.{since, skip, IsMissing};
 
 use crate::by_actor::cut;
@@ -190,7 +190,8 @@ impl Applied {
 
     /// Whether the change can enter.
     pub(crate) fn check(&self, change: &Change) -> Result<(), GraphError>
-        ensures { Answers result (cause self.now.changes change.now) }
+        ensures answers { Answers result (cause self.now.changes change.now) }
+        ensures memory { result ≡ Err GraphError.OutOfMemory → TakesMemory self.now.changes change.now }
     {
         check::check(
             self.alloc,
@@ -228,7 +229,8 @@ impl Applied {
     pub(crate) fn enter(&mut self, change: Change)
         requires enters { cause self.old.changes change ≡ None }
         requires room { self.old.room ≡ Some (hash_of change) }
-        ensures { self.new.changes ≡ self.old.changes ++ change ∷ [] }
+        ensures changes { self.new.changes ≡ self.old.changes ++ change ∷ [] }
+        ensures room { self.new.room ≡ None }
     {
         let end = change.next_start();
         self.next = later(self.next, end);

@@ -2,25 +2,17 @@
 
 ghost use Rattle.std.specs.Prelude.{◌≡◌, ◌≤◌, ◌<◌, length, Some, IfSome};
 ghost use Rattle.std.specs.List.{slice_get};
-ghost use Rattle.tp_opid.specs.Order.{actor_cmp};
 ghost use Rattle.tp_graph.specs.ByActor.{is_after, IsByActor, IsCut, IsLatest};
 
 use std::cmp::Ordering;
 use tp_change::Change;
 use tp_opid::Actor;
 
-#[tactic(auto, unfolding(tp_opid::specs::Order::actor_cmp))]
-fn order_of(a: &Actor, b: &Actor) -> Ordering
-    ensures { result ≡ actor_cmp a.now b.now }
-{
-    a.cmp(b)
-}
-
 // Whether the change's actor stands after the given one, or the change is the actor's and starts above the limit.
 fn stands_after(change: &Change, actor: &Actor, limit: Option<u64>) -> bool
     ensures { result ≡ is_after actor.now limit change.now }
 {
-    match order_of(&change.actor(), actor) {
+    match change.actor().order(actor) {
         Ordering::Less => false,
         Ordering::Equal => match limit {
             Some(counter) => counter < change.start(),

@@ -1,7 +1,7 @@
 //! Whether a change can enter behind applied changes.
 
-ghost use Rattle.std.specs.Prelude.{◌≡◌, ◌≤◌, length};
-ghost use Rattle.tp_graph.specs.Answers.{Answers};
+ghost use Rattle.std.specs.Prelude.{◌≡◌, ◌≤◌, length, Err};
+ghost use Rattle.tp_graph.specs.Answers.{Answers, TakesMemory};
 ghost use Rattle.tp_graph.specs.ByActor.{IsByActor};
 ghost use Rattle.tp_graph.specs.Fit as fit;
 ghost use Rattle.tp_graph.specs.Parts.{picked, IsPartOf};
@@ -14,14 +14,12 @@ ghost use Rattle.tp_change.specs.Elements as made;
 use crate::error::GraphError;
 use crate::index::Index;
 use crate::judge::{count_all, count_in, refers, start_after};
+use crate::limits::MOST_CHANGES;
 use crate::part::{Part, part_of};
 use crate::walk::{contains, has_all};
 use std::alloc::Global;
 use tp_change::Change;
 use tp_opid::Hash;
-
-/// How many changes a graph has at most.
-pub(crate) const MOST_CHANGES: usize = 4294967295;
 
 // The numbers and references of the change behind its past, where one that fits starts at `start`.
 #[tactic(auto, unfolding(crate::specs::Fit::misfit_behind))]
@@ -40,7 +38,8 @@ fn check_behind(
     requires part { IsPartOf part.now applied.now }
     requires past { Sound (picked part.now applied.now) }
     requires start { start ≡ made.next_counter (picked part.now applied.now) }
-    ensures { Answers result (fit.misfit_behind (picked part.now applied.now) change.now) }
+    ensures answers { Answers result (fit.misfit_behind (picked part.now applied.now) change.now) }
+    ensures memory { result ≡ Err GraphError.OutOfMemory → ⊥ }
 {
     if change.seq() != count_in(applied, order, part, &change.actor()) + 1 {
         return Err(GraphError::BadSeq);
@@ -70,7 +69,8 @@ fn check_past(
     requires ends { ends.now ≡ ends_of applied.now }
     requires heads { heads.now ≡ head.heads applied.now }
     requires order { IsByActor applied.now order.now }
-    ensures { Answers result (fit.misfit_behind (past applied.now change.now.deps) change.now) }
+    ensures answers { Answers result (fit.misfit_behind (past applied.now change.now.deps) change.now) }
+    ensures memory { result ≡ Err GraphError.OutOfMemory → change.now.deps ≡ heads.now → ⊥ }
 {
     let part = part_of(alloc, applied, index, heads, change.deps())?;
     let start = start_after(applied, index, ends, change.deps());
@@ -105,7 +105,8 @@ pub(crate) fn check(
     requires ends { ends.now ≡ ends_of applied.now }
     requires heads { heads.now ≡ head.heads applied.now }
     requires order { IsByActor applied.now order.now }
-    ensures { Answers result (fit.cause applied.now change.now) }
+    ensures answers { Answers result (fit.cause applied.now change.now) }
+    ensures memory { result ≡ Err GraphError.OutOfMemory → TakesMemory applied.now change.now }
 {
     if contains(applied, index, &change.hash()) {
         return Err(GraphError::Known);

@@ -12,7 +12,7 @@ ghost use Rattle.tp_graph.specs.Fit as fit;
 ghost use Rattle.tp_graph.specs.Fit.{cause, most_changes};
 ghost use Rattle.tp_graph.specs.Places.{place_from};
 ghost use Rattle.tp_graph.specs.Sound.{Sound};
-ghost use Rattle.tp_graph.specs.Answers.{Answers, IsCause};
+ghost use Rattle.tp_graph.specs.Answers.{Answers, IsCause, TakesMemory};
 ghost use Rattle.tp_graph.specs.GraphState.{most_waiting, HashesOnce};
 ghost use Rattle.tp_graph.specs.Since.{past_places, since, IsMissing};
 ghost use Rattle.tp_list.specs.Rising.{IsRising};
@@ -63,6 +63,7 @@ impl Graph {
     pub fn new(alloc: Global) -> Graph
         ensures applied { result.applied ≡ [] }
         ensures waiting { result.waiting ≡ [] }
+        ensures room { result.room ≡ None }
     {
         Graph {
             alloc,
@@ -142,13 +143,15 @@ impl Graph {
         self.applied.count_by(actor)
     }
 
-    /// Whether the change can enter: `Ok`, or why not. It may be refused as `OutOfMemory` whatever the change.
+    /// Whether the change can enter: `Ok`, or why not. `OutOfMemory` comes only where the change isn't known, its
+    /// dependencies are all applied, and they aren't the heads: else it takes no memory.
     ///
     /// Where the dependencies are the heads: a number of comparisons that grows with the logarithm of the number of
     /// applied changes, for each dependency and each reference, and the records of the changes that are referred to.
     /// Elsewhere one walk back over the applied changes as well, with a byte for each.
     pub fn check(&self, change: &Change) -> Result<(), GraphError>
-        ensures { Answers result (cause self.now.applied change.now) }
+        ensures answers { Answers result (cause self.now.applied change.now) }
+        ensures memory { result ≡ Err GraphError.OutOfMemory → TakesMemory self.now.applied change.now }
     {
         self.applied.check(change)
     }
@@ -185,17 +188,19 @@ impl Graph {
         requires room { self.old.room ≡ Some (hash_of change) }
         ensures applied { self.new.applied ≡ self.old.applied ++ change ∷ [] }
         ensures waiting { self.new.waiting ≡ self.old.waiting }
+        ensures room { self.new.room ≡ None }
     {
         self.applied.enter(change);
     }
 
     /// Enters a change that can enter, and answers its place in applied order, from 0. A change that is refused
-    /// is given back, and what a caller sees stays as it was.
+    /// is given back, and what a caller sees stays as it was, the room that was made among it.
     pub fn add(&mut self, change: Change) -> Result<u32, Rejected>
         ensures answers { MatchResult result (λ place. (cause self.old.applied change ≡ None) × (place ≡ length self.old.applied))
             (λ rejected. IsCause rejected.error (cause self.old.applied change) × (rejected.change ≡ change)) }
         ensures applied { self.new.applied ≡ (if is_ok result then self.old.applied ++ change ∷ [] else self.old.applied) }
         ensures waiting { self.new.waiting ≡ self.old.waiting }
+        ensures room { self.new.room ≡ (if is_ok result then None else self.old.room) }
     {
         match self.ready(&change) {
             Ok(()) => {

@@ -9,13 +9,6 @@ ghost use Rattle.tp_graph.specs.Heads as head;
 use std::cmp::Ordering;
 use tp_opid::Hash;
 
-#[tactic(auto, unfolding(tp_opid::specs::Order::hash_cmp))]
-fn order(a: &Hash, b: &Hash) -> Ordering
-    ensures { result ≡ hash_cmp a.now b.now }
-{
-    a.cmp(b)
-}
-
 // Takes out the hashes that are among others.
 fn take_out(heads: &mut Vec<Hash>, others: &[Hash])
     ensures items { heads.new.items ≡ head.without others.now heads.old.items }
@@ -31,7 +24,7 @@ fn place_for(heads: &[Hash], hash: &Hash) -> Option<usize>
         (λ i. (i ≤ length heads.now) × (list.put hash_cmp hash.now heads.now ≡ insert heads.now i hash.now)) }
 {
     for i in 0..heads.len() {
-        match order(hash, &heads[i]) {
+        match hash.order(&heads[i]) {
             Ordering::Less => return Some(i),
             Ordering::Equal => return None,
             Ordering::Greater => {}

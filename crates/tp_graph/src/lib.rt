@@ -14,6 +14,7 @@ mod heads;
 mod index;
 mod judge;
 pub mod laws;
+mod limits;
 mod part;
 mod past;
 mod since;
@@ -21,4 +22,5 @@ mod walk;
 
 pub use error::GraphError;
 pub use graph::{Graph, Rejected};
+pub use limits::{MOST_CHANGES, MOST_WAITING};
 pub use past::Past;

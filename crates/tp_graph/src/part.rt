@@ -1,6 +1,6 @@
 //! Which of the applied changes a past has.
 
-ghost use Rattle.std.specs.Prelude.{◌≡◌, IfOk};
+ghost use Rattle.std.specs.Prelude.{◌≡◌, IfOk, OnErr};
 ghost use Rattle.tp_graph.specs.Heads as head;
 ghost use Rattle.tp_graph.specs.Parts as of_part;
 ghost use Rattle.tp_graph.specs.Parts.{picked, IsPartOf, IsPlaceOf};
@@ -50,6 +50,7 @@ pub(crate) fn part_of(
     requires heads { heads.now ≡ head.heads applied.now }
     ensures past { IfOk result (λ part. picked part applied.now ≡ past applied.now hashes.now) }
     ensures part { IfOk result (λ part. IsPartOf part applied.now) }
+    ensures memory { OnErr result (hashes.now ≡ heads.now → ⊥) }
 {
     if same_hashes(hashes, heads) {
         return Ok(Part::Whole);

@@ -142,7 +142,7 @@ pub(crate) fn walk_back(
 
 /// Whether the two lists of hashes are one.
 pub(crate) fn same_hashes(xs: &[Hash], ys: &[Hash]) -> bool
-    ensures { IsTrue result → xs.now ≡ ys.now }
+    ensures { IsTrue result ↔ (xs.now ≡ ys.now) }
 {
     if xs.len() != ys.len() {
         return false;

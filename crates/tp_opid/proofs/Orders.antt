@@ -98,6 +98,10 @@ pub id_eq-itself : (a : OpId) → id_eq a a ≡ true
 unfolding id_eq
 id_eq-itself a = itself_by id_cmp id_total a
 
+pub same_actor-tied : (a b : Actor) → actor_cmp a b ≡ Equal → same_actor a b ≡ true
+unfolding same_actor
+same_actor-tied a b e = ap is_eq e
+
 -- what the test tells apart is not one
 apart_by : {X : Type 0} (test : X → X → Bool) → ((a : X) → test a a ≡ true) → (a b : X) → test a b ≡ false → a ≡ b → ⊥
 apart_by test itself a b apart e = let h : test a a ≡ true = itself a in let k : test a a ≡ test a b = ap (test a) e in cc
@@ -158,8 +162,12 @@ pub Below-asym : (a b : OpId) → Below a b → Below b a → ⊥
 Below-asym a b h k = Below-irreflexive a (Below-trans a b a h k)
 
 -- a smaller counter stands below, whoever the actors are
-pub Below-counter : (a b : OpId) → a.counter < b.counter → Below a b
-unfolding Below id_cmp
-Below-counter a b lt =
+pub id_cmp-counter : (a b : OpId) → a.counter < b.counter → id_cmp a b ≡ Less
+unfolding id_cmp
+id_cmp-counter a b lt =
     let first : nat_cmp a.counter b.counter ≡ Less = nat_cmp_less a.counter b.counter lt in
     ap (λ o. ordering_then o (slice_cmp nat_cmp a.actor.0 b.actor.0)) first
+
+pub Below-counter : (a b : OpId) → a.counter < b.counter → Below a b
+unfolding Below
+Below-counter a b lt = id_cmp-counter a b lt

@@ -4,6 +4,7 @@ ghost use Rattle.std.specs.Prelude.{◌≡◌, ◌↔◌, ℕ, List, length, Ok,
 ghost use Rattle.std.specs.String.{string_bytes};
 ghost use Rattle.hex.specs.Hex.{encode_lower};
 ghost use Rattle.tp_opid.specs.HexText.{IsHexOf};
+ghost use Rattle.tp_opid.specs.Order.{actor_cmp};
 
 use crate::hex_text::{HexError, read_hex_16, write_hex};
 use std::alloc::Global;
@@ -22,6 +23,14 @@ impl Actor {
         ensures { result ≡ same_actor self.now other.now }
     {
         matches!(self.cmp(other), Ordering::Equal)
+    }
+
+    /// How the two stand to each other in the order of their bytes.
+    #[tactic(auto, unfolding(crate::specs::Order::actor_cmp))]
+    pub fn order(&self, other: &Actor) -> Ordering
+        ensures { result ≡ actor_cmp self.now other.now }
+    {
+        self.cmp(other)
     }
 
     /// The bytes as 32 lower case hexadecimal digits. The only refusal is `OutOfMemory`.

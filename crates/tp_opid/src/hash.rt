@@ -5,6 +5,7 @@ ghost use Rattle.std.specs.List.{list_any};
 ghost use Rattle.std.specs.String.{string_bytes};
 ghost use Rattle.hex.specs.Hex.{encode_lower};
 ghost use Rattle.tp_opid.specs.HexText.{IsHexOf};
+ghost use Rattle.tp_opid.specs.Order.{hash_cmp};
 
 use crate::hex_text::{HexError, read_hex_32, write_hex};
 use std::alloc::Global;
@@ -23,6 +24,14 @@ impl Hash {
         ensures { result ≡ same_hash self.now other.now }
     {
         matches!(self.cmp(other), Ordering::Equal)
+    }
+
+    /// How the two stand to each other in the order of their bytes.
+    #[tactic(auto, unfolding(crate::specs::Order::hash_cmp))]
+    pub fn order(&self, other: &Hash) -> Ordering
+        ensures { result ≡ hash_cmp self.now other.now }
+    {
+        self.cmp(other)
     }
 
     /// Whether it is one of the hashes. One pass over them.

@@ -27,7 +27,8 @@ pub trait Sequence: Drop {
     /// A sequence without elements, which takes no memory.
     fn new(alloc: Global) -> Self
         ensures placed { placed result ≡ [] }
-        ensures removals { removals result ≡ [] };
+        ensures removals { removals result ≡ [] }
+        ensures room { room result ≡ 0 };
 
     /// Makes room for `n` further inserts and deletes together, none of which then takes memory. Room never shrinks
     /// here. Where memory is short it is an `Err`, and the elements and deletes stay. It can't fail where that room is

@@ -1,5 +1,5 @@
 -- What operations do to a sequence of elements.
-use Rattle.std.specs.Prelude.{List, [], ◌∷◌, ◌++◌}
+use Rattle.std.specs.Prelude.{◌≡◌, List, [], ◌∷◌, ◌++◌, Bool, true, false, Result, Ok, Err}
 use Rattle.tp_list.specs.Members.{In, SameMembers}
 use Rattle.tp_opid.specs.declared.op_id.OpId.{OpId}
 use Rattle.tp_opid.specs.Insert.{Insert}
@@ -7,7 +7,7 @@ use Rattle.tp_opid.specs.Order.{Below}
 use Rattle.tp_opid.specs.Tree.{IsThere, IsTree, CanInsert}
 use Rattle.tp_change.specs.declared.op.Op.{Op}
 use Rattle.tp_change.specs.declared.op.Op.TheVariants as op_of
-use Rattle.tp_change.specs.Elements.{element, inserts_in}
+use Rattle.tp_change.specs.Elements.{element, inserts_in, deletes_in, refers}
 use Rattle.tp_rga.specs.Order.{IsInOrder}
 
 -- The operations may come one after another where the elements S are there: each insert has a new identifier above
@@ -22,6 +22,19 @@ CanApply S (op_of.Delete id target ∷ ops) = IsThere S target × CanApply S ops
 pub record Extends (old new : List Insert) (ops : List Op) : Type 0 where
   pub members : SameMembers (old ++ inserts_in ops) new
   pub order : (T : List Insert) → IsTree T → IsInOrder T old → IsTree (T ++ inserts_in ops) × IsInOrder (T ++ inserts_in ops) new
+
+-- A beginning of the operations is in: those of `done`. `left` are behind them.
+pub record IsBegun (old new : List Insert) (R Q : List (OpId × OpId)) (ops done left : List Op) : Type 0 where
+  pub whole : done ++ left ≡ ops
+  pub elements : Extends old new done
+  pub removals : Q ≡ R ++ deletes_in done
+
+-- What is left where operations went in one after another: none where all are in; else those from one on whose
+-- reference isn't there, or for which memory was refused.
+abbrev pub IsLeft : {E : Type 0} → List Insert → Result Bool E → List Op → Type 0
+IsLeft new (Ok true) left = left ≡ []
+IsLeft new (Ok false) left = (op : Op) × (rest : List Op) × (left ≡ op ∷ rest) × (refers new (op ∷ []) ≡ false)
+IsLeft new (Err e) left = (op : Op) × (rest : List Op) × (left ≡ op ∷ rest)
 
 -- Each element has an identifier below x.
 abbrev pub AllUnder : List Insert → OpId → Type 0

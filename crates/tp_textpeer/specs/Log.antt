@@ -6,6 +6,7 @@ use Rattle.std.specs.List.{flat_map, AllByRecursion}
 use Rattle.tp_opid.specs.declared.actor.Actor.{Actor}
 use Rattle.tp_opid.specs.declared.hash.Hash.{Hash}
 use Rattle.tp_opid.specs.Same.{same_actor, same_hash}
+use Rattle.tp_change.specs.declared.limits.TheConstants.{MAX_BYTES}
 use Rattle.tp_change.specs.declared.error.ChangeError.{ChangeError}
 use Rattle.tp_change.specs.declared.error.ChangeError.TheVariants as change_error
 use Rattle.tp_change.specs.declared.parts.ChangeParts.{ChangeParts}
@@ -82,7 +83,7 @@ with_rest (Err e) rest = Err (Change e)
 abbrev pub sized_entry_at : ℕ → List ℕ → Result (ChangeParts × List ℕ) ShowFault
 sized_entry_at n bytes =
     if n == 0 then Err (Change change_error.Short)
-    else if nat_lt 4194304 n then Err (Change change_error.Limit)
+    else if nat_lt MAX_BYTES n then Err (Change change_error.Limit)
     else if nat_lt (length bytes) n then Err (Change change_error.Short)
     else with_rest (change_at (take n bytes)) (drop n bytes)
 
@@ -99,7 +100,7 @@ StartsBadly known f = IfSome known (λ b. (0 < length b) × (entry_at b ≡ Err 
 -- Between the two the length n of a change was read, which is within the limit.
 pub record HasLength (before after : Option (List ℕ)) (n : ℕ) : Type 0 where
   pub some : 0 < n
-  pub few : n ≤ 4194304
+  pub few : n ≤ MAX_BYTES
   pub bytes : Consumes before after (to_be_bytes w32 n)
 
 -- what is wrong with what stands behind the changes C

@@ -3,6 +3,7 @@
 ghost use Rattle.std.specs.Prelude.{◌≡◌, ◌⊎◌, ◌<◌, ◌≤◌, IfOk, IfErr, IfNone, IfSome, length};
 ghost use Rattle.std.specs.Int.{w32, from_be_bytes, to_be_bytes};
 ghost use Rattle.std.specs.Io.KnownBytes.{Consumes, IsAtEnd};
+ghost use Rattle.tp_change.specs.declared.limits.TheConstants.{MAX_BYTES};
 ghost use Rattle.tp_change.specs.Limits.{IsChange};
 ghost use Rattle.tp_change.specs.Spelling.{spelling};
 ghost use Rattle.tp_textpeer.specs.ShowFault.{IsOutside};
@@ -12,9 +13,7 @@ use crate::error::ShowFault;
 use crate::input::read_up_to;
 use std::alloc::Global;
 use std::io::Read;
-use tp_change::{Change, ChangeError};
-
-const MOST_BYTES: usize = 4_194_304;
+use tp_change::{Change, ChangeError, MAX_BYTES};
 
 // The number that four bytes spell.
 fn number_in(bytes: &[u8]) -> u32
@@ -42,7 +41,7 @@ fn next_len<R: Read>(reader: &mut R, buffer: &mut Vec<u8>) -> Result<Option<usiz
     if len == 0 {
         return Err(ShowFault::Change(ChangeError::Short));
     }
-    if len > MOST_BYTES {
+    if len > MAX_BYTES {
         return Err(ShowFault::Change(ChangeError::Limit));
     }
     Ok(Some(len))
@@ -56,7 +55,7 @@ fn sized_change<R: Read>(
     len: usize,
 ) -> Result<Change, ShowFault>
     requires some { 0 < len }
-    requires few { len ≤ 4194304 }
+    requires few { len ≤ MAX_BYTES }
     ensures change { IfOk result (λ c. IsChange c × (length (spelling c) ≡ len)) }
     ensures bytes { IfOk result (λ c. Consumes (R.remaining reader.old) (R.remaining reader.new) (spelling c)) }
     ensures err { IfErr result (λ f. IsOutside f ⊎ IfSome (R.remaining reader.old) (λ rest. sized_entry_at len rest ≡ Err f)) }

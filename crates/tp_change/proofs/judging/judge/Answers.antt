@@ -1,5 +1,5 @@
 use Rattle.std.proofs.Common.{◌∙◌}
-use Rattle.tp_change.proofs.JudgedLaws.{on_change, ok_change}
+use Rattle.tp_change.proofs.JudgedLaws.{on_change, ok_change, never_memory}
 use Rattle.tp_change.proofs.judging.judge.Goals as goal
 
 pub returns-clause-within : goal.returns-clause-within
@@ -7,3 +7,6 @@ returns-clause-within c = on_change _ _ c.judge_fields.ensures.value c.judge_fie
 
 pub returns-clause-only : goal.returns-clause-only
 returns-clause-only c = λ h. c.judge_fields.ensures.value ∙ ok_change _ h
+
+pub returns-clause-memory : goal.returns-clause-memory
+returns-clause-memory c = never_memory _ _ c.judge_fields.ensures.value

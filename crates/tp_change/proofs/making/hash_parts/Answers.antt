@@ -4,8 +4,8 @@ use Rattle.tp_change.specs.ChangeHash.{hash_of}
 use Rattle.tp_change.specs.Spelling.{spelling}
 use Rattle.tp_change.proofs.making.hash_parts.Goals as goal
 
-pub returns-clause-hash : goal.returns-clause-hash
+pub returns : goal.returns
 unfolding hash_of
-returns-clause-hash c =
+returns c =
     ap (λ (bytes : List ℕ). let h : Hash = record { 0 = bytes } in h)
-    (c.finalize.ensures (spelling c.args.parts.now) (c.in_ok-put_change.ensures.after [] c.new-hasher.ensures))
+    (c.finalize.ensures (spelling c.args.parts.now) (c.in-Ok.ensures.puts.after [] c.new-hasher.ensures))

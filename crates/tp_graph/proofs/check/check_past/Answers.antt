@@ -13,8 +13,8 @@ pub check_behind-requires-clause-start : goal.check_behind-requires-clause-start
 check_behind-requires-clause-start c =
     c.start_after-start.ensures ∙ ap (λ h. next_counter (past c.args.applied.now h)) (c.deps-2.ensures ∙ sym c.deps.ensures) ∙ ap next_counter (sym c.in_ok-part.ensures.past)
 
-pub returns : goal.returns
-returns c =
+pub returns-clause-answers : goal.returns-clause-answers
+returns-clause-answers c =
     let same : picked c.in_ok-part.part c.args.applied.now ≡ past c.args.applied.now c.args.change.now.deps =
     c.in_ok-part.ensures.past ∙ ap (past c.args.applied.now) c.deps.ensures in
-    rw same at c.check_behind.ensures
+    rw same at c.check_behind.ensures.answers

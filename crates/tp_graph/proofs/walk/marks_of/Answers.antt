@@ -10,7 +10,7 @@ use Rattle.tp_graph.proofs.walk.marks_of.Goals as goal
 pub returns-then-same_hashes : goal.returns-then-same_hashes
 returns-then-same_hashes c =
     let made = c.in_ok-marks.ensures.items_if_clones_equal (λ y e. e) in
-    let named : c.args.hashes.now ≡ head.heads c.args.applied.now = c.same_hashes.ensures c.if-same_hashes.true ∙ c.requires.heads in
+    let named : c.args.hashes.now ≡ head.heads c.args.applied.now = c.same_hashes.ensures.0 c.if-same_hashes.true ∙ c.requires.heads in
     let all : c.in_ok-marks.marks.items ≡ marks c.args.applied.now c.args.hashes.now =
     made ∙ sym (ap (marks c.args.applied.now) named ∙ marks-heads c.args.applied.now c.requires.sound) in
     record {

@@ -1,6 +1,9 @@
-use Rattle.std.proofs.Common.{◌<◌, ◌≤◌, ◌∙◌, sym, length, arith}
+use Rattle.std.proofs.Common.{◌≡◌, ◌<◌, ◌≤◌, ◌∙◌, ℕ, List, false, sym, refl, subst, length, get_or, arith}
 use Rattle.std.proofs.lemmas.List.{take_more_same, take_all}
-use Rattle.tp_opid.proofs.Orders.{same_hash-same}
+use Rattle.tp_list.proofs.Tests.{never}
+use Rattle.tp_opid.specs.declared.hash.Hash.{Hash}
+use Rattle.tp_opid.specs.Same.{same_hash}
+use Rattle.tp_opid.proofs.Orders.{same_hash-same, same_hash-itself}
 use Rattle.tp_graph.proofs.walk.same_hashes.Goals as goal
 
 pub loop-i-preserved : goal.loop-i-preserved
@@ -10,7 +13,15 @@ loop-i-preserved c =
     (same_hash-same _ _ (sym c.is.ensures ∙ c.if-not-is.false))
 
 pub returns : goal.returns
-returns c =
-    λ yes.
-    let past : length c.args.ys.now ≤ c.loop-i.i = omega arith in
-    sym (take_all c.loop-i.i c.args.xs.now c.loop-i-test.false) ∙ c.loop-i.invariant ∙ take_all c.loop-i.i c.args.ys.now past
+returns c = (
+  λ yes.
+      let past : length c.args.ys.now ≤ c.loop-i.i = omega arith in
+      sym (take_all c.loop-i.i c.args.xs.now c.loop-i-test.false) ∙ c.loop-i.invariant ∙ take_all c.loop-i.i c.args.ys.now past,
+  λ e. refl,
+)
+
+differ : (xs ys : List Hash) (i : ℕ) (d : Hash) → same_hash (get_or xs i d) (get_or ys i d) ≡ false → xs ≡ ys → ⊥
+differ xs ys i d apart e = never (same_hash-itself (get_or xs i d)) (subst (λ l. same_hash (get_or xs i d) (get_or l i d) ≡ false) (sym e) apart)
+
+pub returns-then-not-is : goal.returns-then-not-is
+returns-then-not-is c = (λ yes. cc, λ e. absurd (differ c.args.xs.now c.args.ys.now c.loop-i.i _ (sym c.is.ensures ∙ c.if-not-is.true) e))

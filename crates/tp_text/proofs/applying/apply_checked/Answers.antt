@@ -1,10 +1,13 @@
-use Rattle.std.proofs.Common.{◌≡◌, ◌+◌, ◌∙◌, ◌++◌, [], ◌∷◌, true, length, ap, sym, subst, arith, append_assoc, append-nil}
+use Rattle.std.proofs.Common.{◌≡◌, ◌+◌, ◌∙◌, ◌++◌, List, [], ◌∷◌, Bool, true, Result, Ok, Err, length, refl, ap, sym, subst, arith, append_assoc, append-nil}
+use Rattle.std.specs.Result.{IsErr}
 use Rattle.std.proofs.lemmas.List.{length-append}
+use Rattle.tp_opid.specs.Insert.{Insert}
+use Rattle.tp_change.specs.declared.op.Op.{Op}
 use Rattle.tp_change.specs.Operations.{ops_of, id_of}
 use Rattle.tp_change.specs.Elements.{deletes_in, refers}
 use Rattle.tp_change.proofs.ElementLaws.{deletes_in-append}
 use Rattle.tp_change.proofs.Numbered.{Numbered-ops_of, Numbered}
-use Rattle.tp_text.specs.Applying.{CanApply, Extends, AllUnder}
+use Rattle.tp_text.specs.Applying.{CanApply, Extends, AllUnder, IsBegun, IsLeft}
 use Rattle.tp_text.proofs.Applied.{Extends-join, Extends-none}
 use Rattle.tp_text.proofs.Checked.{CanApply-next, Numbered-rest, AllUnder-next, refers-next}
 use Rattle.tp_text.proofs.applying.apply_checked.Goals as goal
@@ -61,3 +64,21 @@ loop-op-preserved g c =
           ∙ append_assoc (removals c.args.sequence.now) (deletes_in done) (deletes_in (op ∷ []))
           ∙ ap (λ l. removals c.args.sequence.now ++ l) (sym (deletes_in-append done (op ∷ [])));
     }
+
+left_err : {E : Type 0} (new : List Insert) (r : Result Bool E) (op : Op) (rest : List Op) → IsErr r → IsLeft new r (op ∷ rest)
+left_err new (Ok all) op rest h = cc
+left_err new (Err e) op rest h = (op, rest, refl)
+
+pub returns-in_err-reserve-clause-begun : goal.returns-in_err-reserve-clause-begun
+returns-in_err-reserve-clause-begun g c =
+    let start = g.S.Sequence.placed c.args.sequence.now in
+    let done = c.loop-op.yielded in
+    let left = c.in-Some.op ∷ c.next.new.self in
+    let held = c.loop-op.invariant in
+    let begun : IsBegun start (g.S.Sequence.placed c.reserve.new.self) (g.S.Sequence.removals c.args.sequence.now) (g.S.Sequence.removals c.reserve.new.self) (ops_of c.args.change.now) done left =
+    record {
+      whole = ap (λ l. done ++ l) (sym c.in-Some.ensures.steps) ∙ held.split;
+      elements = subst (λ l. Extends start l done) (sym c.reserve.ensures.placed) held.elements;
+      removals = c.reserve.ensures.removals ∙ held.deletes;
+    } in
+    (done, left, begun, left_err (g.S.Sequence.placed c.reserve.new.self) c.from_residual.result c.in-Some.op c.next.new.self c.from_residual.ensures.0)

@@ -16,8 +16,8 @@ returns-then-len-eq0-clause-err g c =
     let within = c.in_ok-read_up_to.ensures.within in
     inr (bad_sized _ _ buffer.items 0 _ c.in_ok-read_up_to.ensures.bytes (omega arith) (sym c.if-len-eq0.true ∙ c.number_in-len.ensures.number ∙ ap (from_be_bytes w32) c.as_slice.ensures.value) (bad_zero _))
 
-pub returns-then-len-gt-MOST_BYTES-clause-err : goal.returns-then-len-gt-MOST_BYTES-clause-err
-returns-then-len-gt-MOST_BYTES-clause-err g c =
+pub returns-then-len-gt-MAX_BYTES-clause-err : goal.returns-then-len-gt-MAX_BYTES-clause-err
+returns-then-len-gt-MAX_BYTES-clause-err g c =
     let buffer = c.read_up_to.new.buffer in
     let size = buffer.ok.0 in
     let within = c.in_ok-read_up_to.ensures.within in
