@@ -5,7 +5,7 @@ use Rattle.std.proofs.lemmas.List.Edits.{insert-append_left, insert-append_right
 use Rattle.std.specs.List.{All, AllWithin, HoldsAt}
 use Rattle.tp_list.specs.Members.{In}
 use Rattle.tp_rga.proofs.Sets.{In-left, In-right, In-append}
-use Rattle.tp_posindex.specs.Layout.{joined, block_at, place_at, IsGap, StandsAt}
+use Rattle.tp_posindex.specs.Layout.{joined, block_at, place_at, IsGap, AreSized}
 
 -- ---- joining
 
@@ -244,3 +244,13 @@ length-halves (b ∷ bs) some =
     let here = some b (inl refl) in
     let l = length-append b (joined bs) in
     omega arith
+
+-- where there are blocks, a gap is in one of them
+pub gap_block : {X : Type 0} (bs : List (List X)) (p offset : ℕ) → IsGap bs p offset → 0 < length bs → p < length bs
+gap_block bs p offset gap some = elim gap.block as (λ _. p < length bs) [ inl lt ↦ lt | inr none ↦ absurd (let e = ap length none in omega arith) ]
+
+-- where one block is full, there are 64 for each block
+pub many_each : {X : Type 0} (bs : List (List X)) (p : ℕ) → AreSized bs → p < length bs → length (block_at bs p) ≡ 128 → 64 * length bs ≤ length (joined bs)
+many_each [] p sized lt full = absurd (omega arith)
+many_each (b ∷ []) p sized lt full = (let within = place_at-within (b ∷ []) p 128 lt (omega arith) in omega arith)
+many_each (b ∷ c ∷ bs) p sized lt full = length-halves (b ∷ c ∷ bs) (sized.half (omega arith))
