@@ -1,2 +1,3 @@
 pub mod Joining
 pub mod Laying
+pub mod Rooms

@@ -94,7 +94,8 @@ impl Blocks {
         self.pool.reserve(opened)?;
         self.order.reserve(opened)?;
         self.visible.reserve(opened)?;
-        fill(self.alloc, &mut self.spare, opened)
+        fill(self.alloc, &mut self.spare, opened)?;
+        Ok(())
     }
 
     /// How many blocks there are. Every block holds from 1 to 128 numbers, and each of several at least 64.
