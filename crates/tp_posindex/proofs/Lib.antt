@@ -1,3 +1,4 @@
 pub mod Joining
 pub mod Laying
 pub mod Rooms
+pub mod Seeking

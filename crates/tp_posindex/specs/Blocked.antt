@@ -5,7 +5,7 @@ use Rattle.tp_opid.specs.declared.op_id.Place.TheVariants.{Start}
 use Rattle.tp_opid.specs.Insert.{Insert}
 use Rattle.tp_rga.specs.Kept.{IsKept}
 use Rattle.tp_posindex.specs.Layout.{joined}
-use Rattle.tp_posindex.specs.Laid.{flags_of}
+use Rattle.tp_posindex.specs.Laid.{IsNumbered, flags_of}
 
 -- an insert that stands for none
 abbrev pub blank : Insert
@@ -19,8 +19,9 @@ element_at E k = slice_index_or E k blank
 abbrev pub pieces : List Insert → List (List ℕ) → List (List Insert)
 pieces E bs = map (map (element_at E)) bs
 
--- Each number is that of an element; what the flags and the count say of the elements in their order is what the
+-- Each element has a flag, and its number stands in the blocks once; what the flags and the count say of the elements in their order is what the
 -- deletes leave.
 pub record IsBlocked (E : List Insert) (bs : List (List ℕ)) (flags : List Bool) (R : List (OpId × OpId)) (left : ℕ) : Type 0 where
   pub matched : length flags ≡ length E
+  pub numbered : IsNumbered (length E) (joined bs)
   pub kept : IsKept (map (element_at E) (joined bs)) (flags_of flags (joined bs)) R left

@@ -147,7 +147,8 @@ impl Blocks {
     /// Where a number stands. It passes over the order of the blocks, and over one block.
     pub fn spot_of(&self, number: usize) -> Spot
         requires { number < length self.now.flags }
-        ensures { StandsAt self.now.blocks result.block result.offset number }
+        ensures at { StandsAt self.now.blocks result.block result.offset number }
+        ensures offset { result.offset < MOST }
     {
         let home = self.home[number] as usize;
         match index_of(&self.order, home) {

@@ -8,6 +8,7 @@ ghost use Rattle.tp_opid.specs.Same.{id_eq};
 ghost use Rattle.tp_rga.specs.Tree.{HasPlace, CanInsert};
 ghost use Rattle.tp_rga.specs.Order.{EndsAt, IsInserted};
 ghost use Rattle.tp_posindex.specs.Layout.{joined, place_at, IsGap};
+ghost use Rattle.tp_posindex.specs.Laid.{IsNumbered};
 ghost use Rattle.tp_posindex.specs.Blocked.{element_at};
 
 use crate::blocks::{Blocks, Spot};
@@ -72,6 +73,7 @@ fn past_greater(elements: &[Insertion], blocks: &Blocks, from: Spot, id: &OpId) 
 /// Right after a place: at the start, or behind the element that it names.
 fn right_after(elements: &[Insertion], blocks: &Blocks, place: &Place) -> Spot
     requires matched { length blocks.now.flags ≡ length elements.now }
+    requires numbered { IsNumbered (length elements.now) (joined blocks.now.blocks) }
     requires place { HasPlace (map (element_at elements.now) (joined blocks.now.blocks)) place.now }
     ensures gap { IsGap blocks.now.blocks result.block result.offset }
     ensures ends { EndsAt (take (place_at blocks.now.blocks result.block result.offset) (map (element_at elements.now) (joined blocks.now.blocks))) place.now }
@@ -102,6 +104,7 @@ pub(crate) fn spot_for(
     after: &Place,
 ) -> Spot
     requires matched { length blocks.now.flags ≡ length elements.now }
+    requires numbered { IsNumbered (length elements.now) (joined blocks.now.blocks) }
     requires can { CanInsert (map (element_at elements.now) (joined blocks.now.blocks)) id.now after.now }
     ensures gap { IsGap blocks.now.blocks result.block result.offset }
     ensures order { (ch : ℕ) → let x : Insert = record { id = id.now; after = after.now; ch = ch } in
