@@ -2,3 +2,4 @@ pub mod Joining
 pub mod Laying
 pub mod Rooms
 pub mod Seeking
+pub mod Sequencing
