@@ -1,0 +1,256 @@
+-- Laws on a list that is cut into blocks.
+use Rattle.std.proofs.Common.{◌≡◌, ◌⊎◌, inl, inr, ℕ, zero, suc, ◌+◌, ◌-◌, ◌*◌, ◌<◌, ◌≤◌, Some, None, List, [], ◌∷◌, ◌++◌, length, take, drop, get_or, insert, set, map, slice_get, refl, sym, ap, ◌∙◌, subst, arith, append_assoc, length-append, zero-add}
+use Rattle.std.proofs.lemmas.List.{map-append}
+use Rattle.std.proofs.lemmas.List.Edits.{insert-append_left, insert-append_right}
+use Rattle.std.specs.List.{All, AllWithin, HoldsAt}
+use Rattle.tp_list.specs.Members.{In}
+use Rattle.tp_rga.proofs.Sets.{In-left, In-right, In-append}
+use Rattle.tp_posindex.specs.Layout.{joined, block_at, place_at, IsGap, AreSized}
+
+-- ---- joining
+
+-- two parts of the blocks
+pub joined-append : {X : Type 0} (bs cs : List (List X)) → joined (bs ++ cs) ≡ joined bs ++ joined cs
+joined-append [] cs = refl
+joined-append (b ∷ bs) cs = ap (λ z. b ++ z) (joined-append bs cs) ∙ sym (append_assoc b (joined bs) (joined cs))
+
+-- a map of each block's elements
+pub joined-map : {X Y : Type 0} (f : X → Y) (bs : List (List X)) → joined (map (map f) bs) ≡ map f (joined bs)
+joined-map f [] = refl
+joined-map f (b ∷ bs) = ap (λ z. map f b ++ z) (joined-map f bs) ∙ sym (map-append f b (joined bs))
+
+-- a member of a block is a member of all
+pub In-joined : {X : Type 0} (x : X) (b : List X) (bs : List (List X)) → In b bs → In x b → In x (joined bs)
+In-joined x b [] h i = absurd h
+In-joined x b (a ∷ bs) (inl e) i = In-left x a (joined bs) (subst (In x) e i)
+In-joined x b (a ∷ bs) (inr j) i = In-right x a (joined bs) (In-joined x b bs j i)
+
+-- a block is one of the blocks
+pub In-block : {X : Type 0} (bs : List (List X)) (p : ℕ) → p < length bs → In (block_at bs p) bs
+In-block [] p lt = absurd (omega arith)
+In-block (b ∷ bs) zero lt = inl refl
+In-block (b ∷ bs) (suc p) lt = inr (In-block bs p (omega arith))
+
+-- how many stand before the next block
+pub place_at-next : {X : Type 0} (bs : List (List X)) (p : ℕ) → p < length bs → place_at bs (suc p) 0 ≡ place_at bs p (length (block_at bs p))
+place_at-next [] p lt = absurd (omega arith)
+place_at-next (b ∷ bs) zero lt = ap (λ n. n + 0) (length-append b []) ∙ omega arith
+place_at-next (b ∷ bs) (suc p) lt =
+    let rest = place_at-next bs p (omega arith) in
+    let l = length-append b (joined (take (suc p) bs)) in
+    let r = length-append b (joined (take p bs)) in
+    omega arith
+
+-- behind the last block
+pub place_at-end : {X : Type 0} (bs : List (List X)) → place_at bs (length bs) 0 ≡ length (joined bs)
+place_at-end [] = refl
+place_at-end (b ∷ bs) =
+    let rest = place_at-end bs in
+    let l = length-append b (joined (take (length bs) bs)) in
+    let r = length-append b (joined bs) in
+    omega arith
+
+-- a place in a block is a place in all
+pub place_at-within : {X : Type 0} (bs : List (List X)) (p offset : ℕ) → p < length bs → offset ≤ length (block_at bs p) → place_at bs p offset ≤ length (joined bs)
+place_at-within [] p offset lt le = absurd (omega arith)
+place_at-within (b ∷ bs) zero offset lt le = let l = length-append b (joined bs) in omega arith
+place_at-within (b ∷ bs) (suc p) offset lt le =
+    let rest = place_at-within bs p offset (omega arith) le in
+    let l = length-append b (joined (take p bs)) in
+    let r = length-append b (joined bs) in
+    omega arith
+
+-- a place before a block's end is before the end of all
+pub place_at-before : {X : Type 0} (bs : List (List X)) (p offset : ℕ) → p < length bs → offset < length (block_at bs p) → place_at bs p offset < length (joined bs)
+place_at-before [] p offset lt le = absurd (omega arith)
+place_at-before (b ∷ bs) zero offset lt le = let l = length-append b (joined bs) in omega arith
+place_at-before (b ∷ bs) (suc p) offset lt le =
+    let rest = place_at-before bs p offset (omega arith) le in
+    let l = length-append b (joined (take p bs)) in
+    let r = length-append b (joined bs) in
+    omega arith
+
+-- the whole begins with what stands before a block, and then the block's front
+pub take-joined : {X : Type 0} (bs : List (List X)) (p offset : ℕ) → p < length bs → offset ≤ length (block_at bs p) → take (place_at bs p offset) (joined bs) ≡ joined (take p bs) ++ take offset (block_at bs p)
+take-joined [] p offset lt le = absurd (omega arith)
+take-joined (b ∷ bs) zero offset lt le =
+    ap (λ n. take n (b ++ joined bs)) (zero-add offset) ∙ take_front offset b (joined bs) le
+  where
+    take_front : {X : Type 0} (n : ℕ) (xs ys : List X) → n ≤ length xs → take n (xs ++ ys) ≡ take n xs
+    take_front zero xs ys h = refl
+    take_front (suc n) [] ys h = absurd (omega arith)
+    take_front (suc n) (x ∷ xs) ys h = ap (λ z. x ∷ z) (take_front n xs ys (omega arith))
+take-joined (b ∷ bs) (suc p) offset lt le =
+    let l = length-append b (joined (take p bs)) in
+    let at : place_at (b ∷ bs) (suc p) offset ≡ length b + place_at bs p offset = omega arith in
+    ap (λ n. take n (b ++ joined bs)) at ∙ take_behind (place_at bs p offset) b (joined bs) ∙ ap (λ z. b ++ z) (take-joined bs p offset (omega arith) le) ∙ sym (append_assoc b (joined (take p bs)) (take offset (block_at bs p)))
+  where
+    take_behind : {X : Type 0} (n : ℕ) (xs ys : List X) → take (length xs + n) (xs ++ ys) ≡ xs ++ take n ys
+    take_behind n [] ys = ap (λ m. take m ys) (zero-add n)
+    take_behind n (x ∷ xs) ys = (let e : suc (length xs) + n ≡ suc (length xs + n) = omega arith in ap (λ m. take m (x ∷ (xs ++ ys))) e) ∙ ap (λ z. x ∷ z) (take_behind n xs ys)
+
+-- what stands at an offset of a block stands at its place
+pub get_or-joined : {X : Type 0} (bs : List (List X)) (p offset : ℕ) (d : X) → p < length bs → offset < length (block_at bs p) → get_or (joined bs) (place_at bs p offset) d ≡ get_or (block_at bs p) offset d
+get_or-joined [] p offset d lt le = absurd (omega arith)
+get_or-joined (b ∷ bs) zero offset d lt le =
+    ap (λ n. get_or (b ++ joined bs) n d) (zero-add offset) ∙ front b (joined bs) offset d le
+  where
+    front : {X : Type 0} (xs ys : List X) (n : ℕ) (d : X) → n < length xs → get_or (xs ++ ys) n d ≡ get_or xs n d
+    front [] ys n d h = absurd (omega arith)
+    front (x ∷ xs) ys zero d h = refl
+    front (x ∷ xs) ys (suc n) d h = front xs ys n d (omega arith)
+get_or-joined (b ∷ bs) (suc p) offset d lt le =
+    let l = length-append b (joined (take p bs)) in
+    let at : place_at (b ∷ bs) (suc p) offset ≡ length b + place_at bs p offset = omega arith in
+    ap (λ n. get_or (b ++ joined bs) n d) at ∙ behind b (joined bs) (place_at bs p offset) d ∙ get_or-joined bs p offset d (omega arith) le
+  where
+    behind : {X : Type 0} (xs ys : List X) (n : ℕ) (d : X) → get_or (xs ++ ys) (length xs + n) d ≡ get_or ys n d
+    behind [] ys n d = ap (λ m. get_or ys m d) (zero-add n)
+    behind (x ∷ xs) ys n d = (let e : suc (length xs) + n ≡ suc (length xs + n) = omega arith in ap (λ m. get_or (x ∷ (xs ++ ys)) m d) e) ∙ behind xs ys n d
+
+-- ---- an insert and a split
+
+-- an insert at an offset of a block is an insert at its place
+pub insert-joined : {X : Type 0} (bs : List (List X)) (p offset : ℕ) (x : X) → p < length bs → offset ≤ length (block_at bs p) → joined (set bs p (insert (block_at bs p) offset x)) ≡ insert (joined bs) (place_at bs p offset) x
+insert-joined [] p offset x lt le = absurd (omega arith)
+insert-joined (b ∷ bs) zero offset x lt le =
+    sym (ap (λ n. insert (b ++ joined bs) n x) (zero-add offset) ∙ insert-append_left b (joined bs) offset x le)
+insert-joined (b ∷ bs) (suc p) offset x lt le =
+    let l = length-append b (joined (take p bs)) in
+    let at : place_at (b ∷ bs) (suc p) offset - length b ≡ place_at bs p offset = omega arith in
+    ap (λ z. b ++ z) (insert-joined bs p offset x (omega arith) le)
+    ∙ sym (insert-append_right b (joined bs) (length b) (place_at (b ∷ bs) (suc p) offset) x refl (omega arith)
+    ∙ ap (λ n. b ++ insert (joined bs) n x) at)
+
+-- the blocks with one cut in two
+abbrev pub cut_at : {X : Type 0} → List (List X) → ℕ → ℕ → List (List X)
+cut_at bs p n = insert (set bs p (take n (block_at bs p))) (suc p) (drop n (block_at bs p))
+
+-- a cut keeps the whole
+pub joined-cut : {X : Type 0} (bs : List (List X)) (p n : ℕ) → p < length bs → joined (cut_at bs p n) ≡ joined bs
+joined-cut [] p n lt = absurd (omega arith)
+joined-cut (b ∷ bs) zero n lt = sym (append_assoc (take n b) (drop n b) (joined bs)) ∙ ap (λ z. z ++ joined bs) (parts n b)
+  where
+    parts : {X : Type 0} (n : ℕ) (xs : List X) → take n xs ++ drop n xs ≡ xs
+    parts zero xs = refl
+    parts (suc n) [] = refl
+    parts (suc n) (x ∷ xs) = ap (λ z. x ∷ z) (parts n xs)
+joined-cut (b ∷ bs) (suc p) n lt = ap (λ z. b ++ z) (joined-cut bs p n (omega arith))
+
+-- a cut makes one block more
+pub length-cut : {X : Type 0} (bs : List (List X)) (p n : ℕ) → p < length bs → length (cut_at bs p n) ≡ suc (length bs)
+length-cut [] p n lt = absurd (omega arith)
+length-cut (b ∷ bs) zero n lt = refl
+length-cut (b ∷ bs) (suc p) n lt = ap suc (length-cut bs p n (omega arith))
+
+-- the front of the block that was cut, and what stood behind the cut
+pub block_at-cut : {X : Type 0} (bs : List (List X)) (p n : ℕ) → p < length bs → (block_at (cut_at bs p n) p ≡ take n (block_at bs p)) × (block_at (cut_at bs p n) (suc p) ≡ drop n (block_at bs p))
+block_at-cut [] p n lt = absurd (omega arith)
+block_at-cut (b ∷ bs) zero n lt = (refl, refl)
+block_at-cut (b ∷ bs) (suc p) n lt = block_at-cut bs p n (omega arith)
+
+-- the places in the front are as before
+pub place_at-front : {X : Type 0} (bs : List (List X)) (p n offset : ℕ) → p < length bs → place_at (cut_at bs p n) p offset ≡ place_at bs p offset
+place_at-front [] p n offset lt = absurd (omega arith)
+place_at-front (b ∷ bs) zero n offset lt = refl
+place_at-front (b ∷ bs) (suc p) n offset lt =
+    let rest = place_at-front bs p n offset (omega arith) in
+    let l = length-append b (joined (take p (cut_at bs p n))) in
+    let r = length-append b (joined (take p bs)) in
+    omega arith
+
+-- the places behind the cut are as before
+pub place_at-back : {X : Type 0} (bs : List (List X)) (p n offset : ℕ) → p < length bs → n ≤ length (block_at bs p) → place_at (cut_at bs p n) (suc p) offset ≡ place_at bs p (n + offset)
+place_at-back [] p n offset lt le = absurd (omega arith)
+place_at-back (b ∷ bs) zero n offset lt le =
+    let l = length-append (take n b) [] in
+    let s = length-front n b le in
+    omega arith
+  where
+    length-front : {X : Type 0} (n : ℕ) (xs : List X) → n ≤ length xs → length (take n xs) ≡ n
+    length-front zero xs h = refl
+    length-front (suc n) [] h = absurd (omega arith)
+    length-front (suc n) (x ∷ xs) h = ap suc (length-front n xs (omega arith))
+place_at-back (b ∷ bs) (suc p) n offset lt le =
+    let rest = place_at-back bs p n offset (omega arith) le in
+    let l = length-append b (joined (take (suc p) (cut_at bs p n))) in
+    let r = length-append b (joined (take p bs)) in
+    omega arith
+
+-- a member of the blocks with one replaced is the new block, or one of several
+pub In-set : {X : Type 0} (bs : List X) (p : ℕ) (v x : X) → p < length bs → In x (set bs p v) → (x ≡ v) ⊎ (In x bs × (1 < length bs))
+In-set [] p v x lt i = absurd (omega arith)
+In-set (b ∷ bs) zero v x lt (inl e) = inl e
+In-set (b ∷ []) zero v x lt (inr i) = absurd i
+In-set (b ∷ c ∷ bs) zero v x lt (inr i) = inr (inr i, omega arith)
+In-set (b ∷ bs) (suc p) v x lt (inl e) = inr (inl e, omega arith)
+In-set (b ∷ bs) (suc p) v x lt (inr i) =
+    elim (In-set bs p v x (omega arith) i) as (λ _. (x ≡ v) ⊎ (In x (b ∷ bs) × (1 < suc (length bs)))) [
+      | inl e ↦ inl e
+      | inr j ↦ inr (inr j.0, omega (arith, j.1))
+    ]
+
+-- a member of a list with one put in is that, or was there
+pub In-insert : {X : Type 0} (xs : List X) (i : ℕ) (v x : X) → In x (insert xs i v) → (x ≡ v) ⊎ In x xs
+In-insert xs zero v x (inl e) = inl e
+In-insert xs zero v x (inr j) = inr j
+In-insert [] (suc i) v x (inl e) = inl e
+In-insert [] (suc i) v x (inr j) = absurd j
+In-insert (y ∷ xs) (suc i) v x (inl e) = inr (inl e)
+In-insert (y ∷ xs) (suc i) v x (inr j) =
+    elim (In-insert xs i v x j) as (λ _. (x ≡ v) ⊎ In x (y ∷ xs)) [ inl e ↦ inl e | inr k ↦ inr (inr k) ]
+
+-- what was put in is there
+pub In-inserted : {X : Type 0} (xs : List X) (i : ℕ) (v : X) → In v (insert xs i v)
+In-inserted xs zero v = inl refl
+In-inserted [] (suc i) v = inl refl
+In-inserted (y ∷ xs) (suc i) v = inr (In-inserted xs i v)
+
+-- what was there is there still
+pub In-insert_still : {X : Type 0} (xs : List X) (i : ℕ) (v x : X) → In x xs → In x (insert xs i v)
+In-insert_still xs zero v x j = inr j
+In-insert_still [] (suc i) v x j = absurd j
+In-insert_still (y ∷ xs) (suc i) v x (inl e) = inl e
+In-insert_still (y ∷ xs) (suc i) v x (inr j) = inr (In-insert_still xs i v x j)
+
+-- a member stays in one of the two parts
+pub In-parts : {X : Type 0} (n : ℕ) (xs : List X) (x : X) → In x xs → In x (take n xs) ⊎ In x (drop n xs)
+In-parts zero xs x i = inr i
+In-parts (suc n) [] x i = absurd i
+In-parts (suc n) (y ∷ xs) x (inl e) = inl (inl e)
+In-parts (suc n) (y ∷ xs) x (inr i) =
+    elim (In-parts n xs x i) as (λ _. In x (y ∷ take n xs) ⊎ In x (drop n xs)) [ inl j ↦ inl (inr j) | inr j ↦ inr j ]
+
+-- a member of what stands behind a cut is one of the whole
+pub In-drop : {X : Type 0} (n : ℕ) (xs : List X) (x : X) → In x (drop n xs) → In x xs
+In-drop zero xs x i = i
+In-drop (suc n) [] x i = i
+In-drop (suc n) (y ∷ xs) x i = inr (In-drop n xs x i)
+
+-- more than there are blocks
+pub length-joined : {X : Type 0} (bs : List (List X)) → ((b : List X) → In b bs → 1 ≤ length b) → length bs ≤ length (joined bs)
+length-joined [] some = omega arith
+length-joined (b ∷ bs) some =
+    let rest = length-joined bs (λ c i. some c (inr i)) in
+    let here = some b (inl refl) in
+    let l = length-append b (joined bs) in
+    omega arith
+
+-- blocks of 64 at least
+pub length-halves : {X : Type 0} (bs : List (List X)) → ((b : List X) → In b bs → 64 ≤ length b) → 64 * length bs ≤ length (joined bs)
+length-halves [] some = omega arith
+length-halves (b ∷ bs) some =
+    let rest = length-halves bs (λ c i. some c (inr i)) in
+    let here = some b (inl refl) in
+    let l = length-append b (joined bs) in
+    omega arith
+
+-- where there are blocks, a gap is in one of them
+pub gap_block : {X : Type 0} (bs : List (List X)) (p offset : ℕ) → IsGap bs p offset → 0 < length bs → p < length bs
+gap_block bs p offset gap some = elim gap.block as (λ _. p < length bs) [ inl lt ↦ lt | inr none ↦ absurd (let e = ap length none in omega arith) ]
+
+-- where one block is full, there are 64 for each block
+pub many_each : {X : Type 0} (bs : List (List X)) (p : ℕ) → AreSized bs → p < length bs → length (block_at bs p) ≡ 128 → 64 * length bs ≤ length (joined bs)
+many_each [] p sized lt full = absurd (omega arith)
+many_each (b ∷ []) p sized lt full = (let within = place_at-within (b ∷ []) p 128 lt (omega arith) in omega arith)
+many_each (b ∷ c ∷ bs) p sized lt full = length-halves (b ∷ c ∷ bs) (sized.half (omega arith))

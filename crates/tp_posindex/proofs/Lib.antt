@@ -1,0 +1,5 @@
+pub mod Joining
+pub mod Laying
+pub mod Rooms
+pub mod Seeking
+pub mod Sequencing

@@ -1,0 +1,24 @@
+use Rattle.std.proofs.Common.{◌≡◌, Some, slice_get, get_or, sym, ap, ◌∙◌}
+use Rattle.std.specs.Option.{option_map}
+use Rattle.tp_opid.specs.Insert.{Insert}
+use Rattle.tp_rga.specs.Shown.{shown}
+use Rattle.tp_posindex.specs.Layout.{joined, block_at}
+use Rattle.tp_posindex.specs.BlockState.{BlockState}
+use Rattle.tp_posindex.proofs.Sequencing.{shown_at, shown_past}
+use Rattle.tp_posindex.proofs.sequence.BlockSequenceSequence.char_at.Goals as goal
+
+pub returns-in-Some : goal.returns-in-Some
+returns-in-Some c =
+    let s = c.self.inside in
+    let bs = s.blocks.blocks in
+    let at = c.in-Some.ensures.found in
+    let x = c.index-e.result.now in
+    let read : x ≡ get_or s.elements.items (get_or (block_at bs c.in-Some.spot.block) c.in-Some.spot.offset 0) x = c.index-e.ensures ∙ ap (λ n. get_or s.elements.items n x) c.number_at.ensures.number in
+    let there = shown_at s.elements.items bs s.blocks.flags s.deletes.items s.left c.in-Some.spot.block c.in-Some.spot.offset c.args.i x c.self.invariant at.0 at.1 at.2 at.3 read in
+    ap (λ (w : Insert). Some w.ch) c.e.view_is ∙ sym (ap (option_map (λ (w : Insert). w.ch)) there) ∙ ap (λ (v : BlockState). option_map (λ (w : Insert). w.ch) (slice_get (shown v.removals (joined v.blocks)) c.args.i)) c.self.view_is
+
+pub returns-in-None : goal.returns-in-None
+returns-in-None c =
+    let s = c.self.inside in
+    let there = shown_past s.elements.items s.blocks.blocks s.blocks.flags s.deletes.items s.left c.args.i c.self.invariant c.in-None.ensures.none in
+    sym (ap (option_map (λ (w : Insert). w.ch)) there) ∙ ap (λ (v : BlockState). option_map (λ (w : Insert). w.ch) (slice_get (shown v.removals (joined v.blocks)) c.args.i)) c.self.view_is

@@ -1,0 +1,75 @@
+use Rattle.std.proofs.Common.{◌≡◌, ◌<◌, ◌≤◌, ◌+◌, ℕ, List, Bool, [], ◌∷◌, ◌++◌, true, false, not, length, map, insert, sym, ◌∙◌, ap, subst, arith}
+use Rattle.std.specs.Result.{is_ok}
+use Rattle.std.proofs.lemmas.List.{length-map}
+use Rattle.tp_opid.specs.Insert.{Insert}
+use Rattle.tp_rga.specs.Tree.{IsNew, CanInsert}
+use Rattle.tp_rga.specs.Order.{IsInserted}
+use Rattle.tp_rga.proofs.Keeping.{IsKept-left}
+use Rattle.tp_posindex.specs.Layout.{joined, place_at}
+use Rattle.tp_posindex.specs.Laid.{flags_of}
+use Rattle.tp_posindex.specs.BlockState.{BlockState}
+use Rattle.tp_posindex.specs.Blocked.{element_at, pieces, IsBlocked}
+use Rattle.tp_posindex.proofs.Sequencing.{placed_is, placed_insert, IsBlocked-insert}
+use Rattle.tp_posindex.proofs.sequence.BlockSequenceSequence.insert.Goals as goal
+
+pub spot_for-spot-requires-clause-can : goal.spot_for-spot-requires-clause-can
+spot_for-spot-requires-clause-can c =
+    let s = c.self.inside in
+    let E = s.elements.items in
+    let bs = s.blocks.blocks in
+    let placed : List Insert = map (element_at E) (joined bs) in
+    let seen : joined c.args.self.now.blocks ≡ placed = sym (ap (λ (v : BlockState). joined v.blocks) c.self.view_is) ∙ placed_is E bs in
+    let elements : c.deref.result.now ≡ E = c.deref.ensures.value ∙ c.reserve.ensures.items in
+    rw (elements, c.reserve-2.ensures.blocks) (subst (λ z. CanInsert z c.args.id c.args.after) seen c.requires)
+
+pub overflow_add-self : goal.overflow_add-self
+overflow_add-self c =
+    let s = c.self.inside in
+    let E = s.elements.items in
+    let bs = s.blocks.blocks in
+    let placed : List Insert = map (element_at E) (joined bs) in
+    let seen : joined c.args.self.now.blocks ≡ placed = sym (ap (λ (v : BlockState). joined v.blocks) c.self.view_is) ∙ placed_is E bs in
+    let le = IsKept-left placed (flags_of s.blocks.flags (joined bs)) s.deletes.items s.left c.self.invariant.kept in
+    let size = length-map (joined bs) (element_at E) in
+    let many = c.self.invariant.numbered.many in
+    let room = c.in_ok-reserve.ensures.ok in
+    omega (arith, le, size, many, room, c.reserve.ensures.len)
+
+pub invariant_of-self-2 : goal.invariant_of-self-2
+invariant_of-self-2 c =
+    let s = c.self.inside in
+    let E = s.elements.items in
+    let bs = s.blocks.blocks in
+    let placed : List Insert = map (element_at E) (joined bs) in
+    let seen : joined c.args.self.now.blocks ≡ placed = sym (ap (λ (v : BlockState). joined v.blocks) c.self.view_is) ∙ placed_is E bs in
+    let x : Insert = record { id = c.args.id; after = c.args.after; ch = c.args.ch } in
+    let G = place_at c.reserve-2.new.self.blocks c.spot_for-spot.result.block c.spot_for-spot.result.offset in
+    let pushed : is_ok c.push.result ≡ true = c.is_err.ensures.negation ∙ ap not c.if-is_err.false in
+    let items_is : c.push.new.self.items ≡ E ++ x ∷ [] = (rw pushed at c.push.ensures.items) ∙ ap (λ (z : List Insert). z ++ x ∷ []) c.reserve.ensures.items in
+    let whole : joined c.put.new.self.blocks ≡ insert (joined bs) G (length s.blocks.flags) =
+    c.put.ensures.joined ∙ ap (λ (z : List (List ℕ)). insert (joined z) G (length c.reserve-2.new.self.flags)) c.reserve-2.ensures.blocks ∙ ap (λ (z : List Bool). insert (joined bs) G (length z)) c.reserve-2.ensures.flags in
+    let new : IsNew placed c.args.id = subst (λ z. IsNew z c.args.id) seen c.requires.new in
+    let flags_is : c.put.new.self.flags ≡ s.blocks.flags ++ false ∷ [] = c.put.ensures.flags ∙ ap (λ (z : List Bool). z ++ false ∷ []) c.reserve-2.ensures.flags in
+    rw (items_is, flags_is) (IsBlocked-insert E bs c.put.new.self.blocks s.blocks.flags s.deletes.items s.left G x c.self.invariant whole new)
+
+pub returns-clause-ok : goal.returns-clause-ok
+returns-clause-ok c =
+    let s = c.self.inside in
+    let E = s.elements.items in
+    let bs = s.blocks.blocks in
+    let placed : List Insert = map (element_at E) (joined bs) in
+    let seen : joined c.args.self.now.blocks ≡ placed = sym (ap (λ (v : BlockState). joined v.blocks) c.self.view_is) ∙ placed_is E bs in
+    let x : Insert = record { id = c.args.id; after = c.args.after; ch = c.args.ch } in
+    let G = place_at c.reserve-2.new.self.blocks c.spot_for-spot.result.block c.spot_for-spot.result.offset in
+    let pushed : is_ok c.push.result ≡ true = c.is_err.ensures.negation ∙ ap not c.if-is_err.false in
+    let items_is : c.push.new.self.items ≡ E ++ x ∷ [] = (rw pushed at c.push.ensures.items) ∙ ap (λ (z : List Insert). z ++ x ∷ []) c.reserve.ensures.items in
+    let whole : joined c.put.new.self.blocks ≡ insert (joined bs) G (length s.blocks.flags) =
+    c.put.ensures.joined ∙ ap (λ (z : List (List ℕ)). insert (joined z) G (length c.reserve-2.new.self.flags)) c.reserve-2.ensures.blocks ∙ ap (λ (z : List Bool). insert (joined bs) G (length z)) c.reserve-2.ensures.flags in
+    let elements : c.deref.result.now ≡ E = c.deref.ensures.value ∙ c.reserve.ensures.items in
+    let order = subst (λ (z : List (List ℕ)). IsInserted (map (element_at E) (joined z)) (insert (map (element_at E) (joined z)) G x) x) c.reserve-2.ensures.blocks (rw elements at (c.spot_for-spot.ensures.order c.args.ch)) in
+    let new_is : joined (pieces c.push.new.self.items c.put.new.self.blocks) ≡ insert placed G x =
+    placed_is c.push.new.self.items c.put.new.self.blocks
+    ∙ ap (λ (z : List Insert). map (element_at z) (joined c.put.new.self.blocks)) items_is
+    ∙ ap (λ (z : List ℕ). map (element_at (E ++ x ∷ [])) z) whole
+    ∙ placed_insert E (joined bs) G (length s.blocks.flags) x c.self.invariant.numbered.below c.self.invariant.matched in
+    subst (λ z. IsInserted z (joined (pieces c.push.new.self.items c.put.new.self.blocks)) x) (sym seen) (subst (λ z. IsInserted placed z x) (sym new_is) order)

@@ -1,0 +1,40 @@
+-- A list that is cut into blocks.
+use Rattle.std.specs.Prelude.{◌≡◌, ℕ, ◌+◌, ◌-◌, ◌*◌, ◌<◌, ◌≤◌, ◌⊎◌, Bool, true, false, not, List, [], ◌∷◌, ◌++◌, length, take, filter, map, min, max, Some, slice_get, slice_index_or}
+use Rattle.tp_list.specs.Members.{In}
+
+-- the blocks one after another
+abbrev pub joined : {X : Type 0} → List (List X) → List X
+joined [] = []
+joined (b ∷ bs) = b ++ joined bs
+
+-- the block numbered p
+abbrev pub block_at : {X : Type 0} → List (List X) → ℕ → List X
+block_at bs p = slice_index_or bs p []
+
+-- the place in the whole list of what stands at an offset of the block numbered p
+abbrev pub place_at : {X : Type 0} → List (List X) → ℕ → ℕ → ℕ
+place_at bs p offset = length (joined (take p bs)) + offset
+
+-- An offset of the block numbered p at which a new element may be put in; where there is no block yet, any block's
+-- start.
+pub record IsGap {X : Type 0} (bs : List (List X)) (p offset : ℕ) : Type 0 where
+  pub block : (p < length bs) ⊎ (bs ≡ [])
+  pub offset_in : offset ≤ length (block_at bs p)
+
+-- x stands at an offset of the block numbered p.
+pub record StandsAt {X : Type 0} (bs : List (List X)) (p offset : ℕ) (x : X) : Type 0 where
+  pub block : p < length bs
+  pub at : slice_get (block_at bs p) offset ≡ Some x
+
+-- how many elements a block holds at most, and how many each of several blocks holds at least
+abbrev pub most : ℕ
+most = 128
+
+abbrev pub least : ℕ
+least = 64
+
+-- Every block holds from 1 to 128 elements, and each of several blocks at least 64.
+pub record AreSized {X : Type 0} (bs : List (List X)) : Type 0 where
+  pub some : (b : List X) → In b bs → 1 ≤ length b
+  pub few : (b : List X) → In b bs → length b ≤ most
+  pub half : 1 < length bs → (b : List X) → In b bs → least ≤ length b

@@ -1,0 +1,4 @@
+pub mod Layout
+pub mod BlockState
+pub mod Laid
+pub mod Blocked

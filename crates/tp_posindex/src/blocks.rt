@@ -1,0 +1,386 @@
+//! The numbers of elements in blocks, in the order of the text, with a flag for each that is deleted.
+
+ghost use Rattle.std.specs.Prelude.{◌≡◌, ℕ, ◌+◌, ◌-◌, ◌^◌, ◌<◌, ◌≤◌, Bool, true, false, not, [], ◌∷◌, ◌++◌, length, take, drop, filter, insert, slice_set, vec_len, slice_get, slice_index_or, Some, MatchOption, IfSome, IfNone, IsOk, OnOk, OnErr};
+ghost use Rattle.std.specs.List.{All};
+ghost use Rattle.tp_list.specs.Members.{In};
+ghost use Rattle.tp_posindex.specs.Layout.{joined, block_at, place_at, IsGap, StandsAt, AreSized};
+ghost use Rattle.tp_posindex.specs.Laid.{room_of, flag_of, flags_of, count_of, IsNumbered};
+
+use crate::block::{Block, HALF, MOST};
+use crate::numbers::{count_down, index_of, nth_counted, nth_down, total};
+use std::alloc::{AllocError, Global};
+use std::marker::Model;
+
+/// How many numbers there are at most: 4,294,967,295.
+const MOST_NUMBERS: usize = 4_294_967_295;
+
+/// A place in blocks: which block in list order, from 0, and how many of its elements stand before.
+#[derive(Clone, Copy)]
+pub(crate) struct Spot {
+    pub block: usize,
+    pub offset: usize,
+}
+
+/// Numbers in blocks. Number `k` is the one that was put in as the `k`-th, from 0.
+///
+/// `pool` has the blocks by their own numbers, `order` these in list order, `visible` for each block in list order how
+/// many flags are down, `home` for each number the block that holds it, and `spare` blocks to be opened.
+#[derive(Drop)]
+pub(crate) struct Blocks {
+    alloc: Global,
+    pool: Vec<Block>,
+    spare: Vec<Block>,
+    order: Vec<u32>,
+    visible: Vec<u32>,
+    home: Vec<u32>,
+    deleted: Vec<bool>,
+}
+
+impl Model for Blocks {
+    ghost use Rattle.std.specs.Prelude.{◌-◌, min, length};
+    ghost use Rattle.std.specs.Vec.{vec_len, vec_capacity};
+    ghost use Rattle.tp_posindex.specs.Laid.{Layout, IsLaid, laid};
+
+    ghost Value = { Layout };
+
+    ghost view = { λ b. record {
+      blocks = laid b.pool.items b.order.items;
+      flags = b.deleted.items;
+      spare = min
+          (min (vec_len b.spare) (vec_capacity b.pool - vec_len b.pool))
+          (min (vec_capacity b.order - vec_len b.order) (vec_capacity b.visible - vec_len b.visible));
+      slots = min
+          (4294967295 - vec_len b.deleted)
+          (min (vec_capacity b.home - vec_len b.home) (vec_capacity b.deleted - vec_len b.deleted));
+    } };
+
+    ghost invariant = { λ b. IsLaid b.pool.items b.order.items b.visible.items b.home.items b.deleted.items };
+}
+
+impl Blocks {
+    /// No blocks. It takes no memory.
+    pub fn new(alloc: Global) -> Blocks
+        ensures blocks { result.blocks ≡ [] }
+        ensures flags { result.flags ≡ [] }
+    {
+        Blocks {
+            alloc,
+            pool: Vec::new(alloc),
+            spare: Vec::new(alloc),
+            order: Vec::new(alloc),
+            visible: Vec::new(alloc),
+            home: Vec::new(alloc),
+            deleted: Vec::new(alloc),
+        }
+    }
+
+    /// Makes room for `n` more numbers, wherever they go. Where memory is short, or there would be more than
+    /// 4,294,967,295, it is an `Err`. The blocks and flags stay.
+    pub fn reserve(&mut self, n: usize) -> Result<(), AllocError>
+        ensures blocks { self.new.blocks ≡ self.old.blocks }
+        ensures flags { self.new.flags ≡ self.old.flags }
+        ensures ok { OnOk result (n ≤ room_of self.new) }
+        ensures succeeds { n ≤ room_of self.old → IsOk result }
+        ensures room { room_of self.old ≤ room_of self.new }
+    {
+        let numbers = self.deleted.len();
+        let blocks = self.order.len();
+        if n > MOST_NUMBERS.saturating_sub(numbers) {
+            return Err(AllocError);
+        }
+        self.home.reserve(n)?;
+        self.deleted.reserve(n)?;
+        let opened = n.min((numbers + n).div_ceil(HALF).saturating_sub(blocks));
+        self.pool.reserve(opened)?;
+        self.order.reserve(opened)?;
+        self.visible.reserve(opened)?;
+        fill(self.alloc, &mut self.spare, opened)?;
+        Ok(())
+    }
+
+    /// How many blocks there are. Every block holds from 1 to 128 numbers, and each of several at least 64.
+    pub fn count(&self) -> usize
+        ensures count { result ≡ length self.now.blocks }
+        ensures sized { AreSized self.now.blocks }
+        ensures numbered { IsNumbered (length self.now.flags) (joined self.now.blocks) }
+    {
+        self.order.len()
+    }
+
+    /// The numbers in a block, in list order.
+    pub fn block(&self, block: usize) -> &[u32]
+        requires { block < length self.now.blocks }
+        ensures value { result.now ≡ block_at self.now.blocks block }
+        ensures below { All (λ k. k < length self.now.flags) result.now }
+        ensures fits { place_at self.now.blocks block (length result.now) < 2 ^ 64 }
+    {
+        let number = self.order[block] as usize;
+        self.pool[number].numbers()
+    }
+
+    /// How many flags are down in a block. It is kept.
+    pub fn visible(&self, block: usize) -> usize
+        requires { block < length self.now.blocks }
+        ensures { result ≡ count_of self.now.flags (block_at self.now.blocks block) }
+    {
+        self.visible[block] as usize
+    }
+
+    /// Whether a number's flag is up.
+    pub fn is_deleted(&self, number: usize) -> bool
+        requires { number < length self.now.flags }
+        ensures { result ≡ flag_of self.now.flags number }
+    {
+        self.deleted[number]
+    }
+
+    /// The number at a spot.
+    pub fn number_at(&self, spot: Spot) -> usize
+        requires block { spot.block < length self.now.blocks }
+        requires offset { spot.offset < length (block_at self.now.blocks spot.block) }
+        ensures number { result ≡ slice_index_or (block_at self.now.blocks spot.block) spot.offset 0 }
+        ensures below { result < length self.now.flags }
+    {
+        self.block(spot.block)[spot.offset] as usize
+    }
+
+    /// Where a number stands. It passes over the order of the blocks, and over one block.
+    pub fn spot_of(&self, number: usize) -> Spot
+        requires { number < length self.now.flags }
+        ensures at { StandsAt self.now.blocks result.block result.offset number }
+        ensures offset { result.offset < MOST }
+    {
+        let home = self.home[number] as usize;
+        match index_of(&self.order, home) {
+            Some(block) => match index_of(self.pool[home].numbers(), number) {
+                Some(offset) => Spot { block, offset },
+                None => unreachable!(),
+            },
+            None => unreachable!(),
+        }
+    }
+
+    /// The place in the whole list of the first number of a block. It adds up the lengths of the blocks before.
+    pub fn first_of(&self, block: usize) -> usize
+        requires { block < length self.now.blocks }
+        ensures { result ≡ place_at self.now.blocks block 0 }
+    {
+        let mut first = 0;
+        for before in 0..block {
+            first += self.block(before).len();
+        }
+        first
+    }
+
+    /// Where the number at a place of the whole list stands, or `None` past its end. It passes over the lengths of the
+    /// blocks before.
+    pub fn spot_at(&self, place: usize) -> Option<Spot>
+        ensures found { IfSome result
+            (λ s. (s.block < length self.now.blocks)
+            × (s.offset < length (block_at self.now.blocks s.block))
+            × (place_at self.now.blocks s.block s.offset ≡ place)) }
+        ensures none { IfNone result (length (joined self.now.blocks) ≤ place) }
+    {
+        let mut left = place;
+        for block in 0..self.order.len() {
+            let len = self.block(block).len();
+            if left < len {
+                return Some(Spot {
+                    block,
+                    offset: left,
+                });
+            }
+            left -= len;
+        }
+        None
+    }
+
+    /// Where the number stands whose flag is down and before which `i` others have theirs down, or `None` where fewer
+    /// have. It passes over the counts before it, and over one block.
+    pub fn nth_visible(&self, i: usize) -> Option<Spot>
+        ensures found { IfSome result
+            (λ s. (s.block < length self.now.blocks)
+            × (s.offset < length (block_at self.now.blocks s.block))
+            × (flag_of self.now.flags (slice_index_or (block_at self.now.blocks s.block) s.offset 0) ≡ false)
+            × (count_of self.now.flags (take (place_at self.now.blocks s.block s.offset) (joined self.now.blocks)) ≡ i)) }
+        ensures none { IfNone result (count_of self.now.flags (joined self.now.blocks) ≤ i) }
+    {
+        let (block, left) = nth_counted(&self.visible, i)?;
+        match nth_down(self.block(block), &self.deleted, left) {
+            Some(offset) => Some(Spot { block, offset }),
+            None => unreachable!(),
+        }
+    }
+
+    /// How many flags are down before a spot. It adds up the counts before it, and passes over one block.
+    pub fn visible_before(&self, spot: Spot) -> usize
+        requires block { spot.block < length self.now.blocks }
+        requires offset { spot.offset ≤ length (block_at self.now.blocks spot.block) }
+        ensures { result ≡ count_of self.now.flags (take (place_at self.now.blocks spot.block spot.offset) (joined self.now.blocks)) }
+    {
+        let numbers = self.block(spot.block);
+        total(&self.visible[..spot.block]) + count_down(&numbers[..spot.offset], &self.deleted)
+    }
+
+    /// Behind all numbers.
+    pub fn end(&self) -> Spot
+        ensures gap { IsGap self.now.blocks result.block result.offset }
+        ensures end { place_at self.now.blocks result.block result.offset ≡ length (joined self.now.blocks) }
+    {
+        let count = self.order.len();
+        if count == 0 {
+            return Spot {
+                block: 0,
+                offset: 0,
+            };
+        }
+        Spot {
+            block: count - 1,
+            offset: self.block(count - 1).len(),
+        }
+    }
+
+    /// Puts the next number in at a spot, with its flag down. A full block is split into two of 64 first. It takes no
+    /// memory.
+    pub fn put(&mut self, spot: Spot)
+        requires room { 0 < room_of self.old }
+        requires gap { IsGap self.old.blocks spot.block spot.offset }
+        ensures joined { joined self.new.blocks
+            ≡ insert (joined self.old.blocks) (place_at self.old.blocks spot.block spot.offset) (length self.old.flags) }
+        ensures flags { self.new.flags ≡ self.old.flags ++ false ∷ [] }
+        ensures room { room_of self.old ≤ room_of self.new + 1 }
+    {
+        if self.order.is_empty() {
+            self.put_first();
+            return;
+        }
+        if self.block(spot.block).len() < MOST {
+            self.put_in(spot);
+            return;
+        }
+        self.split(spot.block);
+        if spot.offset <= HALF {
+            self.put_in(spot);
+        } else {
+            self.put_in(Spot {
+                block: spot.block + 1,
+                offset: spot.offset - HALF,
+            });
+        }
+    }
+
+    /// Puts the next number in at a spot of a block that isn't full.
+    fn put_in(&mut self, spot: Spot)
+        requires block { spot.block < length self.old.blocks }
+        requires offset { spot.offset ≤ length (block_at self.old.blocks spot.block) }
+        requires few { length (block_at self.old.blocks spot.block) < MOST }
+        requires slots { 0 < self.old.slots }
+        ensures blocks { self.new.blocks
+            ≡ slice_set self.old.blocks spot.block (insert (block_at self.old.blocks spot.block) spot.offset (length self.old.flags)) }
+        ensures flags { self.new.flags ≡ self.old.flags ++ false ∷ [] }
+        ensures spare { self.new.spare ≡ self.old.spare }
+        ensures slots { self.old.slots ≤ self.new.slots + 1 }
+    {
+        let number = self.deleted.len() as u32;
+        let home = self.order[spot.block];
+        let block = &mut self.pool[home as usize];
+        block.put(spot.offset, number);
+        self.visible[spot.block] += 1;
+        if self.home.push(home).is_err() || self.deleted.push(false).is_err() {
+            unreachable!()
+        }
+    }
+
+    /// Splits a full block into two of 64.
+    fn split(&mut self, place: usize)
+        requires block { place < length self.old.blocks }
+        requires full { length (block_at self.old.blocks place) ≡ MOST }
+        requires spare { 0 < self.old.spare }
+        requires slots { 0 < self.old.slots }
+        ensures blocks { self.new.blocks
+            ≡ insert (slice_set self.old.blocks place (take HALF (block_at self.old.blocks place))) (place + 1)
+            (drop HALF (block_at self.old.blocks place)) }
+        ensures flags { self.new.flags ≡ self.old.flags }
+        ensures spare { self.old.spare ≤ self.new.spare + 1 }
+        ensures slots { self.new.slots ≡ self.old.slots }
+    {
+        let front = self.order[place];
+        let back = self.order.len() as u32;
+        let Some(mut half) = self.spare.pop() else {
+            unreachable!()
+        };
+        let block = &mut self.pool[front as usize];
+        block.split(&mut half);
+        let count = count_down(half.numbers(), &self.deleted) as u32;
+        rename(&mut self.home, half.numbers(), back);
+        self.visible[place] -= count;
+        if self.pool.push(half).is_err()
+            || self.order.insert(place + 1, back).is_err()
+            || self.visible.insert(place + 1, count).is_err()
+        {
+            unreachable!()
+        }
+    }
+
+    /// Opens the first block, with the first number in it.
+    fn put_first(&mut self)
+        requires blocks { self.old.blocks ≡ [] }
+        requires spare { 0 < self.old.spare }
+        requires slots { 0 < self.old.slots }
+        ensures blocks { self.new.blocks ≡ (0 ∷ []) ∷ [] }
+        ensures first { self.old.flags ≡ [] }
+        ensures flags { self.new.flags ≡ false ∷ [] }
+        ensures spare { self.old.spare ≤ self.new.spare + 1 }
+        ensures slots { self.old.slots ≤ self.new.slots + 1 }
+    {
+        let Some(mut block) = self.spare.pop() else {
+            unreachable!()
+        };
+        block.start(0);
+        if self.pool.push(block).is_err()
+            || self.order.push(0).is_err()
+            || self.visible.push(1).is_err()
+            || self.home.push(0).is_err()
+            || self.deleted.push(false).is_err()
+        {
+            unreachable!()
+        }
+    }
+
+    /// Raises a number's flag.
+    pub fn hide(&mut self, number: usize)
+        requires number { number < length self.old.flags }
+        requires down { flag_of self.old.flags number ≡ false }
+        ensures blocks { self.new.blocks ≡ self.old.blocks }
+        ensures flags { self.new.flags ≡ slice_set self.old.flags number true }
+        ensures room { room_of self.new ≡ room_of self.old }
+    {
+        let spot = self.spot_of(number);
+        self.deleted[number] = true;
+        self.visible[spot.block] -= 1;
+    }
+}
+
+/// Says of each number that its home is a block.
+fn rename(home: &mut [u32], numbers: &[u32], block: u32)
+    requires { All (λ k. k < length home.old) numbers.now }
+    ensures renamed { (k : ℕ) → In k numbers.now → slice_index_or home.new k 0 ≡ block }
+    ensures others { (k : ℕ) → (In k numbers.now → ⊥) → slice_index_or home.new k 0 ≡ slice_index_or home.old k 0 }
+{
+    for number in numbers {
+        home[*number as usize] = block;
+    }
+}
+
+/// Sees to it that there are `n` spare blocks.
+fn fill(alloc: Global, spare: &mut Vec<Block>, n: usize) -> Result<(), AllocError>
+    ensures ok { OnOk result (n ≤ vec_len spare.new) }
+    ensures succeeds { n ≤ vec_len spare.old → IsOk result }
+    ensures grows { vec_len spare.old ≤ vec_len spare.new }
+{
+    spare.reserve(n.saturating_sub(spare.len()))?;
+    while spare.len() < n {
+        spare.push(Block::new(alloc)?)?;
+    }
+    Ok(())
+}

@@ -1,0 +1,16 @@
+//! A sequence of elements in blocks, under the contract of the plain one.
+//!
+//! The elements stand in memory in the order in which they came, each under its number. The order of the text is that
+//! of blocks, each of which lists the numbers of up to 128 elements, and keeps how many of these nobody deleted. So an
+//! insert moves no element, and a read by place adds up the counts and looks into one block.
+#![tactic(auto)]
+
+mod block;
+mod block_info;
+mod blocks;
+mod numbers;
+mod places;
+mod sequence;
+
+pub use block_info::BlockInfo;
+pub use sequence::BlockSequence;

@@ -1,0 +1,80 @@
+//! Numbers and counts of blocks: look-ups and sums.
+
+ghost use Rattle.std.specs.Prelude.{◌≡◌, ◌==◌, ◌+◌, ◌^◌, ◌<◌, ◌≤◌, false, length, position, take, sum, slice_index_or, IfSome, IfNone};
+ghost use Rattle.std.specs.List.{All};
+ghost use Rattle.tp_posindex.specs.Laid.{flag_of, count_of};
+
+/// The place of a number in a list, or `None` where it isn't there. One pass.
+pub(crate) fn index_of(numbers: &[u32], number: usize) -> Option<usize>
+    ensures { result ≡ position (λ other. other == number) numbers.now }
+{
+    numbers.iter().position(|other| *other as usize == number)
+}
+
+/// The place of the count in which the `i`-th of what is counted falls, and how many of it come before in that count;
+/// `None` where less is counted. One pass over the counts before it.
+pub(crate) fn nth_counted(counts: &[u32], i: usize) -> Option<(usize, usize)>
+    ensures found { IfSome result
+        (λ r. (r.0 < length counts.now)
+        × (sum (take r.0 counts.now) + r.1 ≡ i)
+        × (r.1 < slice_index_or counts.now r.0 0)) }
+    ensures none { IfNone result (sum counts.now ≤ i) }
+{
+    let mut left = i;
+    for (place, count) in counts.iter().enumerate() {
+        let count = *count as usize;
+        if left < count {
+            return Some((place, left));
+        }
+        left -= count;
+    }
+    None
+}
+
+/// What the counts are together. One pass.
+pub(crate) fn total(counts: &[u32]) -> usize
+    requires { sum counts.now < 2 ^ 64 }
+    ensures { result ≡ sum counts.now }
+{
+    let mut total = 0;
+    for count in counts {
+        total += *count as usize;
+    }
+    total
+}
+
+/// How many of the numbers have their flag down. One pass over the numbers.
+pub(crate) fn count_down(numbers: &[u32], flags: &[bool]) -> usize
+    requires { All (λ k. k < length flags.now) numbers.now }
+    ensures { result ≡ count_of flags.now numbers.now }
+{
+    let mut count = 0;
+    for number in numbers {
+        if !flags[*number as usize] {
+            count += 1;
+        }
+    }
+    count
+}
+
+/// The place of the number with its flag down before which `i` others have theirs down, or `None` where fewer have.
+/// One pass over the numbers before it.
+pub(crate) fn nth_down(numbers: &[u32], flags: &[bool], i: usize) -> Option<usize>
+    requires { All (λ k. k < length flags.now) numbers.now }
+    ensures found { IfSome result
+        (λ place. (place < length numbers.now)
+        × (flag_of flags.now (slice_index_or numbers.now place 0) ≡ false)
+        × (count_of flags.now (take place numbers.now) ≡ i)) }
+    ensures none { IfNone result (count_of flags.now numbers.now ≤ i) }
+{
+    let mut left = i;
+    for (place, number) in numbers.iter().enumerate() {
+        if !flags[*number as usize] {
+            if left == 0 {
+                return Some(place);
+            }
+            left -= 1;
+        }
+    }
+    None
+}

@@ -1,0 +1,115 @@
+//! The elements by number, and the spot where an insert goes.
+
+ghost use Rattle.std.specs.Prelude.{◌≡◌, ℕ, ◌<◌, ◌≤◌, ◌≢◌, length, take, insert, position, map, slice_index_or};
+ghost use Rattle.std.specs.List.{All, AllWithin, HoldsAt};
+ghost use Rattle.tp_opid.specs.Insert.{Insert};
+ghost use Rattle.tp_opid.specs.Order.{Below};
+ghost use Rattle.tp_opid.specs.Same.{id_eq};
+ghost use Rattle.tp_rga.specs.Tree.{HasPlace, CanInsert};
+ghost use Rattle.tp_rga.specs.Order.{EndsAt, IsInserted};
+ghost use Rattle.tp_posindex.specs.Layout.{joined, place_at, IsGap};
+ghost use Rattle.tp_posindex.specs.Laid.{IsNumbered};
+ghost use Rattle.tp_posindex.specs.Blocked.{element_at};
+
+use crate::blocks::{Blocks, Spot};
+use tp_opid::{OpId, Place};
+use tp_rga::Insertion;
+
+/// The number of the element with an identifier. The cost is a pass over the elements that came before it.
+pub(crate) fn number_of(elements: &[Insertion], id: &OpId) -> Option<usize>
+    ensures { result ≡ position (λ e. id_eq e.id id.now) elements.now }
+{
+    elements.iter().position(|e| e.id.is(id))
+}
+
+/// From an offset of a block on, past each element with a greater identifier, up to the first that has none or to the
+/// block's end.
+fn past_greater_in(elements: &[Insertion], numbers: &[u32], from: usize, id: &OpId) -> usize
+    requires from { from ≤ length numbers.now }
+    requires numbers { All (λ k. k < length elements.now) numbers.now }
+    ensures from { from ≤ result }
+    ensures within { result ≤ length numbers.now }
+    ensures passed { AllWithin (λ k. Below id.now (element_at elements.now k).id) numbers.now from result }
+    ensures stops { result < length numbers.now
+        → HoldsAt (λ k. ¬ Below id.now (element_at elements.now k).id) numbers.now result }
+{
+    for offset in from..numbers.len() {
+        let e = &elements[numbers[offset] as usize];
+        if !id.is_below(&e.id) {
+            return offset;
+        }
+    }
+    numbers.len()
+}
+
+/// From a spot on, past each element with a greater identifier, up to the first that has none or to the end.
+fn past_greater(elements: &[Insertion], blocks: &Blocks, from: Spot, id: &OpId) -> Spot
+    requires from { IsGap blocks.now.blocks from.block from.offset }
+    requires matched { length blocks.now.flags ≡ length elements.now }
+    ensures gap { IsGap blocks.now.blocks result.block result.offset }
+    ensures from { place_at blocks.now.blocks from.block from.offset ≤ place_at blocks.now.blocks result.block result.offset }
+    ensures within { place_at blocks.now.blocks result.block result.offset ≤ length (joined blocks.now.blocks) }
+    ensures passed { AllWithin (λ k. Below id.now (element_at elements.now k).id) (joined blocks.now.blocks)
+        (place_at blocks.now.blocks from.block from.offset) (place_at blocks.now.blocks result.block result.offset) }
+    ensures stops { place_at blocks.now.blocks result.block result.offset < length (joined blocks.now.blocks)
+        → HoldsAt (λ k. ¬ Below id.now (element_at elements.now k).id) (joined blocks.now.blocks)
+        (place_at blocks.now.blocks result.block result.offset) }
+{
+    let mut offset = from.offset;
+    for block in from.block..blocks.count() {
+        let numbers = blocks.block(block);
+        let stop = past_greater_in(elements, numbers, offset, id);
+        if stop < numbers.len() {
+            return Spot {
+                block,
+                offset: stop,
+            };
+        }
+        offset = 0;
+    }
+    blocks.end()
+}
+
+/// Right after a place: at the start, or behind the element that it names.
+fn right_after(elements: &[Insertion], blocks: &Blocks, place: &Place) -> Spot
+    requires matched { length blocks.now.flags ≡ length elements.now }
+    requires numbered { IsNumbered (length elements.now) (joined blocks.now.blocks) }
+    requires place { HasPlace (map (element_at elements.now) (joined blocks.now.blocks)) place.now }
+    ensures gap { IsGap blocks.now.blocks result.block result.offset }
+    ensures ends { EndsAt (take (place_at blocks.now.blocks result.block result.offset) (map (element_at elements.now) (joined blocks.now.blocks))) place.now }
+{
+    match place {
+        Place::Start => Spot {
+            block: 0,
+            offset: 0,
+        },
+        Place::After(reference) => match number_of(elements, reference) {
+            Some(number) => {
+                let spot = blocks.spot_of(number);
+                Spot {
+                    block: spot.block,
+                    offset: spot.offset + 1,
+                }
+            }
+            None => unreachable!(),
+        },
+    }
+}
+
+/// The spot where an insert goes: right after its reference, past each element with a greater identifier.
+pub(crate) fn spot_for(
+    elements: &[Insertion],
+    blocks: &Blocks,
+    id: &OpId,
+    after: &Place,
+) -> Spot
+    requires matched { length blocks.now.flags ≡ length elements.now }
+    requires numbered { IsNumbered (length elements.now) (joined blocks.now.blocks) }
+    requires can { CanInsert (map (element_at elements.now) (joined blocks.now.blocks)) id.now after.now }
+    ensures gap { IsGap blocks.now.blocks result.block result.offset }
+    ensures order { (ch : ℕ) → let x : Insert = record { id = id.now; after = after.now; ch = ch } in
+        let placed = map (element_at elements.now) (joined blocks.now.blocks) in
+        IsInserted placed (insert placed (place_at blocks.now.blocks result.block result.offset) x) x }
+{
+    past_greater(elements, blocks, right_after(elements, blocks, after), id)
+}

@@ -1,0 +1,199 @@
+//! A sequence whose elements stand in blocks.
+
+ghost use Rattle.std.specs.Prelude.{◌≡◌, ◌↔◌, ℕ, ◌+◌, ◌-◌, ◌^◌, ◌<◌, ◌≤◌, List, [], ◌∷◌, ◌++◌, length, IsTrue, IsOk, OnOk, OnErr, Some, MatchOption, slice_get};
+ghost use Rattle.tp_opid.specs.declared.op_id.OpId.{OpId as Id};
+ghost use Rattle.tp_opid.specs.Insert.{Insert};
+ghost use Rattle.tp_rga.specs.Tree.{IsThere, IsNew};
+ghost use Rattle.tp_posindex.specs.Layout.{joined, block_at, AreSized};
+ghost use Rattle.tp_posindex.specs.BlockState.{IsInfoOf};
+
+use crate::block_info::BlockInfo;
+use crate::blocks::Blocks;
+use crate::places::{number_of, spot_for};
+use std::alloc::{AllocError, Global};
+use std::marker::Model;
+use tp_opid::{OpId, Place};
+use tp_rga::{Element, Insertion, Sequence};
+
+/// A sequence whose elements stand in blocks of up to 128.
+#[derive(Drop)]
+pub struct BlockSequence {
+    elements: Vec<Insertion>,
+    blocks: Blocks,
+    deletes: Vec<(OpId, OpId)>,
+    left: usize,
+}
+
+impl Model for BlockSequence {
+    ghost use Rattle.std.specs.Prelude.{◌-◌, min};
+    ghost use Rattle.std.specs.Vec.{vec_len, vec_capacity};
+    ghost use Rattle.tp_posindex.specs.BlockState.{BlockState};
+    ghost use Rattle.tp_posindex.specs.Laid.{room_of};
+    ghost use Rattle.tp_posindex.specs.Blocked.{IsBlocked, pieces};
+
+    ghost Value = { BlockState };
+
+    ghost view = { λ s. record {
+      blocks = pieces s.elements.items s.blocks.blocks;
+      removals = s.deletes.items;
+      room = min
+          (min (vec_capacity s.elements - vec_len s.elements) (vec_capacity s.deletes - vec_len s.deletes))
+          (room_of s.blocks);
+    } };
+
+    ghost invariant = { λ s. IsBlocked s.elements.items s.blocks.blocks s.blocks.flags s.deletes.items s.left };
+}
+
+impl BlockSequence {
+    /// How many blocks there are. Every block holds from 1 to 128 elements, and each of several at least 64.
+    pub fn block_count(&self) -> usize
+        ensures count { result ≡ length self.now.blocks }
+        ensures sized { AreSized self.now.blocks }
+    {
+        self.blocks.count()
+    }
+
+    /// What the block with a number, in list order from 0, holds; `None` past the last block. It adds up the lengths
+    /// of the blocks before.
+    pub fn block(&self, i: usize) -> Option<BlockInfo>
+        ensures { MatchOption result (length self.now.blocks ≤ i) (IsInfoOf self.now i) }
+    {
+        if i >= self.blocks.count() {
+            return None;
+        }
+        Some(BlockInfo {
+            first: self.blocks.first_of(i),
+            len: self.blocks.block(i).len(),
+            visible: self.blocks.visible(i),
+        })
+    }
+
+    /// The number of the block that holds the element with an identifier; `None` where no element has it.
+    pub fn block_of(&self, id: &OpId) -> Option<usize>
+        ensures { MatchOption result
+            (IsNew (joined self.now.blocks) id.now)
+            (λ i. (i < length self.now.blocks) × IsThere (block_at self.now.blocks i) id.now) }
+    {
+        let number = number_of(&self.elements, id)?;
+        Some(self.blocks.spot_of(number).block)
+    }
+}
+
+impl Sequence for BlockSequence {
+    ghost placed = { λ s. joined s.blocks };
+
+    ghost removals = { λ s. s.removals };
+
+    ghost room = { λ s. s.room };
+
+    fn new(alloc: Global) -> Self {
+        BlockSequence {
+            elements: Vec::new(alloc),
+            blocks: Blocks::new(alloc),
+            deletes: Vec::new(alloc),
+            left: 0,
+        }
+    }
+
+    fn reserve(&mut self, n: usize) -> Result<(), AllocError> {
+        self.elements.reserve(n)?;
+        self.deletes.reserve(n)?;
+        self.blocks.reserve(n)
+    }
+
+    fn insert(&mut self, id: OpId, after: Place, ch: char) -> Result<(), AllocError> {
+        self.elements.reserve(1)?;
+        self.blocks.reserve(1)?;
+        let spot = spot_for(&self.elements, &self.blocks, &id, &after);
+        if self
+            .elements
+            .push(Insertion { id, after, ch })
+            .is_err()
+        {
+            unreachable!()
+        }
+        self.blocks.put(spot);
+        self.left += 1;
+        Ok(())
+    }
+
+    fn delete(&mut self, target: OpId, by: OpId) -> Result<(), AllocError> {
+        self.deletes.push((target, by))?;
+        if let Some(number) = number_of(&self.elements, &target) {
+            if !self.blocks.is_deleted(number) {
+                self.blocks.hide(number);
+                self.left -= 1;
+            }
+        }
+        Ok(())
+    }
+
+    fn can_insert(&self, id: &OpId, after: &Place) -> bool {
+        if self.contains(id) {
+            return false;
+        }
+        match after {
+            Place::Start => true,
+            Place::After(reference) => reference.is_below(id) && self.contains(reference),
+        }
+    }
+
+    fn contains(&self, id: &OpId) -> bool {
+        number_of(&self.elements, id).is_some()
+    }
+
+    fn len(&self) -> usize {
+        self.left
+    }
+
+    fn char_at(&self, i: usize) -> Option<char> {
+        match self.blocks.nth_visible(i) {
+            Some(spot) => {
+                let e = &self.elements[self.blocks.number_at(spot)];
+                Some(e.ch)
+            }
+            None => None,
+        }
+    }
+
+    fn id_at(&self, i: usize) -> Option<OpId> {
+        match self.blocks.nth_visible(i) {
+            Some(spot) => {
+                let e = &self.elements[self.blocks.number_at(spot)];
+                Some(e.id)
+            }
+            None => None,
+        }
+    }
+
+    fn position(&self, id: &OpId) -> Option<usize> {
+        match number_of(&self.elements, id) {
+            Some(number) => Some(self.blocks.visible_before(self.blocks.spot_of(number))),
+            None => None,
+        }
+    }
+
+    fn all(&self) -> usize {
+        self.elements.len()
+    }
+
+    fn element(&self, i: usize) -> Option<Element> {
+        match self.blocks.spot_at(i) {
+            Some(spot) => {
+                let number = self.blocks.number_at(spot);
+                let e = &self.elements[number];
+                Some(Element {
+                    id: e.id,
+                    after: e.after,
+                    ch: e.ch,
+                    deleted: self.blocks.is_deleted(number),
+                })
+            }
+            None => None,
+        }
+    }
+
+    fn deletes(&self) -> &[(OpId, OpId)] {
+        self.deletes.as_slice()
+    }
+}
