@@ -1,11 +1,11 @@
 //! The elements by number, and the spot where an insert goes.
 
+ghost use Rattle.tp_opid.specs.Tree.{HasPlace, CanInsert};
 ghost use Rattle.std.specs.Prelude.{◌≡◌, ℕ, ◌<◌, ◌≤◌, ◌≢◌, length, take, insert, position, map, slice_index_or};
 ghost use Rattle.std.specs.List.{All, AllWithin, HoldsAt};
 ghost use Rattle.tp_opid.specs.Insert.{Insert};
 ghost use Rattle.tp_opid.specs.Order.{Below};
 ghost use Rattle.tp_opid.specs.Same.{id_eq};
-ghost use Rattle.tp_rga.specs.Tree.{HasPlace, CanInsert};
 ghost use Rattle.tp_rga.specs.Order.{EndsAt, IsInserted};
 ghost use Rattle.tp_posindex.specs.Layout.{joined, place_at, IsGap};
 ghost use Rattle.tp_posindex.specs.Laid.{IsNumbered};
@@ -97,12 +97,7 @@ fn right_after(elements: &[Insertion], blocks: &Blocks, place: &Place) -> Spot
 }
 
 /// The spot where an insert goes: right after its reference, past each element with a greater identifier.
-pub(crate) fn spot_for(
-    elements: &[Insertion],
-    blocks: &Blocks,
-    id: &OpId,
-    after: &Place,
-) -> Spot
+pub(crate) fn spot_for(elements: &[Insertion], blocks: &Blocks, id: &OpId, after: &Place) -> Spot
     requires matched { length blocks.now.flags ≡ length elements.now }
     requires numbered { IsNumbered (length elements.now) (joined blocks.now.blocks) }
     requires can { CanInsert (map (element_at elements.now) (joined blocks.now.blocks)) id.now after.now }

@@ -1,9 +1,9 @@
 //! A sequence whose elements stand in blocks.
 
+ghost use Rattle.tp_opid.specs.Tree.{IsThere, IsNew};
 ghost use Rattle.std.specs.Prelude.{◌≡◌, ◌↔◌, ℕ, ◌+◌, ◌-◌, ◌^◌, ◌<◌, ◌≤◌, List, [], ◌∷◌, ◌++◌, length, IsTrue, IsOk, OnOk, OnErr, Some, MatchOption, slice_get};
 ghost use Rattle.tp_opid.specs.declared.op_id.OpId.{OpId as Id};
 ghost use Rattle.tp_opid.specs.Insert.{Insert};
-ghost use Rattle.tp_rga.specs.Tree.{IsThere, IsNew};
 ghost use Rattle.tp_posindex.specs.Layout.{joined, block_at, AreSized};
 ghost use Rattle.tp_posindex.specs.BlockState.{IsInfoOf};
 
@@ -105,11 +105,7 @@ impl Sequence for BlockSequence {
         self.elements.reserve(1)?;
         self.blocks.reserve(1)?;
         let spot = spot_for(&self.elements, &self.blocks, &id, &after);
-        if self
-            .elements
-            .push(Insertion { id, after, ch })
-            .is_err()
-        {
+        if self.elements.push(Insertion { id, after, ch }).is_err() {
             unreachable!()
         }
         self.blocks.put(spot);

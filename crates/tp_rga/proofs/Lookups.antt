@@ -1,11 +1,11 @@
 -- Look-ups in a list, from indexes to members, and the place that the code finds.
 use Rattle.std.proofs.Common.{◌≡◌, inl, inr, ℕ, zero, suc, ◌+◌, ◌-◌, ◌<◌, ◌≤◌, Bool, true, false, not, cond, ltb, Option, Some, None, List, [], ◌∷◌, ◌++◌, length, take, drop, get_or, insert, position, refl, sym, ap, ◌∙◌, subst, arith, append_assoc, MatchBool, length-take}
 use Rattle.std.specs.List.{All, AllWithin, HoldsAt, position_or_len}
-use Rattle.std.specs.Option.{option_map}
+use Rattle.std.specs.Option.{option_map, is_some}
 use Rattle.std.proofs.lemmas.Bool.Decides.{nat_tests}
 use Rattle.std.proofs.lemmas.List.{take_more, get_or-take, get_or-drop, take-append-drop, drop-drop}
 use Rattle.tp_list.specs.Members.{In}
-use Rattle.tp_list.proofs.Members.{SameMembers-sym, In-index, In-get_or, All-member}
+use Rattle.tp_list.proofs.Members.{SameMembers-sym, In-index, In-get_or, In-middle, All-member}
 use Rattle.tp_opid.specs.declared.op_id.OpId.{OpId}
 use Rattle.tp_opid.specs.declared.op_id.Place.{Place}
 use Rattle.tp_opid.specs.declared.op_id.Place.TheVariants.{After}
@@ -66,6 +66,16 @@ IsThere-not_new L x there new =
     let itself : id_eq x x ≡ true = id_eq-itself x in
     let apart : id_eq x x ≡ false = new _ there.1.1 in
     cc
+
+-- whether a look-up finds an element
+pub found_or_new : (L : List Insert) (x : OpId) (r : Option ℕ) → IsFirst (λ e. id_eq e.id x) L r → MatchBool (is_some r) (IsThere L x) (IsNew L x)
+found_or_new L x None h = h
+found_or_new L x (Some i) h =
+    IsThere-found L x h.1 (subst (λ w. In h.1 w) (sym h.3) (In-middle h.0 h.1 h.2)) h.5
+
+-- whether a look-up finds an element says whether it is there
+pub found-position : (L : List Insert) (x : OpId) → MatchBool (is_some (position (λ (e : Insert). id_eq e.id x) L)) (IsThere L x) (IsNew L x)
+found-position L x = found_or_new L x _ (position-first (λ (e : Insert). id_eq e.id x) L)
 
 -- ---- the place that the code finds
 

@@ -1,5 +1,5 @@
+use Rattle.tp_opid.specs.Tree.{HasPlace}
 use Rattle.std.proofs.Common.{sym, ◌∙◌, subst, arith}
-use Rattle.tp_rga.specs.Tree.{HasPlace}
 use Rattle.tp_rga.proofs.Lookups.{IsThere-not_new}
 use Rattle.tp_posindex.specs.Layout.{joined}
 use Rattle.tp_posindex.proofs.Seeking.{gap_start, gap_behind, none_placed, ends_found}

@@ -1,5 +1,5 @@
+use Rattle.tp_opid.specs.Tree.{IsThere}
 use Rattle.std.proofs.Common.{◌≡◌, true, false, map, sym, ◌∙◌, ap, subst}
-use Rattle.tp_rga.specs.Tree.{IsThere}
 use Rattle.tp_rga.proofs.Lookups.{IsThere-not_new}
 use Rattle.tp_posindex.specs.Layout.{joined}
 use Rattle.tp_posindex.specs.Laid.{flag_of}
