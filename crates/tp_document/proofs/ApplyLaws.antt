@@ -1,5 +1,5 @@
 -- Receiving from another document.
-use Rattle.std.proofs.Common.{◌≡◌, ◌⊎◌, inl, inr, List, Bool, true, false, Result, Ok, Err, IfErr, refl, sym, ◌∙◌, subst}
+use Rattle.std.proofs.Common.{◌≡◌, inr, List, Bool, true, false, Result, Ok, Err, IfErr, sym, subst}
 use Rattle.tp_opid.specs.declared.doc_id.DocId.{DocId}
 use Rattle.tp_change.specs.declared.parts.ChangeParts.{ChangeParts}
 use Rattle.tp_receive.specs.declared.error.ReceiveError.{ReceiveError}

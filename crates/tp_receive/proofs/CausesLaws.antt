@@ -16,7 +16,7 @@ use Rattle.tp_graph.proofs.SetLaws.{misfit-later}
 use Rattle.tp_graph.proofs.FirstFaults.{missing_deps_is}
 use Rattle.tp_graph.proofs.KeptLaws.{enters, Fits-from_cause}
 use Rattle.tp_receive.specs.Receiving.{EntersAfter, HashesApart, lacks_deps, is_refusal}
-use Rattle.tp_receive.proofs.StaysLaws.{cause-known, refused-stays, EntersAfter-append}
+use Rattle.tp_receive.proofs.RefusalLaws.{cause-known, refused-stays, EntersAfter-append}
 
 -- ---- a cause other than a missing dependency stays the same
 

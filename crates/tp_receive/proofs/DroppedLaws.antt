@@ -2,7 +2,7 @@
 -- the undeliverable ones.
 use Rattle.tp_list.proofs.Members.{In-left, In-last}
 use Rattle.tp_list.proofs.Tests.{truth, never, not_true, or_cases, neither}
-use Rattle.std.proofs.Common.{◌≡◌, ◌+◌, ◌<◌, ◌≤◌, ◌⊎◌, inl, inr, List, [], ◌∷◌, ◌++◌, length, Bool, true, false, ◌||◌, not, cond, Some, refl, sym, ap, ◌∙◌, subst, append_assoc, arith, None}
+use Rattle.std.proofs.Common.{◌≡◌, ◌+◌, ◌≤◌, ◌⊎◌, inl, inr, List, [], ◌∷◌, ◌++◌, length, Bool, true, false, cond, Some, refl, sym, ap, ◌∙◌, subst, append_assoc, arith}
 use Rattle.tp_list.specs.Members.{In, AllIn}
 use Rattle.tp_opid.specs.declared.hash.Hash.{Hash}
 use Rattle.tp_opid.specs.Same.{same_hash}
@@ -19,7 +19,7 @@ use Rattle.tp_receive.specs.Receiving.{HashesApart, is_refusal}
 use Rattle.tp_receive.specs.Delivery.{delivery, undeliverable, placing, places, takes_place}
 use Rattle.tp_receive.specs.Intake.{Intake, Turn, enter, refuse}
 use Rattle.tp_receive.proofs.CausesLaws.{Never, Barred, Never-later, Never-out, Barred-later, StaysOut, out_of_dep, out_of_refusal, waits_for, lacking}
-use Rattle.tp_receive.proofs.TurnLaws.{Cases, Turn-cases, TakesOut, IsHere, changes_of, with_rest}
+use Rattle.tp_receive.proofs.TurnLaws.{Turn-cases, IsHere, changes_of, with_rest}
 use Rattle.tp_receive.proofs.RunLaws.{In-pushed, HasRoom, refusal_drops, placing_of}
 use Rattle.tp_receive.proofs.PlacedLaws.{IsDone, HadTurn, HadTurn-turn, done_entered, done_refused, waits_already}
 
@@ -114,7 +114,17 @@ Delivering-next {S} F C0 K P Q c place t apart i is turn met g =
           → ((h : Hash) → has D h ≡ true → (has t.applied h ≡ true) ⊎ Never F t.applied h) → ((d : ChangeParts) → In d V → In d F × HadTurn t d) → ((h : Hash) → has U h ≡ true → has V h ≡ true)
           → Delivering F C0 K Q t
       next more D V U coming whole delivered placed places = record {
-        D = D; V = V; U = U; zs = more; coming = coming; whole = whole; delivered = delivered; placed = placed; places = places; barred = g.barred; apart = g.apart;
+        D = D;
+        V = V;
+        U = U;
+        zs = more;
+        coming = coming;
+        whole = whole;
+        delivered = delivered;
+        placed = placed;
+        places = places;
+        barred = g.barred;
+        apart = g.apart;
       }
 
       step : IsFirst g.D g.V g.zs c place Q → (has_all g.D c.deps ≡ true) ⊎ (has_all g.D c.deps ≡ false) → (has g.V (hash_of c) ≡ true) ⊎ (has g.V (hash_of c) ≡ false) → Delivering F C0 K Q t
@@ -205,8 +215,7 @@ dropped_barred {S} F C0 K s c Q place apart here room g is lacks new full =
       by f (inr fresh) (inr undelivered) = absurd (crowded (f.takes ∙ rw (undelivered, fresh) refl))
       by f (inr fresh) (inl all) =
           let dep = lacks_for_ever F s.applied g.D c g.delivered all lacks in
-          let rest : (d : ChangeParts) → In d f.more → In d F = λ d i. here d (inr (subst (λ (P : List (ChangeParts × Bool)). In d (changes_of P)) (sym g.coming) (subst (In d) (sym (placing_of g.D g.V g.zs)) (subst (In d) (sym f.split) (inr i))))) in
-          (
+          let rest : (d : ChangeParts) → In d f.more → In d F = λ d i. here d (inr (subst (λ (P : List (ChangeParts × Bool)). In d (changes_of P)) (sym g.coming) (subst (In d) (sym (placing_of g.D g.V g.zs)) (subst (In d) (sym f.split) (inr i))))) in (
             record { new = (waits_for s.applied c lacks).0; dep = dep.0; needs = dep.1; lacks = dep.2 },
             ap (λ l. has l (hash_of c)) (g.whole ∙ ap (λ (l : List ChangeParts). g.U ++ undeliverable (delivery g.D l)) f.split ∙ rw all refl)
                 ∙ has-append g.U (undeliverable (delivery (g.D ++ c ∷ []) f.more)) (hash_of c)

@@ -11,7 +11,7 @@ use Rattle.tp_list.proofs.Members.{In-left, In-right, In-append}
 use Rattle.tp_graph.proofs.SoundLaws.{Sound-push}
 use Rattle.tp_graph.proofs.KeptLaws.{Fits-from_cause}
 use Rattle.tp_receive.specs.Receiving.{EntersAfter, Grows, Receives, Between, is_refusal}
-use Rattle.tp_receive.proofs.StaysLaws.{refused-known, refused-stays, EntersAfter-append, Sound-entered, IsSome-refusal}
+use Rattle.tp_receive.proofs.RefusalLaws.{refused-known, refused-stays, EntersAfter-append, Sound-entered, IsSome-refusal}
 
 pub Grows-none : (C K : List ChangeParts) → Grows C K C []
 Grows-none C K = record { begins = sym (append-nil C); fits = tt; came = λ c i. absurd i }

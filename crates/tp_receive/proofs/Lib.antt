@@ -1,4 +1,4 @@
-pub mod StaysLaws
+pub mod RefusalLaws
 pub mod GrowsLaws
 pub mod CausesLaws
 pub mod OneSetLaws
@@ -9,5 +9,6 @@ pub mod RunLaws
 pub mod PlacedLaws
 pub mod DroppedLaws
 pub mod ResultLaws
+pub mod AlikeLaws
 pub mod ComingLaws
 pub mod TakingLaws

@@ -1,6 +1,6 @@
 -- Where each change is while a run goes on, and what was told of it, where two changes with one hash are one.
-use Rattle.tp_list.proofs.Members.{In-left, In-right, In-append, In-last}
-use Rattle.std.proofs.Common.{◌≡◌, ◌⊎◌, inl, inr, List, [], ◌∷◌, ◌++◌, true, false, Option, Some, None, refl, sym, ap, ◌∙◌, subst}
+use Rattle.tp_list.proofs.Members.{In-left, In-last}
+use Rattle.std.proofs.Common.{◌≡◌, ◌⊎◌, inl, inr, List, [], ◌∷◌, ◌++◌, true, Some, None, refl, sym, ap, ◌∙◌, subst}
 use Rattle.tp_list.specs.Members.{In, AllIn}
 use Rattle.tp_opid.specs.declared.hash.Hash.{Hash}
 use Rattle.tp_change.specs.declared.parts.ChangeParts.{ChangeParts}
@@ -13,9 +13,9 @@ use Rattle.tp_graph.specs.Sound.{Sound}
 use Rattle.tp_graph.proofs.NamedLaws.{In-has, has-In}
 use Rattle.tp_receive.specs.Receiving.{HashesApart, is_refusal}
 use Rattle.tp_receive.specs.Intake.{Intake, Turn, refuse}
-use Rattle.tp_receive.proofs.StaysLaws.{refused-known, refused-push}
+use Rattle.tp_receive.proofs.RefusalLaws.{refused-known, refused-push}
 use Rattle.tp_receive.proofs.CausesLaws.{same-stays}
-use Rattle.tp_receive.proofs.TurnLaws.{Cases, Turn-cases, IsHere, changes_of, with_rest}
+use Rattle.tp_receive.proofs.TurnLaws.{Turn-cases, IsHere, changes_of, with_rest}
 use Rattle.tp_receive.proofs.RunLaws.{In-pushed}
 
 -- The change is refused for good, whatever enters later, and was told.
@@ -135,7 +135,9 @@ AreCauses-turn {S} keeps F s t apart sound here u old =
     (record {
       entered = λ c V Q k out none keep h e i.
           let w = old h e i in (
-            w.0, w.1, w.2,
+            w.0,
+            w.1,
+            w.2,
             elim w.3 [
               | inl m ↦ inl m
               | inr p ↦ inr (p.0, same-stays s.applied (c ∷ []) F w.0 e sound (none, tt) (λ d j. elim j [ inl one ↦ rw one (here c out.here) | inr n ↦ absurd n ]) apart w.1 p.0 p.1)

@@ -1,6 +1,6 @@
 -- What a whole run came to.
 use Rattle.tp_list.proofs.Members.{In-append}
-use Rattle.std.proofs.Common.{◌≡◌, ℕ, ◌+◌, ◌≤◌, ◌⊎◌, inl, inr, List, [], ◌∷◌, ◌++◌, length, Bool, true, false, Some, IsSome, refl, sym, ap, ◌∙◌, subst, arith, nat_lt}
+use Rattle.std.proofs.Common.{◌≡◌, ℕ, ◌+◌, ◌≤◌, ◌⊎◌, inl, inr, List, ◌++◌, length, Bool, true, false, Some, refl, sym, ap, ◌∙◌, subst, arith, nat_lt}
 use Rattle.std.proofs.lemmas.Bool.Decides.{nat_tests}
 use Rattle.tp_list.specs.Members.{In}
 use Rattle.tp_opid.specs.declared.hash.Hash.{Hash}
@@ -13,11 +13,11 @@ use Rattle.tp_graph.specs.GraphState.{most_waiting}
 use Rattle.tp_graph.specs.Sound.{Sound}
 use Rattle.tp_receive.specs.declared.error.ReceiveError.{ReceiveError}
 use Rattle.tp_receive.specs.declared.keeper.KeepError.{KeepError}
-use Rattle.tp_receive.specs.Receiving.{Between, HashesApart, AllWait, Receives, is_refusal}
+use Rattle.tp_receive.specs.Receiving.{Between, HashesApart, is_refusal}
 use Rattle.tp_receive.specs.Delivery.{delivery, placing, places, is_full}
 use Rattle.tp_receive.specs.Intake.{Intake, Turn, Run, Ends, Stopped, begin}
-use Rattle.tp_receive.specs.Replies.{AreRefused, AllPlaced, Results}
-use Rattle.tp_receive.proofs.StaysLaws.{IsSome-refusal, IsSome-lacks}
+use Rattle.tp_receive.specs.Replies.{Results}
+use Rattle.tp_receive.proofs.RefusalLaws.{IsSome-refusal, IsSome-lacks}
 use Rattle.tp_receive.proofs.CausesLaws.{Barred-cause, lacks_cause}
 use Rattle.tp_receive.proofs.GrowsLaws.{Sound-grows, Between-grown}
 use Rattle.tp_receive.proofs.TurnLaws.{Run-keeps, changes_of}
@@ -84,7 +84,9 @@ results {S} keeps k C W K t sound apart space r ends =
       };
       causes = λ g e i.
           let w = h.causes g e i in (
-            w.0, w.1, w.2,
+            w.0,
+            w.1,
+            w.2,
             elim w.3 [
               | inl m ↦ subst (λ (x : GraphError). cause t.applied w.0 ≡ Some x) (sym m)
                   (dropped w.0 w.1 (subst (λ (p : Hash × GraphError). In p t.refused) (pair g (hash_of w.0) e MissingDeps (sym w.2) m) i))

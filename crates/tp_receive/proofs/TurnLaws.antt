@@ -3,7 +3,7 @@ use Rattle.tp_list.proofs.Members.{In-left, In-right, In-append}
 use Rattle.tp_list.proofs.Tests.{truth}
 use Rattle.std.proofs.Common.{◌≡◌, ℕ, zero, suc, ◌+◌, ◌<◌, ◌≤◌, ◌⊎◌, inl, inr, List, [], ◌∷◌, ◌++◌, length, Bool, true, false, cond, Some, None, refl, sym, ap, ◌∙◌, subst, arith, length-append, nat_lt}
 use Rattle.std.proofs.lemmas.Bool.Decides.{nat_tests}
-use Rattle.tp_list.specs.Members.{In, AllIn}
+use Rattle.tp_list.specs.Members.{In}
 use Rattle.tp_change.specs.declared.parts.ChangeParts.{ChangeParts}
 use Rattle.tp_change.specs.ChangeHash.{hash_of}
 use Rattle.tp_graph.specs.declared.error.GraphError.{GraphError}
@@ -15,7 +15,7 @@ use Rattle.tp_receive.specs.declared.error.ReceiveError.{ReceiveError}
 use Rattle.tp_receive.specs.declared.keeper.KeepError.{KeepError}
 use Rattle.tp_receive.specs.Receiving.{lacks_deps, is_refusal}
 use Rattle.tp_receive.specs.Delivery.{places}
-use Rattle.tp_receive.specs.Intake.{Intake, enter, refuse, hold, Meets, NextWaits, NextComes, Next, Turn, Turns, Run, Stopped}
+use Rattle.tp_receive.specs.Intake.{Intake, enter, refuse, hold, Meets, Next, Turn, Turns, Run, Stopped}
 
 -- ---- runs add up
 

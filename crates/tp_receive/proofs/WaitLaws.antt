@@ -3,7 +3,6 @@ use Rattle.tp_list.proofs.Members.{In-append}
 use Rattle.std.proofs.Common.{◌≡◌, ℕ, suc, zero, ◌+◌, ◌<◌, inl, inr, List, [], ◌∷◌, ◌++◌, length, Bool, true, false, ◌||◌, Some, take, drop, refl, sym, ap, ◌∙◌, subst, arith, drop-cons, add-one, get_or}
 use Rattle.std.proofs.lemmas.List.{take_more}
 use Rattle.std.specs.List.{slice_get, remove}
-use Rattle.tp_list.specs.Members.{In}
 use Rattle.tp_opid.specs.declared.hash.Hash.{Hash}
 use Rattle.tp_opid.specs.Same.{same_hash}
 use Rattle.tp_change.specs.declared.parts.ChangeParts.{ChangeParts}
@@ -12,7 +11,7 @@ use Rattle.tp_graph.specs.declared.error.GraphError.{GraphError}
 use Rattle.tp_graph.specs.Named.{has}
 use Rattle.tp_graph.specs.Fit.{cause}
 use Rattle.tp_receive.specs.Receiving.{AllWait, lacks_deps}
-use Rattle.tp_receive.specs.Intake.{Intake, NextWaits, intake}
+use Rattle.tp_receive.specs.Intake.{NextWaits, intake}
 use Rattle.tp_receive.specs.Trying.{IsEarliest}
 
 -- There is an element within a list.

@@ -67,3 +67,11 @@ pub record Results {S : Type 0} (C W K : List ChangeParts) (t : Intake S) : Type
   pub causes : AreRefused (W ++ K) t.applied t.refused
   pub placed : AllPlaced (W ++ K) t.applied t.waiting t.entered t.refused
   pub deliverable : DropsNoneOf (undeliverable (delivery C K)) t.refused
+
+-- The two see and have told one thing, the keepers aside.
+pub record Alike {S R : Type 0} (s : Intake S) (t : Intake R) : Type 0 where
+  pub applied : s.applied ≡ t.applied
+  pub waiting : s.waiting ≡ t.waiting
+  pub coming : s.coming ≡ t.coming
+  pub entered : s.entered ≡ t.entered
+  pub refused : s.refused ≡ t.refused

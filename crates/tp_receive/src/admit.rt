@@ -9,7 +9,7 @@ ghost use Rattle.tp_receive.specs.Trying.{Tried, TryFails};
 use crate::error::ReceiveError;
 use crate::keeper::{KeepError, Keeper};
 use crate::replica::Replica;
-use crate::told::Told;
+use crate::report::Report;
 use crate::verdict::{Verdict, judge};
 use tp_change::Change;
 
@@ -42,7 +42,7 @@ fn enter_kept<R: Replica, K: Keeper>(
     replica: &mut R,
     keeper: &mut K,
     change: Change,
-    told: &mut Told,
+    told: &mut Report,
 ) -> Result<(), ReceiveError>
     requires enters { cause (R.applied replica.old) change ≡ None }
     requires room { R.has_room replica.old change }
@@ -67,7 +67,7 @@ pub(crate) fn admit<R: Replica, K: Keeper>(
     replica: &mut R,
     keeper: &mut K,
     change: Change,
-    told: &mut Told,
+    told: &mut Report,
 ) -> Result<Outcome, ReceiveError>
     ensures id { R.id replica.new ≡ R.id replica.old }
     ensures waiting { R.waiting replica.new ≡ R.waiting replica.old }

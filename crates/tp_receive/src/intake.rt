@@ -12,9 +12,9 @@ use crate::error::ReceiveError;
 use crate::hashes::{hashes_of, held_of};
 use crate::keeper::Keeper;
 use crate::replica::Replica;
+use crate::report::Report;
 use crate::settle::settle;
 use crate::take::{MOST_WAITING, take};
-use crate::told::Told;
 use std::alloc::Global;
 use tp_change::Change;
 use tp_graph::GraphError;
@@ -26,7 +26,7 @@ fn take_all<R: Replica, K: Keeper>(
     replica: &mut R,
     keeper: &mut K,
     coming: Coming,
-    told: &mut Told,
+    told: &mut Report,
 ) -> Result<(), ReceiveError>
     requires { coming.reserved ≡ delivery.places coming.changes.items }
     ensures id { R.id replica.new ≡ R.id replica.old }
@@ -107,7 +107,7 @@ pub fn receive<R: Replica, K: Keeper>(
     if MOST_WAITING - replica.pending().len() < coming.reserved {
         return Err(ReceiveError::PendingFull);
     }
-    let mut told = Told::new(alloc);
+    let mut told = Report::new(alloc);
     take_all(replica, keeper, coming, &mut told)?;
     let held = held_of(alloc, &came, replica.pending())?;
     Ok(Applied {

@@ -10,7 +10,7 @@ ghost use Rattle.tp_graph.specs.GraphState.{most_waiting};
 ghost use Rattle.tp_receive.specs.Receiving.{Receives, Between, Grows, EntersAfter, HashesApart, SeqsApart, is_refusal};
 ghost use Rattle.tp_receive.specs.Delivery.{is_full};
 ghost use Rattle.tp_receive.specs.Intake.{Ends, Intake, Run, Stopped, begin};
-ghost use Rattle.tp_receive.specs.Replies.{Entered, LosesNone, NoneDropped, Results};
+ghost use Rattle.tp_receive.specs.Replies.{Alike, Entered, LosesNone, NoneDropped, Results};
 ghost use Rattle.tp_receive.specs.declared.error.ReceiveError.{ReceiveError};
 
 use crate::keeper::Keeper;
@@ -79,4 +79,10 @@ pub fn a_whole_run_is_a_result<K: Keeper>()
 pub fn a_stop_is_between<K: Keeper>()
     ensures { (k k' : K) (C C' W W' L : List ChangeParts) (e : ReceiveError) → Sound C
         → Stopped K.keeps K.refuses (begin k C W L) e k' C' W' → Between C (W ++ L) C' }
+{}
+
+/// Two whole runs from one beginning end alike, whatever keeps: in what is applied, in what waits and in what is told.
+pub fn one_outcome<K: Keeper, J: Keeper>()
+    ensures { (k : K) (j : J) (C W L : List ChangeParts) (t : Intake K) (u : Intake J) → Run K.keeps (begin k C W L) t → Ends t
+        → Run J.keeps (begin j C W L) u → Ends u → Alike t u }
 {}

@@ -12,9 +12,9 @@ mod intake;
 mod keeper;
 pub mod laws;
 mod replica;
+mod report;
 mod settle;
 mod take;
-mod told;
 mod verdict;
 
 pub use error::ReceiveError;

@@ -13,7 +13,7 @@ use crate::admit::{Outcome, keep};
 use crate::error::ReceiveError;
 use crate::keeper::Keeper;
 use crate::replica::Replica;
-use crate::told::Told;
+use crate::report::Report;
 use crate::verdict::{Verdict, judge};
 use tp_change::Change;
 use tp_graph::GraphError;
@@ -50,7 +50,7 @@ fn enter_waiting<R: Replica, K: Keeper>(
     replica: &mut R,
     keeper: &mut K,
     i: usize,
-    told: &mut Told,
+    told: &mut Report,
 ) -> Result<(), ReceiveError>
     requires within { i < length (R.waiting replica.old) }
     requires enters { (c : ChangeParts) → slice_get (R.waiting replica.old) i ≡ Some c → cause (R.applied replica.old) c ≡ None }
@@ -77,7 +77,7 @@ fn refuse_waiting<R: Replica>(
     replica: &mut R,
     i: usize,
     error: GraphError,
-    told: &mut Told,
+    told: &mut Report,
 ) -> Result<(), ReceiveError>
     requires within { i < length (R.waiting replica.old) }
     ensures id { R.id replica.new ≡ R.id replica.old }
@@ -100,7 +100,7 @@ fn settle_one<R: Replica, K: Keeper>(
     replica: &mut R,
     keeper: &mut K,
     i: usize,
-    told: &mut Told,
+    told: &mut Report,
 ) -> Result<(), ReceiveError>
     requires { IsEarliest (R.applied replica.old) (R.waiting replica.old) i }
     ensures id { R.id replica.new ≡ R.id replica.old }
@@ -124,7 +124,7 @@ fn settle_one<R: Replica, K: Keeper>(
 pub(crate) fn settle<R: Replica, K: Keeper>(
     replica: &mut R,
     keeper: &mut K,
-    told: &mut Told,
+    told: &mut Report,
 ) -> Result<(), ReceiveError>
     ensures id { R.id replica.new ≡ R.id replica.old }
     ensures ok { (P : List (ChangeParts × Bool)) → OnOk result (Run K.keeps

@@ -12,8 +12,8 @@ use crate::admit::{Outcome, admit};
 use crate::error::ReceiveError;
 use crate::keeper::Keeper;
 use crate::replica::Replica;
+use crate::report::Report;
 use crate::settle::settle;
-use crate::told::Told;
 use tp_change::Change;
 use tp_graph::GraphError;
 use tp_opid::Hash;
@@ -39,7 +39,7 @@ fn let_wait<R: Replica>(
     replica: &mut R,
     change: Change,
     reserved: usize,
-    told: &mut Told,
+    told: &mut Report,
 ) -> Result<(), ReceiveError>
     ensures id { R.id replica.new ≡ R.id replica.old }
     ensures applied { R.applied replica.new ≡ R.applied replica.old }
@@ -72,7 +72,7 @@ pub(crate) fn take<R: Replica, K: Keeper>(
     keeper: &mut K,
     change: Change,
     reserved: usize,
-    told: &mut Told,
+    told: &mut Report,
 ) -> Result<(), ReceiveError>
     requires settled { AllWait (R.applied replica.old) (R.waiting replica.old) }
     ensures id { R.id replica.new ≡ R.id replica.old }

@@ -1,5 +1,5 @@
-use Rattle.std.proofs.Common.{◌||◌, true, false, ap, sym, ◌∙◌}
-use Rattle.tp_graph.specs.Named.{among, has}
+use Rattle.std.proofs.Common.{◌||◌, ap, sym, ◌∙◌}
+use Rattle.tp_graph.specs.Named.{among}
 use Rattle.tp_receive.proofs.ComingLaws.{has-both}
 use Rattle.tp_receive.proofs.coming.is_there.Goals as goal
 

@@ -1,7 +1,4 @@
-use Rattle.std.proofs.Common.{◌≡◌, ◌++◌, true, false, ap, sym, ◌∙◌, List}
-use Rattle.tp_opid.specs.declared.hash.Hash.{Hash}
-use Rattle.tp_change.specs.ChangeHash.{hash_of}
-use Rattle.tp_graph.specs.Named.{among, has_all}
+use Rattle.std.proofs.Common.{sym, ◌∙◌}
 use Rattle.tp_receive.proofs.ComingLaws.{noted_delivers, noted_again, noted_places}
 use Rattle.tp_receive.proofs.coming.note.Goals as goal
 

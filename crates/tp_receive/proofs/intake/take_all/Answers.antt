@@ -1,4 +1,4 @@
-use Rattle.std.proofs.Common.{◌≡◌, ◌∷◌, inl, inr, sym, subst, ◌∙◌, List, Bool}
+use Rattle.std.proofs.Common.{inl, inr, sym, subst, ◌∙◌, List, Bool}
 use Rattle.tp_change.specs.declared.parts.ChangeParts.{ChangeParts}
 use Rattle.tp_receive.specs.Intake.{Run, Stopped, intake}
 use Rattle.tp_receive.proofs.TurnLaws.{Run-then}

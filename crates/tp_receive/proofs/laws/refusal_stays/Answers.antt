@@ -1,4 +1,4 @@
-use Rattle.tp_receive.proofs.StaysLaws.{refused-stays}
+use Rattle.tp_receive.proofs.RefusalLaws.{refused-stays}
 use Rattle.tp_receive.proofs.laws.refusal_stays.Goals as goal
 
 pub returns : goal.returns

@@ -1,4 +1,4 @@
-use Rattle.std.proofs.Common.{◌≡◌, List, length, get_or, ◌<◌, arith, ap, sym, ◌∙◌, subst}
+use Rattle.std.proofs.Common.{List, length, get_or, ◌<◌, arith, ap, sym, ◌∙◌}
 use Rattle.tp_change.specs.declared.parts.ChangeParts.{ChangeParts}
 use Rattle.tp_receive.proofs.WaitLaws.{AllWait-more}
 use Rattle.tp_receive.proofs.settle.first_ready.Goals as goal

@@ -1,6 +1,6 @@
 use Rattle.std.proofs.Common.{◌∙◌, refl}
 use Rattle.tp_receive.specs.Intake.{intake}
-use Rattle.tp_receive.proofs.TurnLaws.{Run-none, Run-one, Run-then}
+use Rattle.tp_receive.proofs.TurnLaws.{Run-one, Run-then}
 use Rattle.tp_receive.proofs.TakingLaws.{stops_for_memory, stops_later, stops_on}
 use Rattle.tp_receive.proofs.settle.settle.Goals as goal
 

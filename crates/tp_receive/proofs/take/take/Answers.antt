@@ -1,5 +1,4 @@
-use Rattle.std.proofs.Common.{inr, ◌∷◌, ◌∙◌, ap, subst, List}
-use Rattle.tp_change.specs.declared.parts.ChangeParts.{ChangeParts}
+use Rattle.std.proofs.Common.{inr, ◌∷◌, ◌∙◌}
 use Rattle.tp_receive.specs.Intake.{intake}
 use Rattle.tp_receive.proofs.TurnLaws.{Run-none, Run-one, Run-turn}
 use Rattle.tp_receive.proofs.TakingLaws.{OnOk-map, came, meets_entered, meets_refused, meets_held, next_comes, Stopped-trying, stops_later, stops_on, turn_untold, wait_held}

@@ -51,5 +51,8 @@ returns-in-Err-clause-other g c =
 pub returns-in-Err-clause-err : goal.returns-in-Err-clause-err
 returns-in-Err-clause-err g c =
     let d = c.args.self.now in
-    inr (receive.OutOfMemory, refl,
-    Stopped-still g.K.Keeper.keeps g.K.Keeper.refuses (begin c.args.keeper.now d.applied d.waiting (absent d.applied c.args.other.now.applied)) c.args.keeper.now d.applied d.waiting refl refl refl)
+    inr (
+      receive.OutOfMemory,
+      refl,
+      Stopped-still g.K.Keeper.keeps g.K.Keeper.refuses (begin c.args.keeper.now d.applied d.waiting (absent d.applied c.args.other.now.applied)) c.args.keeper.now d.applied d.waiting refl refl refl,
+    )

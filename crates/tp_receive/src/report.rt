@@ -6,22 +6,22 @@ use tp_opid::Hash;
 
 /// What is told of the changes while they are received.
 #[derive(Drop)]
-pub(crate) struct Told {
+pub(crate) struct Report {
     /// The hashes of the changes that entered, in order.
     pub(crate) applied: Vec<Hash>,
     /// The hashes of the changes that were refused, and why, in order.
     pub(crate) refused: Vec<(Hash, GraphError)>,
 }
 
-impl Told {
+impl Report {
     ghost use Rattle.std.specs.Prelude.{◌≡◌, []};
 
     /// Nothing is told yet.
-    pub(crate) fn new(alloc: Global) -> Told
+    pub(crate) fn new(alloc: Global) -> Report
         ensures applied { result.applied.items ≡ [] }
         ensures refused { result.refused.items ≡ [] }
     {
-        Told {
+        Report {
             applied: Vec::new(alloc),
             refused: Vec::new(alloc),
         }
