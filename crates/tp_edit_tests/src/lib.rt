@@ -1,5 +1,0 @@
-//! Edits on worked examples.
-#![tactic(auto)]
-
-#[cfg(test)]
-mod tests;
