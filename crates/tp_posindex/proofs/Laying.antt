@@ -548,7 +548,7 @@ renamed_more home old ks i b lt within renamed others =
             get_or-set_other home n k b 0 ne ∙ renamed k (elim (In-push k (take i ks) n (subst (In k) more h)) as (λ _. In k (take i ks)) [ inl j ↦ j | inr e ↦ absurd (apart e) ]))
       ],
       λ k not_in.
-          let ne : k ≡ n → ⊥ = (λ (e : k ≡ n). not_in (subst (In k) (sym more) (subst (λ (z : ℕ). In z (take i ks ++ n ∷ [])) (sym e) (In-last (take i ks) n)))) in
+          let ne : k ≡ n → ⊥ = (λ (e : k ≡ n). not_in (subst (In k) (sym more) (subst (λ (z : ℕ). In z (take i ks ++ n ∷ [])) (sym e) (In-last n (take i ks))))) in
           get_or-set_other home n k b 0 ne ∙ others k (λ h. not_in (subst (In k) (sym more) (In-left k (take i ks) (n ∷ []) h))),
     )
 
