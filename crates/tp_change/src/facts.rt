@@ -1,11 +1,11 @@
 //! What the types of the parts always say of them: a Rust array has its length, and its elements are bytes.
 
-ghost use Rattle.std.specs.Prelude.{◌≡◌, length};
-ghost use Rattle.std.specs.Str.{chars};
+ghost use Rattle.std.specs.Prelude.{◌≡◌};
 ghost use Rattle.tp_change.specs.Limits.{IsBytes, IsId, IsPlace, IsTypedRecord};
 ghost use Rattle.tp_change.specs.Operations.{count_in};
 
 use crate::record::Record;
+use tp_list::char_count;
 use tp_opid::{OpId, Place};
 
 /// How many bytes there are: 16.
@@ -41,13 +41,6 @@ fn of_place(place: &Place)
     }
 }
 
-/// How many characters a text has.
-pub(crate) fn chars_in(text: &str) -> usize
-    ensures { result ≡ length (chars text.now) }
-{
-    text.chars().count()
-}
-
 /// How many operations a record is. The cost is that of going over a run's text.
 pub(crate) fn ops_in(entry: &Record) -> usize
     ensures count { result ≡ count_in entry.now }
@@ -56,7 +49,7 @@ pub(crate) fn ops_in(entry: &Record) -> usize
     match entry {
         Record::Insert { after, text } => {
             of_place(after);
-            chars_in(text.as_str())
+            char_count(text.as_str())
         }
         Record::Delete { target } => {
             of_id(target);

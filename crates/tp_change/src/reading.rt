@@ -23,7 +23,6 @@ ghost use Rattle.tp_change.specs.Reading.{actor_at, hash_at, id_at, version_at, 
 
 use crate::change::Change;
 use crate::error::ChangeError;
-use crate::facts::chars_in;
 use crate::limits::{COUNTERS_END, MAX_BYTES, MAX_OPS};
 use crate::parts::ChangeParts;
 use crate::record::Record;
@@ -31,7 +30,7 @@ use sha2::{Digest, Sha256};
 use std::alloc::Global;
 use std::cmp::Ordering;
 use tp_codec::Reader;
-use tp_list::{Items, Text};
+use tp_list::{Items, Text, char_count};
 use tp_opid::{Actor, Hash, OpId, Place};
 
 fn byte_of(reader: &mut Reader<'_>) -> Result<u8, ChangeError>
@@ -243,7 +242,7 @@ fn insert_of(
 {
     let after = place_of(reader)?;
     let text = run_of(alloc, reader)?;
-    let count = chars_in(text.as_str());
+    let count = char_count(text.as_str());
     if count < 1 {
         return Err(ChangeError::EmptyRun);
     }

@@ -20,7 +20,7 @@ deletes_of-push [] x = refl
 deletes_of-push (y ∷ xs) x = ap (λ l. record_of.Delete y ∷ l) (deletes_of-push xs x)
 
 -- the delete of one element more
-pub deletes_of-more : (W : List OpId) (at k : ℕ) (x : OpId) → slice_get W (at + k) ≡ Some x → deletes_of (take (k + 1) (drop at W)) ≡ deletes_of (take k (drop at W)) ++ record_of.Delete x ∷ []
+deletes_of-more : (W : List OpId) (at k : ℕ) (x : OpId) → slice_get W (at + k) ≡ Some x → deletes_of (take (k + 1) (drop at W)) ≡ deletes_of (take k (drop at W)) ++ record_of.Delete x ∷ []
 deletes_of-more W at k x is =
     let within = slice_get_within W (at + k) x is in
     let size = length-drop at W in
@@ -46,9 +46,26 @@ pub after_last-start : (W : List OpId) (at : ℕ) → at ≡ 0 → Start ≡ aft
 after_last-start W at none = ap (λ k. after_last Start (take k W)) (sym none)
 
 -- a run where there is text
-pub runs_of-some : (after : Place) (text : List ℕ) → 0 < length text → runs_of after text ≡ record_of.Insert after text ∷ []
+runs_of-some : (after : Place) (text : List ℕ) → 0 < length text → runs_of after text ≡ record_of.Insert after text ∷ []
 runs_of-some after [] some = absurd (omega arith)
 runs_of-some after (ch ∷ text) some = refl
+
+-- a delete of one element more, behind what was there
+pub delete_put : (W : List OpId) (at k : ℕ) (x : OpId) (first old new : List Record) → new ≡ old ++ record_of.Delete x ∷ [] → old ≡ first ++ deletes_of (take k (drop at W)) → slice_get W (at + k) ≡ Some x
+    → new ≡ first ++ deletes_of (take (k + 1) (drop at W))
+delete_put W at k x first old new e f is =
+    e ∙ ap (λ l. l ++ record_of.Delete x ∷ []) f ∙ append_assoc first (deletes_of (take k (drop at W))) (record_of.Delete x ∷ [])
+    ∙ ap (λ l. first ++ l) (sym (deletes_of-more W at k x is))
+
+-- a run behind all deletes of a splice
+pub run_put : (W : List OpId) (at k del : ℕ) (after : Place) (text : List ℕ) (p : Place) (t : List ℕ) (first old new : List Record)
+    → new ≡ old ++ record_of.Insert p t ∷ [] → old ≡ first ++ deletes_of (take k (drop at W)) → k ≡ del → p ≡ after → t ≡ text → 0 < length text
+    → new ≡ first ++ (deletes_of (take del (drop at W)) ++ runs_of after text)
+run_put W at k del after text p t first old new e f all place same some =
+    let deletes = deletes_of (take del (drop at W)) in
+    e ∙ ap (λ l. l ++ record_of.Insert p t ∷ []) (f ∙ ap (λ j. first ++ deletes_of (take j (drop at W))) all) ∙ append_assoc first deletes (record_of.Insert p t ∷ [])
+    ∙ ap (λ r. first ++ (deletes ++ r ∷ [])) (ap (λ q. record_of.Insert q t) place ∙ ap (record_of.Insert after) same)
+    ∙ ap (λ l. first ++ (deletes ++ l)) (sym (runs_of-some after text some))
 
 -- ---- one splice after others
 

@@ -1,8 +1,10 @@
 //! Splices of a text, and what they ask.
 
 ghost use Rattle.std.specs.Prelude.{◌≡◌, ◌↔◌, IsTrue, length, min, true};
-ghost use Rattle.std.specs.Str.{chars, all_scalars};
+ghost use Rattle.std.specs.Str.{all_scalars};
 ghost use Rattle.tp_edit.specs.Splices.{AllInRange, AllScalars, inserted, total_count};
+
+use tp_list::char_count;
 
 /// One replacement in a visible text, as Automerge's `splice`: the `del` characters from `at` on go, and `text`
 /// comes in their place. Positions and lengths count Unicode scalar values.
@@ -24,14 +26,6 @@ impl Splice<'_> {
     {
         char_count(self.text)
     }
-}
-
-// How many characters a text has.
-fn char_count(text: &str) -> usize
-    ensures count { result ≡ length (chars text.now) }
-    ensures scalars { all_scalars (chars text.now) ≡ true }
-{
-    text.chars().count()
 }
 
 /// Whether each splice stands within the text that the ones before it leave, where the first meets a text of `len`

@@ -1,7 +1,6 @@
 //! What a change has to be behind the changes of its past: its numbers and its references.
 
 ghost use Rattle.std.specs.Prelude.{◌≡◌, ◌+◌, ◌<◌, ◌≤◌, ◌^◌, [], ◌++◌, ◌||◌, length};
-ghost use Rattle.std.specs.Str.{chars};
 ghost use Rattle.tp_change.specs.Operations.{count_of, op_count, ops_of, ops_from};
 ghost use Rattle.tp_graph.specs.Fit as fit;
 ghost use Rattle.tp_change.specs.Elements as made;
@@ -19,14 +18,8 @@ use crate::index::Index;
 use crate::part::Part;
 use crate::walk::place_of;
 use tp_change::{Change, Record};
+use tp_list::char_count;
 use tp_opid::{Actor, Hash, OpId, Place};
-
-// How many characters a text has.
-fn chars_in(text: &str) -> usize
-    ensures { result ≡ length (chars text.now) }
-{
-    text.chars().count()
-}
 
 // Whether the records, the first of which has the given counter, insert at a counter.
 fn covers(records: &[Record], first: u64, counter: u64) -> bool
@@ -37,7 +30,7 @@ fn covers(records: &[Record], first: u64, counter: u64) -> bool
     for record in records {
         match record {
             Record::Insert { text, .. } => {
-                let end = next + chars_in(text.as_str()) as u64;
+                let end = next + char_count(text.as_str()) as u64;
                 if next <= counter && counter < end {
                     return true;
                 }

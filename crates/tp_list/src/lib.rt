@@ -6,4 +6,4 @@ mod items;
 mod text;
 
 pub use items::Items;
-pub use text::Text;
+pub use text::{Text, char_count};

@@ -66,3 +66,11 @@ impl Text {
         self.string.as_str().is_empty()
     }
 }
+
+/// How many characters a text has. One pass.
+pub fn char_count(text: &str) -> usize
+    ensures count { result ≡ length (chars text.now) }
+    ensures scalars { all_scalars (chars text.now) ≡ true }
+{
+    text.chars().count()
+}

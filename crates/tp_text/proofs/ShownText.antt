@@ -50,7 +50,7 @@ not_false true e = refl
 not_false false e = cc
 
 -- an element that no delete names adds its character
-pub shown_bytes-kept : (R : List (OpId × OpId)) (L : List Insert) (k : ℕ) (x : Element) → Some x ≡ option_map (element_of R) (slice_get L k) → not x.deleted ≡ true → shown_bytes R L (k + 1) ≡ shown_bytes R L k ++ encode_utf8 x.ch
+shown_bytes-kept : (R : List (OpId × OpId)) (L : List Insert) (k : ℕ) (x : Element) → Some x ≡ option_map (element_of R) (slice_get L k) → not x.deleted ≡ true → shown_bytes R L (k + 1) ≡ shown_bytes R L k ++ encode_utf8 x.ch
 shown_bytes-kept R L k x h passed =
     let kept : x.deleted ≡ false = not_true x.deleted passed in
     let p = at_place R L k x h in
@@ -59,12 +59,22 @@ shown_bytes-kept R L k x h passed =
     ∙ ap (λ l. shown_bytes R L k ++ l) (own_bytes-kept R p.0 still ∙ ap (λ (y : Element). encode_utf8 y.ch) (sym p.3))
 
 -- a tombstone adds none
-pub shown_bytes-gone : (R : List (OpId × OpId)) (L : List Insert) (k : ℕ) (x : Element) → Some x ≡ option_map (element_of R) (slice_get L k) → not x.deleted ≡ false → shown_bytes R L (k + 1) ≡ shown_bytes R L k
+shown_bytes-gone : (R : List (OpId × OpId)) (L : List Insert) (k : ℕ) (x : Element) → Some x ≡ option_map (element_of R) (slice_get L k) → not x.deleted ≡ false → shown_bytes R L (k + 1) ≡ shown_bytes R L k
 shown_bytes-gone R L k x h failed =
     let gone : x.deleted ≡ true = not_false x.deleted failed in
     let p = at_place R L k x h in
     let named : is_removed R p.0.id ≡ true = sym (ap (λ (y : Element). y.deleted) p.3) ∙ gone in
     shown_bytes-more R L k p.0 p.1 p.2 ∙ ap (λ l. shown_bytes R L k ++ l) (own_bytes-gone R p.0 named) ∙ append-nil (shown_bytes R L k)
+
+-- a text with one character more shows one element more
+pub pushed_on : (R : List (OpId × OpId)) (L : List Insert) (k : ℕ) (x : Element) (held pushed : List ℕ) → pushed ≡ held ++ encode_utf8 x.ch → held ≡ shown_bytes R L k
+    → Some x ≡ option_map (element_of R) (slice_get L k) → not x.deleted ≡ true → pushed ≡ shown_bytes R L (k + 1)
+pushed_on R L k x held pushed e f at passed = e ∙ ap (λ b. b ++ encode_utf8 x.ch) f ∙ sym (shown_bytes-kept R L k x at passed)
+
+-- and a text without it shows the same, where the element is a tombstone
+pub passed_on : (R : List (OpId × OpId)) (L : List Insert) (k : ℕ) (x : Element) (held : List ℕ) → held ≡ shown_bytes R L k
+    → Some x ≡ option_map (element_of R) (slice_get L k) → not x.deleted ≡ false → held ≡ shown_bytes R L (k + 1)
+passed_on R L k x held f at failed = f ∙ sym (shown_bytes-gone R L k x at failed)
 
 -- every place before the end has an element
 pub no_place : (R : List (OpId × OpId)) (L : List Insert) (k : ℕ) → k < length L → None ≡ option_map (element_of R) (slice_get L k) → ⊥

@@ -1,13 +1,11 @@
-use Rattle.std.proofs.Common.{◌≡◌, ◌<◌, List, [], ◌∷◌, ◌++◌, length, sym, ap, ◌∙◌, arith, take, drop, append_assoc}
+use Rattle.std.proofs.Common.{◌≡◌, ◌<◌, length, ap, ◌∙◌, arith, take}
 use Rattle.std.specs.Str.{chars}
 use Rattle.tp_opid.specs.declared.op_id.Place.TheVariants.{Start}
-use Rattle.tp_change.specs.declared.record.Record.{Record}
-use Rattle.tp_change.specs.declared.record.Record.TheVariants as record_of
 use Rattle.tp_rga.specs.Shown.{shown}
 use Rattle.tp_edit.specs.Splices.{inserted}
-use Rattle.tp_edit.specs.EditRecords.{ids_of, after_last, deletes_of}
+use Rattle.tp_edit.specs.EditRecords.{ids_of, after_last}
 use Rattle.tp_edit.specs.Landings.{ids_through}
-use Rattle.tp_edit.proofs.RecordSteps.{deletes_of-more, after_last-at, after_last-start, runs_of-some}
+use Rattle.tp_edit.proofs.RecordSteps.{delete_put, run_put, after_last-at, after_last-start}
 use Rattle.tp_edit.proofs.making.append_splice.Goals as goal
 use Rattle.tp_edit.proofs.making.append_splice.Goals.{then-at-eq0, else-at-eq0}
 
@@ -16,11 +14,7 @@ loop-k-preserved g c =
     let W = ids_through c.args.actor (ids_of (shown (g.S.Sequence.removals c.args.sequence.now) (g.S.Sequence.placed c.args.sequence.now))) c.args.landings.now in
     let at = c.args.splice.now.at in
     let k = c.loop-k.k in
-    let target = c.id_through-target.result in
-    c.in_ok-push.ensures.items
-    ∙ ap (λ l. l ++ record_of.Delete target ∷ []) c.loop-k.invariant
-    ∙ append_assoc c.args.records.now.items (deletes_of (take k (drop at W))) (record_of.Delete target ∷ [])
-    ∙ ap (λ l. c.args.records.now.items ++ l) (sym (deletes_of-more W at k target c.id_through-target.ensures))
+    delete_put W at k c.id_through-target.result c.args.records.now.items _ _ c.in_ok-push.ensures.items c.loop-k.invariant c.id_through-target.ensures
 
 pub returns-in_ok-push-2 : goal.returns-in_ok-push-2
 returns-in_ok-push-2 g c =
@@ -30,15 +24,10 @@ returns-in_ok-push-2 g c =
     let old = c.args.records.now.items in
     let after : c.if-at-eq0.after ≡ after_last Start (take at W) =
     elim c.if-at-eq0.branch [
-      | then-at-eq0 w ↦ w.after-is ∙ after_last-start W at w.if-at-eq0.true
-      | else-at-eq0 w ↦ w.after-is ∙ after_last-at W at w.id_through.result (omega (arith, w.if-at-eq0.false)) w.id_through.ensures
+      | then-at-eq0 w ↦ rw w.after-is (after_last-start W at w.if-at-eq0.true)
+      | else-at-eq0 w ↦ rw w.after-is (after_last-at W at w.id_through.result (omega (arith, w.if-at-eq0.false)) w.id_through.ensures)
     ] in
     let text : c.new-text.result ≡ inserted s = c.new-text.ensures ∙ ap chars c.in_ok-from_str.ensures.ok in
     let some : 0 < length (inserted s) = omega (arith, c.requires.count, c.if-count-gt0.true) in
     let all : c.loop-k.k ≡ s.del = omega (arith, c.loop-k.auto.k-end, c.loop-k-test.false) in
-    let deletes : List Record = deletes_of (take s.del (drop at W)) in
-    c.in_ok-push-2.ensures.items
-    ∙ ap (λ l. l ++ record_of.Insert c.if-at-eq0.after c.new-text.result ∷ []) (c.loop-k.invariant ∙ ap (λ k. old ++ deletes_of (take k (drop at W))) all)
-    ∙ append_assoc old deletes (record_of.Insert c.if-at-eq0.after c.new-text.result ∷ [])
-    ∙ ap (λ r. old ++ (deletes ++ r ∷ [])) (ap (λ p. record_of.Insert p c.new-text.result) after ∙ ap (λ t. record_of.Insert (after_last Start (take at W)) t) text)
-    ∙ ap (λ l. old ++ (deletes ++ l)) (sym (runs_of-some (after_last Start (take at W)) (inserted s) some))
+    run_put W at c.loop-k.k s.del (after_last Start (take at W)) (inserted s) c.if-at-eq0.after c.new-text.result old _ _ c.in_ok-push-2.ensures.items c.loop-k.invariant all after text some

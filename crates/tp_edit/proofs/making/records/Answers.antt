@@ -1,12 +1,15 @@
-use Rattle.std.proofs.Common.{◌≡◌, ℕ, ◌+◌, List, [], ◌∷◌, ◌++◌, length, get_or, sym, ap, ◌∙◌, subst, arith, take}
+use Rattle.std.proofs.Common.{◌≡◌, ℕ, ◌+◌, ◌<◌, ◌≤◌, List, [], ◌∷◌, ◌++◌, length, get_or, sym, ap, ◌∙◌, subst, arith, take}
 use Rattle.std.proofs.lemmas.List.{take_all, length-map}
+use Rattle.tp_opid.specs.declared.actor.Actor.{Actor}
+use Rattle.tp_opid.specs.declared.op_id.OpId.{OpId}
 use Rattle.tp_opid.specs.Insert.{Insert}
+use Rattle.tp_change.specs.declared.record.Record.{Record}
 use Rattle.tp_rga.specs.Shown.{shown}
 use Rattle.tp_edit.specs.declared.landing.Landing.{Landing}
 use Rattle.tp_edit.specs.declared.splice.Splice.{Splice}
-use Rattle.tp_edit.specs.Splices.{inserted, IsInRange, AllInRange, total_count}
+use Rattle.tp_edit.specs.Splices.{inserted, AllInRange, total_count}
 use Rattle.tp_edit.specs.EditRecords.{ids_of, ids_after_all, records_of, records_of_splice}
-use Rattle.tp_edit.specs.Landings.{landing_of, landings_of, ids_through, AllFit}
+use Rattle.tp_edit.specs.Landings.{landing_of, landings_of, ids_through}
 use Rattle.tp_edit.proofs.RecordSteps.{IsNext-at, records_of-more, landings_of-more, ids_through-landings}
 use Rattle.tp_edit.proofs.SpliceLists.{total_count-more}
 use Rattle.tp_edit.proofs.making.records.Goals as goal
@@ -20,6 +23,26 @@ same_landing s len n m e f =
     let at_len : ℕ → Landing = λ k. record { at = s.at; del = s.del; len = k; first = n + s.del } in
     ap at_len e ∙ ap (λ k. landing_of k s) f
 
+-- the records of one splice more
+made_on : (a : Actor) (n : ℕ) (V : List OpId) (ss : List Splice) (i : ℕ) (d : Splice) (landings held : List Landing) (old new : List Record) → i < length ss
+    → new ≡ old ++ records_of_splice (ids_through a V landings) (get_or ss i d) → old ≡ records_of a n V (take i ss) → landings ≡ held → held ≡ landings_of n (take i ss) → new ≡ records_of a n V (take (i + 1) ss)
+made_on a n V ss i d landings held old new lt e f same landed =
+    let there : ids_through a V landings ≡ ids_after_all a n V (take i ss) = ap (ids_through a V) (same ∙ landed) ∙ ids_through-landings a n V (take i ss) in
+    e ∙ ap (λ l. l ++ records_of_splice (ids_through a V landings) (get_or ss i d)) f
+    ∙ ap (λ W. records_of a n V (take i ss) ++ records_of_splice W (get_or ss i d)) there
+    ∙ sym (records_of-more a n V ss i d lt)
+
+-- and its landing
+landed_on : (n : ℕ) (ss : List Splice) (i : ℕ) (d : Splice) (len next : ℕ) (old new : List Landing) → i < length ss
+    → new ≡ old ++ record { at = (get_or ss i d).at; del = (get_or ss i d).del; len = len; first = next + (get_or ss i d).del } ∷ [] → old ≡ landings_of n (take i ss)
+    → len ≡ length (inserted (get_or ss i d)) → next ≡ n + total_count (take i ss) → new ≡ landings_of n (take (i + 1) ss)
+landed_on n ss i d len next old new lt e f size counted =
+    let s = get_or ss i d in
+    let put : Landing = record { at = s.at; del = s.del; len = len; first = next + s.del } in
+    e ∙ ap (λ l. l ++ put ∷ []) f
+    ∙ ap (λ l. landings_of n (take i ss) ++ l ∷ []) (same_landing s len next (n + total_count (take i ss)) size counted)
+    ∙ sym (landings_of-more n ss i d lt)
+
 pub append_splice-requires : goal.append_splice-requires
 append_splice-requires g c =
     let L = shown (g.S.Sequence.removals c.args.sequence.now) (g.S.Sequence.placed c.args.sequence.now) in
@@ -28,10 +51,9 @@ append_splice-requires g c =
     let i = c.loop-splice.splice-index in
     let d : Splice = record { at = 0; del = 0; text = record { ref_ptr = (0, 0); now = [] } } in
     let next = IsNext-at c.args.actor c.args.start V ss i d c.loop-splice-test.true (range_of_ids L ss c.requires.in_range) c.requires.counters in
-    let landed : landings_of c.args.start (take i ss) ≡ c.deref.result.now = sym (c.deref.ensures.value ∙ c.loop-splice.invariant.landed) in
     record {
-      fit = subst (AllFit c.args.actor V) landed next.fit;
-      in_range = subst (λ ls. IsInRange (length (ids_through c.args.actor V ls)) (get_or ss i d)) landed next.place;
+      fit = rw (c.deref.ensures.value, c.loop-splice.invariant.landed) next.fit;
+      in_range = rw (c.deref.ensures.value, c.loop-splice.invariant.landed) next.place;
       count = c.inserted_count-count.ensures.count;
       counted = omega (arith, c.len-len.ensures, c.len-len.type_inv);
     }
@@ -54,25 +76,10 @@ loop-splice-preserved g c =
     let ss = c.args.splices.now in
     let i = c.loop-splice.splice-index in
     let d : Splice = record { at = 0; del = 0; text = record { ref_ptr = (0, 0); now = [] } } in
-    let s = get_or ss i d in
     let more = total_count-more ss i d c.loop-splice-test.true in
-    let landed : c.deref.result.now ≡ landings_of n (take i ss) = c.deref.ensures.value ∙ c.loop-splice.invariant.landed in
-    let there : ids_through a V c.deref.result.now ≡ ids_after_all a n V (take i ss) =
-    ap (ids_through a V) landed ∙ ids_through-landings a n V (take i ss) in
-    let new : Landing = record { at = s.at; del = s.del; len = c.inserted_count-count.result; first = c.loop-splice.next + s.del } in
-    let same : new ≡ landing_of (n + total_count (take i ss)) s =
-    same_landing s c.inserted_count-count.result c.loop-splice.next (n + total_count (take i ss)) c.inserted_count-count.ensures.count c.loop-splice.invariant.counted in
     record {
-      made =
-          c.in_ok-append_splice.ensures
-          ∙ ap (λ l. l ++ records_of_splice (ids_through a V c.deref.result.now) s) c.loop-splice.invariant.made
-          ∙ ap (λ W. records_of a n V (take i ss) ++ records_of_splice W s) there
-          ∙ sym (records_of-more a n V ss i d c.loop-splice-test.true);
-      landed =
-          c.in_ok-push.ensures.items
-          ∙ ap (λ l. l ++ new ∷ []) c.loop-splice.invariant.landed
-          ∙ ap (λ l. landings_of n (take i ss) ++ l ∷ []) same
-          ∙ sym (landings_of-more n ss i d c.loop-splice-test.true);
+      made = made_on a n V ss i d c.deref.result.now _ _ _ c.loop-splice-test.true c.in_ok-append_splice.ensures c.loop-splice.invariant.made c.deref.ensures.value c.loop-splice.invariant.landed;
+      landed = landed_on n ss i d c.inserted_count-count.result c.loop-splice.next _ _ c.loop-splice-test.true c.in_ok-push.ensures.items c.loop-splice.invariant.landed c.inserted_count-count.ensures.count c.loop-splice.invariant.counted;
       counted = omega (arith, more, c.loop-splice.invariant.counted, c.inserted_count-count.ensures.count);
     }
 
@@ -85,7 +92,10 @@ overflow_add-next g c =
     let next = IsNext-at c.args.actor c.args.start (ids_of L) ss i d c.loop-splice-test.true (range_of_ids L ss c.requires.in_range) c.requires.counters in
     omega (arith, next.room, c.loop-splice.invariant.counted, c.inserted_count-count.ensures.count)
 
+all_made : (a : Actor) (n : ℕ) (V : List OpId) (ss : List Splice) (i : ℕ) (made : List Record) → made ≡ records_of a n V (take i ss) → length ss ≤ i → made ≡ records_of a n V ss
+all_made a n V ss i made e past = e ∙ ap (records_of a n V) (take_all i ss past)
+
 pub returns : goal.returns
 returns g c =
     let V = ids_of (shown (g.S.Sequence.removals c.args.sequence.now) (g.S.Sequence.placed c.args.sequence.now)) in
-    c.loop-splice.invariant.made ∙ ap (records_of c.args.actor c.args.start V) (take_all c.loop-splice.splice-index c.args.splices.now c.loop-splice-test.false)
+    all_made c.args.actor c.args.start V c.args.splices.now c.loop-splice.splice-index _ c.loop-splice.invariant.made c.loop-splice-test.false
