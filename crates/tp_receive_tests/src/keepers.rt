@@ -60,7 +60,7 @@ fn a_refused_keeper_loses_nothing_that_waits(rt: HostRuntime) -> Result<(), Fail
     Ok(())
 }
 
-/// A change that must wait, beside one that is refused, then as many loose changes as may wait.
+/// A change that must wait, beside one that is refused, then as many undeliverable ones as may wait.
 fn crowded(alloc: Global, refused: Change, waits: Change) -> Result<Vec<Change>, Fail> {
     let mut changes = two(alloc, refused, waits)?;
     let missing = Some(Hash([7; 32]));
