@@ -1,6 +1,6 @@
 //! Receiving changes, in a list or from another document.
 
-ghost use Rattle.std.specs.Prelude.{◌≡◌, IfOk, IfErr, OnOk};
+ghost use Rattle.std.specs.Prelude.{◌≡◌, false, IfOk, IfErr, OnOk};
 ghost use Rattle.tp_graph.specs.Sound.{Sound};
 ghost use Rattle.tp_receive.specs.Delivery as delivery;
 ghost use Rattle.tp_receive.specs.Replies.{KeepsNew};
@@ -40,7 +40,8 @@ impl<S: Sequence> Document<S> {
         ensures ok { IfOk result (λ r. Takes K.keeps keeper.old keeper.new changes.items self.old self.new r) }
         ensures kept { OnOk result (KeepsNew K.keeps keeper.old keeper.new self.old.applied self.new.applied) }
         ensures full { IsFullAlone result (delivery.is_full self.old.applied self.old.waiting changes.items) }
-        ensures err { IfErr result (λ e. TakesPart K.keeps K.refuses keeper.old keeper.new changes.items self.old self.new e) }
+        ensures err { IfErr result (λ e. TakesPart K.keeps K.refuses keeper.old keeper.new changes.items
+            self.old self.new e) }
     {
         let alloc = self.alloc;
         match receive(alloc, self, keeper, changes) {
@@ -65,7 +66,8 @@ impl<S: Sequence> Document<S> {
         ensures sound { Sound self.old.applied }
         ensures ok { IfOk result (λ r. Takes keeps_nothing no_keeper no_keeper changes.items self.old self.new r) }
         ensures full { IsFullAlone result (delivery.is_full self.old.applied self.old.waiting changes.items) }
-        ensures err { IfErr result (λ e. TakesPart keeps_nothing refuses_nothing no_keeper no_keeper changes.items self.old self.new e) }
+        ensures err { IfErr result (λ e. TakesPart keeps_nothing refuses_nothing no_keeper no_keeper changes.items
+            self.old self.new e) }
     {
         let mut keeper = NoKeeper;
         self.apply_with(changes, &mut keeper)
@@ -82,9 +84,12 @@ impl<S: Sequence> Document<S> {
     ) -> Result<Applied, DocError>
         ensures id { self.new.id ≡ self.old.id }
         ensures sound { Sound self.old.applied }
-        ensures ok { IfOk result (λ r. Takes K.keeps keeper.old keeper.new (merging.absent self.old.applied other.now.applied) self.old self.new r) }
+        ensures ok { IfOk result (λ r. Takes K.keeps keeper.old keeper.new (merging.absent self.old.applied other.now.applied)
+            self.old self.new r) }
         ensures kept { OnOk result (KeepsNew K.keeps keeper.old keeper.new self.old.applied self.new.applied) }
         ensures other { IsOtherAlone result self.old.id other.now.id }
+        ensures space { delivery.is_full self.old.applied self.old.waiting (merging.absent self.old.applied other.now.applied)
+            ≡ false }
         ensures err { IfErr result (λ e. MergesPart K.keeps K.refuses keeper.old keeper.new
             (merging.absent self.old.applied other.now.applied) self.old self.new e) }
     {
@@ -106,8 +111,11 @@ impl<S: Sequence> Document<S> {
     pub fn merge(&mut self, other: &Document<S>) -> Result<Applied, DocError>
         ensures id { self.new.id ≡ self.old.id }
         ensures sound { Sound self.old.applied }
-        ensures ok { IfOk result (λ r. Takes keeps_nothing no_keeper no_keeper (merging.absent self.old.applied other.now.applied) self.old self.new r) }
+        ensures ok { IfOk result (λ r. Takes keeps_nothing no_keeper no_keeper
+            (merging.absent self.old.applied other.now.applied) self.old self.new r) }
         ensures other { IsOtherAlone result self.old.id other.now.id }
+        ensures space { delivery.is_full self.old.applied self.old.waiting (merging.absent self.old.applied other.now.applied)
+            ≡ false }
         ensures err { IfErr result (λ e. MergesPart keeps_nothing refuses_nothing no_keeper no_keeper
             (merging.absent self.old.applied other.now.applied) self.old self.new e) }
     {

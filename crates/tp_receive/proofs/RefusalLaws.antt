@@ -1,10 +1,10 @@
 -- A cause other than a missing dependency stays whatever enters.
-use Rattle.std.proofs.Common.{◌≡◌, ◌==◌, ◌⊎◌, inl, inr, List, [], ◌∷◌, ◌++◌, length, Bool, true, false, ◌||◌, Option, Some, None, IsSome, refl, sym, ap, subst, append_assoc, append-nil}
+use Rattle.std.proofs.Common.{◌≡◌, ◌==◌, inl, inr, List, [], ◌∷◌, ◌++◌, length, Bool, true, false, ◌||◌, Option, Some, None, IsSome, refl, sym, ap, subst, append_assoc, append-nil}
 use Rattle.tp_list.specs.Members.{AllIn}
 use Rattle.tp_change.specs.declared.parts.ChangeParts.{ChangeParts}
 use Rattle.tp_change.specs.ChangeHash.{hash_of}
 use Rattle.tp_graph.specs.declared.error.GraphError.{GraphError}
-use Rattle.tp_graph.specs.declared.error.GraphError.TheVariants.{Known, MissingDeps, BadSeq, BadStart, BadReference, SeqClash, UnknownHead, Full, OutOfMemory}
+use Rattle.tp_graph.specs.declared.error.GraphError.TheVariants.{Known}
 use Rattle.tp_graph.specs.Named.{has, has_all}
 use Rattle.tp_graph.specs.Past.{past}
 use Rattle.tp_graph.specs.Fit.{misfit, misfit_behind, or_clash, or_full, cause, most_changes, clashes}
@@ -25,19 +25,6 @@ IsSome-refusal (Some e) h = refl
 pub IsSome-lacks : (o : Option GraphError) → lacks_deps o ≡ true → IsSome o
 IsSome-lacks None h = cc
 IsSome-lacks (Some e) h = refl
-
--- a cause is a refusal or a missing dependency
-pub cause_cases : (o : Option GraphError) → (o ≡ None) ⊎ ((o ≡ Some MissingDeps) ⊎ (is_refusal o ≡ true))
-cause_cases None = inl refl
-cause_cases (Some Known) = inr (inr refl)
-cause_cases (Some MissingDeps) = inr (inl refl)
-cause_cases (Some BadSeq) = inr (inr refl)
-cause_cases (Some BadStart) = inr (inr refl)
-cause_cases (Some BadReference) = inr (inr refl)
-cause_cases (Some SeqClash) = inr (inr refl)
-cause_cases (Some UnknownHead) = inr (inr refl)
-cause_cases (Some Full) = inr (inr refl)
-cause_cases (Some OutOfMemory) = inr (inr refl)
 
 -- what is there is known
 pub cause-known : (C : List ChangeParts) (c : ChangeParts) → has C (hash_of c) ≡ true → cause C c ≡ Some Known

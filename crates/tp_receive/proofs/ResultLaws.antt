@@ -21,7 +21,7 @@ use Rattle.tp_receive.proofs.RefusalLaws.{IsSome-refusal, IsSome-lacks}
 use Rattle.tp_receive.proofs.CausesLaws.{Barred-cause, lacks_cause}
 use Rattle.tp_receive.proofs.GrowsLaws.{Sound-grows, Between-grown}
 use Rattle.tp_receive.proofs.TurnLaws.{Run-keeps, changes_of}
-use Rattle.tp_receive.proofs.RunLaws.{Grew, Grew-turn, Grew-none, Grew-run, few_at_end, HasRoom, HasRoom-turn, here_first, placing_of}
+use Rattle.tp_receive.proofs.RunLaws.{Grew, Grew-turn, Grew-first, Grew-run, few_at_end, HasRoom, HasRoom-turn, here_first, placing_of}
 use Rattle.tp_receive.proofs.PlacedLaws.{HadTurn, HadTurn-turn, IsSomewhere-turn, AreCauses, AreCauses-turn}
 use Rattle.tp_receive.proofs.DroppedLaws.{Delivering, Delivering-first, Delivering-turn}
 
@@ -54,7 +54,7 @@ holds : {S : Type 0} (keeps : S → ChangeParts → S → Type 0) (k : S) (C W K
 holds keeps k C W K t sound apart space r =
     Run-keeps keeps (Holds keeps k C W K) (Holds-turn keeps k C W K sound apart) (begin k C W K) t r
     (record {
-      grew = Grew-none keeps (begin k C W K) (W ++ K) (here_first C W K);
+      grew = Grew-first keeps (begin k C W K) (W ++ K) refl (here_first C W K);
       room = not_full (length W + places (placing W (delivery C K))) space;
       somewhere = λ d i. elim (In-append d W K i) [ inl j ↦ inr (inl j) | inr j ↦ inl (subst (In d) (sym (placing_of C W K)) j) ];
       causes = λ h e i. absurd i;

@@ -1,6 +1,5 @@
 -- What holds wherever a run stops: what entered and was kept, that nothing is lost, and how many wait.
-use Rattle.tp_list.proofs.Members.{In-left, In-right, In-append}
-use Rattle.std.proofs.Common.{◌≡◌, ℕ, suc, ◌+◌, ◌≤◌, ◌⊎◌, inl, inr, List, [], ◌∷◌, ◌++◌, length, Bool, true, false, cond, Some, refl, sym, ap, ◌∙◌, subst, arith, length-append, append_assoc, append-nil}
+use Rattle.std.proofs.Common.{◌≡◌, ℕ, suc, ◌+◌, ◌≤◌, ◌⊎◌, inl, inr, List, [], ◌∷◌, ◌++◌, length, Bool, true, false, cond, Option, Some, refl, sym, ap, ◌∙◌, subst, arith, length-append, append_assoc, append-nil}
 use Rattle.tp_list.specs.Members.{In, AllIn}
 use Rattle.tp_opid.specs.declared.hash.Hash.{Hash}
 use Rattle.tp_change.specs.declared.parts.ChangeParts.{ChangeParts}
@@ -8,18 +7,20 @@ use Rattle.tp_change.specs.ChangeHash.{hash_of}
 use Rattle.tp_graph.specs.Named.{has_all}
 use Rattle.tp_graph.specs.declared.error.GraphError.{GraphError}
 use Rattle.tp_graph.specs.declared.error.GraphError.TheVariants.{MissingDeps}
+use Rattle.tp_graph.specs.Fit.{cause}
 use Rattle.tp_graph.specs.GraphState.{most_waiting}
+use Rattle.tp_graph.proofs.NamedLaws.{In-left, In-right, In-cases}
 use Rattle.tp_receive.specs.Receiving.{Grows, is_refusal, hashes}
 use Rattle.tp_receive.specs.Delivery.{delivery, placing, takes_place, places}
-use Rattle.tp_receive.specs.Intake.{Intake, Turn, Run, begin}
-use Rattle.tp_receive.specs.Replies.{KeepsAll, KeepsNew, Entered, LosesNone, NoneDropped}
+use Rattle.tp_receive.specs.Intake.{Intake, Turn, Run, begin, refuse}
+use Rattle.tp_receive.specs.Replies.{KeepsAll, KeepsNew, Progress, WasRefused, LosesNone, NoneDropped}
 use Rattle.tp_receive.proofs.RefusalLaws.{refused-push}
 use Rattle.tp_receive.proofs.GrowsLaws.{Grows-none, Grows-one, Grows-then}
 use Rattle.tp_receive.proofs.HashLaws.{hashes-append}
-use Rattle.tp_receive.proofs.TurnLaws.{Run-keeps, Turn-cases, IsHere, changes_of}
+use Rattle.tp_receive.proofs.TurnLaws.{Run-keeps, Turn-cases, IsHere, changes_of, with_rest}
 
 pub In-pushed : {X : Type 0} (xs : List X) (x y : X) → In y (xs ++ x ∷ []) → (y ≡ x) ⊎ In y xs
-In-pushed xs x y i = elim (In-append y xs (x ∷ []) i) [ inl j ↦ inr j | inr j ↦ elim j [ inl e ↦ inl e | inr n ↦ absurd n ] ]
+In-pushed xs x y i = elim (In-cases y xs (x ∷ []) i) [ inl j ↦ inr j | inr j ↦ elim j [ inl e ↦ inl e | inr n ↦ absurd n ] ]
 
 -- ---- what entered
 
@@ -33,11 +34,35 @@ pub record Grew {S : Type 0} (keeps : S → ChangeParts → S → Type 0) (s : I
   pub grows : Grows s.applied F t.applied new
   pub kept : KeepsAll keeps s.keeper new t.keeper
   pub told : t.entered ≡ s.entered ++ hashes new
+  pub refused : (h : Hash) (e : GraphError) → In (h, e) t.refused → WasRefused s.applied F t.applied h e
   pub here : (d : ChangeParts) → IsHere t.waiting t.coming d → In d F
 
-Grew-on : {S : Type 0} (keeps : S → ChangeParts → S → Type 0) (s0 : Intake S) (F : List ChangeParts) (s : Intake S) (V : List ChangeParts) (Q : List (ChangeParts × Bool)) (r : List (Hash × GraphError))
-    → Grew keeps s0 F s → ((d : ChangeParts) → IsHere V Q d → In d F) → Grew keeps s0 F (record s { waiting = V; coming = Q; refused = r })
-Grew-on keeps s0 F s V Q r g here = record { new = g.new; grows = g.grows; kept = g.kept; told = g.told; here = here }
+Grew-on : {S : Type 0} (keeps : S → ChangeParts → S → Type 0) (s0 : Intake S) (F : List ChangeParts) (s : Intake S) (V : List ChangeParts) (Q : List (ChangeParts × Bool))
+    → Grew keeps s0 F s → ((d : ChangeParts) → IsHere V Q d → In d F) → Grew keeps s0 F (with_rest s V Q)
+Grew-on keeps s0 F s V Q g here = record { new = g.new; grows = g.grows; kept = g.kept; told = g.told; refused = g.refused; here = here }
+
+-- The change of F was told as refused.
+Grew-told : {S : Type 0} (keeps : S → ChangeParts → S → Type 0) (s0 : Intake S) (F : List ChangeParts) (s : Intake S) (c : ChangeParts) (e : GraphError) → cause s.applied c ≡ Some e → In c F
+    → Grew keeps s0 F s → Grew keeps s0 F (refuse s c e)
+Grew-told keeps s0 F s c e caused came g = record {
+  new = g.new;
+  grows = g.grows;
+  kept = g.kept;
+  told = g.told;
+  refused = λ h f i. elim (In-pushed s.refused (hash_of c, e) (h, f) i) [
+    | inl p ↦ record {
+      change = c;
+      came = came;
+      is = sym (ap (λ (q : Hash × GraphError). q.0) p);
+      at = s.applied;
+      after = (g.new, g.grows.begins);
+      before = ([], sym (append-nil s.applied));
+      caused = caused ∙ ap (λ (q : Hash × GraphError). let o : Option GraphError = Some q.1 in o) (sym p);
+    }
+    | inr j ↦ g.refused h f j
+  ];
+  here = g.here;
+}
 
 pub Grew-turn : {S : Type 0} (keeps : S → ChangeParts → S → Type 0) (s0 : Intake S) (F : List ChangeParts) (s t : Intake S) → Turn keeps s t → Grew keeps s0 F s → Grew keeps s0 F t
 Grew-turn {S} keeps s0 F s t u g =
@@ -48,21 +73,39 @@ Grew-turn {S} keeps s0 F s t u g =
         grows = Grows-then s0.applied s.applied (s.applied ++ c ∷ []) F F F g.new (c ∷ []) g.grows (Grows-one s.applied F c none (g.here c out.here)) (λ d i. i) (λ d i. i);
         kept = KeepsAll-push keeps s0.keeper s.keeper k g.new c g.kept keep;
         told = ap (λ l. l ++ hash_of c ∷ []) g.told ∙ append_assoc s0.entered (hashes g.new) (hash_of c ∷ []) ∙ ap (λ l. s0.entered ++ l) (sym (hashes-append g.new (c ∷ [])));
+        refused = λ h e i.
+            let w = g.refused h e i in
+            record {
+              change = w.change;
+              came = w.came;
+              is = w.is;
+              at = w.at;
+              after = w.after;
+              before = (w.before.0 ++ c ∷ [], ap (λ l. l ++ c ∷ []) w.before.1 ∙ append_assoc w.at w.before.0 (c ∷ []));
+              caused = w.caused;
+            };
         here = λ d h. g.here d (out.less d h);
       };
-      refused = λ c V Q e out caused final. Grew-on keeps s0 F s V Q (s.refused ++ (hash_of c, e) ∷ []) g (λ d h. g.here d (out.less d h));
-      again = λ c Q place out is lacks there. Grew-on keeps s0 F s s.waiting Q s.refused g (λ d h. g.here d (out.less d h));
-      held = λ c Q place out is lacks new space. Grew-on keeps s0 F s (s.waiting ++ c ∷ []) Q s.refused g
+      refused = λ c V Q e out caused final. Grew-told keeps s0 F (with_rest s V Q) c e caused (g.here c out.here) (Grew-on keeps s0 F s V Q g (λ d h. g.here d (out.less d h)));
+      again = λ c Q place out is lacks there. Grew-on keeps s0 F s s.waiting Q g (λ d h. g.here d (out.less d h));
+      held = λ c Q place out is lacks new space. Grew-on keeps s0 F s (s.waiting ++ c ∷ []) Q g
           (λ d h. elim h [
             | inl i ↦ elim (In-pushed s.waiting c d i) [ inl e ↦ rw e (g.here c out.here) | inr j ↦ g.here d (inl j) ]
             | inr i ↦ g.here d (out.less d (inr i))
           ]);
-      dropped = λ c Q place out is lacks new full. Grew-on keeps s0 F s s.waiting Q (s.refused ++ (hash_of c, MissingDeps) ∷ []) g (λ d h. g.here d (out.less d h));
+      dropped = λ c Q place out is lacks new full. Grew-told keeps s0 F (with_rest s s.waiting Q) c MissingDeps lacks (g.here c out.here) (Grew-on keeps s0 F s s.waiting Q g (λ d h. g.here d (out.less d h)));
     })
     u
 
-pub Grew-none : {S : Type 0} (keeps : S → ChangeParts → S → Type 0) (s : Intake S) (F : List ChangeParts) → ((d : ChangeParts) → IsHere s.waiting s.coming d → In d F) → Grew keeps s F s
-Grew-none keeps s F here = record { new = []; grows = Grows-none s.applied F; kept = refl; told = sym (append-nil s.entered); here = here }
+pub Grew-first : {S : Type 0} (keeps : S → ChangeParts → S → Type 0) (s : Intake S) (F : List ChangeParts) → s.refused ≡ [] → ((d : ChangeParts) → IsHere s.waiting s.coming d → In d F) → Grew keeps s F s
+Grew-first keeps s F none here = record {
+  new = [];
+  grows = Grows-none s.applied F;
+  kept = refl;
+  told = sym (append-nil s.entered);
+  refused = λ h e i. absurd (subst (λ (l : List (Hash × GraphError)). In (h, e) l) none i);
+  here = here;
+}
 
 -- the changes of a list are those that come
 pub placing_of : (C V K : List ChangeParts) → changes_of (placing V (delivery C K)) ≡ K
@@ -77,12 +120,12 @@ here_first C W K d (inr i) = In-right d W K (subst (In d) (placing_of C W K) i)
 pub Grew-run : {S : Type 0} (keeps : S → ChangeParts → S → Type 0) (k : S) (C W K : List ChangeParts) (t : Intake S) → Run keeps (begin k C W K) t → Grew keeps (begin k C W K) (W ++ K) t
 Grew-run keeps k C W K t r =
     Run-keeps keeps (Grew keeps (begin k C W K) (W ++ K)) (Grew-turn keeps (begin k C W K) (W ++ K)) (begin k C W K) t r
-    (Grew-none keeps (begin k C W K) (W ++ K) (here_first C W K))
+    (Grew-first keeps (begin k C W K) (W ++ K) refl (here_first C W K))
 
-pub what_entered : {S : Type 0} (keeps : S → ChangeParts → S → Type 0) (k : S) (C W K : List ChangeParts) (t : Intake S) → Run keeps (begin k C W K) t → Entered keeps k C (W ++ K) t
-what_entered keeps k C W K t r =
+pub progress : {S : Type 0} (keeps : S → ChangeParts → S → Type 0) (k : S) (C W K : List ChangeParts) (t : Intake S) → Run keeps (begin k C W K) t → Progress keeps k C (W ++ K) t
+progress keeps k C W K t r =
     let g = Grew-run keeps k C W K t r in
-    record { new = g.new; grows = g.grows; kept = g.kept; told = g.told; waits = λ d i. g.here d (inl i) }
+    record { new = g.new; grows = g.grows; kept = g.kept; told = g.told; refused = g.refused; waits = λ d i. g.here d (inl i) }
 
 pub kept_new : {S : Type 0} (keeps : S → ChangeParts → S → Type 0) (k : S) (C W K : List ChangeParts) (t : Intake S) → Run keeps (begin k C W K) t → KeepsNew keeps k t.keeper C t.applied
 kept_new keeps k C W K t r = let g = Grew-run keeps k C W K t r in record { new = g.new; entered = g.grows.begins; kept = g.kept }

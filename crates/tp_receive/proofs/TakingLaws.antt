@@ -34,14 +34,6 @@ pub OnOk-both : {T E P Q R : Type 0} (r : Result T E) → (P → Q → R) → On
 OnOk-both (Ok x) f p q = f p q
 OnOk-both (Err x) f p q = p
 
-pub IfErr-map : {T E : Type 0} (P Q : E → Type 0) (r : Result T E) → ((e : E) → P e → Q e) → IfErr r P → IfErr r Q
-IfErr-map P Q (Ok x) f h = h
-IfErr-map P Q (Err x) f h = f x h
-
-pub IfErr-both : {T E A : Type 0} (P Q : E → Type 0) (r : Result T E) → ((e : E) → P e → A → Q e) → IfErr r P → OnErr r A → IfErr r Q
-IfErr-both P Q (Ok v) f h s = h
-IfErr-both P Q (Err v) f h s = f v h s
-
 -- ---- what the change met
 
 pub meets_entered : {S : Type 0} (keeps : S → ChangeParts → S → Type 0) (k k' : S) (c : ChangeParts) (C C' V W : List ChangeParts) (P : List (ChangeParts × Bool)) (t t' : List Hash) (r r' : List (Hash × GraphError))

@@ -1,15 +1,12 @@
 -- The list of what waits: going over it, and taking one out.
-use Rattle.tp_list.proofs.Members.{In-append}
-use Rattle.std.proofs.Common.{◌≡◌, ℕ, suc, zero, ◌+◌, ◌<◌, inl, inr, List, [], ◌∷◌, ◌++◌, length, Bool, true, false, ◌||◌, Some, take, drop, refl, sym, ap, ◌∙◌, subst, arith, drop-cons, add-one, get_or}
+use Rattle.std.proofs.Common.{◌≡◌, ℕ, suc, zero, ◌+◌, ◌<◌, inl, inr, List, [], ◌∷◌, ◌++◌, length, Bool, true, Some, take, refl, sym, ap, ◌∙◌, subst, arith, get_or}
 use Rattle.std.proofs.lemmas.List.{take_more}
 use Rattle.std.specs.List.{slice_get, remove}
 use Rattle.tp_opid.specs.declared.hash.Hash.{Hash}
-use Rattle.tp_opid.specs.Same.{same_hash}
 use Rattle.tp_change.specs.declared.parts.ChangeParts.{ChangeParts}
-use Rattle.tp_change.specs.ChangeHash.{hash_of}
 use Rattle.tp_graph.specs.declared.error.GraphError.{GraphError}
-use Rattle.tp_graph.specs.Named.{has}
 use Rattle.tp_graph.specs.Fit.{cause}
+use Rattle.tp_graph.proofs.NamedLaws.{In-cases}
 use Rattle.tp_receive.specs.Receiving.{AllWait, lacks_deps}
 use Rattle.tp_receive.specs.Intake.{NextWaits, intake}
 use Rattle.tp_receive.specs.Trying.{IsEarliest}
@@ -50,19 +47,9 @@ next_waits k C W P t r i c e get =
     }
 
 pub AllWait-push : (C W : List ChangeParts) (c : ChangeParts) → lacks_deps (cause C c) ≡ true → AllWait C W → AllWait C (W ++ c ∷ [])
-AllWait-push C W c h all d i = elim (In-append d W (c ∷ []) i) [ inl j ↦ all d j | inr j ↦ elim j [ inl e ↦ rw e h | inr n ↦ absurd n ] ]
+AllWait-push C W c h all d i = elim (In-cases d W (c ∷ []) i) [ inl j ↦ all d j | inr j ↦ elim j [ inl e ↦ rw e h | inr n ↦ absurd n ] ]
 
 -- one more of them
 pub AllWait-more : (C W : List ChangeParts) (i : ℕ) (d : ChangeParts) → i < length W → d ≡ get_or W i d → lacks_deps (cause C d) ≡ true → AllWait C (take i W) → AllWait C (take (i + 1) W)
 AllWait-more C W i d small is h all =
     subst (AllWait C) (sym (take_more W i d small ∙ ap (λ (x : ChangeParts). take i W ++ x ∷ []) (sym is))) (AllWait-push C (take i W) d h all)
-
-has-drop : (W : List ChangeParts) (i : ℕ) (d : ChangeParts) (h : Hash) → i < length W → has (drop i W) h ≡ (same_hash (hash_of (get_or W i d)) h || has (drop (i + 1) W) h)
-has-drop W i d h small =
-    ap (λ l. has l h) (drop-cons W i d small) ∙ ap (λ k. same_hash (hash_of (get_or W i d)) h || has (drop k W) h) (sym (add-one i))
-
-pub has-found : (W : List ChangeParts) (i : ℕ) (d : ChangeParts) (h : Hash) → i < length W → has (drop i W) h ≡ has W h → same_hash (hash_of (get_or W i d)) h ≡ true → true ≡ has W h
-has-found W i d h small e s = sym (sym e ∙ has-drop W i d h small ∙ ap (λ b. b || has (drop (i + 1) W) h) s)
-
-pub has-on : (W : List ChangeParts) (i : ℕ) (d : ChangeParts) (h : Hash) → i < length W → has (drop i W) h ≡ has W h → same_hash (hash_of (get_or W i d)) h ≡ false → has (drop (i + 1) W) h ≡ has W h
-has-on W i d h small e s = sym (sym e ∙ has-drop W i d h small ∙ ap (λ b. b || has (drop (i + 1) W) h) s)

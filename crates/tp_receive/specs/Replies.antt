@@ -8,7 +8,7 @@ use Rattle.tp_graph.specs.Named.{has}
 use Rattle.tp_graph.specs.Fit.{cause}
 use Rattle.tp_graph.specs.declared.error.GraphError.{GraphError}
 use Rattle.tp_graph.specs.declared.error.GraphError.TheVariants.{MissingDeps}
-use Rattle.tp_receive.specs.Receiving.{Grows, Receives, is_refusal, hashes}
+use Rattle.tp_receive.specs.Receiving.{Begins, Grows, Receives, is_refusal, hashes}
 use Rattle.tp_receive.specs.Delivery.{delivery, undeliverable}
 use Rattle.tp_receive.specs.Intake.{Intake}
 
@@ -23,13 +23,25 @@ pub record KeepsNew {S : Type 0} (keeps : S → ChangeParts → S → Type 0) (k
   pub entered : C' ≡ C ++ new
   pub kept : KeepsAll keeps k new k'
 
+-- A change of F with the hash was refused with the cause e, which it had at its turn, behind some list between C and
+-- `long`.
+pub record WasRefused (C F long : List ChangeParts) (h : Hash) (e : GraphError) : Type 0 where
+  pub change : ChangeParts
+  pub came : In change F
+  pub is : hash_of change ≡ h
+  pub at : List ChangeParts
+  pub after : Begins C at
+  pub before : Begins at long
+  pub caused : cause at change ≡ Some e
+
 -- How far receiving F behind C came: what entered is of F, each had no cause at its turn and was kept first, and it
--- is told in its order; what waits is of F.
-pub record Entered {S : Type 0} (keeps : S → ChangeParts → S → Type 0) (k : S) (C F : List ChangeParts) (t : Intake S) : Type 0 where
+-- is told in its order; each that was refused had the cause that is told at its turn; what waits is of F.
+pub record Progress {S : Type 0} (keeps : S → ChangeParts → S → Type 0) (k : S) (C F : List ChangeParts) (t : Intake S) : Type 0 where
   pub new : List ChangeParts
   pub grows : Grows C F t.applied new
   pub kept : KeepsAll keeps k new t.keeper
   pub told : t.entered ≡ hashes new
+  pub refused : (h : Hash) (e : GraphError) → In (h, e) t.refused → WasRefused C F t.applied h e
   pub waits : AllIn t.waiting F
 
 -- What becomes of the changes W that waited behind C, where C' is applied and W' waits: each waits still, entered,

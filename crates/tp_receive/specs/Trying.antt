@@ -15,8 +15,14 @@ use Rattle.tp_receive.specs.declared.error.ReceiveError.{ReceiveError}
 use Rattle.tp_receive.specs.declared.error.ReceiveError.TheVariants.{PendingFull, NotKept, OutOfMemory}
 use Rattle.tp_receive.specs.declared.keeper.KeepError.{KeepError}
 use Rattle.tp_receive.specs.declared.keeper.KeepError.TheVariants as keep
+use Rattle.tp_receive.specs.declared.report.Report.{Report}
+use Rattle.tp_receive.specs.Intake.{Intake, intake}
 use Rattle.tp_receive.specs.Receiving.{AllWait, lacks_deps, is_refusal, hashes}
 use Rattle.tp_receive.specs.Delivery.{takes_place}
+
+-- What is seen and told so far, where P is still to come.
+abbrev pub so_far : {S : Type 0} → S → List ChangeParts → List ChangeParts → List (ChangeParts × Bool) → Report → Intake S
+so_far k C W P told = intake k C W P told.applied.items told.refused.items
 
 -- The change entered, after it was kept, or it was refused and told, or it is given back since it must wait.
 abbrev pub Tried : {S : Type 0} → (S → ChangeParts → S → Type 0) → S → S → ChangeParts → List ChangeParts → List ChangeParts

@@ -6,6 +6,7 @@ ghost use Rattle.tp_receive.specs.Receiving.{AllWait};
 ghost use Rattle.tp_receive.specs.Delivery as delivery;
 ghost use Rattle.tp_receive.specs.Intake.{Fails, Received, Run, Stopped, begin, intake};
 ghost use Rattle.tp_receive.specs.Replies.{KeepsNew};
+ghost use Rattle.tp_receive.specs.Trying.{so_far};
 
 use crate::coming::{Coming, reserve};
 use crate::error::ReceiveError;
@@ -31,11 +32,11 @@ fn take_all<R: Replica, K: Keeper>(
     requires { coming.reserved ≡ delivery.places coming.changes.items }
     ensures id { R.id replica.new ≡ R.id replica.old }
     ensures ok { OnOk result (Run K.keeps
-        (intake keeper.old (R.applied replica.old) (R.waiting replica.old) coming.changes.items told.old.applied.items told.old.refused.items)
-        (intake keeper.new (R.applied replica.new) (R.waiting replica.new) [] told.new.applied.items told.new.refused.items)) }
+        (so_far keeper.old (R.applied replica.old) (R.waiting replica.old) coming.changes.items told.old)
+        (so_far keeper.new (R.applied replica.new) (R.waiting replica.new) [] told.new)) }
     ensures settled { OnOk result (AllWait (R.applied replica.new) (R.waiting replica.new)) }
     ensures err { IfErr result (λ e. Stopped K.keeps K.refuses
-        (intake keeper.old (R.applied replica.old) (R.waiting replica.old) coming.changes.items told.old.applied.items told.old.refused.items)
+        (so_far keeper.old (R.applied replica.old) (R.waiting replica.old) coming.changes.items told.old)
         e keeper.new (R.applied replica.new) (R.waiting replica.new)) }
 {
     settle(replica, keeper, told)?;

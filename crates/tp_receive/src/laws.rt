@@ -10,7 +10,7 @@ ghost use Rattle.tp_graph.specs.GraphState.{most_waiting};
 ghost use Rattle.tp_receive.specs.Receiving.{Receives, Between, Grows, EntersAfter, HashesApart, SeqsApart, is_refusal};
 ghost use Rattle.tp_receive.specs.Delivery.{is_full};
 ghost use Rattle.tp_receive.specs.Intake.{Ends, Intake, Run, Stopped, begin};
-ghost use Rattle.tp_receive.specs.Replies.{Alike, Entered, LosesNone, NoneDropped, Results};
+ghost use Rattle.tp_receive.specs.Replies.{Alike, LosesNone, NoneDropped, Progress, Results};
 ghost use Rattle.tp_receive.specs.declared.error.ReceiveError.{ReceiveError};
 
 use crate::keeper::Keeper;
@@ -45,9 +45,10 @@ pub fn one_set()
 {}
 
 /// Wherever a run stops: what entered is of what waited and came, each change could enter at its turn and was kept
-/// first, and it is told in its order. What waits is of what waited and came.
-pub fn what_entered<K: Keeper>()
-    ensures { (k : K) (C W L : List ChangeParts) (t : Intake K) → Run K.keeps (begin k C W L) t → Entered K.keeps k C (W ++ L) t }
+/// first, and it is told in its order; each that was refused had the cause that is told at its turn. What waits is of
+/// what waited and came.
+pub fn progress<K: Keeper>()
+    ensures { (k : K) (C W L : List ChangeParts) (t : Intake K) → Run K.keeps (begin k C W L) t → Progress K.keeps k C (W ++ L) t }
 {}
 
 /// Wherever a run goes on to, nothing that waits is lost: each waits still, entered or is refused for good.

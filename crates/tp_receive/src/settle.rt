@@ -5,9 +5,9 @@ ghost use Rattle.std.specs.List.{slice_get, remove};
 ghost use Rattle.tp_change.specs.declared.parts.ChangeParts.{ChangeParts};
 ghost use Rattle.tp_change.specs.ChangeHash.{hash_of};
 ghost use Rattle.tp_graph.specs.Fit.{cause};
-ghost use Rattle.tp_receive.specs.Trying.{IsEarliest, Tried, TryFails};
+ghost use Rattle.tp_receive.specs.Trying.{IsEarliest, Tried, TryFails, so_far};
 ghost use Rattle.tp_receive.specs.Receiving.{AllWait, lacks_deps};
-ghost use Rattle.tp_receive.specs.Intake.{Run, Stopped, Turn, intake};
+ghost use Rattle.tp_receive.specs.Intake.{Run, Stopped, Turn};
 
 use crate::admit::{Outcome, keep};
 use crate::error::ReceiveError;
@@ -105,10 +105,10 @@ fn settle_one<R: Replica, K: Keeper>(
     requires { IsEarliest (R.applied replica.old) (R.waiting replica.old) i }
     ensures id { R.id replica.new ≡ R.id replica.old }
     ensures ok { (P : List (ChangeParts × Bool)) → OnOk result (Turn K.keeps
-        (intake keeper.old (R.applied replica.old) (R.waiting replica.old) P told.old.applied.items told.old.refused.items)
-        (intake keeper.new (R.applied replica.new) (R.waiting replica.new) P told.new.applied.items told.new.refused.items)) }
+        (so_far keeper.old (R.applied replica.old) (R.waiting replica.old) P told.old)
+        (so_far keeper.new (R.applied replica.new) (R.waiting replica.new) P told.new)) }
     ensures err { (P : List (ChangeParts × Bool)) → IfErr result (λ e. Stopped K.keeps K.refuses
-        (intake keeper.old (R.applied replica.old) (R.waiting replica.old) P told.old.applied.items told.old.refused.items)
+        (so_far keeper.old (R.applied replica.old) (R.waiting replica.old) P told.old)
         e keeper.new (R.applied replica.new) (R.waiting replica.new)) }
     ensures fewer { OnOk result (length (R.waiting replica.new) + 1 ≡ length (R.waiting replica.old)) }
 {
@@ -128,11 +128,11 @@ pub(crate) fn settle<R: Replica, K: Keeper>(
 ) -> Result<(), ReceiveError>
     ensures id { R.id replica.new ≡ R.id replica.old }
     ensures ok { (P : List (ChangeParts × Bool)) → OnOk result (Run K.keeps
-        (intake keeper.old (R.applied replica.old) (R.waiting replica.old) P told.old.applied.items told.old.refused.items)
-        (intake keeper.new (R.applied replica.new) (R.waiting replica.new) P told.new.applied.items told.new.refused.items)) }
+        (so_far keeper.old (R.applied replica.old) (R.waiting replica.old) P told.old)
+        (so_far keeper.new (R.applied replica.new) (R.waiting replica.new) P told.new)) }
     ensures settled { OnOk result (AllWait (R.applied replica.new) (R.waiting replica.new)) }
     ensures err { (P : List (ChangeParts × Bool)) → IfErr result (λ e. Stopped K.keeps K.refuses
-        (intake keeper.old (R.applied replica.old) (R.waiting replica.old) P told.old.applied.items told.old.refused.items)
+        (so_far keeper.old (R.applied replica.old) (R.waiting replica.old) P told.old)
         e keeper.new (R.applied replica.new) (R.waiting replica.new)) }
 {
     while let Some(i) = first_ready(replica)? {

@@ -5,8 +5,8 @@ ghost use Rattle.tp_change.specs.declared.parts.ChangeParts.{ChangeParts};
 ghost use Rattle.tp_graph.specs.Named as named;
 ghost use Rattle.tp_receive.specs.Receiving.{AllWait};
 ghost use Rattle.tp_receive.specs.Delivery.{places};
-ghost use Rattle.tp_receive.specs.Intake.{Run, Stopped, intake};
-ghost use Rattle.tp_receive.specs.Trying.{IsHeld};
+ghost use Rattle.tp_receive.specs.Intake.{Run, Stopped};
+ghost use Rattle.tp_receive.specs.Trying.{IsHeld, so_far};
 
 use crate::admit::{Outcome, admit};
 use crate::error::ReceiveError;
@@ -77,11 +77,11 @@ pub(crate) fn take<R: Replica, K: Keeper>(
     requires settled { AllWait (R.applied replica.old) (R.waiting replica.old) }
     ensures id { R.id replica.new ≡ R.id replica.old }
     ensures ok { (place : Bool) (P : List (ChangeParts × Bool)) → reserved ≡ places P → OnOk result (Run K.keeps
-        (intake keeper.old (R.applied replica.old) (R.waiting replica.old) ((change, place) ∷ P) told.old.applied.items told.old.refused.items)
-        (intake keeper.new (R.applied replica.new) (R.waiting replica.new) P told.new.applied.items told.new.refused.items)) }
+        (so_far keeper.old (R.applied replica.old) (R.waiting replica.old) ((change, place) ∷ P) told.old)
+        (so_far keeper.new (R.applied replica.new) (R.waiting replica.new) P told.new)) }
     ensures settled { OnOk result (AllWait (R.applied replica.new) (R.waiting replica.new)) }
     ensures err { (place : Bool) (P : List (ChangeParts × Bool)) → reserved ≡ places P → IfErr result (λ e. Stopped K.keeps K.refuses
-        (intake keeper.old (R.applied replica.old) (R.waiting replica.old) ((change, place) ∷ P) told.old.applied.items told.old.refused.items)
+        (so_far keeper.old (R.applied replica.old) (R.waiting replica.old) ((change, place) ∷ P) told.old)
         e keeper.new (R.applied replica.new) (R.waiting replica.new)) }
 {
     match admit(replica, keeper, change, told)? {

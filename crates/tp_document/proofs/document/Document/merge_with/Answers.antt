@@ -3,6 +3,7 @@ use Rattle.tp_opid.specs.declared.doc_id.DocId.{DocId}
 use Rattle.tp_opid.specs.Same.{same_doc}
 use Rattle.tp_opid.proofs.Orders.{same_doc-same, same_doc-apart}
 use Rattle.tp_change.specs.declared.parts.ChangeParts.{ChangeParts}
+use Rattle.tp_graph.specs.Sound.{Sound}
 use Rattle.tp_receive.specs.Delivery.{is_full}
 use Rattle.tp_receive.specs.Intake.{begin}
 use Rattle.tp_receive.specs.declared.error.ReceiveError.TheVariants as receive
@@ -17,6 +18,18 @@ use Rattle.tp_document.proofs.document.Document.merge_with.Goals as goal
 -- two documents whose identifiers were found to be one have one
 one_id : (d e : DocState) (a b : DocId) → a ≡ d.id → b ≡ e.id → same_doc a b ≡ true → d.id ≡ e.id
 one_id d e a b x y t = sym x ∙ same_doc-same a b t ∙ y
+
+pub returns-then-not-is-clause-space : goal.returns-then-not-is-clause-space
+returns-then-not-is-clause-space g c =
+    never_full c.args.self.now.applied c.args.self.now.waiting c.args.other.now.applied (subst (λ (d : DocState). Sound d.applied) c.other.view_is c.other.invariant.sound) c.pending-pending.ensures.few
+
+pub returns-in-Ok-clause-space : goal.returns-in-Ok-clause-space
+returns-in-Ok-clause-space g c =
+    never_full c.args.self.now.applied c.args.self.now.waiting c.args.other.now.applied c.changes.ensures.sound c.pending-pending.ensures.few
+
+pub returns-in-Err-clause-space : goal.returns-in-Err-clause-space
+returns-in-Err-clause-space g c =
+    never_full c.args.self.now.applied c.args.self.now.waiting c.args.other.now.applied c.changes.ensures.sound c.pending-pending.ensures.few
 
 pub returns-then-not-is-clause-other : goal.returns-then-not-is-clause-other
 returns-then-not-is-clause-other g c same =
