@@ -1,5 +1,5 @@
 -- The elements in blocks: what reads find, and what an insert and a delete leave.
-use Rattle.std.proofs.Common.{◌≡◌, ◌⊎◌, inl, inr, ℕ, zero, suc, ◌+◌, ◌-◌, ◌<◌, ◌≤◌, Bool, true, false, not, Option, None, Some, List, [], ◌∷◌, ◌++◌, length, take, drop, get_or, insert, set, map, filter, position, slice_get, refl, sym, ap, ◌∙◌, subst, arith, append_assoc, length-append, MatchBool}
+use Rattle.std.proofs.Common.{◌≡◌, inl, inr, ℕ, zero, suc, ◌+◌, ◌-◌, ◌<◌, ◌≤◌, Bool, true, false, not, Option, None, Some, List, [], ◌∷◌, ◌++◌, length, take, get_or, insert, set, map, filter, position, slice_get, refl, sym, ap, ◌∙◌, subst, arith, length-append, MatchBool}
 use Rattle.std.specs.Option.{option_map, is_some}
 use Rattle.std.proofs.lemmas.List.{length-map, length-set, get_or-set_other, get_or-set_same}
 use Rattle.tp_list.specs.Members.{In}
@@ -9,7 +9,7 @@ use Rattle.tp_opid.specs.declared.op_id.Place.TheVariants.{Start, After}
 use Rattle.tp_opid.specs.Insert.{Insert}
 use Rattle.tp_opid.specs.Order.{Below}
 use Rattle.tp_opid.specs.Same.{id_eq}
-use Rattle.tp_opid.proofs.Orders.{id_eq-same, id_eq-itself}
+use Rattle.tp_opid.proofs.Orders.{id_eq-same}
 use Rattle.tp_rga.specs.declared.element.Element.{Element}
 use Rattle.tp_rga.specs.Tree.{IsThere, IsNew, AreApart, CanInsert}
 use Rattle.tp_rga.specs.Shown.{is_removed, shown, shown_before, element_of}
@@ -305,12 +305,14 @@ IsBlocked-delete E bs flags R left k t b kept found down there =
     let within : k < length flags = (let n = named.0 in let m = kept.matched in omega arith) in
     let read : flag_of flags k ≡ get_or (flags_of flags js) at.0 (flag_of flags k) = sym (get_or-of_map (flag_of flags) js at.0 (flag_of flags k) 0 at.1 ∙ ap (flag_of flags) at.2) in
     let gone = IsKept-delete L (flags_of flags js) R left t b at.0 kept.kept (IsFirst-position L t (Some at.0) at.3) (flag_of flags k) read down there in
-    let same = flags_set flags js at.0 k kept.numbered.once at.1 at.2 within in
-    (gone.0, record {
-      matched = length-set flags k true ∙ kept.matched;
-      numbered = kept.numbered;
-      kept = subst (λ z. IsKept L z (R ++ (t, b) ∷ []) (left - 1)) (sym same) gone.1;
-    })
+    let same = flags_set flags js at.0 k kept.numbered.once at.1 at.2 within in (
+      gone.0,
+      record {
+        matched = length-set flags k true ∙ kept.matched;
+        numbered = kept.numbered;
+        kept = subst (λ z. IsKept L z (R ++ (t, b) ∷ []) (left - 1)) (sym same) gone.1;
+      },
+    )
 
 -- an element that is deleted already is deleted again
 pub IsBlocked-delete_again : (E : List Insert) (bs : List (List ℕ)) (flags : List Bool) (R : List (OpId × OpId)) (left k : ℕ) (t b : OpId) → IsBlocked E bs flags R left → position (λ (e : Insert). id_eq e.id t) E ≡ Some k → flag_of flags k ≡ true → IsThere (map (element_at E) (joined bs)) t → IsBlocked E bs flags (R ++ (t, b) ∷ []) left

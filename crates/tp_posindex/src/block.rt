@@ -63,7 +63,11 @@ impl Block {
         ensures back { back.new ≡ drop HALF self.old }
     {
         back.numbers.clear();
-        if back.numbers.extend_from_slice(&self.numbers[HALF..]).is_err() {
+        if back
+            .numbers
+            .extend_from_slice(&self.numbers[HALF..])
+            .is_err()
+        {
             unreachable!()
         }
         self.numbers.truncate(HALF);

@@ -97,12 +97,7 @@ fn right_after(elements: &[Insertion], blocks: &Blocks, place: &Place) -> Spot
 }
 
 /// The spot where an insert goes: right after its reference, past each element with a greater identifier.
-pub(crate) fn spot_for(
-    elements: &[Insertion],
-    blocks: &Blocks,
-    id: &OpId,
-    after: &Place,
-) -> Spot
+pub(crate) fn spot_for(elements: &[Insertion], blocks: &Blocks, id: &OpId, after: &Place) -> Spot
     requires matched { length blocks.now.flags ≡ length elements.now }
     requires numbered { IsNumbered (length elements.now) (joined blocks.now.blocks) }
     requires can { CanInsert (map (element_at elements.now) (joined blocks.now.blocks)) id.now after.now }

@@ -105,11 +105,7 @@ impl Sequence for BlockSequence {
         self.elements.reserve(1)?;
         self.blocks.reserve(1)?;
         let spot = spot_for(&self.elements, &self.blocks, &id, &after);
-        if self
-            .elements
-            .push(Insertion { id, after, ch })
-            .is_err()
-        {
+        if self.elements.push(Insertion { id, after, ch }).is_err() {
             unreachable!()
         }
         self.blocks.put(spot);

@@ -2,7 +2,7 @@ use Rattle.std.proofs.Common.{sym, ◌∙◌, subst, arith}
 use Rattle.tp_rga.specs.Tree.{HasPlace}
 use Rattle.tp_rga.proofs.Lookups.{IsThere-not_new}
 use Rattle.tp_posindex.specs.Layout.{joined}
-use Rattle.tp_posindex.proofs.Seeking.{gap_start, gap_behind, none_placed, ends_found}
+use Rattle.tp_posindex.proofs.Seeking.{gap_behind, none_placed, ends_found}
 use Rattle.tp_posindex.proofs.places.right_after.Goals as goal
 
 pub unreachable-requires : goal.unreachable-requires

@@ -1,6 +1,5 @@
-use Rattle.std.proofs.Common.{ℕ}
 use Rattle.tp_posindex.specs.Layout.{joined, place_at}
-use Rattle.tp_posindex.proofs.Seeking.{place_there, inserted_found}
+use Rattle.tp_posindex.proofs.Seeking.{inserted_found}
 use Rattle.tp_posindex.proofs.places.spot_for.Goals as goal
 
 pub returns-clause-order : goal.returns-clause-order

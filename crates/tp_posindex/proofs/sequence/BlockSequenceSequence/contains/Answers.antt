@@ -1,4 +1,4 @@
-use Rattle.std.proofs.Common.{◌≡◌, true, sym, ◌∙◌, subst}
+use Rattle.std.proofs.Common.{◌≡◌, true, sym, subst}
 use Rattle.std.specs.Option.{is_some}
 use Rattle.tp_rga.specs.Tree.{IsThere}
 use Rattle.tp_posindex.specs.Layout.{joined}

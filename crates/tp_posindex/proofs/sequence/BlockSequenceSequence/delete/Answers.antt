@@ -4,7 +4,7 @@ use Rattle.tp_rga.proofs.Lookups.{IsThere-not_new}
 use Rattle.tp_posindex.specs.Layout.{joined}
 use Rattle.tp_posindex.specs.Laid.{flag_of}
 use Rattle.tp_posindex.specs.BlockState.{BlockState}
-use Rattle.tp_posindex.specs.Blocked.{element_at, IsBlocked}
+use Rattle.tp_posindex.specs.Blocked.{element_at}
 use Rattle.tp_posindex.proofs.Seeking.{none_placed}
 use Rattle.tp_posindex.proofs.Sequencing.{placed_is, IsBlocked-delete, IsBlocked-delete_again}
 use Rattle.tp_posindex.proofs.sequence.BlockSequenceSequence.delete.Goals as goal

@@ -1,9 +1,9 @@
-use Rattle.std.proofs.Common.{◌≡◌, Bool, Some, slice_get, get_or, sym, ap, ◌∙◌}
+use Rattle.std.proofs.Common.{Some, slice_get, sym, ap, ◌∙◌}
 use Rattle.std.specs.Option.{option_map}
 use Rattle.tp_opid.specs.Insert.{Insert}
 use Rattle.tp_rga.specs.declared.element.Element.{Element}
 use Rattle.tp_rga.specs.Shown.{element_of}
-use Rattle.tp_posindex.specs.Layout.{joined, block_at}
+use Rattle.tp_posindex.specs.Layout.{joined}
 use Rattle.tp_posindex.specs.BlockState.{BlockState}
 use Rattle.tp_posindex.proofs.Sequencing.{element_at_place, element_past}
 use Rattle.tp_posindex.proofs.sequence.BlockSequenceSequence.element.Goals as goal

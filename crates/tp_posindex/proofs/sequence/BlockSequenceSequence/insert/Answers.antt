@@ -1,4 +1,4 @@
-use Rattle.std.proofs.Common.{◌≡◌, ◌<◌, ◌≤◌, ◌+◌, ℕ, List, Bool, [], ◌∷◌, ◌++◌, true, false, not, length, map, insert, sym, ◌∙◌, ap, subst, arith}
+use Rattle.std.proofs.Common.{◌≡◌, ℕ, List, Bool, [], ◌∷◌, ◌++◌, true, false, not, length, map, insert, sym, ◌∙◌, ap, subst, arith}
 use Rattle.std.specs.Result.{is_ok}
 use Rattle.std.proofs.lemmas.List.{length-map}
 use Rattle.tp_opid.specs.Insert.{Insert}
@@ -8,7 +8,7 @@ use Rattle.tp_rga.proofs.Keeping.{IsKept-left}
 use Rattle.tp_posindex.specs.Layout.{joined, place_at}
 use Rattle.tp_posindex.specs.Laid.{flags_of}
 use Rattle.tp_posindex.specs.BlockState.{BlockState}
-use Rattle.tp_posindex.specs.Blocked.{element_at, pieces, IsBlocked}
+use Rattle.tp_posindex.specs.Blocked.{element_at, pieces}
 use Rattle.tp_posindex.proofs.Sequencing.{placed_is, placed_insert, IsBlocked-insert}
 use Rattle.tp_posindex.proofs.sequence.BlockSequenceSequence.insert.Goals as goal
 

@@ -1,4 +1,4 @@
-use Rattle.std.proofs.Common.{Some, sym, ap, ◌∙◌}
+use Rattle.std.proofs.Common.{sym, ap, ◌∙◌}
 use Rattle.tp_rga.specs.Shown.{shown_before}
 use Rattle.tp_posindex.specs.Layout.{joined}
 use Rattle.tp_posindex.specs.BlockState.{BlockState}
