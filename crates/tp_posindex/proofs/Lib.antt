@@ -3,3 +3,4 @@ pub mod Laying
 pub mod Rooms
 pub mod Seeking
 pub mod Sequencing
+pub mod Linking

@@ -1,5 +1,5 @@
 -- Room for more numbers and blocks.
-use Rattle.std.proofs.Common.{◌≡◌, ℕ, ◌+◌, ◌-◌, ◌*◌, ◌<◌, ◌≤◌, min, max, arith}
+use Rattle.std.proofs.Common.{◌≡◌, ℕ, ◌+◌, ◌-◌, ◌*◌, ◌≤◌, min, max, arith}
 
 -- the least of four greater numbers is greater
 pub least_grows : (a b c d a' b' c' d' : ℕ) → a ≤ a' → b ≤ b' → c ≤ c' → d ≤ d' → min (min a b) (min c d) ≤ min (min a' b') (min c' d')

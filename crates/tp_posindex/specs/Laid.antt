@@ -1,5 +1,5 @@
 -- Numbers of elements in blocks, with a flag for each: what contracts see, and what always holds of the parts.
-use Rattle.std.specs.Prelude.{◌≡◌, ℕ, ◌+◌, ◌-◌, ◌*◌, ◌<◌, ◌≤◌, Bool, false, not, List, [], ◌∷◌, length, filter, map, min, max, slice_index_or}
+use Rattle.std.specs.Prelude.{◌≡◌, ℕ, ◌+◌, ◌-◌, ◌*◌, ◌<◌, Bool, false, not, List, [], ◌∷◌, length, filter, map, min, max, slice_index_or}
 use Rattle.tp_list.specs.Members.{In}
 use Rattle.tp_posindex.specs.Layout.{joined, block_at, AreSized}
 

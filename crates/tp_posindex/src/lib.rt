@@ -8,6 +8,9 @@
 mod block;
 mod block_info;
 mod blocks;
+mod elements;
+mod links;
+mod lookup;
 mod numbers;
 mod places;
 mod sequence;

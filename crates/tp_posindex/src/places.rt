@@ -1,26 +1,19 @@
 //! The elements by number, and the spot where an insert goes.
 
-ghost use Rattle.tp_opid.specs.Tree.{HasPlace, CanInsert};
-ghost use Rattle.std.specs.Prelude.{◌≡◌, ℕ, ◌<◌, ◌≤◌, ◌≢◌, length, take, insert, position, map, slice_index_or};
+ghost use Rattle.std.specs.Prelude.{◌≡◌, ℕ, ◌<◌, ◌≤◌, ◌≢◌, length, take, insert, map, slice_index_or};
 ghost use Rattle.std.specs.List.{All, AllWithin, HoldsAt};
 ghost use Rattle.tp_opid.specs.Insert.{Insert};
 ghost use Rattle.tp_opid.specs.Order.{Below};
-ghost use Rattle.tp_opid.specs.Same.{id_eq};
+ghost use Rattle.tp_rga.specs.Tree.{HasPlace, CanInsert};
 ghost use Rattle.tp_rga.specs.Order.{EndsAt, IsInserted};
 ghost use Rattle.tp_posindex.specs.Layout.{joined, place_at, IsGap};
 ghost use Rattle.tp_posindex.specs.Laid.{IsNumbered};
 ghost use Rattle.tp_posindex.specs.Blocked.{element_at};
 
 use crate::blocks::{Blocks, Spot};
+use crate::elements::Elements;
 use tp_opid::{OpId, Place};
 use tp_rga::Insertion;
-
-/// The number of the element with an identifier. The cost is a pass over the elements that came before it.
-pub(crate) fn number_of(elements: &[Insertion], id: &OpId) -> Option<usize>
-    ensures { result ≡ position (λ e. id_eq e.id id.now) elements.now }
-{
-    elements.iter().position(|e| e.id.is(id))
-}
 
 /// From an offset of a block on, past each element with a greater identifier, up to the first that has none or to the
 /// block's end.
@@ -71,19 +64,19 @@ fn past_greater(elements: &[Insertion], blocks: &Blocks, from: Spot, id: &OpId) 
 }
 
 /// Right after a place: at the start, or behind the element that it names.
-fn right_after(elements: &[Insertion], blocks: &Blocks, place: &Place) -> Spot
-    requires matched { length blocks.now.flags ≡ length elements.now }
-    requires numbered { IsNumbered (length elements.now) (joined blocks.now.blocks) }
-    requires place { HasPlace (map (element_at elements.now) (joined blocks.now.blocks)) place.now }
+fn right_after(elements: &Elements, blocks: &Blocks, place: &Place) -> Spot
+    requires matched { length blocks.now.flags ≡ length elements.now.items }
+    requires numbered { IsNumbered (length elements.now.items) (joined blocks.now.blocks) }
+    requires place { HasPlace (map (element_at elements.now.items) (joined blocks.now.blocks)) place.now }
     ensures gap { IsGap blocks.now.blocks result.block result.offset }
-    ensures ends { EndsAt (take (place_at blocks.now.blocks result.block result.offset) (map (element_at elements.now) (joined blocks.now.blocks))) place.now }
+    ensures ends { EndsAt (take (place_at blocks.now.blocks result.block result.offset) (map (element_at elements.now.items) (joined blocks.now.blocks))) place.now }
 {
     match place {
         Place::Start => Spot {
             block: 0,
             offset: 0,
         },
-        Place::After(reference) => match number_of(elements, reference) {
+        Place::After(reference) => match elements.number_of(reference) {
             Some(number) => {
                 let spot = blocks.spot_of(number);
                 Spot {
@@ -97,14 +90,19 @@ fn right_after(elements: &[Insertion], blocks: &Blocks, place: &Place) -> Spot
 }
 
 /// The spot where an insert goes: right after its reference, past each element with a greater identifier.
-pub(crate) fn spot_for(elements: &[Insertion], blocks: &Blocks, id: &OpId, after: &Place) -> Spot
-    requires matched { length blocks.now.flags ≡ length elements.now }
-    requires numbered { IsNumbered (length elements.now) (joined blocks.now.blocks) }
-    requires can { CanInsert (map (element_at elements.now) (joined blocks.now.blocks)) id.now after.now }
+pub(crate) fn spot_for(elements: &Elements, blocks: &Blocks, id: &OpId, after: &Place) -> Spot
+    requires matched { length blocks.now.flags ≡ length elements.now.items }
+    requires numbered { IsNumbered (length elements.now.items) (joined blocks.now.blocks) }
+    requires can { CanInsert (map (element_at elements.now.items) (joined blocks.now.blocks)) id.now after.now }
     ensures gap { IsGap blocks.now.blocks result.block result.offset }
     ensures order { (ch : ℕ) → let x : Insert = record { id = id.now; after = after.now; ch = ch } in
-        let placed = map (element_at elements.now) (joined blocks.now.blocks) in
+        let placed = map (element_at elements.now.items) (joined blocks.now.blocks) in
         IsInserted placed (insert placed (place_at blocks.now.blocks result.block result.offset) x) x }
 {
-    past_greater(elements, blocks, right_after(elements, blocks, after), id)
+    past_greater(
+        elements.items(),
+        blocks,
+        right_after(elements, blocks, after),
+        id,
+    )
 }

@@ -1,15 +1,16 @@
 //! A sequence whose elements stand in blocks.
 
-ghost use Rattle.tp_opid.specs.Tree.{IsThere, IsNew};
 ghost use Rattle.std.specs.Prelude.{◌≡◌, ◌↔◌, ℕ, ◌+◌, ◌-◌, ◌^◌, ◌<◌, ◌≤◌, List, [], ◌∷◌, ◌++◌, length, IsTrue, IsOk, OnOk, OnErr, Some, MatchOption, slice_get};
 ghost use Rattle.tp_opid.specs.declared.op_id.OpId.{OpId as Id};
 ghost use Rattle.tp_opid.specs.Insert.{Insert};
+ghost use Rattle.tp_rga.specs.Tree.{IsThere, IsNew};
 ghost use Rattle.tp_posindex.specs.Layout.{joined, block_at, AreSized};
 ghost use Rattle.tp_posindex.specs.BlockState.{IsInfoOf};
 
 use crate::block_info::BlockInfo;
 use crate::blocks::Blocks;
-use crate::places::{number_of, spot_for};
+use crate::elements::Elements;
+use crate::places::spot_for;
 use std::alloc::{AllocError, Global};
 use std::marker::Model;
 use tp_opid::{OpId, Place};
@@ -18,7 +19,7 @@ use tp_rga::{Element, Insertion, Sequence};
 /// A sequence whose elements stand in blocks of up to 128.
 #[derive(Drop)]
 pub struct BlockSequence {
-    elements: Vec<Insertion>,
+    elements: Elements,
     blocks: Blocks,
     deletes: Vec<(OpId, OpId)>,
     left: usize,
@@ -37,7 +38,7 @@ impl Model for BlockSequence {
       blocks = pieces s.elements.items s.blocks.blocks;
       removals = s.deletes.items;
       room = min
-          (min (vec_capacity s.elements - vec_len s.elements) (vec_capacity s.deletes - vec_len s.deletes))
+          (min s.elements.room (vec_capacity s.deletes - vec_len s.deletes))
           (room_of s.blocks);
     } };
 
@@ -74,7 +75,7 @@ impl BlockSequence {
             (IsNew (joined self.now.blocks) id.now)
             (λ i. (i < length self.now.blocks) × IsThere (block_at self.now.blocks i) id.now) }
     {
-        let number = number_of(&self.elements, id)?;
+        let number = self.elements.number_of(id)?;
         Some(self.blocks.spot_of(number).block)
     }
 }
@@ -88,7 +89,7 @@ impl Sequence for BlockSequence {
 
     fn new(alloc: Global) -> Self {
         BlockSequence {
-            elements: Vec::new(alloc),
+            elements: Elements::new(alloc),
             blocks: Blocks::new(alloc),
             deletes: Vec::new(alloc),
             left: 0,
@@ -105,9 +106,7 @@ impl Sequence for BlockSequence {
         self.elements.reserve(1)?;
         self.blocks.reserve(1)?;
         let spot = spot_for(&self.elements, &self.blocks, &id, &after);
-        if self.elements.push(Insertion { id, after, ch }).is_err() {
-            unreachable!()
-        }
+        self.elements.push(Insertion { id, after, ch });
         self.blocks.put(spot);
         self.left += 1;
         Ok(())
@@ -115,7 +114,7 @@ impl Sequence for BlockSequence {
 
     fn delete(&mut self, target: OpId, by: OpId) -> Result<(), AllocError> {
         self.deletes.push((target, by))?;
-        if let Some(number) = number_of(&self.elements, &target) {
+        if let Some(number) = self.elements.number_of(&target) {
             if !self.blocks.is_deleted(number) {
                 self.blocks.hide(number);
                 self.left -= 1;
@@ -135,7 +134,7 @@ impl Sequence for BlockSequence {
     }
 
     fn contains(&self, id: &OpId) -> bool {
-        number_of(&self.elements, id).is_some()
+        self.elements.number_of(id).is_some()
     }
 
     fn len(&self) -> usize {
@@ -145,7 +144,7 @@ impl Sequence for BlockSequence {
     fn char_at(&self, i: usize) -> Option<char> {
         match self.blocks.nth_visible(i) {
             Some(spot) => {
-                let e = &self.elements[self.blocks.number_at(spot)];
+                let e = &self.elements.items()[self.blocks.number_at(spot)];
                 Some(e.ch)
             }
             None => None,
@@ -155,7 +154,7 @@ impl Sequence for BlockSequence {
     fn id_at(&self, i: usize) -> Option<OpId> {
         match self.blocks.nth_visible(i) {
             Some(spot) => {
-                let e = &self.elements[self.blocks.number_at(spot)];
+                let e = &self.elements.items()[self.blocks.number_at(spot)];
                 Some(e.id)
             }
             None => None,
@@ -163,7 +162,7 @@ impl Sequence for BlockSequence {
     }
 
     fn position(&self, id: &OpId) -> Option<usize> {
-        match number_of(&self.elements, id) {
+        match self.elements.number_of(id) {
             Some(number) => Some(self.blocks.visible_before(self.blocks.spot_of(number))),
             None => None,
         }
@@ -177,7 +176,7 @@ impl Sequence for BlockSequence {
         match self.blocks.spot_at(i) {
             Some(spot) => {
                 let number = self.blocks.number_at(spot);
-                let e = &self.elements[number];
+                let e = &self.elements.items()[number];
                 Some(Element {
                     id: e.id,
                     after: e.after,

@@ -1,4 +1,4 @@
-use Rattle.std.proofs.Common.{length, get_or, arith}
+use Rattle.std.proofs.Common.{arith}
 use Rattle.tp_posindex.proofs.Laying.{renamed_more}
 use Rattle.tp_posindex.proofs.blocks.rename.Goals as goal
 

@@ -1,4 +1,4 @@
-use Rattle.std.proofs.Common.{◌≡◌, ℕ, length, take, get_or}
+use Rattle.std.proofs.Common.{◌≡◌, ℕ, take, get_or}
 use Rattle.tp_list.specs.Members.{In}
 use Rattle.tp_posindex.proofs.blocks.rename.Given as goal
 

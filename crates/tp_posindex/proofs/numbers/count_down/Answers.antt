@@ -1,4 +1,4 @@
-use Rattle.std.proofs.Common.{arith, length, take, length-take}
+use Rattle.std.proofs.Common.{arith, take, length-take}
 use Rattle.tp_posindex.proofs.Laying.{count-le}
 use Rattle.tp_posindex.proofs.numbers.count_down.Goals as goal
 

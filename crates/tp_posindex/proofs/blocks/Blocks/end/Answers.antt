@@ -1,6 +1,6 @@
-use Rattle.std.proofs.Common.{◌≡◌, ◌<◌, ◌-◌, ◌+◌, suc, sym, ◌∙◌, ap, arith, length}
+use Rattle.std.proofs.Common.{◌≡◌, ◌<◌, ◌-◌, suc, sym, ◌∙◌, ap, arith, length}
 use Rattle.tp_posindex.specs.Laid.{Layout}
-use Rattle.tp_posindex.specs.Layout.{joined, block_at, place_at}
+use Rattle.tp_posindex.specs.Layout.{place_at}
 use Rattle.tp_posindex.proofs.Joining.{place_at-next, place_at-end}
 use Rattle.tp_posindex.proofs.Laying.{length-laid}
 use Rattle.tp_posindex.proofs.blocks.Blocks.end.Goals as goal

@@ -1,6 +1,6 @@
-use Rattle.std.proofs.Common.{◌≡◌, ◌<◌, ◌≤◌, ◌+◌, ◌^◌, suc, List, ℕ, sym, ◌∙◌, ap, subst, arith, length}
-use Rattle.tp_posindex.specs.Layout.{joined, block_at, place_at}
-use Rattle.tp_posindex.proofs.Joining.{place_at-next, place_at-within}
+use Rattle.std.proofs.Common.{◌≡◌, ◌<◌, ◌+◌, ◌^◌, suc, sym, ◌∙◌, ap, arith, length}
+use Rattle.tp_posindex.specs.Layout.{block_at, place_at}
+use Rattle.tp_posindex.proofs.Joining.{place_at-next}
 use Rattle.tp_posindex.proofs.blocks.Blocks.first_of.Goals as goal
 
 pub overflow_add-first : goal.overflow_add-first

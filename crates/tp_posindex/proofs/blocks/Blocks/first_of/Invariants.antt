@@ -1,4 +1,4 @@
-use Rattle.std.proofs.Common.{◌≡◌, ◌≤◌}
+use Rattle.std.proofs.Common.{◌≡◌}
 use Rattle.tp_posindex.specs.Layout.{place_at}
 use Rattle.tp_posindex.proofs.blocks.Blocks.first_of.Given as goal
 

@@ -1,5 +1,5 @@
-use Rattle.std.proofs.Common.{◌≡◌, ◌<◌, ◌≤◌, false, sym, ◌∙◌, ap, subst, arith, length, get_or}
-use Rattle.tp_posindex.specs.Laid.{Layout, laid, flag_of, IsLaid}
+use Rattle.std.proofs.Common.{◌≡◌, ◌<◌, false, sym, subst, length}
+use Rattle.tp_posindex.specs.Laid.{Layout, flag_of}
 use Rattle.tp_posindex.specs.Layout.{StandsAt}
 use Rattle.tp_posindex.proofs.Laying.{IsLaid-hide}
 use Rattle.tp_posindex.proofs.blocks.Blocks.hide.Goals as goal

@@ -1,7 +1,7 @@
-use Rattle.std.proofs.Common.{◌≡◌, ◌<◌, ◌≤◌, ◌+◌, ℕ, List, Bool, false, map, sum, take, sym, ◌∙◌, ap, subst, arith, length, get_or}
+use Rattle.std.proofs.Common.{◌≡◌, ◌<◌, ◌≤◌, ℕ, List, Bool, map, sum, sym, ◌∙◌, ap, subst, arith, length, get_or}
 use Rattle.std.proofs.lemmas.List.{length-map}
-use Rattle.tp_posindex.specs.Laid.{Layout, count_of, flag_of}
-use Rattle.tp_posindex.specs.Layout.{joined, block_at, place_at}
+use Rattle.tp_posindex.specs.Laid.{Layout, count_of}
+use Rattle.tp_posindex.specs.Layout.{joined}
 use Rattle.tp_posindex.proofs.Laying.{counts_all, count_before}
 use Rattle.tp_posindex.proofs.blocks.Blocks.nth_visible.Goals as goal
 

@@ -1,7 +1,7 @@
-use Rattle.std.proofs.Common.{◌≡◌, ◌<◌, ◌≤◌, ◌+◌, ◌-◌, suc, ℕ, List, Bool, take, drop, length, set, insert, sym, ◌∙◌, ap, subst, arith}
+use Rattle.std.proofs.Common.{◌≡◌, ◌<◌, ◌+◌, ◌-◌, suc, ℕ, List, Bool, take, drop, length, set, insert, sym, ◌∙◌, ap, subst, arith}
 use Rattle.std.proofs.lemmas.Bool.Decides.{nat_tests}
 use Rattle.std.proofs.lemmas.List.{length-take, length-drop}
-use Rattle.tp_posindex.specs.Laid.{Layout, laid}
+use Rattle.tp_posindex.specs.Laid.{Layout}
 use Rattle.tp_posindex.specs.Layout.{joined, block_at, place_at, AreSized}
 use Rattle.tp_posindex.proofs.Joining.{In-block, gap_block, many_each, insert-joined, cut_at, joined-cut, length-cut, block_at-cut, place_at-front, place_at-back}
 use Rattle.tp_posindex.proofs.Laying.{length-laid}

@@ -1,8 +1,7 @@
-use Rattle.std.proofs.Common.{◌≡◌, ◌<◌, ◌≤◌, ◌+◌, suc, List, ℕ, [], ◌∷◌, ◌++◌, false, sym, ◌∙◌, ap, subst, arith, rules, length, get_or, insert, set}
+use Rattle.std.proofs.Common.{◌≡◌, ◌<◌, ◌≤◌, List, ℕ, [], ◌∷◌, ◌++◌, false, sym, ◌∙◌, ap, subst, arith, length, insert, set}
 use Rattle.std.proofs.lemmas.Grind.{common_steps}
 use Rattle.tp_posindex.specs.Laid.{Layout, laid}
 use Rattle.tp_posindex.specs.Layout.{block_at}
-use Rattle.tp_posindex.proofs.Joining.{In-block}
 use Rattle.tp_posindex.proofs.Laying.{IsLaid-put, order_within, block_read, length-laid, count_few, laid_written, get_or-any}
 use Rattle.tp_posindex.proofs.blocks.Blocks.put_in.Goals as goal
 

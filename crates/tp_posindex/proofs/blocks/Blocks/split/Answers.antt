@@ -1,8 +1,8 @@
-use Rattle.std.proofs.Common.{◌≡◌, ◌<◌, ◌≤◌, ◌+◌, ◌-◌, ◌^◌, suc, ℕ, List, Bool, [], ◌∷◌, ◌++◌, true, not, take, drop, length, set, insert, get_or, sym, ◌∙◌, ap, subst, arith, refl}
+use Rattle.std.proofs.Common.{◌≡◌, ◌<◌, ◌+◌, suc, ℕ, List, Bool, [], ◌++◌, true, not, take, drop, length, get_or, sym, ◌∙◌, ap, subst, arith, refl}
 use Rattle.std.specs.Result.{is_ok}
 use Rattle.tp_list.specs.Members.{In}
 use Rattle.tp_posindex.specs.Laid.{Layout, laid, count_of}
-use Rattle.tp_posindex.specs.Layout.{joined, block_at, place_at}
+use Rattle.tp_posindex.specs.Layout.{block_at}
 use Rattle.tp_posindex.proofs.Joining.{cut_at, length-joined}
 use Rattle.tp_posindex.proofs.Laying.{IsLaid-split, laid_split, order_within, block_read, length-laid, get_or-any, half_below, half_count, written_whole, count-le}
 use Rattle.tp_posindex.proofs.blocks.Blocks.split.Goals as goal

@@ -1,6 +1,6 @@
-use Rattle.std.proofs.Common.{◌≡◌, ◌<◌, ◌≤◌, ◌==◌, ℕ, List, [], None, Some, position, sym, ◌∙◌, ap, subst, arith, length, get_or}
+use Rattle.std.proofs.Common.{◌≡◌, ◌<◌, [], None, Some, sym, ◌∙◌, subst, arith, length}
 use Rattle.tp_list.specs.Members.{In}
-use Rattle.tp_posindex.specs.Laid.{Layout, laid}
+use Rattle.tp_posindex.specs.Laid.{Layout}
 use Rattle.tp_posindex.specs.Layout.{StandsAt, block_at}
 use Rattle.tp_posindex.proofs.Laying.{home_there, home_stands, position_found, get_or-any, slice_get-there}
 use Rattle.tp_posindex.proofs.blocks.Blocks.spot_of.Goals as goal

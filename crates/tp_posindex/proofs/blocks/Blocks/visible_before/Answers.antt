@@ -1,4 +1,4 @@
-use Rattle.std.proofs.Common.{◌≡◌, ◌<◌, ◌≤◌, ◌+◌, ◌^◌, ℕ, List, Bool, map, sum, take, sym, ◌∙◌, ap, subst, arith, length, length-take}
+use Rattle.std.proofs.Common.{◌≡◌, ◌<◌, ◌+◌, ◌^◌, ℕ, List, Bool, map, sum, take, ◌∙◌, ap, subst, arith, length, length-take}
 use Rattle.tp_posindex.specs.Laid.{Layout, count_of}
 use Rattle.tp_posindex.specs.Layout.{joined, block_at, place_at}
 use Rattle.tp_posindex.proofs.Laying.{counts_before, count_before, count-le}

@@ -1,6 +1,6 @@
-use Rattle.std.proofs.Common.{◌≡◌, ◌<◌, length, sym, ◌∙◌, ap, subst, arith}
+use Rattle.std.proofs.Common.{◌<◌, length, sym, ◌∙◌, ap, subst, arith}
 use Rattle.std.proofs.lemmas.List.{length-map}
-use Rattle.tp_posindex.specs.Layout.{block_at, place_at}
+use Rattle.tp_posindex.specs.Layout.{block_at}
 use Rattle.tp_posindex.specs.BlockState.{BlockState, IsInfoOf}
 use Rattle.tp_posindex.specs.Blocked.{element_at}
 use Rattle.tp_posindex.proofs.Sequencing.{block_at-map, place_at-map, block_shown}

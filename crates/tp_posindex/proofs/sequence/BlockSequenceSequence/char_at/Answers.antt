@@ -1,4 +1,4 @@
-use Rattle.std.proofs.Common.{◌≡◌, Some, slice_get, get_or, sym, ap, ◌∙◌}
+use Rattle.std.proofs.Common.{List, ◌≡◌, Some, slice_get, get_or, sym, ap, ◌∙◌}
 use Rattle.std.specs.Option.{option_map}
 use Rattle.tp_opid.specs.Insert.{Insert}
 use Rattle.tp_rga.specs.Shown.{shown}
@@ -12,8 +12,8 @@ returns-in-Some c =
     let s = c.self.inside in
     let bs = s.blocks.blocks in
     let at = c.in-Some.ensures.found in
-    let x = c.index-e.result.now in
-    let read : x ≡ get_or s.elements.items (get_or (block_at bs c.in-Some.spot.block) c.in-Some.spot.offset 0) x = c.index-e.ensures ∙ ap (λ n. get_or s.elements.items n x) c.number_at.ensures.number in
+    let x = c.index-items-number_at.result in
+    let read : x ≡ get_or s.elements.items (get_or (block_at bs c.in-Some.spot.block) c.in-Some.spot.offset 0) x = c.index-items-number_at.is ∙ ap (λ (z : List Insert). get_or z c.number_at.result x) c.items.ensures ∙ ap (λ n. get_or s.elements.items n x) c.number_at.ensures.number in
     let there = shown_at s.elements.items bs s.blocks.flags s.deletes.items s.left c.in-Some.spot.block c.in-Some.spot.offset c.args.i x c.self.invariant at.0 at.1 at.2 at.3 read in
     ap (λ (w : Insert). Some w.ch) c.e.view_is ∙ sym (ap (option_map (λ (w : Insert). w.ch)) there) ∙ ap (λ (v : BlockState). option_map (λ (w : Insert). w.ch) (slice_get (shown v.removals (joined v.blocks)) c.args.i)) c.self.view_is
 

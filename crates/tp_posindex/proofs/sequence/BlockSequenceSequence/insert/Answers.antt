@@ -1,14 +1,13 @@
-use Rattle.tp_opid.specs.Tree.{IsNew, CanInsert}
-use Rattle.std.proofs.Common.{◌≡◌, ◌<◌, ◌≤◌, ◌+◌, ℕ, List, Bool, [], ◌∷◌, ◌++◌, true, false, not, length, map, insert, sym, ◌∙◌, ap, subst, arith}
-use Rattle.std.specs.Result.{is_ok}
+use Rattle.std.proofs.Common.{◌+◌, ◌≡◌, ℕ, List, Bool, [], ◌∷◌, ◌++◌, false, length, map, insert, sym, ◌∙◌, ap, subst, arith, length-append}
 use Rattle.std.proofs.lemmas.List.{length-map}
 use Rattle.tp_opid.specs.Insert.{Insert}
+use Rattle.tp_rga.specs.Tree.{IsNew, CanInsert}
 use Rattle.tp_rga.specs.Order.{IsInserted}
 use Rattle.tp_rga.proofs.Keeping.{IsKept-left}
 use Rattle.tp_posindex.specs.Layout.{joined, place_at}
 use Rattle.tp_posindex.specs.Laid.{flags_of}
 use Rattle.tp_posindex.specs.BlockState.{BlockState}
-use Rattle.tp_posindex.specs.Blocked.{element_at, pieces, IsBlocked}
+use Rattle.tp_posindex.specs.Blocked.{element_at, pieces}
 use Rattle.tp_posindex.proofs.Sequencing.{placed_is, placed_insert, IsBlocked-insert}
 use Rattle.tp_posindex.proofs.sequence.BlockSequenceSequence.insert.Goals as goal
 
@@ -19,8 +18,7 @@ spot_for-spot-requires-clause-can c =
     let bs = s.blocks.blocks in
     let placed : List Insert = map (element_at E) (joined bs) in
     let seen : joined c.args.self.now.blocks ≡ placed = sym (ap (λ (v : BlockState). joined v.blocks) c.self.view_is) ∙ placed_is E bs in
-    let elements : c.deref.result.now ≡ E = c.deref.ensures.value ∙ c.reserve.ensures.items in
-    rw (elements, c.reserve-2.ensures.blocks) (subst (λ z. CanInsert z c.args.id c.args.after) seen c.requires)
+    rw (c.reserve.ensures.items, c.reserve-2.ensures.blocks) (subst (λ z. CanInsert z c.args.id c.args.after) seen c.requires)
 
 pub overflow_add-self : goal.overflow_add-self
 overflow_add-self c =
@@ -32,8 +30,9 @@ overflow_add-self c =
     let le = IsKept-left placed (flags_of s.blocks.flags (joined bs)) s.deletes.items s.left c.self.invariant.kept in
     let size = length-map (joined bs) (element_at E) in
     let many = c.self.invariant.numbered.many in
-    let room = c.in_ok-reserve.ensures.ok in
-    omega (arith, le, size, many, room, c.reserve.ensures.len)
+    let x : Insert = record { id = c.args.id; after = c.args.after; ch = c.args.ch } in
+    let more : length c.push.new.self.items ≡ length E + 1 = ap (λ (z : List Insert). length z) (c.push.ensures.items ∙ ap (λ (z : List Insert). z ++ x ∷ []) c.reserve.ensures.items) ∙ length-append E (x ∷ []) in
+    omega (arith, le, size, many, more, c.push.ensures.fits)
 
 pub invariant_of-self-2 : goal.invariant_of-self-2
 invariant_of-self-2 c =
@@ -44,8 +43,7 @@ invariant_of-self-2 c =
     let seen : joined c.args.self.now.blocks ≡ placed = sym (ap (λ (v : BlockState). joined v.blocks) c.self.view_is) ∙ placed_is E bs in
     let x : Insert = record { id = c.args.id; after = c.args.after; ch = c.args.ch } in
     let G = place_at c.reserve-2.new.self.blocks c.spot_for-spot.result.block c.spot_for-spot.result.offset in
-    let pushed : is_ok c.push.result ≡ true = c.is_err.ensures.negation ∙ ap not c.if-is_err.false in
-    let items_is : c.push.new.self.items ≡ E ++ x ∷ [] = (rw pushed at c.push.ensures.items) ∙ ap (λ (z : List Insert). z ++ x ∷ []) c.reserve.ensures.items in
+    let items_is : c.push.new.self.items ≡ E ++ x ∷ [] = c.push.ensures.items ∙ ap (λ (z : List Insert). z ++ x ∷ []) c.reserve.ensures.items in
     let whole : joined c.put.new.self.blocks ≡ insert (joined bs) G (length s.blocks.flags) =
     c.put.ensures.joined ∙ ap (λ (z : List (List ℕ)). insert (joined z) G (length c.reserve-2.new.self.flags)) c.reserve-2.ensures.blocks ∙ ap (λ (z : List Bool). insert (joined bs) G (length z)) c.reserve-2.ensures.flags in
     let new : IsNew placed c.args.id = subst (λ z. IsNew z c.args.id) seen c.requires.new in
@@ -61,12 +59,10 @@ returns-clause-ok c =
     let seen : joined c.args.self.now.blocks ≡ placed = sym (ap (λ (v : BlockState). joined v.blocks) c.self.view_is) ∙ placed_is E bs in
     let x : Insert = record { id = c.args.id; after = c.args.after; ch = c.args.ch } in
     let G = place_at c.reserve-2.new.self.blocks c.spot_for-spot.result.block c.spot_for-spot.result.offset in
-    let pushed : is_ok c.push.result ≡ true = c.is_err.ensures.negation ∙ ap not c.if-is_err.false in
-    let items_is : c.push.new.self.items ≡ E ++ x ∷ [] = (rw pushed at c.push.ensures.items) ∙ ap (λ (z : List Insert). z ++ x ∷ []) c.reserve.ensures.items in
+    let items_is : c.push.new.self.items ≡ E ++ x ∷ [] = c.push.ensures.items ∙ ap (λ (z : List Insert). z ++ x ∷ []) c.reserve.ensures.items in
     let whole : joined c.put.new.self.blocks ≡ insert (joined bs) G (length s.blocks.flags) =
     c.put.ensures.joined ∙ ap (λ (z : List (List ℕ)). insert (joined z) G (length c.reserve-2.new.self.flags)) c.reserve-2.ensures.blocks ∙ ap (λ (z : List Bool). insert (joined bs) G (length z)) c.reserve-2.ensures.flags in
-    let elements : c.deref.result.now ≡ E = c.deref.ensures.value ∙ c.reserve.ensures.items in
-    let order = subst (λ (z : List (List ℕ)). IsInserted (map (element_at E) (joined z)) (insert (map (element_at E) (joined z)) G x) x) c.reserve-2.ensures.blocks (rw elements at (c.spot_for-spot.ensures.order c.args.ch)) in
+    let order = subst (λ (z : List (List ℕ)). IsInserted (map (element_at E) (joined z)) (insert (map (element_at E) (joined z)) G x) x) c.reserve-2.ensures.blocks (rw c.reserve.ensures.items at (c.spot_for-spot.ensures.order c.args.ch)) in
     let new_is : joined (pieces c.push.new.self.items c.put.new.self.blocks) ≡ insert placed G x =
     placed_is c.push.new.self.items c.put.new.self.blocks
     ∙ ap (λ (z : List Insert). map (element_at z) (joined c.put.new.self.blocks)) items_is

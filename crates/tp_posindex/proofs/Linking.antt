@@ -1,0 +1,343 @@
+-- The index: what an element more leaves of it, and what a look-up finds.
+use Rattle.std.proofs.Common.{◌≡◌, ◌⊎◌, inl, inr, ℕ, zero, suc, ◌+◌, ◌<◌, ◌≤◌, Bool, true, false, cond, Option, None, Some, List, [], ◌∷◌, ◌++◌, length, take, drop, get_or, map, position, refl, sym, ap, ◌∙◌, subst, arith, length-append}
+use Rattle.tp_list.specs.Members.{In}
+use Rattle.tp_opid.specs.declared.actor.Actor.{Actor}
+use Rattle.tp_opid.specs.declared.op_id.OpId.{OpId}
+use Rattle.tp_opid.specs.Insert.{Insert}
+use Rattle.tp_opid.specs.Same.{id_eq, same_actor}
+use Rattle.tp_opid.proofs.Orders.{id_eq-same, id_eq-itself, same_actor-same, same_actor-apart}
+use Rattle.tp_rga.proofs.Sets.{In-left, In-push, In-last}
+use Rattle.tp_rga.proofs.Lookups.{IsFirst, position-first, In-index, In-get_or, In-middle}
+use Rattle.tp_posindex.specs.declared.links.Link.{Link}
+use Rattle.tp_posindex.specs.declared.links.Latest.{Latest}
+use Rattle.tp_posindex.specs.Blocked.{blank, element_at}
+use Rattle.tp_posindex.specs.Indexed.{actor_at, counter_at, no_link, link_at, noted, IsLink, IsIndexed}
+use Rattle.tp_posindex.proofs.Laying.{get_or-front, get_or-last}
+
+-- ---- an element more
+
+-- a number below the next is below this or is this
+below_next : (k n : ℕ) → k < suc n → (k < n) ⊎ (k ≡ n)
+below_next k zero lt = inr (omega arith)
+below_next zero (suc n) lt = inl (omega arith)
+below_next (suc k) (suc n) lt = elim (below_next k n (omega arith)) as (λ _. (suc k < suc n) ⊎ (suc k ≡ suc n)) [ inl h ↦ inl (omega (arith, h)) | inr e ↦ inr (ap suc e) ]
+
+-- one number is below another or isn't
+lt_or_le : (k n : ℕ) → (k < n) ⊎ (n ≤ k)
+lt_or_le k zero = inr (omega arith)
+lt_or_le zero (suc n) = inl (omega arith)
+lt_or_le (suc k) (suc n) = elim (lt_or_le k n) as (λ _. (suc k < suc n) ⊎ (suc n ≤ suc k)) [ inl h ↦ inl (omega (arith, h)) | inr h ↦ inr (omega (arith, h)) ]
+
+-- the elements that came before are as they were
+actor_front : (E : List Insert) (e : Insert) (k : ℕ) → k < length E → actor_at (E ++ e ∷ []) k ≡ actor_at E k
+actor_front E e k lt = ap (λ (w : Insert). w.id.actor) (get_or-front E (e ∷ []) k blank lt)
+
+counter_front : (E : List Insert) (e : Insert) (k : ℕ) → k < length E → counter_at (E ++ e ∷ []) k ≡ counter_at E k
+counter_front E e k lt = ap (λ (w : Insert). w.id.counter) (get_or-front E (e ∷ []) k blank lt)
+
+-- the new one
+actor_last : (E : List Insert) (e : Insert) (n : ℕ) → n ≡ length E → actor_at (E ++ e ∷ []) n ≡ e.id.actor
+actor_last E e n is = ap (λ (w : Insert). w.id.actor) (get_or-last E e n blank is)
+
+counter_last : (E : List Insert) (e : Insert) (n : ℕ) → n ≡ length E → counter_at (E ++ e ∷ []) n ≡ e.id.counter
+counter_last E e n is = ap (λ (w : Insert). w.id.counter) (get_or-last E e n blank is)
+
+-- a link stays one
+IsLink-front : (E : List Insert) (e : Insert) (k : ℕ) (l : Link) → k < length E → IsLink E k l → IsLink (E ++ e ∷ []) k l
+IsLink-front E e k l lt link = record {
+  before = link.before;
+  before_by = actor_front E e l.before (let b = link.before in omega arith) ∙ link.before_by ∙ sym (actor_front E e k lt);
+  jump = link.jump;
+  jump_by = actor_front E e l.jump (let b = link.jump in omega arith) ∙ link.jump_by ∙ sym (actor_front E e k lt);
+  prior = λ j less same. link.prior j less (sym (actor_front E e j (omega arith)) ∙ same ∙ actor_front E e k lt);
+}
+
+-- the links with one more
+links_more : (E : List Insert) (e : Insert) (links : List Link) (l : Link) → length links ≡ length E → ((k : ℕ) → k < length E → IsLink E k (link_at links k)) → IsLink (E ++ e ∷ []) (length E) l → (k : ℕ) → k < length (E ++ e ∷ []) → IsLink (E ++ e ∷ []) k (link_at (links ++ l ∷ []) k)
+links_more E e links l many linked new k lt =
+    let more = length-append E (e ∷ []) in
+    elim (below_next k (length E) (omega arith)) as (λ _. IsLink (E ++ e ∷ []) k (link_at (links ++ l ∷ []) k)) [
+      | inl less ↦ subst (IsLink (E ++ e ∷ []) k) (sym (get_or-front links (l ∷ []) k no_link (omega arith))) (IsLink-front E e k (link_at links k) less (linked k less))
+      | inr is ↦ subst (IsLink (E ++ e ∷ []) k) (sym (get_or-last links l k no_link (is ∙ sym many))) (subst (λ n. IsLink (E ++ e ∷ []) n l) (sym is) new)
+    ]
+
+-- what is noted keeps its actor
+noted-actor : (a : Actor) (n : ℕ) (x : Latest) → (noted a n x).actor ≡ x.actor
+noted-actor a n x = elim (same_actor x.actor a) as (λ b. (cond b (let y : Latest = record { actor = x.actor; number = n } in y) x).actor ≡ x.actor) [ true ↦ refl | false ↦ refl ]
+
+-- and has the new number where it is the actor's
+noted-number : (a : Actor) (n : ℕ) (x : Latest) (b : Bool) → same_actor x.actor a ≡ b → (noted a n x).number ≡ cond b n x.number
+noted-number a n x b e = ap (λ (v : Bool). (cond v (let y : Latest = record { actor = x.actor; number = n } in y) x).number) e ∙ elim b as (λ v. (cond v (let y : Latest = record { actor = x.actor; number = n } in y) x).number ≡ cond v n x.number) [ true ↦ refl | false ↦ refl ]
+
+-- what is noted of the actor, and of another
+pub noted-yes : (a : Actor) (n : ℕ) (x : Latest) → same_actor x.actor a ≡ true → noted a n x ≡ (let y : Latest = record { actor = x.actor; number = n } in y)
+noted-yes a n x e = ap (λ (v : Bool). cond v (let y : Latest = record { actor = x.actor; number = n } in y) x) e
+
+pub noted-no : (a : Actor) (n : ℕ) (x : Latest) → same_actor x.actor a ≡ false → noted a n x ≡ x
+noted-no a n x e = ap (λ (v : Bool). cond v (let y : Latest = record { actor = x.actor; number = n } in y) x) e
+
+-- none of an actor
+pub none_of : (latest : List Latest) (id : OpId) (e : Insert) → e.id.actor ≡ id.actor → ((x : Latest) → In x latest → same_actor x.actor id.actor ≡ false) → (y : Latest) → In y latest → same_actor y.actor e.id.actor ≡ false
+none_of latest id e by none y i = ap (same_actor y.actor) by ∙ none y i
+
+-- a whole list that was written
+pub written_all : {X : Type 0} (xs ys : List X) (n : ℕ) → length xs ≡ length ys → n ≡ length ys → take n (xs ++ drop (length xs) ys) ≡ xs
+written_all xs ys n e m = ap (λ z. take n (xs ++ z)) (drop_all (length xs) ys (omega arith)) ∙ front n xs (omega arith)
+  where
+    drop_all : {X : Type 0} (m : ℕ) (ys : List X) → m ≡ length ys → drop m ys ≡ []
+    drop_all zero [] h = refl
+    drop_all zero (y ∷ ys) h = absurd (omega arith)
+    drop_all (suc m) [] h = refl
+    drop_all (suc m) (y ∷ ys) h = drop_all m ys (omega arith)
+
+    front : {X : Type 0} (m : ℕ) (xs : List X) → m ≡ length xs → take m (xs ++ []) ≡ xs
+    front zero [] h = refl
+    front zero (x ∷ xs) h = absurd (omega arith)
+    front (suc m) [] h = refl
+    front (suc m) (x ∷ xs) h = ap (λ z. x ∷ z) (front m xs (omega arith))
+
+In-map : {X Y : Type 0} (f : X → Y) (xs : List X) (x : X) → In x xs → In (f x) (map f xs)
+In-map f [] x i = absurd i
+In-map f (y ∷ xs) x (inl e) = inl (ap f e)
+In-map f (y ∷ xs) x (inr i) = inr (In-map f xs x i)
+
+In-of_map : {X Y : Type 0} (f : X → Y) (xs : List X) (y : Y) → In y (map f xs) → (x : X) × In x xs × (y ≡ f x)
+In-of_map f [] y i = absurd i
+In-of_map f (x ∷ xs) y (inl e) = (x, inl refl, e)
+In-of_map f (x ∷ xs) y (inr i) = let r = In-of_map f xs y i in (r.0, inr r.1, r.2)
+
+-- an actor's next element, with a greater counter
+pub IsIndexed-more : (E : List Insert) (latest : List Latest) (links : List Link) (e : Insert) (x : Latest) (l : Link) → IsIndexed E latest links → In x latest → x.actor ≡ e.id.actor → counter_at E x.number < e.id.counter → l.before ≡ x.number → (l.jump ≡ x.number) ⊎ (l.jump ≡ (link_at links (link_at links x.number).jump).jump) → IsIndexed (E ++ e ∷ []) (map (noted e.id.actor (length E)) latest) (links ++ l ∷ [])
+IsIndexed-more E latest links e x l kept i by greater before_is jump_is =
+    let E' = E ++ e ∷ [] in
+    let n = length E in
+    let a = e.id.actor in
+    let more : length E' ≡ suc n = length-append E (e ∷ []) ∙ omega arith in
+    let m = x.number in
+    let there = kept.there x i in
+    let at_n : actor_at E' n ≡ a = actor_last E e n refl in
+    let at_m : actor_at E' m ≡ actor_at E' n = actor_front E e m there.0 ∙ there.1 ∙ by ∙ sym at_n in
+    let near = kept.linked m there.0 in
+    let near_in : (link_at links m).jump < n = (let b = near.jump in let t = there.0 in omega arith) in
+    let far = kept.linked (link_at links m).jump near_in in
+    let new : IsLink E' n l = record {
+      before = (let t = there.0 in omega (arith, before_is));
+      before_by = ap (actor_at E') before_is ∙ at_m;
+      jump = elim jump_is as (λ _. l.jump ≤ n) [ inl e1 ↦ (let t = there.0 in omega (arith, e1)) | inr e2 ↦ (let b = far.jump in omega (arith, e2)) ];
+      jump_by = elim jump_is as (λ _. actor_at E' l.jump ≡ actor_at E' n) [
+        | inl e1 ↦ ap (actor_at E') e1 ∙ at_m
+        | inr e2 ↦ (
+            let j = (link_at links (link_at links m).jump).jump in
+            let j_in : j < n = (let b = far.jump in omega arith) in
+            ap (actor_at E') e2 ∙ actor_front E e j j_in ∙ far.jump_by ∙ near.jump_by ∙ sym (actor_front E e m there.0) ∙ at_m)
+      ];
+      prior = λ j less same. (let t = there.0 in omega (arith, before_is), (let le = kept.last x i j less (sym (actor_front E e j less) ∙ same ∙ at_n ∙ sym by) in omega (arith, before_is)));
+    } in
+    record {
+      many = length-append links (l ∷ []) ∙ ap (λ z. z + 1) kept.many ∙ sym (length-append E (e ∷ []));
+      linked = links_more E e links l kept.many kept.linked new;
+      rises = λ j k less lt same. elim (below_next k n (omega arith)) as (λ _. counter_at E' j < counter_at E' k) [
+        | inl inside ↦ (
+            let j_in : j < n = omega arith in
+            let old = kept.rises j k less inside (sym (actor_front E e j j_in) ∙ same ∙ actor_front E e k inside) in
+            let cj = counter_front E e j j_in in let ck = counter_front E e k inside in omega arith)
+        | inr is ↦ (
+            let j_in : j < n = omega arith in
+            let same_a : actor_at E j ≡ x.actor = sym (actor_front E e j j_in) ∙ same ∙ ap (actor_at E') is ∙ at_n ∙ sym by in
+            let le = kept.last x i j j_in same_a in
+            let cj = counter_front E e j j_in in
+            let ck : counter_at E' k ≡ e.id.counter = counter_last E e k is in
+            elim (below_next j m (omega arith)) as (λ _. counter_at E' j < counter_at E' k) [
+              | inl lower ↦ (let old = kept.rises j m lower there.0 (same_a ∙ sym there.1) in omega arith)
+              | inr top ↦ (let same_c = ap (counter_at E) top in omega arith)
+            ])
+      ];
+      known = λ k lt. elim (below_next k n (omega arith)) as (λ _. (y : Latest) × In y (map (noted a n) latest) × (y.actor ≡ actor_at E' k)) [
+        | inl inside ↦ (let r = kept.known k inside in (noted a n r.0, In-map (noted a n) latest r.0 r.1, noted-actor a n r.0 ∙ r.2 ∙ sym (actor_front E e k inside)))
+        | inr is ↦ (noted a n x, In-map (noted a n) latest x i, noted-actor a n x ∙ by ∙ sym (ap (actor_at E') is ∙ at_n))
+      ];
+      there = λ y h. (let r = In-of_map (noted a n) latest y h in there_noted E e latest links kept r.0 r.1 y r.2);
+      last = λ y h j lt same. (let r = In-of_map (noted a n) latest y h in last_noted E e latest links kept r.0 r.1 y r.2 j lt same);
+    }
+  where
+    there_noted : (E : List Insert) (e : Insert) (latest : List Latest) (links : List Link) → IsIndexed E latest links → (x : Latest) → In x latest → (y : Latest) → y ≡ noted e.id.actor (length E) x → (y.number < length (E ++ e ∷ [])) × (actor_at (E ++ e ∷ []) y.number ≡ y.actor)
+    there_noted E e latest links kept x i y is =
+        let more = length-append E (e ∷ []) in
+        let old = kept.there x i in
+        let act : y.actor ≡ x.actor = ap (λ (w : Latest). w.actor) is ∙ noted-actor e.id.actor (length E) x in
+        elim (same_actor x.actor e.id.actor) as (λ b. same_actor x.actor e.id.actor ≡ b → (y.number < length (E ++ e ∷ [])) × (actor_at (E ++ e ∷ []) y.number ≡ y.actor)) [
+          | true ↦ λ same. (
+              let num : y.number ≡ length E = ap (λ (w : Latest). w.number) is ∙ noted-number e.id.actor (length E) x true same in
+              (omega arith, actor_last E e y.number num ∙ sym (act ∙ same_actor-same x.actor e.id.actor same)))
+          | false ↦ λ other. (
+              let num : y.number ≡ x.number = ap (λ (w : Latest). w.number) is ∙ noted-number e.id.actor (length E) x false other in
+              let lt = old.0 in
+              (omega arith, ap (actor_at (E ++ e ∷ [])) num ∙ actor_front E e x.number old.0 ∙ old.1 ∙ sym act))
+        ] refl
+
+    last_noted : (E : List Insert) (e : Insert) (latest : List Latest) (links : List Link) → IsIndexed E latest links → (x : Latest) → In x latest → (y : Latest) → y ≡ noted e.id.actor (length E) x → (j : ℕ) → j < length (E ++ e ∷ []) → actor_at (E ++ e ∷ []) j ≡ y.actor → j ≤ y.number
+    last_noted E e latest links kept x i y is j lt same =
+        let more = length-append E (e ∷ []) in
+        let act : y.actor ≡ x.actor = ap (λ (w : Latest). w.actor) is ∙ noted-actor e.id.actor (length E) x in
+        elim (same_actor x.actor e.id.actor) as (λ b. same_actor x.actor e.id.actor ≡ b → j ≤ y.number) [
+          | true ↦ λ found. (let num = ap (λ (w : Latest). w.number) is ∙ noted-number e.id.actor (length E) x true found in omega arith)
+          | false ↦ λ other. (
+              let num : y.number ≡ x.number = ap (λ (w : Latest). w.number) is ∙ noted-number e.id.actor (length E) x false other in
+              elim (below_next j (length E) (omega arith)) as (λ _. j ≤ y.number) [
+                | inl inside ↦ (let le = kept.last x i j inside (sym (actor_front E e j inside) ∙ same ∙ act) in omega arith)
+                | inr top ↦ absurd (same_actor-apart x.actor e.id.actor other (sym (sym (actor_last E e j top) ∙ same ∙ act)))
+              ])
+        ] refl
+
+-- an actor's first element
+pub IsIndexed-first : (E : List Insert) (latest : List Latest) (links : List Link) (e : Insert) (x : Latest) (l : Link) → IsIndexed E latest links → ((y : Latest) → In y latest → same_actor y.actor e.id.actor ≡ false) → x.actor ≡ e.id.actor → x.number ≡ length E → l.before ≡ length E → l.jump ≡ length E → IsIndexed (E ++ e ∷ []) (latest ++ x ∷ []) (links ++ l ∷ [])
+IsIndexed-first E latest links e x l kept none by at before_is jump_is =
+    let E' = E ++ e ∷ [] in
+    let n = length E in
+    let a = e.id.actor in
+    let more : length E' ≡ suc n = length-append E (e ∷ []) ∙ omega arith in
+    let at_n : actor_at E' n ≡ a = actor_last E e n refl in
+    let nobody : (j : ℕ) → j < n → actor_at E j ≡ a → ⊥ = (λ j lt same. let r = kept.known j lt in same_actor-apart r.0.actor a (none r.0 r.1) (r.2 ∙ same)) in
+    let nobody' : (j : ℕ) → j < n → actor_at E' j ≡ a → ⊥ = (λ j lt same. nobody j lt (sym (actor_front E e j lt) ∙ same)) in
+    let new : IsLink E' n l = record {
+      before = omega (arith, before_is);
+      before_by = ap (actor_at E') before_is;
+      jump = omega (arith, jump_is);
+      jump_by = ap (actor_at E') jump_is;
+      prior = λ j less same. absurd (nobody' j less (same ∙ at_n));
+    } in
+    record {
+      many = length-append links (l ∷ []) ∙ ap (λ z. z + 1) kept.many ∙ sym (length-append E (e ∷ []));
+      linked = links_more E e links l kept.many kept.linked new;
+      rises = λ j k less lt same. elim (below_next k n (omega arith)) as (λ _. counter_at E' j < counter_at E' k) [
+        | inl inside ↦ (
+            let j_in : j < n = omega arith in
+            let old = kept.rises j k less inside (sym (actor_front E e j j_in) ∙ same ∙ actor_front E e k inside) in
+            let cj = counter_front E e j j_in in let ck = counter_front E e k inside in omega arith)
+        | inr is ↦ absurd (let j_in : j < n = omega arith in nobody' j j_in (same ∙ ap (actor_at E') is ∙ at_n))
+      ];
+      known = λ k lt. elim (below_next k n (omega arith)) as (λ _. (y : Latest) × In y (latest ++ x ∷ []) × (y.actor ≡ actor_at E' k)) [
+        | inl inside ↦ (let r = kept.known k inside in (r.0, In-left r.0 latest (x ∷ []) r.1, r.2 ∙ sym (actor_front E e k inside)))
+        | inr is ↦ (x, In-last latest x, by ∙ sym (ap (actor_at E') is ∙ at_n))
+      ];
+      there = λ y h. elim (In-push y latest x h) as (λ _. (y.number < length E') × (actor_at E' y.number ≡ y.actor)) [
+        | inl i ↦ (let old = kept.there y i in (let t = old.0 in omega arith, actor_front E e y.number old.0 ∙ old.1))
+        | inr is ↦ (
+            let num : y.number ≡ n = ap (λ (w : Latest). w.number) is ∙ at in
+            (omega arith, actor_last E e y.number num ∙ sym (ap (λ (w : Latest). w.actor) is ∙ by)))
+      ];
+      last = λ y h j lt same. elim (In-push y latest x h) as (λ _. j ≤ y.number) [
+        | inl i ↦ elim (below_next j n (omega arith)) as (λ _. j ≤ y.number) [
+          | inl inside ↦ kept.last y i j inside (sym (actor_front E e j inside) ∙ same)
+          | inr top ↦ absurd (same_actor-apart y.actor a (none y i) (sym same ∙ ap (actor_at E') top ∙ at_n))
+        ]
+        | inr is ↦ (let num : y.number ≡ n = ap (λ (w : Latest). w.number) is ∙ at in omega arith)
+      ];
+    }
+
+-- ---- look-ups
+
+-- the one element with an identifier is found
+pub position_only : (E : List Insert) (i : ℕ) (x : OpId) → i < length E → id_eq (element_at E i).id x ≡ true → ((j : ℕ) → j < length E → id_eq (element_at E j).id x ≡ true → j ≡ i) → position (λ (e : Insert). id_eq e.id x) E ≡ Some i
+position_only E i x lt named only = from (position (λ (e : Insert). id_eq e.id x) E) (position-first (λ (e : Insert). id_eq e.id x) E)
+  where
+    middle : (A : List Insert) (e : Insert) (B : List Insert) (n : ℕ) (d : Insert) → length A ≡ n → get_or (A ++ e ∷ B) n d ≡ e
+    middle [] e B zero d h = refl
+    middle [] e B (suc n) d h = absurd (omega arith)
+    middle (a ∷ A) e B zero d h = absurd (omega arith)
+    middle (a ∷ A) e B (suc n) d h = middle A e B n d (omega arith)
+
+    from : (r : Option ℕ) → IsFirst (λ (e : Insert). id_eq e.id x) E r → r ≡ Some i
+    from None h = let other : id_eq (element_at E i).id x ≡ false = h (element_at E i) (In-get_or E i blank lt) in cc
+    from (Some j) h =
+        let at : element_at E j ≡ h.1 = ap (λ z. get_or z j blank) h.3 ∙ middle h.0 h.1 h.2 j blank h.4 in
+        let short : j < length E = (let l = ap length h.3 in let m = length-append h.0 (h.1 ∷ h.2) in let n = h.4 in omega arith) in
+        ap Some (only j short (ap (λ (w : Insert). id_eq w.id x) at ∙ h.5))
+
+-- nothing is found where no element has the identifier
+pub position_nowhere : (E : List Insert) (x : OpId) → ((j : ℕ) → j < length E → id_eq (element_at E j).id x ≡ true → ⊥) → position (λ (e : Insert). id_eq e.id x) E ≡ None
+position_nowhere E x none = from (position (λ (e : Insert). id_eq e.id x) E) (position-first (λ (e : Insert). id_eq e.id x) E)
+  where
+    from : (r : Option ℕ) → IsFirst (λ (e : Insert). id_eq e.id x) E r → r ≡ None
+    from None h = refl
+    from (Some i) h =
+        let r = In-index h.1 E (subst (In h.1) (sym h.3) (In-middle h.0 h.1 h.2)) in
+        absurd (none r.0 r.1 (ap (λ (w : Insert). id_eq w.id x) (r.2 blank) ∙ h.5))
+
+-- an identifier's actor and counter
+pub id_actor : (E : List Insert) (j : ℕ) (x : OpId) → id_eq (element_at E j).id x ≡ true → actor_at E j ≡ x.actor
+id_actor E j x named = ap (λ (w : OpId). w.actor) (id_eq-same (element_at E j).id x named)
+
+pub id_counter : (E : List Insert) (j : ℕ) (x : OpId) → id_eq (element_at E j).id x ≡ true → counter_at E j ≡ x.counter
+id_counter E j x named = ap (λ (w : OpId). w.counter) (id_eq-same (element_at E j).id x named)
+
+-- an element of that actor with that counter has the identifier
+pub id_named : (E : List Insert) (j : ℕ) (x : OpId) → actor_at E j ≡ x.actor → counter_at E j ≡ x.counter → id_eq (element_at E j).id x ≡ true
+id_named E j x same_a same_c =
+    let first : (element_at E j).id ≡ (let y : OpId = record { counter = x.counter; actor = actor_at E j } in y) = ap (λ (n : ℕ). let y : OpId = record { counter = n; actor = actor_at E j } in y) same_c in
+    let one : (element_at E j).id ≡ x = first ∙ ap (λ (a : Actor). let y : OpId = record { counter = x.counter; actor = a } in y) same_a in
+    ap (λ (w : OpId). id_eq w x) one ∙ id_eq-itself x
+
+-- a step back keeps what is sought ahead
+pub step_back : (E : List Insert) (from at next c : ℕ) → actor_at E at ≡ actor_at E from → c < counter_at E at → ((j : ℕ) → j ≤ from → actor_at E j ≡ actor_at E from → counter_at E j ≤ c → j ≤ at) → ((j : ℕ) → j < at → actor_at E j ≡ actor_at E at → counter_at E j ≤ c → j ≤ next) → (j : ℕ) → j ≤ from → actor_at E j ≡ actor_at E from → counter_at E j ≤ c → j ≤ next
+step_back E from at next c same greater ahead step j le by small =
+    elim (below_next j at (let a = ahead j le by small in omega arith)) as (λ _. j ≤ next) [
+      | inl less ↦ step j less (by ∙ sym same) small
+      | inr is ↦ absurd (let e = ap (counter_at E) is in omega arith)
+    ]
+
+-- where there is no step back, all counters are greater
+pub none_back : (E : List Insert) (from at c : ℕ) → actor_at E at ≡ actor_at E from → c < counter_at E at → ((j : ℕ) → j ≤ from → actor_at E j ≡ actor_at E from → counter_at E j ≤ c → j ≤ at) → ((j : ℕ) → j < at → actor_at E j ≡ actor_at E at → ⊥) → (j : ℕ) → j ≤ from → actor_at E j ≡ actor_at E from → c < counter_at E j
+none_back E from at c same greater ahead none j le by =
+    elim (lt_or_le c (counter_at E j)) as (λ _. c < counter_at E j) [
+      | inl less ↦ less
+      | inr small ↦ absurd (
+          elim (below_next j at (let a = ahead j le by small in omega arith)) as (λ _. ⊥) [
+            | inl less ↦ none j less (by ∙ sym same)
+            | inr is ↦ (let e = ap (counter_at E) is in omega arith)
+          ])
+    ]
+
+-- ---- what a look-up finds
+
+-- an actor without elements has no such element
+pub look_nobody : (E : List Insert) (latest : List Latest) (links : List Link) (id : OpId) → IsIndexed E latest links → ((x : Latest) → In x latest → same_actor x.actor id.actor ≡ false) → position (λ (e : Insert). id_eq e.id id) E ≡ None
+look_nobody E latest links id kept none =
+    position_nowhere E id (λ j lt named.
+    let r = kept.known j lt in same_actor-apart r.0.actor id.actor (none r.0 r.1) (r.2 ∙ id_actor E j id named))
+
+-- an actor all of whose counters are greater hasn't either
+pub look_above : (E : List Insert) (latest : List Latest) (links : List Link) (id : OpId) (x : Latest) → IsIndexed E latest links → In x latest → x.actor ≡ id.actor → ((j : ℕ) → j ≤ x.number → actor_at E j ≡ actor_at E x.number → id.counter < counter_at E j) → position (λ (e : Insert). id_eq e.id id) E ≡ None
+look_above E latest links id x kept i by greater =
+    position_nowhere E id (λ j lt named.
+    let same : actor_at E j ≡ x.actor = id_actor E j id named ∙ sym by in
+    let above = greater j (kept.last x i j lt same) (same ∙ sym (kept.there x i).1) in
+    let is = id_counter E j id named in omega arith)
+
+-- the first whose counter isn't greater has that counter: it is the one
+pub look_found : (E : List Insert) (latest : List Latest) (links : List Link) (id : OpId) (x : Latest) (at : ℕ) → IsIndexed E latest links → In x latest → x.actor ≡ id.actor → at < length E → actor_at E at ≡ actor_at E x.number → counter_at E at ≡ id.counter → position (λ (e : Insert). id_eq e.id id) E ≡ Some at
+look_found E latest links id x at kept i by lt same is =
+    let same_id : actor_at E at ≡ id.actor = same ∙ (kept.there x i).1 ∙ by in
+    position_only E at id lt (id_named E at id same_id is) (λ j short named. only j short (id_actor E j id named ∙ sym same_id) (id_counter E j id named))
+  where
+    only : (j : ℕ) → j < length E → actor_at E j ≡ actor_at E at → counter_at E j ≡ id.counter → j ≡ at
+    only j short one count = elim (lt_or_le j at) as (λ _. j ≡ at) [
+      | inl less ↦ absurd (let r = kept.rises j at less lt one in omega arith)
+      | inr ge ↦ elim (lt_or_le at j) as (λ _. j ≡ at) [
+        | inl more ↦ absurd (let r = kept.rises at j more short (sym one) in omega arith)
+        | inr le ↦ omega arith
+      ]
+    ]
+
+-- it has a smaller one: there is none
+pub look_below : (E : List Insert) (latest : List Latest) (links : List Link) (id : OpId) (x : Latest) (at : ℕ) → IsIndexed E latest links → In x latest → x.actor ≡ id.actor → at < length E → actor_at E at ≡ actor_at E x.number → counter_at E at < id.counter → ((j : ℕ) → j ≤ x.number → actor_at E j ≡ actor_at E x.number → counter_at E j ≤ id.counter → j ≤ at) → position (λ (e : Insert). id_eq e.id id) E ≡ None
+look_below E latest links id x at kept i by lt same less ahead =
+    position_nowhere E id (λ j short named.
+    let by_x : actor_at E j ≡ x.actor = id_actor E j id named ∙ sym by in
+    let same_x : actor_at E j ≡ actor_at E x.number = by_x ∙ sym (kept.there x i).1 in
+    let count = id_counter E j id named in
+    let le = ahead j (kept.last x i j short by_x) same_x (omega arith) in
+    elim (lt_or_le j at) as (λ _. ⊥) [
+      | inl before ↦ (let r = kept.rises j at before lt (same_x ∙ sym same) in omega arith)
+      | inr ge ↦ (let one : j ≡ at = omega arith in let c = ap (counter_at E) one in omega arith)
+    ])

@@ -1,0 +1,122 @@
+//! The elements by number, with an index by identifier.
+
+ghost use Rattle.std.specs.Prelude.{◌≡◌, ◌+◌, ◌^◌, ◌<◌, ◌≤◌, [], ◌∷◌, ◌++◌, length, position, IsOk, OnOk};
+ghost use Rattle.tp_opid.specs.Same.{id_eq};
+
+use crate::links::{Latest, Link};
+use crate::lookup::{last_by, link_next, seek};
+use std::alloc::{AllocError, Global};
+use std::marker::Model;
+use tp_opid::OpId;
+use tp_rga::Insertion;
+
+/// How many elements there are at most: 4,294,967,295.
+const MOST_ELEMENTS: usize = 4_294_967_295;
+
+/// The elements in the order in which they came: the number of an element is how many came before it.
+///
+/// Each element is linked to earlier ones of its actor, and a look-up goes back along these links from the actor's
+/// latest element: it takes as many steps as the logarithm of how many elements the actor has, and a pass over the
+/// actors. This holds while each actor's counters rise, as they do where changes enter behind their dependencies.
+/// Once one doesn't, a look-up passes over all elements.
+#[derive(Drop)]
+pub(crate) struct Elements {
+    items: Vec<Insertion>,
+    latest: Vec<Latest>,
+    links: Vec<Link>,
+    rising: bool,
+}
+
+impl Model for Elements {
+    ghost use Rattle.std.specs.Prelude.{◌≡◌, ◌-◌, true, min};
+    ghost use Rattle.std.specs.Vec.{vec_len, vec_capacity};
+    ghost use Rattle.tp_posindex.specs.Came.{Came};
+    ghost use Rattle.tp_posindex.specs.Indexed.{IsIndexed};
+
+    ghost Value = { Came };
+
+    ghost view = { λ e. record {
+      items = e.items.items;
+      room = min
+          (min (4294967295 - vec_len e.items) (vec_capacity e.items - vec_len e.items))
+          (min (vec_capacity e.links - vec_len e.links) (vec_capacity e.latest - vec_len e.latest));
+    } };
+
+    ghost invariant = { λ e. e.rising ≡ true → IsIndexed e.items.items e.latest.items e.links.items };
+}
+
+impl Elements {
+    /// No elements. It takes no memory.
+    pub fn new(alloc: Global) -> Elements
+        ensures { result.items ≡ [] }
+    {
+        Elements {
+            items: Vec::new(alloc),
+            latest: Vec::new(alloc),
+            links: Vec::new(alloc),
+            rising: true,
+        }
+    }
+
+    /// Makes room for `n` more elements, of whatever actors. Where memory is short, or there would be more than
+    /// 4,294,967,295, it is an `Err`.
+    pub fn reserve(&mut self, n: usize) -> Result<(), AllocError>
+        ensures items { self.new.items ≡ self.old.items }
+        ensures ok { OnOk result (n ≤ self.new.room) }
+        ensures succeeds { n ≤ self.old.room → IsOk result }
+        ensures room { self.old.room ≤ self.new.room }
+    {
+        if n > MOST_ELEMENTS.saturating_sub(self.items.len()) {
+            return Err(AllocError);
+        }
+        self.items.reserve(n)?;
+        self.links.reserve(n)?;
+        self.latest.reserve(n)
+    }
+
+    /// How many there are.
+    pub fn len(&self) -> usize
+        ensures { result ≡ length self.now.items }
+    {
+        self.items.len()
+    }
+
+    /// The elements by number.
+    pub fn items(&self) -> &[Insertion]
+        ensures { result.now ≡ self.now.items }
+    {
+        self.items.as_slice()
+    }
+
+    /// The number of the element with an identifier, or `None` where there is none.
+    pub fn number_of(&self, id: &OpId) -> Option<usize>
+        ensures { result ≡ position (λ e. id_eq e.id id.now) self.now.items }
+    {
+        if !self.rising {
+            return self.items.iter().position(|e| e.id.is(id));
+        }
+        let last = last_by(&self.latest, &id.actor)?;
+        let at = seek(&self.items, &self.links, last as usize, id.counter)?;
+        let e = &self.items[at];
+        if e.id.counter == id.counter {
+            Some(at)
+        } else {
+            None
+        }
+    }
+
+    /// Takes in the next element. It takes no memory.
+    pub fn push(&mut self, e: Insertion)
+        requires { 0 < self.old.room }
+        ensures items { self.new.items ≡ self.old.items ++ e ∷ [] }
+        ensures fits { length self.new.items < 2 ^ 64 }
+        ensures room { self.old.room ≤ self.new.room + 1 }
+    {
+        if self.rising {
+            self.rising = link_next(&self.items, &mut self.latest, &mut self.links, &e.id);
+        }
+        if self.items.push(e).is_err() {
+            unreachable!()
+        }
+    }
+}
