@@ -1,9 +1,9 @@
 -- Laws on a list that is cut into blocks.
+use Rattle.tp_list.proofs.Members.{In-left, In-right}
 use Rattle.std.proofs.Common.{◌≡◌, ◌⊎◌, inl, inr, ℕ, zero, suc, ◌+◌, ◌-◌, ◌*◌, ◌<◌, ◌≤◌, List, [], ◌∷◌, ◌++◌, length, take, drop, get_or, insert, set, map, refl, sym, ap, ◌∙◌, subst, arith, append_assoc, length-append, zero-add}
 use Rattle.std.proofs.lemmas.List.{map-append}
 use Rattle.std.proofs.lemmas.List.Edits.{insert-append_left, insert-append_right}
 use Rattle.tp_list.specs.Members.{In}
-use Rattle.tp_rga.proofs.Sets.{In-left, In-right}
 use Rattle.tp_posindex.specs.Layout.{joined, block_at, place_at, IsGap, AreSized}
 
 -- ---- joining

@@ -1,4 +1,5 @@
 -- What is kept of numbers in blocks, and what an insert, a split and a delete leave of it.
+use Rattle.tp_list.proofs.Members.{In-left, In-right, In-push, In-last, In-get_or, In-slice_get}
 use Rattle.std.proofs.Common.{◌≡◌, ◌⊎◌, inl, inr, ℕ, zero, suc, ◌+◌, ◌-◌, ◌<◌, ◌≤◌, Bool, true, false, not, cond, ◌==◌, Option, None, Some, MatchOption, position, List, [], ◌∷◌, ◌++◌, length, take, drop, get_or, insert, set, filter, map, sum, slice_get, refl, sym, ap, ◌∙◌, subst, arith, length-append}
 use Rattle.std.proofs.lemmas.List.{get_or-set_other, get_or-set_same, take-append-drop, take_more, length-set, length-take, length-drop, map-append, length-map}
 use Rattle.std.proofs.lemmas.Bool.{eqb-true, eq-eqb}
@@ -6,9 +7,7 @@ use Rattle.std.proofs.lemmas.List.Sums.{sum_by-cons}
 use Rattle.std.proofs.lemmas.List.Elements.{filter-append}
 use Rattle.tp_list.specs.Members.{In}
 use Rattle.tp_rga.proofs.Flagging.{map-insert, map_agree, length-filter-insert}
-use Rattle.tp_rga.proofs.Sets.{In-left, In-right, In-push, In-last}
-use Rattle.tp_rga.proofs.Lookups.{In-get_or, IsFirst, position-first}
-use Rattle.tp_rga.proofs.Edits.{In-slice_get}
+use Rattle.tp_rga.proofs.Lookups.{IsFirst, position-first}
 use Rattle.tp_posindex.specs.Layout.{joined, block_at, place_at, StandsAt}
 use Rattle.tp_posindex.specs.Laid.{flag_of, flags_of, count_of, Once, IsNumbered, laid, IsLaid}
 use Rattle.tp_posindex.proofs.Joining.{In-joined, In-block, insert-joined, cut_at, joined-cut, take-joined, In-set, In-insert, In-inserted, In-insert_still, In-parts, In-drop}
@@ -549,7 +548,7 @@ renamed_more home old ks i b lt within renamed others =
             get_or-set_other home n k b 0 ne ∙ renamed k (elim (In-push k (take i ks) n (subst (In k) more h)) as (λ _. In k (take i ks)) [ inl j ↦ j | inr e ↦ absurd (apart e) ]))
       ],
       λ k not_in.
-          let ne : k ≡ n → ⊥ = (λ (e : k ≡ n). not_in (subst (In k) (sym more) (subst (λ (z : ℕ). In z (take i ks ++ n ∷ [])) (sym e) (In-last (take i ks) n)))) in
+          let ne : k ≡ n → ⊥ = (λ (e : k ≡ n). not_in (subst (In k) (sym more) (subst (λ (z : ℕ). In z (take i ks ++ n ∷ [])) (sym e) (In-last n (take i ks))))) in
           get_or-set_other home n k b 0 ne ∙ others k (λ h. not_in (subst (In k) (sym more) (In-left k (take i ks) (n ∷ []) h))),
     )
 

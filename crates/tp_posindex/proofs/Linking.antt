@@ -1,4 +1,5 @@
 -- The index: what an element more leaves of it, and what a look-up finds.
+use Rattle.tp_list.proofs.Members.{In-left, In-push, In-last, In-index, In-get_or, In-middle}
 use Rattle.std.proofs.Common.{◌≡◌, ◌⊎◌, inl, inr, ℕ, zero, suc, ◌+◌, ◌<◌, ◌≤◌, Bool, true, false, cond, Option, None, Some, List, [], ◌∷◌, ◌++◌, length, take, drop, get_or, map, position, refl, sym, ap, ◌∙◌, subst, arith, length-append}
 use Rattle.tp_list.specs.Members.{In}
 use Rattle.tp_opid.specs.declared.actor.Actor.{Actor}
@@ -6,8 +7,7 @@ use Rattle.tp_opid.specs.declared.op_id.OpId.{OpId}
 use Rattle.tp_opid.specs.Insert.{Insert}
 use Rattle.tp_opid.specs.Same.{id_eq, same_actor}
 use Rattle.tp_opid.proofs.Orders.{id_eq-same, id_eq-itself, same_actor-same, same_actor-apart}
-use Rattle.tp_rga.proofs.Sets.{In-left, In-push, In-last}
-use Rattle.tp_rga.proofs.Lookups.{IsFirst, position-first, In-index, In-get_or, In-middle}
+use Rattle.tp_rga.proofs.Lookups.{IsFirst, position-first}
 use Rattle.tp_posindex.specs.declared.links.Link.{Link}
 use Rattle.tp_posindex.specs.declared.links.Latest.{Latest}
 use Rattle.tp_posindex.specs.Blocked.{blank, element_at}
@@ -218,7 +218,7 @@ IsIndexed-first E latest links e x l kept none by at before_is jump_is =
       ];
       known = λ k lt. elim (below_next k n (omega arith)) as (λ _. (y : Latest) × In y (latest ++ x ∷ []) × (y.actor ≡ actor_at E' k)) [
         | inl inside ↦ (let r = kept.known k inside in (r.0, In-left r.0 latest (x ∷ []) r.1, r.2 ∙ sym (actor_front E e k inside)))
-        | inr is ↦ (x, In-last latest x, by ∙ sym (ap (actor_at E') is ∙ at_n))
+        | inr is ↦ (x, In-last x latest, by ∙ sym (ap (actor_at E') is ∙ at_n))
       ];
       there = λ y h. elim (In-push y latest x h) as (λ _. (y.number < length E') × (actor_at E' y.number ≡ y.actor)) [
         | inl i ↦ (let old = kept.there y i in (let t = old.0 in omega arith, actor_front E e y.number old.0 ∙ old.1))

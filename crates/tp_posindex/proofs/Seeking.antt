@@ -1,4 +1,6 @@
 -- The elements by number: look-ups, and the place where an insert goes.
+use Rattle.tp_list.proofs.Members.{In-get_or}
+use Rattle.tp_opid.specs.Tree.{IsThere, IsNew, HasPlace, IsPlaceBelow, CanInsert}
 use Rattle.std.proofs.Common.{◌≡◌, ◌⊎◌, inl, inr, ℕ, zero, suc, ◌+◌, ◌-◌, ◌<◌, ◌≤◌, true, None, Some, List, [], ◌∷◌, ◌++◌, length, take, get_or, insert, map, position, refl, sym, ap, ◌∙◌, subst, arith, length-append}
 use Rattle.std.specs.List.{AllWithin, HoldsAt}
 use Rattle.std.proofs.lemmas.List.{length-map}
@@ -9,9 +11,8 @@ use Rattle.tp_opid.specs.declared.op_id.Place.TheVariants.{Start, After}
 use Rattle.tp_opid.specs.Insert.{Insert}
 use Rattle.tp_opid.specs.Order.{Below}
 use Rattle.tp_opid.specs.Same.{id_eq}
-use Rattle.tp_rga.specs.Tree.{IsThere, IsNew, HasPlace, IsPlaceBelow, CanInsert}
 use Rattle.tp_rga.specs.Order.{EndsAt, IsInserted}
-use Rattle.tp_rga.proofs.Lookups.{IsFirst-position, IsThere-found, In-get_or, EndsAt-found, place_found}
+use Rattle.tp_rga.proofs.Lookups.{IsFirst-position, IsThere-found, EndsAt-found, place_found}
 use Rattle.tp_posindex.specs.Layout.{joined, block_at, place_at, IsGap, StandsAt}
 use Rattle.tp_posindex.specs.Blocked.{blank, element_at}
 use Rattle.tp_posindex.proofs.Joining.{place_at-within, place_at-before, get_or-joined}

@@ -1,4 +1,6 @@
 -- The elements in blocks: what reads find, and what an insert and a delete leave.
+use Rattle.tp_list.proofs.Members.{In-get_or, In-index, In-middle}
+use Rattle.tp_opid.specs.Tree.{IsThere, IsNew, AreApart, CanInsert}
 use Rattle.std.proofs.Common.{◌≡◌, inl, inr, ℕ, zero, suc, ◌+◌, ◌-◌, ◌<◌, ◌≤◌, Bool, true, false, not, Option, None, Some, List, [], ◌∷◌, ◌++◌, length, take, get_or, insert, set, map, filter, position, slice_get, refl, sym, ap, ◌∙◌, subst, arith, length-append, MatchBool}
 use Rattle.std.specs.Option.{option_map, is_some}
 use Rattle.std.proofs.lemmas.List.{length-map, length-set, get_or-set_other, get_or-set_same}
@@ -9,14 +11,13 @@ use Rattle.tp_opid.specs.declared.op_id.Place.TheVariants.{Start, After}
 use Rattle.tp_opid.specs.Insert.{Insert}
 use Rattle.tp_opid.specs.Order.{Below}
 use Rattle.tp_opid.specs.Same.{id_eq}
-use Rattle.tp_opid.proofs.Orders.{id_eq-same}
+use Rattle.tp_opid.proofs.Orders.{id_eq-same, id_eq-flip}
 use Rattle.tp_rga.specs.declared.element.Element.{Element}
-use Rattle.tp_rga.specs.Tree.{IsThere, IsNew, AreApart, CanInsert}
 use Rattle.tp_rga.specs.Shown.{is_removed, shown, shown_before, element_of}
 use Rattle.tp_rga.specs.Kept.{IsKept}
 use Rattle.tp_rga.proofs.Flagging.{map-insert, map_agree, length-left, take-map_lem, slice_get-past}
-use Rattle.tp_rga.proofs.Lookups.{IsFirst, IsFirst-position, position-first, In-get_or, In-index, In-middle, IsThere-not_new, found-position}
-use Rattle.tp_rga.proofs.Keeping.{id_eq-apart_back, IsKept-insert, IsKept-delete, IsKept-delete_again, shown-found, shown-past, shown-before, shown_before-found}
+use Rattle.tp_rga.proofs.Lookups.{IsFirst, IsFirst-position, position-first, IsThere-not_new, found-position}
+use Rattle.tp_rga.proofs.Keeping.{IsKept-insert, IsKept-delete, IsKept-delete_again, shown-found, shown-past, shown-before, shown_before-found}
 use Rattle.tp_posindex.specs.Layout.{joined, block_at, place_at, AreSized, StandsAt}
 use Rattle.tp_posindex.specs.Laid.{IsNumbered, Once, flag_of, flags_of, count_of}
 use Rattle.tp_posindex.specs.Blocked.{blank, element_at, pieces, IsBlocked}
@@ -121,7 +122,7 @@ one_place : (L : List Insert) (i j : ℕ) (d e : Insert) → AreApart L → i < 
 one_place [] i j d e apart h k same = absurd (omega arith)
 one_place (a ∷ L) zero zero d e apart h k same = refl
 one_place (a ∷ L) zero (suc j) d e apart h k same =
-    let other : id_eq a.id (get_or L j e).id ≡ false = id_eq-apart_back (get_or L j e).id a.id (apart.0 (get_or L j e) (In-get_or L j e (omega arith))) in cc
+    let other : id_eq a.id (get_or L j e).id ≡ false = id_eq-flip (get_or L j e).id a.id (apart.0 (get_or L j e) (In-get_or L j e (omega arith))) in cc
 one_place (a ∷ L) (suc i) zero d e apart h k same =
     let other : id_eq (get_or L i d).id a.id ≡ false = apart.0 (get_or L i d) (In-get_or L i d (omega arith)) in cc
 one_place (a ∷ L) (suc i) (suc j) d e apart h k same = ap suc (one_place L i j d e apart.1 (omega arith) (omega arith) same)

@@ -1,10 +1,11 @@
 //! The elements by number, and the spot where an insert goes.
 
+ghost use Rattle.tp_opid.specs.Tree.{HasPlace, CanInsert};
+
 ghost use Rattle.std.specs.Prelude.{◌≡◌, ℕ, ◌<◌, ◌≤◌, ◌≢◌, length, take, insert, map, slice_index_or};
 ghost use Rattle.std.specs.List.{All, AllWithin, HoldsAt};
 ghost use Rattle.tp_opid.specs.Insert.{Insert};
 ghost use Rattle.tp_opid.specs.Order.{Below};
-ghost use Rattle.tp_rga.specs.Tree.{HasPlace, CanInsert};
 ghost use Rattle.tp_rga.specs.Order.{EndsAt, IsInserted};
 ghost use Rattle.tp_posindex.specs.Layout.{joined, place_at, IsGap};
 ghost use Rattle.tp_posindex.specs.Laid.{IsNumbered};

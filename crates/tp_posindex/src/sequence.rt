@@ -1,9 +1,10 @@
 //! A sequence whose elements stand in blocks.
 
+ghost use Rattle.tp_opid.specs.Tree.{IsThere, IsNew};
+
 ghost use Rattle.std.specs.Prelude.{◌≡◌, ◌↔◌, ℕ, ◌+◌, ◌-◌, ◌^◌, ◌<◌, ◌≤◌, List, [], ◌∷◌, ◌++◌, length, IsTrue, IsOk, OnOk, OnErr, Some, MatchOption, slice_get};
 ghost use Rattle.tp_opid.specs.declared.op_id.OpId.{OpId as Id};
 ghost use Rattle.tp_opid.specs.Insert.{Insert};
-ghost use Rattle.tp_rga.specs.Tree.{IsThere, IsNew};
 ghost use Rattle.tp_posindex.specs.Layout.{joined, block_at, AreSized};
 ghost use Rattle.tp_posindex.specs.BlockState.{IsInfoOf};
 

@@ -1,4 +1,5 @@
 -- What holds wherever a run stops: what entered and was kept, that nothing is lost, and how many wait.
+use Rattle.tp_list.proofs.Members.{In-left, In-right, In-append}
 use Rattle.std.proofs.Common.{◌≡◌, ℕ, suc, ◌+◌, ◌≤◌, ◌⊎◌, inl, inr, List, [], ◌∷◌, ◌++◌, length, Bool, true, false, cond, Option, Some, refl, sym, ap, ◌∙◌, subst, arith, length-append, append_assoc, append-nil}
 use Rattle.tp_list.specs.Members.{In, AllIn}
 use Rattle.tp_opid.specs.declared.hash.Hash.{Hash}
@@ -9,7 +10,6 @@ use Rattle.tp_graph.specs.declared.error.GraphError.{GraphError}
 use Rattle.tp_graph.specs.declared.error.GraphError.TheVariants.{MissingDeps}
 use Rattle.tp_graph.specs.Fit.{cause}
 use Rattle.tp_graph.specs.GraphState.{most_waiting}
-use Rattle.tp_graph.proofs.NamedLaws.{In-left, In-right, In-cases}
 use Rattle.tp_receive.specs.Receiving.{Grows, is_refusal, hashes}
 use Rattle.tp_receive.specs.Delivery.{delivery, placing, takes_place, places}
 use Rattle.tp_receive.specs.Intake.{Intake, Turn, Run, begin, refuse}
@@ -20,7 +20,7 @@ use Rattle.tp_receive.proofs.HashLaws.{hashes-append}
 use Rattle.tp_receive.proofs.TurnLaws.{Run-keeps, Turn-cases, IsHere, changes_of, with_rest}
 
 pub In-pushed : {X : Type 0} (xs : List X) (x y : X) → In y (xs ++ x ∷ []) → (y ≡ x) ⊎ In y xs
-In-pushed xs x y i = elim (In-cases y xs (x ∷ []) i) [ inl j ↦ inr j | inr j ↦ elim j [ inl e ↦ inl e | inr n ↦ absurd n ] ]
+In-pushed xs x y i = elim (In-append y xs (x ∷ []) i) [ inl j ↦ inr j | inr j ↦ elim j [ inl e ↦ inl e | inr n ↦ absurd n ] ]
 
 -- ---- what entered
 

@@ -1,4 +1,5 @@
 -- The list of what waits: going over it, and taking one out.
+use Rattle.tp_list.proofs.Members.{In-append}
 use Rattle.std.proofs.Common.{◌≡◌, ℕ, suc, zero, ◌+◌, ◌<◌, inl, inr, List, [], ◌∷◌, ◌++◌, length, Bool, true, Some, take, refl, sym, ap, ◌∙◌, subst, arith, get_or}
 use Rattle.std.proofs.lemmas.List.{take_more}
 use Rattle.std.specs.List.{slice_get, remove}
@@ -6,7 +7,6 @@ use Rattle.tp_opid.specs.declared.hash.Hash.{Hash}
 use Rattle.tp_change.specs.declared.parts.ChangeParts.{ChangeParts}
 use Rattle.tp_graph.specs.declared.error.GraphError.{GraphError}
 use Rattle.tp_graph.specs.Fit.{cause}
-use Rattle.tp_graph.proofs.NamedLaws.{In-cases}
 use Rattle.tp_receive.specs.Receiving.{AllWait, lacks_deps}
 use Rattle.tp_receive.specs.Intake.{NextWaits, intake}
 use Rattle.tp_receive.specs.Trying.{IsEarliest}
@@ -47,7 +47,7 @@ next_waits k C W P t r i c e get =
     }
 
 pub AllWait-push : (C W : List ChangeParts) (c : ChangeParts) → lacks_deps (cause C c) ≡ true → AllWait C W → AllWait C (W ++ c ∷ [])
-AllWait-push C W c h all d i = elim (In-cases d W (c ∷ []) i) [ inl j ↦ all d j | inr j ↦ elim j [ inl e ↦ rw e h | inr n ↦ absurd n ] ]
+AllWait-push C W c h all d i = elim (In-append d W (c ∷ []) i) [ inl j ↦ all d j | inr j ↦ elim j [ inl e ↦ rw e h | inr n ↦ absurd n ] ]
 
 -- one more of them
 pub AllWait-more : (C W : List ChangeParts) (i : ℕ) (d : ChangeParts) → i < length W → d ≡ get_or W i d → lacks_deps (cause C d) ≡ true → AllWait C (take i W) → AllWait C (take (i + 1) W)

@@ -1,9 +1,8 @@
+use Rattle.tp_list.proofs.Members.{In-push, In-get_or}
 use Rattle.std.proofs.Common.{◌≡◌, [], inl, inr, false, take, get_or, refl, sym, ◌∙◌, ap, subst}
 use Rattle.std.proofs.lemmas.List.{take_more}
 use Rattle.tp_list.specs.Members.{In}
 use Rattle.tp_opid.specs.Same.{same_actor}
-use Rattle.tp_rga.proofs.Sets.{In-push}
-use Rattle.tp_rga.proofs.Lookups.{In-get_or}
 use Rattle.tp_posindex.specs.declared.links.Latest.{Latest}
 use Rattle.tp_posindex.proofs.lookup.last_by.Goals as goal
 

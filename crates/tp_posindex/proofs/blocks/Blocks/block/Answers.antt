@@ -1,6 +1,6 @@
+use Rattle.tp_list.proofs.Members.{In-get_or}
 use Rattle.std.proofs.Common.{◌<◌, ℕ, List, subst, sym, ◌∙◌, ap, arith, length}
 use Rattle.tp_list.specs.Members.{In}
-use Rattle.tp_rga.proofs.Lookups.{In-get_or}
 use Rattle.tp_posindex.specs.Laid.{Layout, IsNumbered}
 use Rattle.tp_posindex.specs.Layout.{joined, block_at}
 use Rattle.tp_posindex.proofs.Joining.{In-joined, In-block, place_at-within}

@@ -1,7 +1,7 @@
+use Rattle.tp_list.proofs.Members.{In-slice_get}
+use Rattle.tp_opid.specs.Tree.{IsThere, IsNew}
 use Rattle.std.proofs.Common.{◌≡◌, ◌<◌, length, map, sym, ◌∙◌, subst}
 use Rattle.std.proofs.lemmas.List.{length-map}
-use Rattle.tp_rga.specs.Tree.{IsThere, IsNew}
-use Rattle.tp_rga.proofs.Edits.{In-slice_get}
 use Rattle.tp_posindex.specs.Layout.{joined, block_at}
 use Rattle.tp_posindex.specs.BlockState.{BlockState}
 use Rattle.tp_posindex.specs.Blocked.{element_at, pieces}

@@ -1,6 +1,6 @@
+use Rattle.tp_opid.specs.Tree.{IsThere}
 use Rattle.std.proofs.Common.{◌≡◌, true, sym, subst}
 use Rattle.std.specs.Option.{is_some}
-use Rattle.tp_rga.specs.Tree.{IsThere}
 use Rattle.tp_posindex.specs.Layout.{joined}
 use Rattle.tp_posindex.specs.BlockState.{BlockState}
 use Rattle.tp_posindex.proofs.Sequencing.{there_test}

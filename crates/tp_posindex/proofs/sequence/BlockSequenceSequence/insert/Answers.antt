@@ -1,7 +1,7 @@
+use Rattle.tp_opid.specs.Tree.{IsNew, CanInsert}
 use Rattle.std.proofs.Common.{◌+◌, ◌≡◌, ℕ, List, Bool, [], ◌∷◌, ◌++◌, false, length, map, insert, sym, ◌∙◌, ap, subst, arith, length-append}
 use Rattle.std.proofs.lemmas.List.{length-map}
 use Rattle.tp_opid.specs.Insert.{Insert}
-use Rattle.tp_rga.specs.Tree.{IsNew, CanInsert}
 use Rattle.tp_rga.specs.Order.{IsInserted}
 use Rattle.tp_rga.proofs.Keeping.{IsKept-left}
 use Rattle.tp_posindex.specs.Layout.{joined, place_at}
