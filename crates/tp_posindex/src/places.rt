@@ -1,7 +1,6 @@
 //! The elements by number, and the spot where an insert goes.
 
 ghost use Rattle.tp_opid.specs.Tree.{HasPlace, CanInsert};
-
 ghost use Rattle.std.specs.Prelude.{◌≡◌, ℕ, ◌<◌, ◌≤◌, ◌≢◌, length, take, insert, map, slice_index_or};
 ghost use Rattle.std.specs.List.{All, AllWithin, HoldsAt};
 ghost use Rattle.tp_opid.specs.Insert.{Insert};

@@ -1,7 +1,6 @@
 //! A sequence whose elements stand in blocks.
 
 ghost use Rattle.tp_opid.specs.Tree.{IsThere, IsNew};
-
 ghost use Rattle.std.specs.Prelude.{◌≡◌, ◌↔◌, ℕ, ◌+◌, ◌-◌, ◌^◌, ◌<◌, ◌≤◌, List, [], ◌∷◌, ◌++◌, length, IsTrue, IsOk, OnOk, OnErr, Some, MatchOption, slice_get};
 ghost use Rattle.tp_opid.specs.declared.op_id.OpId.{OpId as Id};
 ghost use Rattle.tp_opid.specs.Insert.{Insert};

@@ -84,10 +84,16 @@ fn answer(alloc: Global, shown: Result<(), ShowError>, wrote: &[u8]) -> Result<S
     }
 }
 
+// A writer with room for what is shown of a log, so that no refused growth of its own makes it fail.
+fn roomy(alloc: Global, log: &[u8]) -> Result<Vec<u8>, Fault> {
+    let room = log.len().saturating_add(1);
+    Ok(Vec::with_capacity(alloc, room)?)
+}
+
 // What is shown of a log.
 fn shown(alloc: Global, log: &[u8]) -> Result<String, Fault> {
     let mut reader = log;
-    let mut out = Vec::new(alloc);
+    let mut out = roomy(alloc, log)?;
     let shown = show(alloc, &mut reader, &mut out);
     answer(alloc, shown, &out)
 }
@@ -129,7 +135,7 @@ fn reader_fails(world: &World, words: &mut Words) -> Result<String, Fault> {
             rest: whole,
             calls_left,
         };
-        let mut out = Vec::new(world.alloc);
+        let mut out = roomy(world.alloc, whole)?;
         let shown = show(world.alloc, &mut reader, &mut out);
         runs.add(answer(world.alloc, shown, &out)?)?;
     }
@@ -144,7 +150,7 @@ fn writer_fails(world: &World, words: &mut Words) -> Result<String, Fault> {
     for calls_left in 0..times {
         let mut reader = whole.as_slice();
         let mut writer = FailingWriter {
-            taken: Vec::new(world.alloc),
+            taken: roomy(world.alloc, whole)?,
             calls_left,
         };
         let shown = show(world.alloc, &mut reader, &mut writer);
