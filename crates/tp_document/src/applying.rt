@@ -37,10 +37,14 @@ impl<S: Sequence> Document<S> {
     ) -> Result<Applied, DocError>
         ensures id { self.new.id ≡ self.old.id }
         ensures sound { Sound self.old.applied }
-        ensures ok { IfOk result (λ r. Takes K.keeps keeper.old keeper.new changes.items self.old self.new r) }
-        ensures kept { OnOk result (KeepsNew K.keeps keeper.old keeper.new self.old.applied self.new.applied) }
-        ensures full { IsFullAlone result (delivery.is_full self.old.applied self.old.waiting changes.items) }
-        ensures err { IfErr result (λ e. TakesPart K.keeps K.refuses keeper.old keeper.new changes.items
+        ensures ok { IfOk result
+            (λ r. Takes K.keeps keeper.old keeper.new changes.items self.old self.new r) }
+        ensures kept { OnOk result
+            (KeepsNew K.keeps keeper.old keeper.new self.old.applied self.new.applied) }
+        ensures full { IsFullAlone result
+            (delivery.is_full self.old.applied self.old.waiting changes.items) }
+        ensures err { IfErr result
+            (λ e. TakesPart K.keeps K.refuses keeper.old keeper.new changes.items
             self.old self.new e) }
     {
         let alloc = self.alloc;
@@ -64,9 +68,12 @@ impl<S: Sequence> Document<S> {
     pub fn apply(&mut self, changes: Vec<Change>) -> Result<Applied, DocError>
         ensures id { self.new.id ≡ self.old.id }
         ensures sound { Sound self.old.applied }
-        ensures ok { IfOk result (λ r. Takes keeps_nothing no_keeper no_keeper changes.items self.old self.new r) }
-        ensures full { IsFullAlone result (delivery.is_full self.old.applied self.old.waiting changes.items) }
-        ensures err { IfErr result (λ e. TakesPart keeps_nothing refuses_nothing no_keeper no_keeper changes.items
+        ensures ok { IfOk result
+            (λ r. Takes keeps_nothing no_keeper no_keeper changes.items self.old self.new r) }
+        ensures full { IsFullAlone result
+            (delivery.is_full self.old.applied self.old.waiting changes.items) }
+        ensures err { IfErr result
+            (λ e. TakesPart keeps_nothing refuses_nothing no_keeper no_keeper changes.items
             self.old self.new e) }
     {
         let mut keeper = NoKeeper;
@@ -84,12 +91,14 @@ impl<S: Sequence> Document<S> {
     ) -> Result<Applied, DocError>
         ensures id { self.new.id ≡ self.old.id }
         ensures sound { Sound self.old.applied }
-        ensures ok { IfOk result (λ r. Takes K.keeps keeper.old keeper.new (merging.absent self.old.applied other.now.applied)
-            self.old self.new r) }
-        ensures kept { OnOk result (KeepsNew K.keeps keeper.old keeper.new self.old.applied self.new.applied) }
+        ensures ok { IfOk result
+            (λ r. Takes K.keeps keeper.old keeper.new
+            (merging.absent self.old.applied other.now.applied) self.old self.new r) }
+        ensures kept { OnOk result
+            (KeepsNew K.keeps keeper.old keeper.new self.old.applied self.new.applied) }
         ensures other { IsOtherAlone result self.old.id other.now.id }
-        ensures space { delivery.is_full self.old.applied self.old.waiting (merging.absent self.old.applied other.now.applied)
-            ≡ false }
+        ensures space { delivery.is_full self.old.applied self.old.waiting
+            (merging.absent self.old.applied other.now.applied) ≡ false }
         ensures err { IfErr result (λ e. MergesPart K.keeps K.refuses keeper.old keeper.new
             (merging.absent self.old.applied other.now.applied) self.old self.new e) }
     {
@@ -114,9 +123,10 @@ impl<S: Sequence> Document<S> {
         ensures ok { IfOk result (λ r. Takes keeps_nothing no_keeper no_keeper
             (merging.absent self.old.applied other.now.applied) self.old self.new r) }
         ensures other { IsOtherAlone result self.old.id other.now.id }
-        ensures space { delivery.is_full self.old.applied self.old.waiting (merging.absent self.old.applied other.now.applied)
-            ≡ false }
-        ensures err { IfErr result (λ e. MergesPart keeps_nothing refuses_nothing no_keeper no_keeper
+        ensures space { delivery.is_full self.old.applied self.old.waiting
+            (merging.absent self.old.applied other.now.applied) ≡ false }
+        ensures err { IfErr result
+            (λ e. MergesPart keeps_nothing refuses_nothing no_keeper no_keeper
             (merging.absent self.old.applied other.now.applied) self.old self.new e) }
     {
         let mut keeper = NoKeeper;

@@ -66,7 +66,6 @@ pub record TakesOut (W : List ChangeParts) (P : List (ChangeParts × Bool)) (c :
   pub less : (d : ChangeParts) → IsHere V Q d → IsHere W P d
   pub cover : (d : ChangeParts) → IsHere W P d → (d ≡ c) ⊎ IsHere V Q d
   pub waits : (d : ChangeParts) → In d W → (d ≡ c) ⊎ In d V
-  pub still : (d : ChangeParts) → In d V → In d W
   pub few : length V + places Q ≤ length W + places P
   pub fewer : length V + length Q < length W + length P
   pub comes : (Q ≡ P) ⊎ ((place : Bool) × (P ≡ (c, place) ∷ Q))
@@ -84,7 +83,6 @@ takes_waiting A B P c = record {
   less = λ d h. elim h [ inl i ↦ inl (In-with A B c d i) | inr i ↦ inr i ];
   cover = λ d h. elim h [ inl i ↦ elim (In-without A B c d i) [ inl e ↦ inl e | inr j ↦ inr (inl j) ] | inr i ↦ inr (inr i) ];
   waits = In-without A B c;
-  still = In-with A B c;
   few = omega (arith, length-append A B, length-append A (c ∷ B));
   fewer = omega (arith, length-append A B, length-append A (c ∷ B));
   comes = inl refl;
@@ -96,7 +94,6 @@ takes_coming W Q c place = record {
   less = λ d h. elim h [ inl i ↦ inl i | inr i ↦ inr (inr i) ];
   cover = λ d h. elim h [ inl i ↦ inr (inl i) | inr i ↦ elim i [ inl e ↦ inl e | inr j ↦ inr (inr j) ] ];
   waits = λ d i. inr i;
-  still = λ d i. i;
   few = few place;
   fewer = omega arith;
   comes = inr (place, refl);

@@ -26,6 +26,7 @@ pub record Intake (S : Type 0) : Type 0 where
   pub entered : List Hash
   pub refused : List (Hash × GraphError)
 
+-- the same, from its parts
 abbrev pub intake : {S : Type 0} → S → List ChangeParts → List ChangeParts → List (ChangeParts × Bool) → List Hash → List (Hash × GraphError) → Intake S
 intake k C W P t r = record { keeper = k; applied = C; waiting = W; coming = P; entered = t; refused = r }
 

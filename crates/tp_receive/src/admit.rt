@@ -50,9 +50,11 @@ fn enter_kept<R: Replica, K: Keeper>(
     ensures waiting { R.waiting replica.new ≡ R.waiting replica.old }
     ensures kept { OnOk result (K.keeps keeper.old change keeper.new) }
     ensures applied { OnOk result (R.applied replica.new ≡ R.applied replica.old ++ change ∷ []) }
-    ensures told { OnOk result (told.new.applied.items ≡ told.old.applied.items ++ hash_of change ∷ []) }
+    ensures told { OnOk result
+        (told.new.applied.items ≡ told.old.applied.items ++ hash_of change ∷ []) }
     ensures refused { OnOk result (told.new.refused.items ≡ told.old.refused.items) }
-    ensures err { IfErr result (λ e. TryFails K.refuses (R.applied replica.old) e change keeper.old keeper.new) }
+    ensures err { IfErr result
+        (λ e. TryFails K.refuses (R.applied replica.old) e change keeper.old keeper.new) }
     ensures stays { OnErr result (R.applied replica.new ≡ R.applied replica.old) }
 {
     told.applied.push(change.hash())?;
@@ -71,9 +73,12 @@ pub(crate) fn admit<R: Replica, K: Keeper>(
 ) -> Result<Outcome, ReceiveError>
     ensures id { R.id replica.new ≡ R.id replica.old }
     ensures waiting { R.waiting replica.new ≡ R.waiting replica.old }
-    ensures ok { IfOk result (λ o. Tried K.keeps keeper.old keeper.new change (R.applied replica.old) (R.applied replica.new)
-        told.old.applied.items told.new.applied.items told.old.refused.items told.new.refused.items o) }
-    ensures err { IfErr result (λ e. TryFails K.refuses (R.applied replica.old) e change keeper.old keeper.new) }
+    ensures ok { IfOk result
+        (λ o. Tried K.keeps keeper.old keeper.new change
+        (R.applied replica.old) (R.applied replica.new) told.old.applied.items
+        told.new.applied.items told.old.refused.items told.new.refused.items o) }
+    ensures err { IfErr result
+        (λ e. TryFails K.refuses (R.applied replica.old) e change keeper.old keeper.new) }
     ensures stays { OnErr result (R.applied replica.new ≡ R.applied replica.old) }
 {
     match judge(replica.ready(&change))? {

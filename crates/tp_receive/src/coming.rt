@@ -45,8 +45,10 @@ fn note<R: Replica>(
     placed: &mut Vec<Hash>,
     change: &Change,
 ) -> Result<bool, AllocError>
-    ensures { (D V : List ChangeParts) → delivered.old.items ≡ receiving.hashes D → placed.old.items ≡ receiving.hashes V
-        → IfOk result (λ place. IsNoted (R.applied replica.now) D V change.now delivered.new.items placed.new.items place) }
+    ensures { (D V : List ChangeParts) → delivered.old.items ≡ receiving.hashes D
+        → placed.old.items ≡ receiving.hashes V
+        → IfOk result (λ place. IsNoted (R.applied replica.now) D V change.now
+        delivered.new.items placed.new.items place) }
 {
     let hash = change.hash();
     if all_there(replica, delivered, change.deps()) {
@@ -78,7 +80,8 @@ pub(crate) fn reserve<R: Replica>(
 ) -> Result<Coming, AllocError>
     ensures changes { IfOk result (λ coming. coming.changes.items
         ≡ placing (R.waiting replica.now) (delivery (R.applied replica.now) changes.items)) }
-    ensures reserved { IfOk result (λ coming. coming.reserved ≡ delivery_of.places coming.changes.items) }
+    ensures reserved { IfOk result
+        (λ coming. coming.reserved ≡ delivery_of.places coming.changes.items) }
 {
     let mut delivered = Vec::new(alloc);
     let mut placed = hashes_of(alloc, replica.pending())?;

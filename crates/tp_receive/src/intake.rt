@@ -32,11 +32,13 @@ fn take_all<R: Replica, K: Keeper>(
     requires { coming.reserved ≡ delivery.places coming.changes.items }
     ensures id { R.id replica.new ≡ R.id replica.old }
     ensures ok { OnOk result (Run K.keeps
-        (so_far keeper.old (R.applied replica.old) (R.waiting replica.old) coming.changes.items told.old)
+        (so_far keeper.old (R.applied replica.old) (R.waiting replica.old)
+        coming.changes.items told.old)
         (so_far keeper.new (R.applied replica.new) (R.waiting replica.new) [] told.new)) }
     ensures settled { OnOk result (AllWait (R.applied replica.new) (R.waiting replica.new)) }
     ensures err { IfErr result (λ e. Stopped K.keeps K.refuses
-        (so_far keeper.old (R.applied replica.old) (R.waiting replica.old) coming.changes.items told.old)
+        (so_far keeper.old (R.applied replica.old) (R.waiting replica.old)
+        coming.changes.items told.old)
         e keeper.new (R.applied replica.new) (R.waiting replica.new)) }
 {
     settle(replica, keeper, told)?;
@@ -94,10 +96,15 @@ pub fn receive<R: Replica, K: Keeper>(
     ensures id { R.id replica.new ≡ R.id replica.old }
     ensures sound { Sound (R.applied replica.old) }
     ensures ok { IfOk result (λ r. Received K.keeps
-        (begin keeper.old (R.applied replica.old) (R.waiting replica.old) changes.items) changes.items
-        (intake keeper.new (R.applied replica.new) (R.waiting replica.new) [] r.applied.items r.refused.items) r.held.items) }
-    ensures kept { OnOk result (KeepsNew K.keeps keeper.old keeper.new (R.applied replica.old) (R.applied replica.new)) }
-    ensures full { delivery.IsFullOnly result (delivery.is_full (R.applied replica.old) (R.waiting replica.old) changes.items) }
+        (begin keeper.old (R.applied replica.old) (R.waiting replica.old) changes.items)
+        changes.items
+        (intake keeper.new (R.applied replica.new) (R.waiting replica.new)
+        [] r.applied.items r.refused.items)
+        r.held.items) }
+    ensures kept { OnOk result
+        (KeepsNew K.keeps keeper.old keeper.new (R.applied replica.old) (R.applied replica.new)) }
+    ensures full { delivery.IsFullOnly result
+        (delivery.is_full (R.applied replica.old) (R.waiting replica.old) changes.items) }
     ensures err { IfErr result (λ e. Fails K.keeps K.refuses
         (begin keeper.old (R.applied replica.old) (R.waiting replica.old) changes.items)
         e keeper.new (R.applied replica.new) (R.waiting replica.new)) }

@@ -27,33 +27,38 @@ pub fn grown_between()
 
 /// A change that is refused for another cause than a missing dependency is refused whatever enters.
 pub fn refusal_stays()
-    ensures { (C new : List ChangeParts) (c : ChangeParts) → EntersAfter C new → is_refusal (cause C c) ≡ true → is_refusal (cause (C ++ new) c) ≡ true }
+    ensures { (C new : List ChangeParts) (c : ChangeParts) → EntersAfter C new
+        → is_refusal (cause C c) ≡ true → is_refusal (cause (C ++ new) c) ≡ true }
 {}
 
 /// A change that is refused for another cause than a missing dependency keeps that cause whatever enters of changes
 /// among which it has its hash alone.
 pub fn refusal_stays_the_same()
-    ensures { (C new K : List ChangeParts) (c : ChangeParts) (e : GraphError) → Sound C → EntersAfter C new → AllIn new K → HashesApart K → In c K
+    ensures { (C new K : List ChangeParts) (c : ChangeParts) (e : GraphError) → Sound C
+        → EntersAfter C new → AllIn new K → HashesApart K → In c K
         → is_refusal (Some e) ≡ true → cause C c ≡ Some e → cause (C ++ new) c ≡ Some e }
 {}
 
 /// Any two results of receiving one list have the same members, where no two different changes have one hash, or one
 /// actor and sequence number, and neither result is full.
 pub fn one_set()
-    ensures { (C K long other : List ChangeParts) → Sound C → HashesApart (C ++ K) → SeqsApart (C ++ K)
-        → length long < most_changes → length other < most_changes → Receives C K long → Receives C K other → SameMembers long other }
+    ensures { (C K long other : List ChangeParts) → Sound C → HashesApart (C ++ K)
+        → SeqsApart (C ++ K) → length long < most_changes → length other < most_changes
+        → Receives C K long → Receives C K other → SameMembers long other }
 {}
 
 /// Wherever a run stops: what entered is of what waited and came, each change could enter at its turn and was kept
 /// first, and it is told in its order; each that was refused had the cause that is told at its turn. What waits is of
 /// what waited and came.
 pub fn progress<K: Keeper>()
-    ensures { (k : K) (C W L : List ChangeParts) (t : Intake K) → Run K.keeps (begin k C W L) t → Progress K.keeps k C (W ++ L) t }
+    ensures { (k : K) (C W L : List ChangeParts) (t : Intake K) → Run K.keeps (begin k C W L) t
+        → Progress K.keeps k C (W ++ L) t }
 {}
 
 /// Wherever a run goes on to, nothing that waits is lost: each waits still, entered or is refused for good.
 pub fn nothing_is_lost<K: Keeper>()
-    ensures { (s t : Intake K) → Run K.keeps s t → LosesNone s.applied t.applied s.waiting t.waiting }
+    ensures { (s t : Intake K) → Run K.keeps s t
+        → LosesNone s.applied t.applied s.waiting t.waiting }
 {}
 
 /// At most 1,024 wait wherever a run stops, but where it had to be refused.
@@ -72,7 +77,8 @@ pub fn none_is_dropped<K: Keeper>()
 /// change entered or has a cause, each told cause is the cause now, each change is somewhere, and what was dropped is
 /// none of the undeliverable ones.
 pub fn a_whole_run_is_a_result<K: Keeper>()
-    ensures { (k : K) (C W L : List ChangeParts) (t : Intake K) → Sound C → HashesApart (W ++ L) → is_full C W L ≡ false
+    ensures { (k : K) (C W L : List ChangeParts) (t : Intake K) → Sound C → HashesApart (W ++ L)
+        → is_full C W L ≡ false
         → Run K.keeps (begin k C W L) t → Ends t → Results C W L t }
 {}
 
@@ -84,6 +90,7 @@ pub fn a_stop_is_between<K: Keeper>()
 
 /// Two whole runs from one beginning end alike, whatever keeps: in what is applied, in what waits and in what is told.
 pub fn one_outcome<K: Keeper, J: Keeper>()
-    ensures { (k : K) (j : J) (C W L : List ChangeParts) (t : Intake K) (u : Intake J) → Run K.keeps (begin k C W L) t → Ends t
+    ensures { (k : K) (j : J) (C W L : List ChangeParts) (t : Intake K) (u : Intake J)
+        → Run K.keeps (begin k C W L) t → Ends t
         → Run J.keeps (begin j C W L) u → Ends u → Alike t u }
 {}

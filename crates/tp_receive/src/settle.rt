@@ -32,7 +32,8 @@ fn must_wait<R: Replica>(replica: &R, change: &Change) -> Result<bool, ReceiveEr
 
 // The number of the earliest pending change that needn't wait.
 fn first_ready<R: Replica>(replica: &R) -> Result<Option<usize>, ReceiveError>
-    ensures ok { IfOk result (λ found. MatchOption found (AllWait (R.applied replica.now) (R.waiting replica.now))
+    ensures ok { IfOk result
+        (λ found. MatchOption found (AllWait (R.applied replica.now) (R.waiting replica.now))
         (λ i. IsEarliest (R.applied replica.now) (R.waiting replica.now) i)) }
     ensures err { IfErr result (λ e. e ≡ ReceiveError.OutOfMemory) }
 {
@@ -53,11 +54,15 @@ fn enter_waiting<R: Replica, K: Keeper>(
     told: &mut Report,
 ) -> Result<(), ReceiveError>
     requires within { i < length (R.waiting replica.old) }
-    requires enters { (c : ChangeParts) → slice_get (R.waiting replica.old) i ≡ Some c → cause (R.applied replica.old) c ≡ None }
-    requires room { (c : ChangeParts) → slice_get (R.waiting replica.old) i ≡ Some c → R.has_room replica.old c }
+    requires enters { (c : ChangeParts) → slice_get (R.waiting replica.old) i ≡ Some c
+        → cause (R.applied replica.old) c ≡ None }
+    requires room { (c : ChangeParts) → slice_get (R.waiting replica.old) i ≡ Some c
+        → R.has_room replica.old c }
     ensures id { R.id replica.new ≡ R.id replica.old }
-    ensures ok { (c : ChangeParts) → slice_get (R.waiting replica.old) i ≡ Some c → OnOk result (Tried K.keeps keeper.old keeper.new c (R.applied replica.old) (R.applied replica.new)
-        told.old.applied.items told.new.applied.items told.old.refused.items told.new.refused.items Outcome.Entered) }
+    ensures ok { (c : ChangeParts) → slice_get (R.waiting replica.old) i ≡ Some c
+        → OnOk result (Tried K.keeps keeper.old keeper.new c
+        (R.applied replica.old) (R.applied replica.new) told.old.applied.items
+        told.new.applied.items told.old.refused.items told.new.refused.items Outcome.Entered) }
     ensures out { OnOk result (R.waiting replica.new ≡ remove (R.waiting replica.old) i) }
     ensures err { (c : ChangeParts) → slice_get (R.waiting replica.old) i ≡ Some c
         → IfErr result (λ e. TryFails K.refuses (R.applied replica.old) e c keeper.old keeper.new) }
@@ -81,7 +86,8 @@ fn refuse_waiting<R: Replica>(
 ) -> Result<(), ReceiveError>
     requires within { i < length (R.waiting replica.old) }
     ensures id { R.id replica.new ≡ R.id replica.old }
-    ensures ok { (c : ChangeParts) → slice_get (R.waiting replica.old) i ≡ Some c → OnOk result (told.new.refused.items ≡ told.old.refused.items ++ (hash_of c, error) ∷ []) }
+    ensures ok { (c : ChangeParts) → slice_get (R.waiting replica.old) i ≡ Some c
+        → OnOk result (told.new.refused.items ≡ told.old.refused.items ++ (hash_of c, error) ∷ []) }
     ensures told { told.new.applied.items ≡ told.old.applied.items }
     ensures out { OnOk result (R.waiting replica.new ≡ remove (R.waiting replica.old) i) }
     ensures applied { R.applied replica.new ≡ R.applied replica.old }
@@ -110,7 +116,8 @@ fn settle_one<R: Replica, K: Keeper>(
     ensures err { (P : List (ChangeParts × Bool)) → IfErr result (λ e. Stopped K.keeps K.refuses
         (so_far keeper.old (R.applied replica.old) (R.waiting replica.old) P told.old)
         e keeper.new (R.applied replica.new) (R.waiting replica.new)) }
-    ensures fewer { OnOk result (length (R.waiting replica.new) + 1 ≡ length (R.waiting replica.old)) }
+    ensures fewer { OnOk result
+        (length (R.waiting replica.new) + 1 ≡ length (R.waiting replica.old)) }
 {
     match judge(replica.ready_waiting(i))? {
         Verdict::Enters => enter_waiting(replica, keeper, i, told),

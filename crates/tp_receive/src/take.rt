@@ -44,7 +44,9 @@ fn let_wait<R: Replica>(
     ensures id { R.id replica.new ≡ R.id replica.old }
     ensures applied { R.applied replica.new ≡ R.applied replica.old }
     ensures told { told.new.applied.items ≡ told.old.applied.items }
-    ensures ok { OnOk result (IsHeld (R.waiting replica.old) change reserved (R.waiting replica.new) told.old.refused.items told.new.refused.items) }
+    ensures ok { OnOk result
+        (IsHeld (R.waiting replica.old) change reserved (R.waiting replica.new)
+        told.old.refused.items told.new.refused.items) }
     ensures err { IfErr result (λ e. e ≡ ReceiveError.OutOfMemory) }
     ensures stays { OnErr result (R.waiting replica.new ≡ R.waiting replica.old) }
 {
@@ -76,12 +78,16 @@ pub(crate) fn take<R: Replica, K: Keeper>(
 ) -> Result<(), ReceiveError>
     requires settled { AllWait (R.applied replica.old) (R.waiting replica.old) }
     ensures id { R.id replica.new ≡ R.id replica.old }
-    ensures ok { (place : Bool) (P : List (ChangeParts × Bool)) → reserved ≡ places P → OnOk result (Run K.keeps
-        (so_far keeper.old (R.applied replica.old) (R.waiting replica.old) ((change, place) ∷ P) told.old)
+    ensures ok { (place : Bool) (P : List (ChangeParts × Bool)) → reserved ≡ places P
+        → OnOk result (Run K.keeps
+        (so_far keeper.old (R.applied replica.old) (R.waiting replica.old)
+        ((change, place) ∷ P) told.old)
         (so_far keeper.new (R.applied replica.new) (R.waiting replica.new) P told.new)) }
     ensures settled { OnOk result (AllWait (R.applied replica.new) (R.waiting replica.new)) }
-    ensures err { (place : Bool) (P : List (ChangeParts × Bool)) → reserved ≡ places P → IfErr result (λ e. Stopped K.keeps K.refuses
-        (so_far keeper.old (R.applied replica.old) (R.waiting replica.old) ((change, place) ∷ P) told.old)
+    ensures err { (place : Bool) (P : List (ChangeParts × Bool)) → reserved ≡ places P
+        → IfErr result (λ e. Stopped K.keeps K.refuses
+        (so_far keeper.old (R.applied replica.old) (R.waiting replica.old)
+        ((change, place) ∷ P) told.old)
         e keeper.new (R.applied replica.new) (R.waiting replica.new)) }
 {
     match admit(replica, keeper, change, told)? {
