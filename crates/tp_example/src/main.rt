@@ -14,8 +14,7 @@ const BEN: Actor = Actor([2; 16]);
 
 // Deletes `del` characters from `at` on, and inserts a text there.
 fn write(text: &mut Text, who: Actor, at: usize, del: usize, new: &str) -> Result<(), DocError> {
-    let splice = Splice { at, del, text: new };
-    text.edit(who, &[splice], 0, "")?;
+    text.edit(who, &[Splice { at, del, text: new }], 0, "")?;
     Ok(())
 }
 
@@ -28,13 +27,24 @@ fn write_apart(ann: &mut Text, ben: &mut Text) -> Result<(), DocError> {
     Ok(())
 }
 
+fn show(rt: &impl Print, ann: &Text, ben: &Text) -> anyhow::Result<()> {
+    println!(rt; "{} {}", ann.text()?, ben.text()?)?;
+    Ok(())
+}
+
+// The text as it was when just one change was there.
+fn show_begun(rt: &impl Print, text: &Text) -> anyhow::Result<()> {
+    if let Some(first) = text.changes().first() {
+        println!(rt; "{}", text.text_at(&[first.hash()])?)?;
+    }
+    Ok(())
+}
+
 fn main(rt: HostRuntime) -> anyhow::Result<()> {
     let mut ann: Text = Document::new(rt.alloc(), DocId([7; 16]));
     write(&mut ann, ANN, 0, 0, "Hello world")?;
     let mut ben = ann.fork()?;
-    let begun = ann.fork()?;
     write_apart(&mut ann, &mut ben)?;
-    println!(rt; "{} {}", ann.text()?, ben.text()?)?;
-    println!(rt; "{}", ann.text_at(begun.heads())?)?;
-    Ok(())
+    show(&rt, &ann, &ben)?;
+    show_begun(&rt, &ann)
 }
