@@ -1,9 +1,9 @@
 -- What is kept of numbers in blocks, and what an insert, a split and a delete leave of it.
 use Rattle.tp_list.proofs.Members.{In-left, In-right, In-push, In-last, In-get_or, In-slice_get}
-use Rattle.std.proofs.Common.{◌≡◌, ◌⊎◌, inl, inr, ℕ, zero, suc, ◌+◌, ◌-◌, ◌<◌, ◌≤◌, Bool, true, false, not, cond, ◌==◌, Option, None, Some, MatchOption, position, List, [], ◌∷◌, ◌++◌, length, take, drop, get_or, insert, set, filter, map, sum, slice_get, refl, sym, ap, ◌∙◌, subst, arith, length-append}
+use Rattle.std.proofs.Common.{◌≡◌, ◌⊎◌, inl, inr, ℕ, zero, suc, ◌+◌, ◌-◌, ◌<◌, ◌≤◌, Bool, true, false, not, cond, ◌==◌, Option, None, Some, MatchOption, position, List, [], ◌∷◌, ◌++◌, length, take, drop, get_or, insert, set, filter, map, sum, slice_get, refl, sym, ap, ◌∙◌, subst, arith, length-append, zero-add}
 use Rattle.std.proofs.lemmas.List.{get_or-set_other, get_or-set_same, take-append-drop, take_more, length-set, length-take, length-drop, map-append, length-map}
 use Rattle.std.proofs.lemmas.Bool.{eqb-true, eq-eqb}
-use Rattle.std.proofs.lemmas.List.Sums.{sum_by-cons}
+use Rattle.std.proofs.lemmas.List.Sums.{sum_by-cons, sum_by-take-le, sum_by-take-drop}
 use Rattle.std.proofs.lemmas.List.Elements.{filter-append}
 use Rattle.tp_list.specs.Members.{In}
 use Rattle.tp_rga.proofs.Flagging.{map-insert, map_agree, length-filter-insert}
@@ -609,3 +609,30 @@ written_whole xs ys n e m =
     front zero (x ∷ xs) h = absurd (omega arith)
     front (suc m) [] h = refl
     front (suc m) (x ∷ xs) h = ap (λ z. x ∷ z) (front m xs (omega arith))
+
+-- ---- sums of stretches
+
+take_nothing : (n : ℕ) → take {A = ℕ} n [] ≡ []
+take_nothing zero = refl
+take_nothing (suc n) = refl
+
+-- a sum up to a place and of a stretch behind it
+pub sum_stretch : (f n : ℕ) (xs : List ℕ) → sum (take f xs) + sum (take n (drop f xs)) ≡ sum (take (f + n) xs)
+sum_stretch zero n xs = zero-add (sum (take n xs)) ∙ ap (λ m. sum (take m xs)) (sym (zero-add n))
+sum_stretch (suc f) n [] =
+    let e : sum (take n []) ≡ 0 = ap sum (take_nothing n) in
+    let g : sum (take (suc f + n) []) ≡ 0 = ap sum (take_nothing (suc f + n)) in
+    omega arith
+sum_stretch (suc f) n (x ∷ xs) =
+    let rest = sum_stretch f n xs in
+    let up : suc f + n ≡ suc (f + n) = omega arith in
+    let one = sum_by-cons (λ (y : ℕ). y) x (take f xs) in
+    let all : sum (take (suc f + n) (x ∷ xs)) ≡ x + sum (take (f + n) xs) = ap (λ m. sum (take m (x ∷ xs))) up ∙ sum_by-cons (λ (y : ℕ). y) x (take (f + n) xs) in
+    omega arith
+
+-- a stretch has no greater sum than the whole
+pub sum_stretch-le : (f n : ℕ) (xs : List ℕ) → sum (take n (drop f xs)) ≤ sum xs
+sum_stretch-le f n xs =
+    let part = sum_by-take-le (λ (y : ℕ). y) (drop f xs) n in
+    let whole = sum_by-take-drop (λ (y : ℕ). y) xs f in
+    omega arith

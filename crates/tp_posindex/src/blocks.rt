@@ -7,7 +7,7 @@ ghost use Rattle.tp_posindex.specs.Layout.{joined, block_at, place_at, IsGap, St
 ghost use Rattle.tp_posindex.specs.Laid.{room_of, flag_of, flags_of, count_of, IsNumbered};
 
 use crate::block::{Block, HALF, MOST};
-use crate::numbers::{count_down, index_of, nth_counted, nth_down, total};
+use crate::numbers::{count_down, index_near, index_of, nth_counted, nth_down, total};
 use std::alloc::{AllocError, Global};
 use std::marker::Model;
 
@@ -24,7 +24,8 @@ pub(crate) struct Spot {
 /// Numbers in blocks. Number `k` is the one that was put in as the `k`-th, from 0.
 ///
 /// `pool` has the blocks by their own numbers, `order` these in list order, `visible` for each block in list order how
-/// many flags are down, `home` for each number the block that holds it, and `spare` blocks to be opened.
+/// many flags are down, `home` for each number the block that holds it, and `spare` blocks to be opened. `recent` is
+/// the place in the order of the block that the latest number went to, and is looked at first.
 #[derive(Drop)]
 pub(crate) struct Blocks {
     alloc: Global,
@@ -34,6 +35,7 @@ pub(crate) struct Blocks {
     visible: Vec<u32>,
     home: Vec<u32>,
     deleted: Vec<bool>,
+    recent: usize,
 }
 
 impl Model for Blocks {
@@ -71,6 +73,7 @@ impl Blocks {
             visible: Vec::new(alloc),
             home: Vec::new(alloc),
             deleted: Vec::new(alloc),
+            recent: 0,
         }
     }
 
@@ -144,14 +147,15 @@ impl Blocks {
         self.block(spot.block)[spot.offset] as usize
     }
 
-    /// Where a number stands. It passes over the order of the blocks, and over one block.
+    /// Where a number stands. It passes over the order of the blocks, unless the number stands in the block of the
+    /// latest insert, and over one block.
     pub fn spot_of(&self, number: usize) -> Spot
         requires { number < length self.now.flags }
         ensures at { StandsAt self.now.blocks result.block result.offset number }
         ensures offset { result.offset < MOST }
     {
         let home = self.home[number] as usize;
-        match index_of(&self.order, home) {
+        match index_near(&self.order, home, self.recent) {
             Some(block) => match index_of(self.pool[home].numbers(), number) {
                 Some(offset) => Spot { block, offset },
                 None => unreachable!(),
@@ -286,6 +290,7 @@ impl Blocks {
         let block = &mut self.pool[home as usize];
         block.put(spot.offset, number);
         self.visible[spot.block] += 1;
+        self.recent = spot.block;
         if self.home.push(home).is_err() || self.deleted.push(false).is_err() {
             unreachable!()
         }

@@ -16,7 +16,12 @@ use std::marker::Model;
 use tp_opid::{OpId, Place};
 use tp_rga::{Element, Insertion, Sequence};
 
-/// A sequence whose elements stand in blocks of up to 128.
+/// A sequence whose elements stand in blocks of up to 128, at most 4,294,967,295 of them with the deleted ones.
+///
+/// An insert moves no element, and at most 128 numbers of four bytes; it splits a full block into two of 64. A look-up
+/// by identifier takes as many steps as the logarithm of how many elements its actor has, and a pass over the actors.
+/// What goes by place, and where an element stands, passes over four bytes for each block before it and looks into one
+/// block; `len` and `all` pass over nothing.
 #[derive(Drop)]
 pub struct BlockSequence {
     elements: Elements,
@@ -69,7 +74,8 @@ impl BlockSequence {
         })
     }
 
-    /// The number of the block that holds the element with an identifier; `None` where no element has it.
+    /// The number of the block, in list order from 0, that holds the element with an identifier, deleted or not; `None`
+    /// where no element has it. It passes over four bytes for each block before.
     pub fn block_of(&self, id: &OpId) -> Option<usize>
         ensures { MatchOption result
             (IsNew (joined self.now.blocks) id.now)

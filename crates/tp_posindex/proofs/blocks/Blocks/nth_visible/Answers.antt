@@ -1,8 +1,8 @@
 use Rattle.std.proofs.Common.{◌≡◌, ◌<◌, ◌≤◌, ℕ, List, Bool, map, sum, sym, ◌∙◌, ap, subst, arith, length, get_or}
 use Rattle.std.proofs.lemmas.List.{length-map}
-use Rattle.tp_posindex.specs.Laid.{Layout, count_of}
+use Rattle.tp_posindex.specs.Laid.{Layout, laid, count_of}
 use Rattle.tp_posindex.specs.Layout.{joined}
-use Rattle.tp_posindex.proofs.Laying.{counts_all, count_before}
+use Rattle.tp_posindex.proofs.Laying.{counts_all, count_before, count-le}
 use Rattle.tp_posindex.proofs.blocks.Blocks.nth_visible.Goals as goal
 
 pub returns-in_err-block-clause-none : goal.returns-in_err-block-clause-none
@@ -33,3 +33,12 @@ returns-clause-found c =
     let lt : p < length bs = (let l = ap length counts in let m = length-map bs (count_of f) in omega (arith, sums.0)) in
     let whole = count_before f bs c.deref.result.now p c.in-Some.offset counts lt (omega (arith, found.0)) in
     (lt, found.0, found.1, omega (arith, whole, found.2, sums.1))
+
+pub nth_counted-requires : goal.nth_counted-requires
+nth_counted-requires c =
+    let s = c.self.inside in
+    let bs = laid s.pool.items s.order.items in
+    let all : sum c.deref.result.now ≡ count_of s.deleted.items (joined bs) = ap sum (c.deref.ensures.value ∙ c.self.invariant.counted) ∙ counts_all s.deleted.items bs in
+    let le = count-le s.deleted.items (joined bs) in
+    let many = c.self.invariant.numbered.many in
+    omega (arith, all, le, many)
