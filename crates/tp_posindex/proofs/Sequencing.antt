@@ -1,5 +1,4 @@
 -- The elements in blocks: what reads find, and what an insert and a delete leave.
-use Rattle..{(gone)}
 use Rattle.tp_list.proofs.Members.{In-get_or, In-index, In-middle}
 use Rattle.tp_opid.specs.Tree.{IsThere, IsNew, AreApart, CanInsert}
 use Rattle.std.proofs.Common.{◌≡◌, inl, inr, ℕ, zero, suc, ◌+◌, ◌-◌, ◌<◌, ◌≤◌, Bool, true, false, not, Option, None, Some, List, [], ◌∷◌, ◌++◌, length, take, get_or, insert, set, map, filter, position, slice_get, refl, sym, ap, ◌∙◌, subst, arith, length-append, MatchBool}
@@ -17,7 +16,7 @@ use Rattle.tp_rga.specs.declared.element.Element.{Element}
 use Rattle.tp_rga.specs.Shown.{is_removed, shown, shown_before, element_of}
 use Rattle.tp_rga.specs.Kept.{IsKept}
 use Rattle.tp_rga.proofs.Flagging.{map-insert, map_agree, length-left, take-map_lem, slice_get-past}
-use Rattle.tp_rga.proofs.Lookups.{IsFirst, IsFirst-position, position-first, IsThere-not_new}
+use Rattle.tp_rga.proofs.Lookups.{IsFirst, IsFirst-position, position-first, IsThere-not_new, found-position}
 use Rattle.tp_rga.proofs.Keeping.{IsKept-insert, IsKept-delete, IsKept-delete_again, shown-found, shown-past, shown-before, shown_before-found}
 use Rattle.tp_posindex.specs.Layout.{joined, block_at, place_at, AreSized, StandsAt}
 use Rattle.tp_posindex.specs.Laid.{IsNumbered, Once, flag_of, flags_of, count_of}
@@ -216,7 +215,7 @@ there_test E bs x (Some k) numbered e = (
 -- what a test says, either way
 tested : (L : List Insert) (x : OpId) (b : Bool) → (b ≡ true → IsThere L x) × (IsThere L x → b ≡ true) → MatchBool b (IsThere L x) (IsNew L x)
 tested L x true h = h.0 refl
-tested L x false h = from (is_some (position (λ (e : Insert). id_eq e.id x) L)) ((gone) L x)
+tested L x false h = from (is_some (position (λ (e : Insert). id_eq e.id x) L)) (found-position L x)
   where
     from : (v : Bool) → MatchBool v (IsThere L x) (IsNew L x) → IsNew L x
     from true there = (let wrong : false ≡ true = h.1 there in cc)
