@@ -1,4 +1,4 @@
--- The front of the bytes that is to blame for a refusal: the shortest one with a fault other than missing bytes.
+-- The prefix of the bytes that is to blame for a refusal: the shortest one with a fault other than missing bytes.
 use Rattle.std.proofs.Common.{◌≡◌, ℕ, zero, suc, ◌+◌, ◌<◌, ◌≤◌, Bool, true, false, List, ◌++◌, length, take, drop, Result, Ok, Err, refl, sym, ap, subst, ◌∙◌, arith, ◌⊎◌, inl, inr}
 use Rattle.std.proofs.lemmas.Bool.{cases_eq}
 use Rattle.std.proofs.lemmas.List.{length-append, take-append-drop, take_at, length-take, take_all, append_assoc}
@@ -9,7 +9,7 @@ use Rattle.tp_change.specs.declared.parts.ChangeParts.{ChangeParts}
 use Rattle.tp_change.specs.Spelling.{spelling}
 use Rattle.tp_change.specs.Limits.{IsChange}
 use Rattle.tp_change.specs.Reading.{change_at}
-use Rattle.tp_change.specs.Faults.{SomeFrontIsToBlame}
+use Rattle.tp_change.specs.Faults.{HasFaultyPrefix}
 use Rattle.tp_change.proofs.WholeChange.{change_takes, change_again, change_stays, change_and_more}
 
 -- the least number below n at which a test holds
@@ -65,40 +65,40 @@ fault_of r e h apart = rw h (other_apart e apart)
 same_fault : (d e : ChangeError) → (let r : Result ChangeParts ChangeError = Err d in r) ≡ Err e → d ≡ e
 same_fault d e h = cc
 
--- no change's bytes begin with a front that stays faulty
-pub barred_by : (front : List ℕ) (e : ChangeError) → ((more : List ℕ) → length (front ++ more) ≤ 4194304 → change_at (front ++ more) ≡ Err e) → (c : ChangeParts) (more : List ℕ) → IsChange c → spelling c ≡ front ++ more → ⊥
-barred_by front e longer c more is begins =
-    let size : length (front ++ more) ≤ 4194304 = rw (← begins) is.size in
-    let fault : change_at (front ++ more) ≡ Err e = longer more size in
-    let read : change_at (front ++ more) ≡ Ok c = ap change_at (sym begins) ∙ change_again c is in
+-- no change's bytes begin with a prefix that stays faulty
+pub barred_by : (prefix : List ℕ) (e : ChangeError) → ((more : List ℕ) → length (prefix ++ more) ≤ 4194304 → change_at (prefix ++ more) ≡ Err e) → (c : ChangeParts) (more : List ℕ) → IsChange c → spelling c ≡ prefix ++ more → ⊥
+barred_by prefix e longer c more is begins =
+    let size : length (prefix ++ more) ≤ 4194304 = rw (← begins) is.size in
+    let fault : change_at (prefix ++ more) ≡ Err e = longer more size in
+    let read : change_at (prefix ++ more) ≡ Ok c = ap change_at (sym begins) ∙ change_again c is in
     let no : (let r : Result ChangeParts ChangeError = Ok c in r) ≡ Err e = sym read ∙ fault in
     cc
 
-front_at : (bytes : List ℕ) → AreBytes bytes → length bytes ≤ 4194304 → (e : ChangeError) → change_at bytes ≡ Err e
-    → (n : ℕ) → n ≤ length bytes → is_fault (change_at (take n bytes)) ≡ true → ((k : ℕ) → k < n → is_fault (change_at (take k bytes)) ≡ false) → SomeFrontIsToBlame bytes e
-front_at bytes fits size e bad n within faulty before =
-    let front = take n bytes in
+prefix_at : (bytes : List ℕ) → AreBytes bytes → length bytes ≤ 4194304 → (e : ChangeError) → change_at bytes ≡ Err e
+    → (n : ℕ) → n ≤ length bytes → is_fault (change_at (take n bytes)) ≡ true → ((k : ℕ) → k < n → is_fault (change_at (take k bytes)) ≡ false) → HasFaultyPrefix bytes e
+prefix_at bytes fits size e bad n within faulty before =
+    let prefix = take n bytes in
     let back = drop n bytes in
-    let whole : front ++ back ≡ bytes = take-append-drop n bytes in
-    let f = fault_is (change_at front) faulty in
-    let front_fits : AreBytes front = AreBytes-take n bytes fits in
-    let small : length (front ++ back) ≤ 4194304 = rw whole size in
-    let on : change_at bytes ≡ Err f.0 = ap change_at (sym whole) ∙ change_stays front back f.0 front_fits small f.1 f.2 in
+    let whole : prefix ++ back ≡ bytes = take-append-drop n bytes in
+    let f = fault_is (change_at prefix) faulty in
+    let prefix_fits : AreBytes prefix = AreBytes-take n bytes fits in
+    let small : length (prefix ++ back) ≤ 4194304 = rw whole size in
+    let on : change_at bytes ≡ Err f.0 = ap change_at (sym whole) ∙ change_stays prefix back f.0 prefix_fits small f.1 f.2 in
     let same : f.0 ≡ e = same_fault f.0 e (sym on ∙ bad) in
-    let longer : (more : List ℕ) → length (front ++ more) ≤ 4194304 → change_at (front ++ more) ≡ Err e
-    = λ more few. change_stays front more f.0 front_fits few f.1 f.2 ∙ ap (λ (d : ChangeError). Err d) same in (
-      front,
+    let longer : (more : List ℕ) → length (prefix ++ more) ≤ 4194304 → change_at (prefix ++ more) ≡ Err e
+    = λ more few. change_stays prefix more f.0 prefix_fits few f.1 f.2 ∙ ap (λ (d : ChangeError). Err d) same in (
+      prefix,
       back,
       sym whole,
       record {
-        barred = barred_by front e longer;
+        barred = barred_by prefix e longer;
         shorter = λ begin more parts some.
-            let len : length front ≡ length begin + length more = ap length parts ∙ length-append begin more in
+            let len : length prefix ≡ length begin + length more = ap length parts ∙ length-append begin more in
             let lt : length begin < n = omega (arith, length-take n bytes) in
             let all : bytes ≡ begin ++ (more ++ back) = sym whole ∙ ap (λ (b : List ℕ). b ++ back) parts ∙ append_assoc begin more back in
-            let is_front : take (length begin) bytes ≡ begin = ap (take (length begin)) all ∙ take_at begin (more ++ back) (length begin) refl in
-            let begin_fits : AreBytes begin = subst AreBytes is_front (AreBytes-take (length begin) bytes fits) in
-            let none : is_fault (change_at begin) ≡ false = subst (λ (b : List ℕ). is_fault (change_at b) ≡ false) is_front (before (length begin) lt) in
+            let is_prefix : take (length begin) bytes ≡ begin = ap (take (length begin)) all ∙ take_at begin (more ++ back) (length begin) refl in
+            let begin_fits : AreBytes begin = subst AreBytes is_prefix (AreBytes-take (length begin) bytes fits) in
+            let none : is_fault (change_at begin) ≡ false = subst (λ (b : List ℕ). is_fault (change_at b) ≡ false) is_prefix (before (length begin) lt) in
             elim (no_fault_is (change_at begin) none) [
               | inl read ↦ let t = change_takes begin read.0 begin_fits read.1 in inl (read.0, t.0, t.1)
               | inr short ↦ inr short
@@ -107,11 +107,11 @@ front_at bytes fits size e bad n within faulty before =
       },
     )
 
--- A fault other than missing bytes has a front that is to blame.
-pub some_front : (bytes : List ℕ) → AreBytes bytes → length bytes ≤ 4194304 → (e : ChangeError) → change_at bytes ≡ Err e → (e ≡ Short → ⊥) → SomeFrontIsToBlame bytes e
-some_front bytes fits size e bad apart =
+-- A fault other than missing bytes has a prefix that is to blame.
+pub some_prefix : (bytes : List ℕ) → AreBytes bytes → length bytes ≤ 4194304 → (e : ChangeError) → change_at bytes ≡ Err e → (e ≡ Short → ⊥) → HasFaultyPrefix bytes e
+some_prefix bytes fits size e bad apart =
     elim (least (λ n. is_fault (change_at (take n bytes))) (suc (length bytes))) [
-      | inl l ↦ front_at bytes fits size e bad l.at (omega (arith, l.below)) l.holds l.before
+      | inl l ↦ prefix_at bytes fits size e bad l.at (omega (arith, l.below)) l.holds l.before
       | inr none ↦
           let quiet : is_fault (change_at bytes) ≡ false = subst (λ (b : List ℕ). is_fault (change_at b) ≡ false) (take_all (length bytes) bytes (omega arith)) (none (length bytes) (omega arith)) in
           let loud : is_fault (change_at bytes) ≡ true = fault_of (change_at bytes) e bad apart in
@@ -129,23 +129,23 @@ short_or r =
     by_kind e h true k = inr (inr (e, h, apart_other e k))
     by_kind e h false k = inl (h ∙ ap (λ (f : ChangeError). Err f) (short_is e k))
 
-not_short : (front more : List ℕ) (c : ChangeParts) → AreBytes front → length (front ++ more) ≤ 4194304 → change_at front ≡ Ok c → change_at (front ++ more) ≡ Err Short → ⊥
-not_short front more c fits size read short =
-    let t = change_takes front c fits read in
-    let whole : front ++ more ≡ spelling c ++ more = ap (λ (b : List ℕ). b ++ more) t.1 in
+not_short : (prefix more : List ℕ) (c : ChangeParts) → AreBytes prefix → length (prefix ++ more) ≤ 4194304 → change_at prefix ≡ Ok c → change_at (prefix ++ more) ≡ Err Short → ⊥
+not_short prefix more c fits size read short =
+    let t = change_takes prefix c fits read in
+    let whole : prefix ++ more ≡ spelling c ++ more = ap (λ (b : List ℕ). b ++ more) t.1 in
     elim (change_and_more c more t.0 (rw (← whole) size)) [
       | inl ok ↦ let no : (let r : Result ChangeParts ChangeError = Ok c in r) ≡ Err Short = sym ok ∙ ap change_at (sym whole) ∙ short in cc
       | inr bad ↦ let no : Trailing ≡ Short = same_fault Trailing Short (sym bad ∙ ap change_at (sym whole) ∙ short) in cc
     ]
 
--- Where bytes are missing, nothing is wrong with any front but that bytes are missing.
-pub front_of_short : (front more : List ℕ) → AreBytes front → length (front ++ more) ≤ 4194304 → change_at (front ++ more) ≡ Err Short → change_at front ≡ Err Short
-front_of_short front more fits size short =
-    elim (short_or (change_at front)) [
+-- Where bytes are missing, nothing is wrong with any prefix but that bytes are missing.
+pub prefix_of_short : (prefix more : List ℕ) → AreBytes prefix → length (prefix ++ more) ≤ 4194304 → change_at (prefix ++ more) ≡ Err Short → change_at prefix ≡ Err Short
+prefix_of_short prefix more fits size short =
+    elim (short_or (change_at prefix)) [
       | inl same ↦ same
       | inr other ↦
           elim other [
-            | inl read ↦ absurd (not_short front more read.0 fits size read.1 short)
-            | inr bad ↦ absurd (bad.2 (same_fault bad.0 Short (sym (change_stays front more bad.0 fits size bad.1 bad.2) ∙ short)))
+            | inl read ↦ absurd (not_short prefix more read.0 fits size read.1 short)
+            | inr bad ↦ absurd (bad.2 (same_fault bad.0 Short (sym (change_stays prefix more bad.0 fits size bad.1 bad.2) ∙ short)))
           ]
     ]

@@ -12,7 +12,7 @@ use Rattle.tp_opid.specs.declared.op_id.Place.{Place}
 use Rattle.tp_opid.specs.declared.op_id.Place.TheVariants.{Start, After}
 use Rattle.tp_opid.specs.Order.{hash_cmp}
 use Rattle.tp_opid.proofs.Orders.{hash_total}
-use Rattle.tp_codec.specs.Front.{byte_at, bytes_at, number_at}
+use Rattle.tp_codec.specs.Prefix.{byte_at, bytes_at, number_at}
 use Rattle.tp_codec.specs.Reading.{Reads, give, fail, and_then, or_fail, require, repeat_at, text_at}
 use Rattle.tp_codec.proofs.Fields.{IsField, as_field, give_field, fail_field, then_field, require_field, test_field, byte_field, bytes_field, AreSoMany, number_field, text_field, FitsText, repeat_field, EachFits, wide16, wide32, wide64}
 use Rattle.tp_change.specs.declared.error.ChangeError.{ChangeError}

@@ -16,7 +16,7 @@ use Rattle.tp_change.specs.declared.op.Op.TheVariants as op_of
 use Rattle.tp_change.specs.declared.record.Record.{Record}
 use Rattle.tp_change.specs.declared.parts.ChangeParts.{ChangeParts}
 use Rattle.tp_change.specs.Operations.{ops_of, ops_from, ops_in, count_in, count_of, op_count}
-use Rattle.tp_change.specs.Elements.{element, inserts_in, inserts, is_inserted, is_place, refers, deletes_in, deletes, later, next_counter}
+use Rattle.tp_change.specs.Elements.{element, inserts_in, inserts, is_inserted, is_reference, refers, deletes_in, deletes, later, next_counter}
 
 pub inserts_in-append : (xs ys : List Op) → inserts_in (xs ++ ys) ≡ inserts_in xs ++ inserts_in ys
 inserts_in-append [] ys = refl
@@ -73,19 +73,19 @@ pub SameIds-members : (S T : List element_of.Insert) → SameMembers S T → Sam
 SameIds-members S T same id =
     same_test (is_inserted S id) (is_inserted T id) (is_inserted-more S T id same.there) (is_inserted-more T S id same.back)
 
-pub is_place-same : (S T : List element_of.Insert) (p : Place) → SameIds S T → is_place S p ≡ is_place T p
-is_place-same S T Start f = refl
-is_place-same S T (After id) f = f id
+pub is_reference-same : (S T : List element_of.Insert) (p : Place) → SameIds S T → is_reference S p ≡ is_reference T p
+is_reference-same S T Start f = refl
+is_reference-same S T (After id) f = f id
 
 pub refers-same : (S T : List element_of.Insert) (ops : List Op) → SameIds S T → refers S ops ≡ refers T ops
 refers-same S T [] f = refl
 refers-same S T (op_of.Insert id after ch ∷ ops) f =
-    ap (λ b. b && refers (element id after ch ∷ S) ops) (is_place-same S T after f)
-    ∙ ap (λ b. is_place T after && b) (refers-same (element id after ch ∷ S) (element id after ch ∷ T) ops (SameIds-more (element id after ch) S T f))
+    ap (λ b. b && refers (element id after ch ∷ S) ops) (is_reference-same S T after f)
+    ∙ ap (λ b. is_reference T after && b) (refers-same (element id after ch ∷ S) (element id after ch ∷ T) ops (SameIds-more (element id after ch) S T f))
 refers-same S T (op_of.Delete id target ∷ ops) f =
     ap (λ b. b && refers S ops) (f target) ∙ ap (λ b. is_inserted T target && b) (refers-same S T ops f)
 
--- S with the inserts of the operations in front
+-- S with the inserts of the operations before it
 pub grown : List element_of.Insert → List Op → List element_of.Insert
 grown S [] = S
 grown S (op_of.Insert id after ch ∷ ops) = grown (element id after ch ∷ S) ops
@@ -99,7 +99,7 @@ pub refers-append : (S : List element_of.Insert) (xs ys : List Op) → refers S 
 unfolding grown
 refers-append S [] ys = refl
 refers-append S (op_of.Insert id after ch ∷ xs) ys =
-    ap (λ b. is_place S after && b) (refers-append (element id after ch ∷ S) xs ys) ∙ and_assoc (is_place S after) (refers (element id after ch ∷ S) xs) (refers (grown (element id after ch ∷ S) xs) ys)
+    ap (λ b. is_reference S after && b) (refers-append (element id after ch ∷ S) xs ys) ∙ and_assoc (is_reference S after) (refers (element id after ch ∷ S) xs) (refers (grown (element id after ch ∷ S) xs) ys)
 refers-append S (op_of.Delete id target ∷ xs) ys =
     ap (λ b. is_inserted S target && b) (refers-append S xs ys) ∙ and_assoc (is_inserted S target) (refers S xs) (refers (grown S xs) ys)
 

@@ -8,8 +8,8 @@ pub mod Counts
 pub mod PutsLaws
 pub mod Lengths
 pub mod OpsBegin
-pub mod JudgedSteps
-pub mod JudgedLaws
+pub mod ValidatedSteps
+pub mod ValidatedLaws
 pub mod OpsLaws
 pub mod ElementLaws
 pub mod Numbered

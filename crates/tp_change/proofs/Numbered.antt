@@ -29,10 +29,10 @@ Numbered-append a n [] ys h k = let e : n + 0 ≡ n = omega arith in subst (λ m
 Numbered-append a n (op_of.Insert id after ch ∷ xs) ys h k = (h.0, Numbered-append a (n + 1) xs ys h.1 (subst (λ m. Numbered a m ys) (shift n (length xs)) k))
 Numbered-append a n (op_of.Delete id target ∷ xs) ys h k = (h.0, Numbered-append a (n + 1) xs ys h.1 (subst (λ m. Numbered a m ys) (shift n (length xs)) k))
 
-pub Numbered-front : (a : Actor) (n : ℕ) (xs ys : List Op) → Numbered a n (xs ++ ys) → Numbered a n xs
-Numbered-front a n [] ys h = tt
-Numbered-front a n (op_of.Insert id after ch ∷ xs) ys h = (h.0, Numbered-front a (n + 1) xs ys h.1)
-Numbered-front a n (op_of.Delete id target ∷ xs) ys h = (h.0, Numbered-front a (n + 1) xs ys h.1)
+pub Numbered-prefix : (a : Actor) (n : ℕ) (xs ys : List Op) → Numbered a n (xs ++ ys) → Numbered a n xs
+Numbered-prefix a n [] ys h = tt
+Numbered-prefix a n (op_of.Insert id after ch ∷ xs) ys h = (h.0, Numbered-prefix a (n + 1) xs ys h.1)
+Numbered-prefix a n (op_of.Delete id target ∷ xs) ys h = (h.0, Numbered-prefix a (n + 1) xs ys h.1)
 
 pub Numbered-rest : (a : Actor) (n : ℕ) (xs ys : List Op) → Numbered a n (xs ++ ys) → Numbered a (n + length xs) ys
 Numbered-rest a n [] ys h = let e : n ≡ n + 0 = omega arith in subst (λ m. Numbered a m ys) e h
@@ -66,23 +66,23 @@ unfolding ops_of
 Numbered-ops_of c = Numbered-from c.actor c.start c.records
 
 -- where an insert's identifier lies
-pub record IsWithin (a : Actor) (n m : ℕ) (id : OpId) : Type 0 where
+pub record HasCounterWithin (a : Actor) (n m : ℕ) (id : OpId) : Type 0 where
   pub actor : id.actor ≡ a
   pub low : n ≤ id.counter
   pub high : id.counter < m
 
-within_more : (a : Actor) (n k : ℕ) (id : OpId) → IsWithin a (n + 1) (n + 1 + k) id → IsWithin a n (n + suc k) id
+within_more : (a : Actor) (n k : ℕ) (id : OpId) → HasCounterWithin a (n + 1) (n + 1 + k) id → HasCounterWithin a n (n + suc k) id
 within_more a n k id w =
     let low : n + 1 ≤ id.counter = w.low in
     let high : id.counter < n + 1 + k = w.high in
     record { actor = w.actor; low = omega arith; high = omega arith }
 
-within_first : (a : Actor) (n k : ℕ) (id : OpId) → id ≡ id_of a n → IsWithin a n (n + suc k) id
+within_first : (a : Actor) (n k : ℕ) (id : OpId) → id ≡ id_of a n → HasCounterWithin a n (n + suc k) id
 within_first a n k id e =
     let at : id.counter ≡ n = ap (λ (x : OpId). x.counter) e in
     record { actor = ap (λ (x : OpId). x.actor) e; low = omega arith; high = omega arith }
 
-pub Numbered-In : (a : Actor) (n : ℕ) (ops : List Op) (x : element_of.Insert) → Numbered a n ops → In x (inserts_in ops) → IsWithin a n (n + length ops) x.id
+pub Numbered-In : (a : Actor) (n : ℕ) (ops : List Op) (x : element_of.Insert) → Numbered a n ops → In x (inserts_in ops) → HasCounterWithin a n (n + length ops) x.id
 Numbered-In a n [] x h i = absurd i
 Numbered-In a n (op_of.Insert id after ch ∷ ops) x h (inl e) = within_first a n (length ops) x.id (ap (λ (y : element_of.Insert). y.id) e ∙ h.0)
 Numbered-In a n (op_of.Insert id after ch ∷ ops) x h (inr i) = within_more a n (length ops) x.id (Numbered-In a (n + 1) ops x h.1 i)
@@ -111,5 +111,5 @@ Numbered-once a n (op_of.Insert id after ch ∷ ops) h x y i j e =
           let same : x.id.counter ≡ y.id.counter = ap (λ (z : OpId). z.counter) e in
           absurd (omega arith)
 
-pub inserts-within : (c : ChangeParts) (x : element_of.Insert) → In x (inserts_in (ops_of c)) → IsWithin c.actor c.start (c.start + op_count c) x.id
-inserts-within c x i = subst (λ k. IsWithin c.actor c.start (c.start + k) x.id) (length-ops_of c) (Numbered-In c.actor c.start (ops_of c) x (Numbered-ops_of c) i)
+pub inserts-within : (c : ChangeParts) (x : element_of.Insert) → In x (inserts_in (ops_of c)) → HasCounterWithin c.actor c.start (c.start + op_count c) x.id
+inserts-within c x i = subst (λ k. HasCounterWithin c.actor c.start (c.start + k) x.id) (length-ops_of c) (Numbered-In c.actor c.start (ops_of c) x (Numbered-ops_of c) i)

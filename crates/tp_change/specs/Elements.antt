@@ -41,15 +41,15 @@ abbrev pub is_inserted : List Insert → OpId → Bool
 is_inserted [] id = false
 is_inserted (x ∷ S) id = id_eq x.id id || is_inserted S id
 
--- the place is the start, or after one of the inserts
-abbrev pub is_place : List Insert → Place → Bool
-is_place S Start = true
-is_place S (After id) = is_inserted S id
+-- the reference is the start, or after one of the inserts
+abbrev pub is_reference : List Insert → Place → Bool
+is_reference S Start = true
+is_reference S (After id) = is_inserted S id
 
 -- Each reference and each target is among S or was inserted by an operation before.
 abbrev pub refers : List Insert → List Op → Bool
 refers S [] = true
-refers S (op_of.Insert id after ch ∷ ops) = is_place S after && refers (element id after ch ∷ S) ops
+refers S (op_of.Insert id after ch ∷ ops) = is_reference S after && refers (element id after ch ∷ S) ops
 refers S (op_of.Delete id target ∷ ops) = is_inserted S target && refers S ops
 
 -- the greater of two numbers

@@ -12,15 +12,15 @@ use Rattle.tp_change.specs.Reading.{change_at}
 abbrev pub IsSpelling : List ℕ → Type 0
 IsSpelling bytes = (c : ChangeParts) × IsChange c × (bytes ≡ spelling c)
 
--- The front is to blame for the fault.
-pub record IsToBlame (front : List ℕ) (e : ChangeError) : Type 0 where
+-- The prefix is to blame for the fault.
+pub record IsToBlame (prefix : List ℕ) (e : ChangeError) : Type 0 where
   -- no change's bytes begin with it
-  pub barred : (c : ChangeParts) (more : List ℕ) → IsChange c → spelling c ≡ front ++ more → ⊥
-  -- each shorter front is a change, or nothing is wrong with it but that bytes are missing
-  pub shorter : (begin more : List ℕ) → front ≡ begin ++ more → 0 < length more → IsSpelling begin ⊎ (change_at begin ≡ Err Short)
+  pub barred : (c : ChangeParts) (more : List ℕ) → IsChange c → spelling c ≡ prefix ++ more → ⊥
+  -- each shorter prefix is a change, or nothing is wrong with it but that bytes are missing
+  pub shorter : (begin more : List ℕ) → prefix ≡ begin ++ more → 0 < length more → IsSpelling begin ⊎ (change_at begin ≡ Err Short)
   -- all bytes within the limit that begin with it have the fault
-  pub longer : (more : List ℕ) → length (front ++ more) ≤ MAX_BYTES → change_at (front ++ more) ≡ Err e
+  pub longer : (more : List ℕ) → length (prefix ++ more) ≤ MAX_BYTES → change_at (prefix ++ more) ≡ Err e
 
--- Some front of the bytes is to blame for the fault.
-abbrev pub SomeFrontIsToBlame : List ℕ → ChangeError → Type 0
-SomeFrontIsToBlame bytes e = (front : List ℕ) × (back : List ℕ) × (bytes ≡ front ++ back) × IsToBlame front e
+-- Some prefix of the bytes is to blame for the fault.
+abbrev pub HasFaultyPrefix : List ℕ → ChangeError → Type 0
+HasFaultyPrefix bytes e = (prefix : List ℕ) × (back : List ℕ) × (bytes ≡ prefix ++ back) × IsToBlame prefix e

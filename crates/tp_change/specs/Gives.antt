@@ -4,11 +4,11 @@ use Rattle.tp_change.specs.declared.error.ChangeError.{ChangeError}
 use Rattle.tp_change.specs.declared.error.ChangeError.TheVariants.{OutOfMemory}
 
 -- the fault is the one that the definition gives, unless memory ran out
-abbrev pub Fails : {Y : Type 0} → ChangeError → Result Y ChangeError → Type 0
-Fails OutOfMemory given = Unit {0}
-Fails e given = given ≡ Err e
+abbrev pub FailsWith : {Y : Type 0} → ChangeError → Result Y ChangeError → Type 0
+FailsWith OutOfMemory given = Unit {0}
+FailsWith e given = given ≡ Err e
 
 -- what was returned, seen by view, is what the definition gives, unless memory ran out
 abbrev pub Gives : {X Y : Type 0} → (X → Y) → Result X ChangeError → Result Y ChangeError → Type 0
 Gives view (Ok x) given = given ≡ Ok (view x)
-Gives view (Err e) given = Fails e given
+Gives view (Err e) given = FailsWith e given

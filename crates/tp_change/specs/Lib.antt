@@ -3,7 +3,7 @@ pub mod ChangeHash
 pub mod Elements
 pub mod Faults
 pub mod Gives
-pub mod Judged
+pub mod Validated
 pub mod Limits
 pub mod OpIds
 pub mod Operations

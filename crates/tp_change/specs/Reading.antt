@@ -3,7 +3,7 @@
 use Rattle.std.specs.Prelude.{ℕ, zero, suc, ◌-◌, min, List, length, Bool, true, Option, Some, None, Result, Ok, Err, nat_lt, nat_le, ◌==◌, if◌then◌else◌}
 use Rattle.std.specs.Int.{w16, w32, w64}
 use Rattle.std.specs.Ordering.{is_lt}
-use Rattle.tp_codec.specs.Front.{byte_at, bytes_at, number_at}
+use Rattle.tp_codec.specs.Prefix.{byte_at, bytes_at, number_at}
 use Rattle.tp_codec.specs.Reading.{Reads, ◌>>=◌, ◌>>◌, give, fail, or_fail, require, repeat_at, text_at}
 use Rattle.tp_opid.specs.declared.actor.Actor.{Actor}
 use Rattle.tp_opid.specs.declared.hash.Hash.{Hash}
@@ -37,7 +37,7 @@ hash_at = do
   bytes ← or_fail Short (bytes_at 32)
   give (record { 0 = bytes })
 
--- a counter and an actor, of which neither is judged
+-- a counter and an actor, of which neither is validated
 unfoldable pub id_at : Reads ChangeError OpId
 id_at = do
   counter ← or_fail Short (number_at w64)
@@ -149,7 +149,7 @@ parts_at = do
   records ← records_at (room_from start)
   give (record { actor = actor; seq = seq; start = start; time = time; message = message; deps = deps; records = records })
 
--- a change at the front of size bytes
+-- a change at the start of size bytes
 unfoldable pub sized_at : ℕ → Reads ChangeError ChangeParts
 sized_at size = do
   version_at

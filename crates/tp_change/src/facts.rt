@@ -32,7 +32,7 @@ fn of_id(id: &OpId)
     let _bytes = of_16(id.actor.0);
 }
 
-/// So has the identifier of a place.
+/// So has the identifier of a reference.
 fn of_place(place: &Place)
     ensures { IsPlace place.now }
 {

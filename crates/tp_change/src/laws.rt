@@ -3,7 +3,7 @@
 ghost use Rattle.std.specs.Prelude.{◌≡◌, ◌↔◌, Ok, map, length};
 ghost use Rattle.tp_list.specs.Rising.{IsRising};
 ghost use Rattle.tp_opid.specs.Order.{id_cmp};
-ghost use Rattle.tp_change.specs.Judged.{judged};
+ghost use Rattle.tp_change.specs.Validated.{validated};
 ghost use Rattle.tp_change.specs.Limits.{IsChange, IsTyped};
 ghost use Rattle.tp_change.specs.OpIds.{op_id, ids_from};
 ghost use Rattle.tp_change.specs.Operations.{ops_of, op_count};
@@ -23,5 +23,5 @@ pub fn ids_rise()
 
 /// Parts of a program have no fault exactly where they are within the limits and the grammar.
 pub fn no_fault_within()
-    ensures { (c : ChangeParts) → IsTyped c → (judged c ≡ Ok tt) ↔ IsChange c }
+    ensures { (c : ChangeParts) → IsTyped c → (validated c ≡ Ok tt) ↔ IsChange c }
 {}

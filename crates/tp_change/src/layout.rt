@@ -1,7 +1,7 @@
 //! Laws of the layout, each as a function that does nothing and whose contract is the law.
 //!
 //! Bytes are a change's in one way, a change's bytes begin no other change's, and a refusal other than `Short` is
-//! about a front of the bytes, whatever follows it. By [`Change::decode`](crate::Change::decode)'s contract they
+//! about a prefix of the bytes, whatever follows it. By [`Change::decode`](crate::Change::decode)'s contract they
 //! are laws of what it answers.
 
 ghost use Rattle.std.specs.Prelude.{◌≡◌, ℕ, ◌<◌, ◌≤◌, List, [], ◌++◌, length, slice_index, Err};
@@ -10,7 +10,7 @@ ghost use Rattle.tp_change.specs.declared.parts.ChangeParts.{ChangeParts};
 ghost use Rattle.tp_change.specs.declared.error.ChangeError.{ChangeError};
 ghost use Rattle.tp_change.specs.declared.error.ChangeError.TheVariants.{Short};
 ghost use Rattle.tp_change.specs.ChangeHash.{hash_of};
-ghost use Rattle.tp_change.specs.Faults.{SomeFrontIsToBlame};
+ghost use Rattle.tp_change.specs.Faults.{HasFaultyPrefix};
 ghost use Rattle.tp_change.specs.Limits.{IsChange, IsHash};
 ghost use Rattle.tp_change.specs.Reading.{change_at};
 ghost use Rattle.tp_change.specs.Spelling.{spelling};
@@ -22,24 +22,30 @@ pub fn one_spelling()
 
 /// The bytes of a change begin no other change's bytes.
 pub fn nothing_begins_another()
-    ensures { (c d : ChangeParts) (more : List ℕ) → IsChange c → IsChange d → spelling d ≡ spelling c ++ more → (c ≡ d) × (more ≡ []) }
+    ensures { (c d : ChangeParts) (more : List ℕ) → IsChange c → IsChange d
+        → spelling d ≡ spelling c ++ more → (c ≡ d) × (more ≡ []) }
 {}
 
 /// A change has from 1 to 4,194,304 bytes, and a hash of 32 bytes.
 pub fn sizes()
-    ensures bytes { (c : ChangeParts) → IsChange c → (1 ≤ length (spelling c)) × (length (spelling c) ≤ MAX_BYTES) }
+    ensures bytes { (c : ChangeParts) → IsChange c → (1 ≤ length (spelling c))
+        × (length (spelling c) ≤ MAX_BYTES) }
     ensures hash { (c : ChangeParts) → IsHash (hash_of c) }
 {}
 
-/// Where bytes within the size limit are refused for another reason than missing bytes, a front of them is to
-/// blame: no change's bytes begin with it, each shorter front is a change or only misses bytes, and all bytes within
+/// Where bytes within the size limit are refused for another reason than missing bytes, a prefix of them is to
+/// blame: no change's bytes begin with it, each shorter prefix is a change or only misses bytes, and all bytes within
 /// the limit that begin with it are refused for the same reason.
-pub fn a_front_is_to_blame()
-    ensures { (bytes : List ℕ) (e : ChangeError) → ((i : ℕ) → slice_index bytes i < 256) → length bytes ≤ MAX_BYTES → change_at bytes ≡ Err e → (e ≡ Short → ⊥) → SomeFrontIsToBlame bytes e }
+pub fn a_prefix_is_faulty()
+    ensures { (bytes : List ℕ) (e : ChangeError) → ((i : ℕ) → slice_index bytes i < 256)
+        → length bytes ≤ MAX_BYTES → change_at bytes ≡ Err e → (e ≡ Short → ⊥)
+        → HasFaultyPrefix bytes e }
 {}
 
-/// Where bytes within the size limit are refused as `Short`, nothing is wrong with any front of them but that bytes
+/// Where bytes within the size limit are refused as `Short`, nothing is wrong with any prefix of them but that bytes
 /// are missing.
 pub fn short_says_missing_alone()
-    ensures { (front more : List ℕ) → ((i : ℕ) → slice_index front i < 256) → length (front ++ more) ≤ MAX_BYTES → change_at (front ++ more) ≡ Err Short → change_at front ≡ Err Short }
+    ensures { (prefix more : List ℕ) → ((i : ℕ) → slice_index prefix i < 256)
+        → length (prefix ++ more) ≤ MAX_BYTES → change_at (prefix ++ more) ≡ Err Short
+        → change_at prefix ≡ Err Short }
 {}

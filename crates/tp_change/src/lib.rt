@@ -10,7 +10,7 @@ mod copying;
 mod counting;
 mod error;
 mod facts;
-mod judging;
+mod validating;
 pub mod laws;
 pub mod layout;
 mod limits;

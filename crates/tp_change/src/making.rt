@@ -2,13 +2,13 @@
 
 ghost use Rattle.std.specs.Prelude.{◌≡◌, Ok, Err, IsOk, IfOk, IfErr, MatchResult};
 ghost use Rattle.tp_change.specs.ChangeHash.{hash_of};
-ghost use Rattle.tp_change.specs.Judged.{judged};
+ghost use Rattle.tp_change.specs.Validated.{validated};
 ghost use Rattle.tp_change.specs.Limits.{IsChange};
 ghost use Rattle.tp_change.specs.declared.error.ChangeError.TheVariants.{OutOfMemory};
 
 use crate::change::Change;
 use crate::error::ChangeError;
-use crate::judging::judge;
+use crate::validating::validate;
 use crate::parts::ChangeParts;
 use crate::writing::put_change;
 use sha2::{Digest, Sha256};
@@ -43,10 +43,11 @@ impl Change {
     pub fn new(alloc: Global, parts: ChangeParts) -> Result<Change, ChangeError>
         ensures made { IfOk result (λ c. (c ≡ parts) × IsChange c) }
         ensures only { IsChange parts → IsOk result }
-        ensures exact { MatchResult result (λ _. judged parts ≡ Ok tt) (λ e. judged parts ≡ Err e) }
+        ensures exact { MatchResult result (λ _. validated parts ≡ Ok tt)
+            (λ e. validated parts ≡ Err e) }
         ensures memory { IfErr result (λ e. e ≡ OutOfMemory → ⊥) }
     {
-        judge(&parts)?;
+        validate(&parts)?;
         let hash = hash_parts(&parts);
         Ok(Change { alloc, parts, hash })
     }

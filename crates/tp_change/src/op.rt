@@ -5,11 +5,11 @@ use tp_opid::{OpId, Place};
 /// One operation: the insert of a character, or the delete of one.
 #[derive(Clone, Copy, Debug, PartialEq, Eq)]
 pub enum Op {
-    /// Inserts a character directly after a place.
+    /// Inserts a character directly after a reference.
     Insert {
         /// The identifier of the operation, and of the element that it makes.
         id: OpId,
-        /// The place after which the character stands.
+        /// The reference: what the character stands after.
         after: Place,
         /// The character, a Unicode scalar value.
         ch: char,

@@ -4,7 +4,7 @@ use crate::record::Record;
 use tp_list::{Items, Text};
 use tp_opid::{Actor, Hash};
 
-/// The parts of a change. [`Change::new`](crate::Change::new) judges them.
+/// The parts of a change. [`Change::new`](crate::Change::new) validates them.
 #[derive(Drop)]
 pub struct ChangeParts {
     /// Who made the change.

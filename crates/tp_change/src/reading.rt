@@ -1,6 +1,6 @@
 //! Reading a change from its bytes.
 //!
-//! Every function takes its field from the front of a reader, and says which field of specs/Reading that is. The
+//! Every function takes its field from the start of a reader, and says which field of specs/Reading that is. The
 //! first fault is the refusal. Nothing is reserved for a count or a length: elements are pushed as they are read,
 //! and a text is copied once, when its bytes are there.
 #![tactic(auto, unfolding(tp_codec::specs::Reading::or_fail, tp_codec::specs::Reading::found_or, tp_codec::specs::Reading::and_then, tp_codec::specs::Reading::and_next, tp_codec::specs::Reading::give, tp_codec::specs::Reading::require, tp_codec::specs::Reading::passed, tp_codec::specs::Reading::characters_at, tp_codec::specs::Reading::text_at, tp_codec::specs::Reading::fail, crate::specs::Reading::actor_at, crate::specs::Reading::hash_at, crate::specs::Reading::id_at, crate::specs::Reading::version_at, crate::specs::Reading::seq_at, crate::specs::Reading::start_at, crate::specs::Reading::dep_at, crate::specs::Reading::deps_at, crate::specs::Reading::place_after_tag, crate::specs::Reading::place_at, crate::specs::Reading::insert_at, crate::specs::Reading::delete_at, crate::specs::Reading::record_after_tag, crate::specs::Reading::record_at, crate::specs::Reading::records_at, crate::specs::Reading::parts_at, crate::specs::Reading::sized_at, crate::specs::Reading::change_at, crate::specs::Reading::ended))]
@@ -9,7 +9,7 @@ ghost use Rattle.std.specs.Prelude.{◌≡◌, ◌-◌, List, length, true, fals
 ghost use Rattle.std.specs.Str.{is_utf8};
 ghost use Rattle.std.specs.Int.{w16, w32, w64};
 ghost use Rattle.std.specs.Ordering.{is_lt};
-ghost use Rattle.tp_codec.specs.Front.{byte_at, bytes_at, number_at};
+ghost use Rattle.tp_codec.specs.Prefix.{byte_at, bytes_at, number_at};
 ghost use Rattle.tp_codec.specs.Reading.{or_fail, fail, characters_at, text_at, repeat_at};
 ghost use Rattle.tp_opid.specs.Order.{hash_cmp};
 ghost use Rattle.tp_change.specs.declared.error.ChangeError.TheVariants.{Short, BadUtf8};
@@ -195,7 +195,8 @@ fn counted_deps_of(
     reader: &mut Reader<'_>,
     count: u16,
 ) -> Result<Vec<Hash>, ChangeError>
-    ensures { Gives (λ v. (v.items, reader.new)) result (repeat_at dep_at next_before count None reader.old) }
+    ensures { Gives (λ v. (v.items, reader.new)) result
+        (repeat_at dep_at next_before count None reader.old) }
 {
     let mut deps = Vec::new(alloc);
     let mut before = None;
@@ -300,7 +301,8 @@ fn counted_records_of(
     count: u32,
     room: usize,
 ) -> Result<Vec<Record>, ChangeError>
-    ensures { Gives (λ v. (v.items, reader.new)) result (repeat_at record_at room_after count room reader.old) }
+    ensures { Gives (λ v. (v.items, reader.new)) result
+        (repeat_at record_at room_after count room reader.old) }
 {
     let mut records = Vec::new(alloc);
     let mut left = room;
@@ -382,11 +384,12 @@ fn change_of(alloc: Global, bytes: &[u8]) -> Result<ChangeParts, ChangeError>
 impl Change {
     /// The change that the bytes are, all of them, with their SHA-256 as its hash.
     ///
-    /// Takes one pass over the bytes. Refuses with the first fault from the front, as docs/FORMATS.md orders them,
+    /// Takes one pass over the bytes. Refuses with the first fault from the start, as docs/FORMATS.md orders them,
     /// and with `OutOfMemory` where a growth was refused.
     pub fn decode(alloc: Global, bytes: &[u8]) -> Result<Change, ChangeError>
         ensures found { IfOk result (λ c. IsChange c × (bytes.now ≡ spelling c)) }
-        ensures only { (c : ChangeParts) → IsChange c → bytes.now ≡ spelling c → Gives (λ d. d) result (Ok c) }
+        ensures only { (c : ChangeParts) → IsChange c → bytes.now ≡ spelling c
+            → Gives (λ d. d) result (Ok c) }
         ensures exact { Gives (λ c. c) result (change_at bytes.now) }
     {
         let parts = change_of(alloc, bytes)?;

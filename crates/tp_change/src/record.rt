@@ -6,10 +6,10 @@ use tp_opid::{OpId, Place};
 /// A record of a change: several operations in a row that are spelled together.
 #[derive(Drop)]
 pub enum Record {
-    /// Inserts a run of characters: the first after the place, each later one after the one before it. Each
+    /// Inserts a run of characters: the first after the reference, each later one after the one before it. Each
     /// takes one counter.
     Insert {
-        /// The place after which the run stands.
+        /// The reference: what the run stands after.
         after: Place,
         /// The characters, one at least.
         text: Text,

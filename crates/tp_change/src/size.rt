@@ -18,7 +18,7 @@ fn id_len(id: &OpId) -> usize
     8 + of_16(id.actor.0)
 }
 
-/// How many bytes a place has.
+/// How many bytes a reference has.
 fn place_len(place: &Place) -> usize
     ensures small { result ≤ 25 }
     ensures len { result ≡ length (spelling_of_place place.now) }

@@ -1,4 +1,4 @@
-//! The bytes of a change, written front to back.
+//! The bytes of a change, written from first to last.
 
 ghost use Rattle.std.specs.Prelude.{◌<◌, ◌≤◌, ◌^◌, length, encode_utf8_all, IsOk, OnOk};
 ghost use Rattle.std.specs.Int.{w64, to_be_bytes};
@@ -35,7 +35,7 @@ fn put_id<S: Sink>(out: &mut S, id: &OpId) -> Result<(), AllocError>
     out.put(&id.actor.0)
 }
 
-/// The tag of a place, and what stands behind it.
+/// The tag of a reference, and what stands behind it.
 fn put_place<S: Sink>(out: &mut S, place: &Place) -> Result<(), AllocError>
     ensures puts { OnOk result (Puts S.holds out.old out.new (spelling_of_place place.now)) }
     ensures taken { S.takes_all → IsOk result }

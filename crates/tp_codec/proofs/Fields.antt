@@ -9,7 +9,7 @@ use Rattle.std.proofs.lemmas.List.{take_at, drop_at, take-append-drop, length-ap
 use Rattle.std.proofs.lemmas.List.Concat.{flat_map-cons}
 use Rattle.std.proofs.lemmas.Nat.{be_bytes_2, be_bytes_4, be_bytes_8, from_be_bytes-to_be_bytes_2, from_be_bytes-to_be_bytes_4, from_be_bytes-to_be_bytes_8}
 use Rattle.std.proofs.lemmas.Str.{encodes-chars, scalars-chars, chars-encodes, IsUtf8-from_is_utf8, is_utf8-from_IsUtf8}
-use Rattle.tp_codec.specs.Front.{byte_at, bytes_at, number_at}
+use Rattle.tp_codec.specs.Prefix.{byte_at, bytes_at, number_at}
 use Rattle.tp_codec.specs.Reading.{Reads, give, fail, and_next, and_then, found_or, or_fail, passed, require, repeat_at, characters_at, text_at}
 use lib.Utf8.{scalar, encode, scalar_cases}
 
@@ -17,8 +17,8 @@ use lib.Utf8.{scalar, encode, scalar_cases}
 abbrev pub AreBytes : List ℕ → Type 0
 AreBytes bytes = (i : ℕ) → get_or bytes i 0 < 256
 
-pub AreBytes-rest : (front bytes rest : List ℕ) → bytes ≡ front ++ rest → AreBytes bytes → AreBytes rest
-AreBytes-rest front bytes rest e fits i = rw (← get_or-append-add front rest i 0, ← e) (fits (length front + i))
+pub AreBytes-rest : (prefix bytes rest : List ℕ) → bytes ≡ prefix ++ rest → AreBytes bytes → AreBytes rest
+AreBytes-rest prefix bytes rest e fits i = rw (← get_or-append-add prefix rest i 0, ← e) (fits (length prefix + i))
 
 pub AreBytes-take : (n : ℕ) (bytes : List ℕ) → AreBytes bytes → AreBytes (take n bytes)
 AreBytes-take n bytes h i =
@@ -153,7 +153,7 @@ require_field short false e next spell Fits f = record {
   stays = λ bytes more d fits r apart. r;
 }
 
--- ---- what stands at the front
+-- ---- what stands at the start
 
 found_ok : {X E : Type 0} (short : E) (there : Option (X × List ℕ)) (x : X × List ℕ) → found_or short there ≡ Ok x → there ≡ Some x
 unfolding found_or
@@ -166,12 +166,12 @@ found_err short (Some y) e r = absurd cc
 found_err short None e r = cc
 
 -- A field that fails where bytes are missing alone.
-pub front_field : {X E : Type 0} (short : E) (there : List ℕ → Option (X × List ℕ)) (spell : X → List ℕ) (Fits : X → Type 0)
+pub prefix_field : {X E : Type 0} (short : E) (there : List ℕ → Option (X × List ℕ)) (spell : X → List ℕ) (Fits : X → Type 0)
     → ((bytes : List ℕ) (x : X) (rest : List ℕ) → AreBytes bytes → there bytes ≡ Some (x, rest) → (bytes ≡ spell x ++ rest) × Fits x)
     → ((x : X) (rest : List ℕ) → Fits x → there (spell x ++ rest) ≡ Some (x, rest))
     → IsField short (or_fail short there) spell Fits
 unfolding or_fail found_or
-front_field {X} {E} short there spell Fits takes again = record {
+prefix_field {X} {E} short there spell Fits takes again = record {
   takes = λ bytes x rest fits e. takes bytes x rest fits (found_ok short (there bytes) (x, rest) e);
   again = λ x rest fit. ap (λ (o : Option (X × List ℕ)). found_or {E = E} short o) (again x rest fit);
   stays = λ bytes more e fits r apart. absurd (apart (found_err short (there bytes) e r));
@@ -188,7 +188,7 @@ byte_takes (b ∷ bytes) x rest fits e =
 pub byte_field : {E : Type 0} (short : E) → IsField short (or_fail short byte_at) (λ b. b ∷ []) (λ b. b < 256)
 unfolding byte_at
 byte_field short =
-    front_field short byte_at (λ b. b ∷ []) (λ b. b < 256)
+    prefix_field short byte_at (λ b. b ∷ []) (λ b. b < 256)
     (λ bytes x rest fits e. byte_takes bytes x rest fits e)
     (λ x rest fit. refl)
 
@@ -204,7 +204,7 @@ pub record AreSoMany (n : ℕ) (bytes : List ℕ) : Type 0 where
 pub bytes_field : {E : Type 0} (short : E) (n : ℕ) → IsField short (or_fail short (bytes_at n)) (λ b. b) (AreSoMany n)
 unfolding bytes_at
 bytes_field short n =
-    front_field short (bytes_at n) (λ b. b) (AreSoMany n)
+    prefix_field short (bytes_at n) (λ b. b) (AreSoMany n)
     (λ bytes x rest fits e.
     let u = unless_short (ltb (length bytes) n) (take n bytes, drop n bytes) (x, rest) e in
     let long : n ≤ length bytes = ltb-false _ _ u.0 in
@@ -251,14 +251,14 @@ wide64 = record {
 pub number_field : {E : Type 0} (short : E) (w : Width) (limit : ℕ) → IsWide w limit → IsField short (or_fail short (number_at w)) (to_be_bytes w) (λ n. n < limit)
 unfolding number_at
 number_field short w limit wide =
-    front_field short (number_at w) (to_be_bytes w) (λ n. n < limit)
+    prefix_field short (number_at w) (to_be_bytes w) (λ n. n < limit)
     (λ bytes n rest fits e.
     let u = unless_short (ltb (length bytes) (byte_len w)) (from_be_bytes w (take (byte_len w) bytes), drop (byte_len w) bytes) (n, rest) e in
     let long : byte_len w ≤ length bytes = ltb-false _ _ u.0 in
     let n-is : from_be_bytes w (take (byte_len w) bytes) ≡ n = ap (λ (p : ℕ × List ℕ). p.0) u.1 in
     let rest-is : drop (byte_len w) bytes ≡ rest = ap (λ (p : ℕ × List ℕ). p.1) u.1 in
-    let front : to_be_bytes w n ≡ take (byte_len w) bytes = rw (← n-is) (wide.back (take (byte_len w) bytes) (omega (arith, length-take (byte_len w) bytes)) (AreBytes-take (byte_len w) bytes fits)) in
-    (rw (front, ← rest-is) (sym (take-append-drop (byte_len w) bytes)), rw (← n-is) (wide.below (take (byte_len w) bytes) (AreBytes-take (byte_len w) bytes fits))))
+    let prefix : to_be_bytes w n ≡ take (byte_len w) bytes = rw (← n-is) (wide.back (take (byte_len w) bytes) (omega (arith, length-take (byte_len w) bytes)) (AreBytes-take (byte_len w) bytes fits)) in
+    (rw (prefix, ← rest-is) (sym (take-append-drop (byte_len w) bytes)), rw (← n-is) (wide.below (take (byte_len w) bytes) (AreBytes-take (byte_len w) bytes fits))))
     (λ n rest lt.
     let len = wide.len n in
     let long : ltb (length (to_be_bytes w n ++ rest)) (byte_len w) ≡ false = le-ltb _ _ (omega (arith, length-append (to_be_bytes w n) rest)) in
@@ -308,10 +308,10 @@ rest_taken : {S X E : Type 0} (short : E) (field : S → Reads E X) (step : S �
     → (ys : List X) (rest : List ℕ) → (p : List X × List ℕ) × (repeat_at field step n (step s x) mid ≡ Ok p) × (give {E = E} (x ∷ p.0) p.1 ≡ Ok (ys, rest))
     → (bytes ≡ flat_map spell ys ++ rest) × ((length ys ≡ suc n) × EachFits Fits step s ys)
 unfolding give
-rest_taken {S} {X} {E} short field step spell Fits n s x bytes mid front fit fits g ys rest ((xs, back), e, f) =
+rest_taken {S} {X} {E} short field step spell Fits n s x bytes mid prefix fit fits g ys rest ((xs, back), e, f) =
     let u = g.takes mid xs back fits e in
     subst (λ (y : List X × List ℕ). (bytes ≡ flat_map spell y.0 ++ y.1) × ((length y.0 ≡ suc n) × EachFits Fits step s y.0)) (pair_is {E = E} (x ∷ xs, back) (ys, rest) f)
-    (spelled_on spell x xs bytes mid back front u.0, (ap suc u.1.0, (fit, u.1.1)))
+    (spelled_on spell x xs bytes mid back prefix u.0, (ap suc u.1.0, (fit, u.1.1)))
 
 one_taken : {S X E : Type 0} (short : E) (field : S → Reads E X) (step : S → X → S) (spell : X → List ℕ) (Fits : S → X → Type 0) (n : ℕ) (s : S)
     → IsField short (field s) spell (Fits s)

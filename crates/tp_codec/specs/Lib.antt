@@ -1,2 +1,2 @@
-pub mod Front
+pub mod Prefix
 pub mod Reading

@@ -2,7 +2,7 @@
 use Rattle.std.specs.Prelude.{ℕ, zero, suc, List, [], ◌∷◌, Bool, true, false, Option, Some, None, Result, Ok, Err}
 use Rattle.std.specs.Int.{Width}
 use Rattle.std.specs.Str.{chars, is_utf8}
-use Rattle.tp_codec.specs.Front.{bytes_at, number_at}
+use Rattle.tp_codec.specs.Prefix.{bytes_at, number_at}
 
 -- A field gives a value and the bytes after it, or a fault.
 abbrev pub Reads : Type 0 → Type 0 → Type 0
@@ -36,7 +36,7 @@ unfoldable pub found_or : {X E : Type 0} → E → Option (X × List ℕ) → Re
 found_or e (Some x) = Ok x
 found_or e None = Err e
 
--- what stands at the front, or the fault
+-- what stands at the start, or the fault
 unfoldable pub or_fail : {X E : Type 0} → E → (List ℕ → Option (X × List ℕ)) → Reads E X
 or_fail e there bytes = found_or e (there bytes)
 

@@ -2,7 +2,7 @@
 
 ghost use Rattle.std.specs.Prelude.{◌≡◌, ◌==◌, ◌<◌, List, ℕ, length, IfNone, IfSome};
 ghost use Rattle.std.specs.Int.{w16, w32, w64};
-ghost use Rattle.tp_codec.specs.Front.{Finds, byte_at, bytes_at, number_at};
+ghost use Rattle.tp_codec.specs.Prefix.{Finds, byte_at, bytes_at, number_at};
 
 use std::marker::Model;
 
@@ -46,7 +46,7 @@ impl<'a> Reader<'a> {
     }
 
     /// The next byte.
-    #[tactic(auto, unfolding(crate::specs::Front::byte_at))]
+    #[tactic(auto, unfolding(crate::specs::Prefix::byte_at))]
     pub fn u8(&mut self) -> Option<u8>
         ensures found { Finds (λ b. (b, self.new)) result (byte_at self.old) }
         ensures none { IfNone result (self.new ≡ self.old) }
@@ -62,7 +62,7 @@ impl<'a> Reader<'a> {
     }
 
     /// The next so many bytes.
-    #[tactic(auto, unfolding(crate::specs::Front::bytes_at))]
+    #[tactic(auto, unfolding(crate::specs::Prefix::bytes_at))]
     pub fn bytes(&mut self, count: usize) -> Option<&'a [u8]>
         ensures found { Finds (λ b. (b.now, self.new)) result (bytes_at count self.old) }
         ensures count { IfSome result (λ b. length b.now ≡ count) }
@@ -71,9 +71,9 @@ impl<'a> Reader<'a> {
         if self.rest.len() < count {
             return None;
         }
-        let (front, rest) = self.rest.split_at(count);
+        let (prefix, rest) = self.rest.split_at(count);
         self.rest = rest;
-        Some(front)
+        Some(prefix)
     }
 
     /// The next 16 bytes.
@@ -107,7 +107,7 @@ impl<'a> Reader<'a> {
     }
 
     /// The next 2 bytes, as a number.
-    #[tactic(auto, unfolding(crate::specs::Front::number_at, crate::specs::Front::bytes_at))]
+    #[tactic(auto, unfolding(crate::specs::Prefix::number_at, crate::specs::Prefix::bytes_at))]
     pub fn u16(&mut self) -> Option<u16>
         ensures found { Finds (λ n. (n, self.new)) result (number_at w16 self.old) }
         ensures none { IfNone result (self.new ≡ self.old) }
@@ -119,7 +119,7 @@ impl<'a> Reader<'a> {
     }
 
     /// The next 4 bytes, as a number.
-    #[tactic(auto, unfolding(crate::specs::Front::number_at, crate::specs::Front::bytes_at))]
+    #[tactic(auto, unfolding(crate::specs::Prefix::number_at, crate::specs::Prefix::bytes_at))]
     pub fn u32(&mut self) -> Option<u32>
         ensures found { Finds (λ n. (n, self.new)) result (number_at w32 self.old) }
         ensures none { IfNone result (self.new ≡ self.old) }
@@ -131,7 +131,7 @@ impl<'a> Reader<'a> {
     }
 
     /// The next 8 bytes, as a number.
-    #[tactic(auto, unfolding(crate::specs::Front::number_at, crate::specs::Front::bytes_at))]
+    #[tactic(auto, unfolding(crate::specs::Prefix::number_at, crate::specs::Prefix::bytes_at))]
     pub fn u64(&mut self) -> Option<u64>
         ensures found { Finds (λ n. (n, self.new)) result (number_at w64 self.old) }
         ensures none { IfNone result (self.new ≡ self.old) }

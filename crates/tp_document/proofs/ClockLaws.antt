@@ -1,29 +1,26 @@
 -- Changes at places, clocks and targets, step by step.
-use Rattle.std.proofs.Common.{◌≡◌, ℕ, suc, ◌+◌, ◌<◌, ◌≤◌, inl, inr, List, [], ◌∷◌, ◌++◌, length, take, get_or, Bool, true, false, ◌||◌, cond, Option, Some, None, refl, sym, ap, ◌∙◌, subst, arith, append_assoc, append-nil}
+use Rattle.std.proofs.Common.{◌≡◌, ℕ, suc, ◌+◌, ◌<◌, ◌≤◌, inl, inr, List, [], ◌∷◌, ◌++◌, length, take, get_or, true, false, ◌||◌, cond, Option, Some, None, refl, sym, ap, ◌∙◌, subst, arith, append_assoc}
 use Rattle.std.specs.List.{slice_get}
 use Rattle.std.specs.Option.{unwrap_or}
 use Rattle.std.specs.Map.{lookup}
 use Rattle.std.proofs.lemmas.Bool.Decides.{nat_tests}
 use Rattle.std.proofs.lemmas.List.{take_more, length-append}
-use Rattle.std.proofs.lemmas.List.Elements.{filter-append}
 use Rattle.std.proofs.lemmas.Option.{slice_get-get_or}
 use Rattle.tp_list.specs.Members.{In}
 use Rattle.tp_opid.specs.declared.actor.Actor.{Actor}
 use Rattle.tp_opid.specs.declared.hash.Hash.{Hash}
-use Rattle.tp_opid.specs.declared.op_id.OpId.{OpId}
-use Rattle.tp_opid.specs.Same.{same_actor, id_eq}
+use Rattle.tp_opid.specs.Same.{same_actor}
 use Rattle.tp_opid.proofs.Orders.{same_actor-same}
 use Rattle.tp_change.specs.declared.parts.ChangeParts.{ChangeParts}
 use Rattle.tp_change.specs.Operations.{op_count}
 use Rattle.tp_change.specs.Elements.{later}
-use Rattle.tp_rga.specs.Shown.{is_removed}
 use Rattle.tp_list.proofs.Members.{In-slice_get}
 use Rattle.tp_graph.specs.Named.{names, is_needed}
 use Rattle.tp_graph.specs.Past.{past}
 use Rattle.tp_graph.specs.Marks.{marks, places_from}
 use Rattle.tp_graph.specs.Since.{past_places}
 use Rattle.tp_list.proofs.Tests.{truth}
-use Rattle.tp_document.specs.History.{end_at, end_of, has_op, AreEnds, AreTargets, with_change, changes_at, is_one_of, deletes_by}
+use Rattle.tp_document.specs.History.{end_at, end_of, AreEnds, with_change, changes_at}
 use Rattle.tp_document.proofs.EndLaws.{end_of-push}
 
 -- ---- the changes at the places of a past are the past
@@ -111,34 +108,3 @@ pub AreEnds-push : (K N : List (Actor × ℕ)) (C D : List ChangeParts) (c : Cha
     → ((a : Actor) → end_at N a ≡ cond (same_actor c.actor a) (later (c.start + op_count c) (end_at K a)) (end_at K a)) → D ≡ C ++ c ∷ [] → AreEnds N D
 AreEnds-push K N C D c ends noted more a =
     noted a ∙ ap (λ n. cond (same_actor c.actor a) (later (c.start + op_count c) n) n) (ends a) ∙ sym (end_of-push C c a) ∙ ap (λ l. end_of l a) (sym more)
-
--- ---- targets
-
-is_removed-push : (R : List (OpId × OpId)) (r : OpId × OpId) (x : OpId) → is_removed (R ++ r ∷ []) x ≡ (id_eq r.0 x || is_removed R x)
-is_removed-push [] r x = refl
-is_removed-push (s ∷ R) r x = ap (λ b. id_eq s.0 x || b) (is_removed-push R r x) ∙ turn (id_eq s.0 x) (id_eq r.0 x) (is_removed R x) where
-  turn : (a b c : Bool) → (a || (b || c)) ≡ (b || (a || c))
-  turn true true c = refl
-  turn true false c = refl
-  turn false b c = refl
-
-deletes_by-more : (K : List (Actor × ℕ)) (R : List (OpId × OpId)) (k : ℕ) (r : OpId × OpId) → k < length R → r ≡ get_or R k r → deletes_by K (take (k + 1) R) ≡ deletes_by K (take k R) ++ deletes_by K (r ∷ [])
-deletes_by-more K R k r lt at =
-    ap (deletes_by K) (take_more R k r lt ∙ ap (λ x. take k R ++ x ∷ []) (sym at))
-    ∙ filter-append (λ (x : OpId × OpId). has_op K x.1) (take k R) (r ∷ [])
-
--- a delete among the operations
-pub AreTargets-more : (K : List (Actor × ℕ)) (R : List (OpId × OpId)) (k : ℕ) (r : OpId × OpId) (T N : List OpId) → k < length R → r ≡ get_or R k r → has_op K r.1 ≡ true
-    → AreTargets T K (take k R) → ((x : OpId) → is_one_of N x ≡ (id_eq r.0 x || is_one_of T x)) → AreTargets N K (take (k + 1) R)
-AreTargets-more K R k r T N lt at has targets added x =
-    added x ∙ ap (λ b. id_eq r.0 x || b) (targets x) ∙ sym (is_removed-push (deletes_by K (take k R)) r x)
-    ∙ ap (λ b. is_removed (deletes_by K (take k R) ++ cond b (r ∷ []) []) x) (sym has)
-    ∙ ap (λ l. is_removed l x) (sym (deletes_by-more K R k r lt at))
-
--- another
-pub AreTargets-same : (K : List (Actor × ℕ)) (R : List (OpId × OpId)) (k : ℕ) (r : OpId × OpId) (T : List OpId) → k < length R → r ≡ get_or R k r → has_op K r.1 ≡ false
-    → AreTargets T K (take k R) → AreTargets T K (take (k + 1) R)
-AreTargets-same K R k r T lt at lacks targets x =
-    targets x ∙ ap (λ l. is_removed l x) (sym (append-nil (deletes_by K (take k R))))
-    ∙ ap (λ b. is_removed (deletes_by K (take k R) ++ cond b (r ∷ []) []) x) (sym lacks)
-    ∙ ap (λ l. is_removed l x) (sym (deletes_by-more K R k r lt at))

@@ -1,5 +1,5 @@
 -- What an edit answers, exit by exit.
-use Rattle.std.proofs.Common.{◌≡◌, ℕ, zero, suc, ◌+◌, ◌<◌, ◌≤◌, inr, List, length, refl, sym, ap, ◌∙◌, subst, arith}
+use Rattle.std.proofs.Common.{◌≡◌, ℕ, zero, suc, ◌+◌, ◌<◌, ◌≤◌, List, length, refl, sym, ap, ◌∙◌, subst, arith}
 use Rattle.std.proofs.lemmas.List.{length-map}
 use Rattle.tp_opid.specs.declared.hash.Hash.{Hash}
 use Rattle.tp_opid.specs.declared.op_id.OpId.{OpId}
@@ -16,8 +16,8 @@ use Rattle.tp_edit.specs.EditRecords.{records_of, visible_ids}
 use Rattle.tp_document.specs.declared.error.DocError.{DocError}
 use Rattle.tp_document.specs.declared.error.DocError.TheVariants.{OutOfRange, CounterLimit, TooManyOps, TooManyHeads, UnknownHead, UnknownElement, PendingFull, HashTaken, OutOfMemory, OtherDocument, TooLong, Full, NotKept}
 use Rattle.tp_document.specs.DocState.{Holds}
-use Rattle.tp_document.specs.Editing.{Asked, AreInRange, IsEdit, AsksSome, HasCounters, HasSize, IsRefused}
-use Rattle.tp_document.specs.Making.{IsBad, IsLong, IsShut, parts_made}
+use Rattle.tp_document.specs.Editing.{Asked, AreInRange, IsEdit, AsksSome, IsRefused}
+use Rattle.tp_document.specs.Making.{IsBad, parts_made}
 use Rattle.tp_document.proofs.ShowingLaws.{Holds-text}
 
 -- the length that the sequence knows is that of the text
@@ -59,22 +59,6 @@ edit_made C L R asked seq start H p h numbered counted heads is = record {
       ∙ ap (λ D. records_of asked.actor (next_counter C) (visible_ids D L) asked.splices) h.deletes;
 }
 
--- a change that is too long is a refused edit
-pub long_refused : (C : List ChangeParts) (asked : Asked) (p : ChangeParts) (e : DocError) → HasCounters C asked → IsEdit C asked p → IsLong p e → IsRefused C asked e
-long_refused C asked p TooLong h is long = (h, inr (p, is, long))
-long_refused C asked p OutOfMemory h is long = tt
-long_refused C asked p OutOfRange h is long = absurd long
-long_refused C asked p TooManyOps h is long = absurd long
-long_refused C asked p TooManyHeads h is long = absurd long
-long_refused C asked p CounterLimit h is long = absurd long
-long_refused C asked p Full h is long = absurd long
-long_refused C asked p HashTaken h is long = absurd long
-long_refused C asked p UnknownHead h is long = long
-long_refused C asked p UnknownElement h is long = long
-long_refused C asked p PendingFull h is long = long
-long_refused C asked p OtherDocument h is long = long
-long_refused C asked p NotKept h is long = long
-
 -- ---- within limits, one after another
 
 pub asks_some : (C : List ChangeParts) (L : List Insert) (R : List (OpId × OpId)) (n k : ℕ) (asked : Asked) → Holds C L R → n ≡ length (shown R L) → AllInRange n asked.splices → total_count asked.splices ≡ k → k ≤ 65536 → (k ≡ 0 → ⊥) → AsksSome C asked
@@ -86,19 +70,3 @@ asks_some C L R n k asked h len range count few some = record {
   above : (t k : ℕ) → t ≡ k → (k ≡ 0 → ⊥) → 0 < t
   above t zero e some = absurd (some refl)
   above t (suc k) e some = omega arith
-
--- a graph that has no place refuses the edit
-pub shut_refused : (C : List ChangeParts) (asked : Asked) (c : ChangeParts) (e : DocError) → HasSize C asked → IsEdit C asked c → IsShut C c e → IsRefused C asked e
-shut_refused C asked c Full h is shut = (h, shut)
-shut_refused C asked c HashTaken h is shut = (h, shut.0, (c, is, shut.1))
-shut_refused C asked c OutOfMemory h is shut = tt
-shut_refused C asked c OutOfRange h is shut = absurd shut
-shut_refused C asked c TooManyOps h is shut = absurd shut
-shut_refused C asked c TooManyHeads h is shut = absurd shut
-shut_refused C asked c CounterLimit h is shut = absurd shut
-shut_refused C asked c TooLong h is shut = absurd shut
-shut_refused C asked c UnknownHead h is shut = shut
-shut_refused C asked c UnknownElement h is shut = shut
-shut_refused C asked c PendingFull h is shut = shut
-shut_refused C asked c OtherDocument h is shut = shut
-shut_refused C asked c NotKept h is shut = shut

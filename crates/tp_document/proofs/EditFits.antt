@@ -1,13 +1,10 @@
 -- The change of an edit fits behind the changes that it is made of, and does the splices.
-use Rattle.std.proofs.Common.{take, drop, get_or, add-one, drop-cons, ◌≡◌, ℕ, ◌+◌, ◌<◌, ◌≤◌, ◌==◌, inl, inr, List, [], ◌∷◌, ◌++◌, length, true, false, ◌&&◌, cond, Option, Some, None, refl, sym, ap, ◌∙◌, subst, arith}
-use Rattle.std.proofs.lemmas.Bool.{eqb-true}
+use Rattle.std.proofs.Common.{take, drop, get_or, add-one, drop-cons, ◌≡◌, ℕ, ◌+◌, ◌<◌, ◌≤◌, ◌==◌, List, [], ◌∷◌, ◌++◌, length, false, ◌&&◌, cond, Some, None, refl, sym, ap, ◌∙◌, subst, arith}
 use Rattle.std.proofs.lemmas.Bool.Decides.{nat_tests}
 use Rattle.std.proofs.lemmas.List.{length-map, take-append-drop, length-take-le}
-use Rattle.tp_list.specs.Members.{In}
 use Rattle.tp_opid.specs.declared.actor.Actor.{Actor}
 use Rattle.tp_opid.specs.declared.hash.Hash.{Hash}
 use Rattle.tp_opid.specs.Insert.{Insert}
-use Rattle.tp_opid.specs.Same.{same_actor}
 use Rattle.tp_opid.proofs.Orders.{same_actor-same}
 use Rattle.tp_change.specs.declared.record.Record.{Record}
 use Rattle.tp_change.specs.declared.parts.ChangeParts.{ChangeParts}
@@ -22,10 +19,10 @@ use Rattle.tp_change.proofs.ElementLaws.{inserts-push, deletes-push}
 use Rattle.tp_graph.specs.declared.error.GraphError.TheVariants.{Full}
 use Rattle.tp_graph.specs.Named.{has, has_all}
 use Rattle.tp_graph.specs.Past.{past}
-use Rattle.tp_graph.specs.Fit.{misfit, or_full, cause, most_changes, clashes, count_by}
+use Rattle.tp_graph.specs.Fit.{defect, or_full, cause, most_changes, clashes, count_by}
 use Rattle.tp_graph.specs.Sound.{Sound, Fits}
-use Rattle.tp_list.proofs.Tests.{not_true, or_cases, both_left, both_right}
-use Rattle.tp_graph.proofs.SoundLaws.{Fits-at, misfit-from_Fits, deps_first, Sound-push}
+use Rattle.tp_list.proofs.Tests.{not_true}
+use Rattle.tp_graph.proofs.SoundLaws.{Fits-at, defect-from_Fits, deps_first, Sound-push}
 use Rattle.tp_graph.proofs.HeadsLaws.{has_all-heads, past-heads}
 use Rattle.tp_graph.proofs.CountLaws.{seqs_run}
 use Rattle.tp_edit.specs.declared.splice.Splice.{Splice}
@@ -33,14 +30,17 @@ use Rattle.tp_edit.specs.Splices.{AllInRange, total_count, all_spliced, inserted
 use Rattle.tp_edit.specs.EditRecords.{records_of, visible_ids}
 use Rattle.tp_edit.specs.EditLaw.{IsReady, DoesItsSplices, ops_of_edit}
 use Rattle.tp_edit.proofs.Edited.{edit_law}
-use Rattle.tp_document.specs.Editing.{Asked, AreInRange, IsEdit, Edited, IsDone, DoesSplices}
-use Rattle.tp_document.proofs.SoundText.{Fits-from_cause, AllUnder-inserts, IsTree-inserts, targets_there}
+use Rattle.tp_document.specs.Editing.{Asked, AreInRange, IsEdit, Edited}
+use Rattle.tp_document.proofs.SoundText.{AllUnder-inserts, targets_there}
+use Rattle.tp_graph.proofs.KeptLaws.{Fits-from_cause}
+use Rattle.tp_graph.proofs.TreeLaws.{inserts_tree}
+use Rattle.tp_graph.proofs.ClashLaws.{clash_of}
 use Rattle.tp_document.proofs.ShowingLaws.{one_text}
 
 -- a text to edit
 ready_of : (C : List ChangeParts) (L : List Insert) (a : Actor) → Sound C → IsInOrder (inserts C) L → IsReady (inserts C) L (deletes C) a (next_counter C)
 ready_of C L a s order = record {
-  tree = IsTree-inserts C s;
+  tree = inserts_tree C s;
   order = order;
   above = AllUnder-inserts C a;
   targets = targets_there C s;
@@ -65,18 +65,10 @@ ops_are C asked c e =
     ∙ ap (λ r. ops_from asked.actor (next_counter C) r) e.records
 
 -- a change with a sequence number past all of its actor's clashes with none
-clash_found : (C : List ChangeParts) (c : ChangeParts) → clashes C c ≡ true → (d : ChangeParts) × In d C × (same_actor d.actor c.actor ≡ true) × (d.seq ≡ c.seq)
-clash_found [] c h = cc
-clash_found (d ∷ C) c h =
-    elim (or_cases (same_actor d.actor c.actor && (d.seq == c.seq)) (clashes C c) h) [
-      | inl t ↦ (d, inl refl, both_left (same_actor d.actor c.actor) (d.seq == c.seq) t, eqb-true d.seq c.seq (both_right (same_actor d.actor c.actor) (d.seq == c.seq) t))
-      | inr t ↦ let w = clash_found C c t in (w.0, inr w.1, w.2, w.3)
-    ]
-
 no_clash : (C : List ChangeParts) (c : ChangeParts) → Sound C → c.seq ≡ count_by c.actor C + 1 → clashes C c ≡ false
 no_clash C c s e =
     not_true (clashes C c) (λ t.
-    let w = clash_found C c t in
+    let w = clash_of C c t in
     let who : w.0.actor ≡ c.actor = same_actor-same w.0.actor c.actor w.2 in
     let few : w.0.seq ≤ count_by w.0.actor C = (seqs_run C s).bounded w.0 w.1 in
     let few2 : w.0.seq ≤ count_by c.actor C = subst (λ a. w.0.seq ≤ count_by a C) who few in
@@ -103,7 +95,7 @@ edit_fits C asked c s e range new =
 pub edit_enters : (C : List ChangeParts) (asked : Asked) (c : ChangeParts) → Sound C → IsEdit C asked c → AreInRange C asked.splices → has C (hash_of c) ≡ false → length C < most_changes → cause C c ≡ None
 unfolding cause
 edit_enters C asked c s e range new few =
-    let none : misfit C c ≡ None = misfit-from_Fits C c (edit_fits C asked c s e range new) in
+    let none : defect C c ≡ None = defect-from_Fits C c (edit_fits C asked c s e range new) in
     let room : (length C == most_changes) ≡ false = below (length C) few in
     ap (λ o. or_full o (length C == most_changes)) none ∙ ap (λ b. cond b (Some Full) None) room where
       below : (n : ℕ) → n < most_changes → (n == most_changes) ≡ false
@@ -122,7 +114,7 @@ edit_text C asked c t s edited text =
     let sound : Sound (C ++ c ∷ []) = Sound-push C c s (Fits-from_cause C c edited.enters) in
     let there : inserts (C ++ c ∷ []) ≡ inserts C ++ inserts_in ops = inserts-push C c ∙ ap (λ o. inserts C ++ inserts_in o) (ops_are C asked c e) in
     let gone : deletes (C ++ c ∷ []) ≡ deletes C ++ deletes_in ops = deletes-push C c ∙ ap (λ o. deletes C ++ deletes_in o) (ops_are C asked c e) in
-    let found = order_exists (inserts (C ++ c ∷ [])) (IsTree-inserts (C ++ c ∷ []) sound) in
+    let found = order_exists (inserts (C ++ c ∷ [])) (inserts_tree (C ++ c ∷ []) sound) in
     let M = found.0 in
     let shows : chars_of (shown (deletes C ++ deletes_in ops) M) ≡ all_spliced (chars_of (shown (deletes C) L)) ss = done.text M (subst (λ S. IsInOrder S M) there found.1) in
     let before : t ≡ chars_of (shown (deletes C) L) = one_text C t (chars_of (shown (deletes C) L)) s text (record { elements = L; order = e.order; spells = refl }) in
@@ -151,12 +143,6 @@ nothing_spliced (s ∷ ss) t e =
     ∙ take-append-drop s.at t in
     ap (λ u. all_spliced u ss) same ∙ nothing_spliced ss t rest
 
-pub done_text : (C D : List ChangeParts) (asked : Asked) (made : Option Hash) → Sound C → IsDone C asked D made → DoesSplices C D asked.splices
-done_text C D asked None s done t text =
-    subst (λ E. IsTextOf E (all_spliced t asked.splices)) (sym done.1) (subst (IsTextOf C) (sym (nothing_spliced asked.splices t done.0.1)) text)
-done_text C D asked (Some h) s done t text =
-    subst (λ E. IsTextOf E (all_spliced t asked.splices)) (sym done.2) (edit_text C asked done.0 t s done.1 text)
-
 -- ---- what an edit asks determines its change
 
 made_of : Actor → ℕ → ℕ → ℕ → List ℕ → List Hash → List Record → ChangeParts
@@ -178,18 +164,18 @@ pub edit_determined : (C : List ChangeParts) (asked : Asked) (c d : ChangeParts)
 edit_determined C asked c d s x y =
     let e = x.edit in
     let f = y.edit in
-    let same = one_order (inserts C) e.elements f.elements (IsTree-inserts C s) e.order f.order in
+    let same = one_order (inserts C) e.elements f.elements (inserts_tree C s) e.order f.order in
     same_parts c d (e.actor ∙ sym f.actor) (e.seq ∙ sym f.seq) (e.start ∙ sym f.start) (e.time ∙ sym f.time) (e.message ∙ sym f.message) (e.deps ∙ sym f.deps)
     (e.records ∙ ap (λ L. records_of asked.actor (next_counter C) (visible_ids (deletes C) L) asked.splices) same ∙ sym f.records)
 
 -- ---- each change of a sound list enters behind those before it
 
-pub front_enters : (C : List ChangeParts) (i : ℕ) (x : ChangeParts) → Sound C → length C ≤ most_changes → i < length C → x ≡ get_or C i x → cause (take i C) x ≡ None
+pub prefix_enters : (C : List ChangeParts) (i : ℕ) (x : ChangeParts) → Sound C → length C ≤ most_changes → i < length C → x ≡ get_or C i x → cause (take i C) x ≡ None
 unfolding cause
-front_enters C i x s few lt is =
+prefix_enters C i x s few lt is =
     let split : C ≡ take i C ++ x ∷ drop (i + 1) C =
     sym (take-append-drop i C) ∙ ap (λ l. take i C ++ l) (rw (add-one) (drop-cons C i x lt) ∙ ap (λ (y : ChangeParts). y ∷ drop (i + 1) C) (sym is)) in
-    let none : misfit (take i C) x ≡ None = misfit-from_Fits (take i C) x (Fits-at (take i C) x (drop (i + 1) C) (subst Sound split s)) in
+    let none : defect (take i C) x ≡ None = defect-from_Fits (take i C) x (Fits-at (take i C) x (drop (i + 1) C) (subst Sound split s)) in
     let within : i ≤ length C = omega arith in
     let size : length (take i C) ≡ i = length-take-le i C within in
     let room : (length (take i C) == most_changes) ≡ false = below (length (take i C)) (length C) i few lt (omega arith) in

@@ -6,7 +6,7 @@ use Rattle.tp_opid.specs.declared.actor.Actor.{Actor}
 use Rattle.tp_opid.specs.declared.hash.Hash.{Hash}
 use Rattle.tp_opid.specs.declared.op_id.OpId.{OpId}
 use Rattle.tp_opid.specs.Same.{same_actor}
-use Rattle.tp_opid.proofs.Orders.{same_actor-same, same_actor-itself}
+use Rattle.tp_opid.proofs.Orders.{same_actor-itself, same_actor-flip}
 use Rattle.tp_change.specs.declared.parts.ChangeParts.{ChangeParts}
 use Rattle.tp_change.specs.ChangeHash.{hash_of}
 use Rattle.tp_change.specs.Operations.{op_count}
@@ -18,7 +18,7 @@ use Rattle.tp_graph.specs.Reach.{Chain}
 use Rattle.tp_graph.specs.Sound.{Sound}
 use Rattle.tp_list.proofs.Tests.{truth}
 use Rattle.tp_graph.proofs.PastLaws.{past-In}
-use Rattle.tp_graph.proofs.SoundLaws.{DepsFirst, deps_first, past-closed, Fits-at, Sound-front, Sound-before}
+use Rattle.tp_graph.proofs.SoundLaws.{DepsFirst, deps_first, past-closed, Fits-at, Sound-prefix, Sound-before}
 use Rattle.tp_graph.proofs.ReachLaws.{InPast-from_past}
 use Rattle.tp_graph.proofs.CountLaws.{own_past}
 use Rattle.tp_change.proofs.ElementLaws.{next_counter-above}
@@ -73,17 +73,14 @@ pub record IsBefore (C : List ChangeParts) (c d : ChangeParts) : Type 0 where
   pub there : In c (past C d.deps)
   pub below : c.start + op_count c ≤ d.start
 
-before_front : (A : List ChangeParts) (c d : ChangeParts) (B : List ChangeParts) → Sound (A ++ d ∷ B) → In c A → same_actor c.actor d.actor ≡ true → IsBefore (A ++ d ∷ B) c d
-before_front A c d B s i e =
+before_in_prefix : (A : List ChangeParts) (c d : ChangeParts) (B : List ChangeParts) → Sound (A ++ d ∷ B) → In c A → same_actor c.actor d.actor ≡ true → IsBefore (A ++ d ∷ B) c d
+before_in_prefix A c d B s i e =
     let f = Fits-at A d B s in
-    let own : In c (past A d.deps) = own_past A d c (Sound-front A (d ∷ B) s) f i e in
+    let own : In c (past A d.deps) = own_past A d c (Sound-prefix A (d ∷ B) s) f i e in
     record {
       there = subst (λ P. In c P) (sym (Sound-before A (d ∷ B) d.deps f.deps s)) own;
       below = subst (λ n. c.start + op_count c ≤ n) (sym f.start) (next_counter-above (past A d.deps) c own);
     }
-
-same_actor-turn : (a b : Actor) → same_actor a b ≡ true → same_actor b a ≡ true
-same_actor-turn a b e = subst (λ x. same_actor b x ≡ true) (sym (same_actor-same a b e)) (same_actor-itself b)
 
 -- of two changes of one actor one stands before the other
 pub one_before_other : (C : List ChangeParts) (c d : ChangeParts) → Sound C → In c C → In d C → same_actor c.actor d.actor ≡ true → (c ≡ d) ⊎ (IsBefore C c d ⊎ IsBefore C d c)
@@ -92,12 +89,12 @@ one_before_other C c d s i j e =
     let A = w.0 in
     let B = w.1 in
     elim (In-append c A (d ∷ B) (subst (λ l. In c l) w.2 i)) [
-      | inl front ↦ inr (inl (subst (λ l. IsBefore l c d) (sym w.2) (before_front A c d B (subst Sound w.2 s) front e)))
+      | inl prefix ↦ inr (inl (subst (λ l. IsBefore l c d) (sym w.2) (before_in_prefix A c d B (subst Sound w.2 s) prefix e)))
       | inr (inl same) ↦ inl same
       | inr (inr back) ↦
           let v = In-split c B back in
           let parts : C ≡ (A ++ d ∷ v.0) ++ c ∷ v.1 = w.2 ∙ ap (λ l. A ++ d ∷ l) v.2 ∙ sym (append_assoc A (d ∷ v.0) (c ∷ v.1)) in
-          inr (inr (subst (λ l. IsBefore l d c) (sym parts) (before_front (A ++ d ∷ v.0) d c v.1 (subst Sound parts s) (In-right d A (d ∷ v.0) (inl refl)) (same_actor-turn c.actor d.actor e))))
+          inr (inr (subst (λ l. IsBefore l d c) (sym parts) (before_in_prefix (A ++ d ∷ v.0) d c v.1 (subst Sound parts s) (In-right d A (d ∷ v.0) (inl refl)) (same_actor-flip c.actor d.actor e))))
     ]
 
 -- ---- a past has the pasts of its changes

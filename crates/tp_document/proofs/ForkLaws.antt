@@ -1,17 +1,17 @@
 -- A document made of the changes at the places of a past: each enters behind those before it.
-use Rattle.std.proofs.Common.{take, drop, get_or, add-one, drop-cons, ◌≡◌, ℕ, suc, ◌+◌, ◌<◌, ◌≤◌, ◌==◌, List, [], ◌∷◌, ◌++◌, length, true, false, ◌||◌, cond, Option, Some, None, sym, ap, ◌∙◌, subst, arith}
+use Rattle.std.proofs.Common.{take, drop, get_or, add-one, drop-cons, ◌≡◌, ℕ, suc, ◌+◌, ◌<◌, ◌≤◌, ◌==◌, List, [], ◌∷◌, ◌++◌, length, false, ◌||◌, cond, Option, Some, None, sym, ap, ◌∙◌, subst, arith}
 use Rattle.std.proofs.lemmas.Bool.Decides.{nat_tests}
 use Rattle.std.proofs.lemmas.List.{length-append, take-append-drop}
 use Rattle.std.specs.List.{slice_get}
 use Rattle.tp_opid.specs.declared.hash.Hash.{Hash}
 use Rattle.tp_change.specs.declared.parts.ChangeParts.{ChangeParts}
 use Rattle.tp_graph.specs.declared.error.GraphError.TheVariants.{Full}
-use Rattle.tp_graph.specs.Named.{names, is_needed}
 use Rattle.tp_graph.specs.Past.{past}
 use Rattle.tp_graph.specs.Since.{past_places}
-use Rattle.tp_graph.specs.Fit.{misfit, or_full, cause, most_changes}
+use Rattle.tp_graph.specs.Fit.{defect, or_full, cause, most_changes}
 use Rattle.tp_graph.specs.Sound.{Sound}
-use Rattle.tp_graph.proofs.SoundLaws.{Fits-at, misfit-from_Fits}
+use Rattle.tp_graph.proofs.PastLaws.{length-past}
+use Rattle.tp_graph.proofs.SoundLaws.{Fits-at, defect-from_Fits}
 use Rattle.tp_document.specs.History.{with_change, changes_at}
 use Rattle.tp_document.proofs.ClockLaws.{changes_at-append, changes_at-past}
 
@@ -19,7 +19,7 @@ use Rattle.tp_document.proofs.ClockLaws.{changes_at-append, changes_at-past}
 mid_enters : (A : List ChangeParts) (x : ChangeParts) (B : List ChangeParts) → Sound (A ++ x ∷ B) → length (A ++ x ∷ B) ≤ most_changes → cause A x ≡ None
 unfolding cause
 mid_enters A x B s few =
-    let none : misfit A x ≡ None = misfit-from_Fits A x (Fits-at A x B s) in
+    let none : defect A x ≡ None = defect-from_Fits A x (Fits-at A x B s) in
     let size : length (A ++ x ∷ B) ≡ length A + suc (length B) = length-append A (x ∷ B) in
     let room : (length A == most_changes) ≡ false = below (length A) (length B) (length (A ++ x ∷ B)) few size in
     ap (λ o. or_full o (length A == most_changes)) none ∙ ap (λ b. cond b (Some Full) None) room where
@@ -42,12 +42,6 @@ next_enters C ps i x s few lt is =
 -- the changes at places that are known to be those of a past
 pub past_of_places : (D C : List ChangeParts) (ps qs : List ℕ) (H : List Hash) → D ≡ C → ps ≡ qs → qs ≡ past_places C H → changes_at D ps ≡ past C H
 past_of_places D C ps qs H one two three = ap (λ l. changes_at l ps) one ∙ ap (changes_at C) (two ∙ three) ∙ changes_at-past C H
-
-length-past : (C : List ChangeParts) (H : List Hash) → length (past C H) ≤ length C
-length-past [] H = omega arith
-length-past (c ∷ C) H =
-    let h = length-past C H in
-    elim (names H c || is_needed (past C H) c) as (λ b. length (cond b (c ∷ past C H) (past C H)) ≤ length (c ∷ C)) [ true ↦ omega arith | false ↦ omega arith ]
 
 pub few_in_past : (C : List ChangeParts) (H : List Hash) → length C ≤ most_changes → length (past C H) ≤ most_changes
 few_in_past C H few = let within = length-past C H in omega arith

@@ -13,7 +13,7 @@ use Rattle.tp_graph.specs.Named.{has, has_all}
 use Rattle.tp_graph.specs.Sound.{Sound}
 use Rattle.tp_graph.proofs.NamedLaws.{has-append, has-left, has_all-In, In-has_all, In-has}
 use Rattle.tp_graph.proofs.SoundLaws.{Fits-at}
-use Rattle.tp_receive.specs.Delivery.{delivery, placing, places, is_full}
+use Rattle.tp_receive.specs.Delivery.{delivery, with_slots, slots, is_full}
 use Rattle.tp_document.specs.Merging.{absent}
 
 pub absent-append : (C A B : List ChangeParts) → absent C (A ++ B) ≡ absent C A ++ absent C B
@@ -41,7 +41,7 @@ Covers-push D E A c cover more there h t =
     ]
 
 -- Where D has what C has and the changes A before, none of those behind them that C lacks takes a place.
-none_placed : (C D A B V : List ChangeParts) → Covers D C → Covers D A → Sound (A ++ B) → places (placing V (delivery D (absent C B))) ≡ 0
+none_placed : (C D A B V : List ChangeParts) → Covers D C → Covers D A → Sound (A ++ B) → slots (with_slots V (delivery D (absent C B))) ≡ 0
 none_placed C D A [] V old cover s = refl
 none_placed C D A (b ∷ B) V old cover s =
     let rest : Sound ((A ++ b ∷ []) ++ B) = subst Sound (sym (append_assoc A (b ∷ []) B)) s in

@@ -1,5 +1,5 @@
 -- The elements and the deletes of a past, among those of the whole.
-use Rattle.std.proofs.Common.{◌≡◌, ℕ, suc, ◌+◌, ◌<◌, ◌≤◌, ◌||◌, false, inl, inr, List, [], ◌∷◌, length, true, nat_lt, cond, map, refl, ap, ◌∙◌, subst, arith}
+use Rattle.std.proofs.Common.{◌≡◌, ℕ, suc, ◌+◌, ◌<◌, ◌≤◌, ◌||◌, inl, inr, List, [], ◌∷◌, length, true, nat_lt, map, refl, ap, ◌∙◌, subst, arith}
 use Rattle.std.specs.Prelude.{Option, encode_utf8_all}
 use Rattle.std.specs.List.{slice_get}
 use Rattle.std.specs.Option.{option_map}
@@ -24,11 +24,10 @@ use Rattle.tp_list.proofs.Members.{In-left, In-right, In-append, SameMembers-sym
 use Rattle.tp_rga.proofs.OneOrder.{order_of_part, order_of_set, shown_of_set}
 use Rattle.tp_change.proofs.Numbered.{Numbered-ops_of, Numbered}
 use Rattle.tp_change.proofs.OpsLaws.{length-ops_of}
-use Rattle.tp_graph.specs.Named.{names, is_needed}
 use Rattle.tp_graph.specs.Past.{past}
 use Rattle.tp_graph.specs.Fit.{most_changes}
 use Rattle.tp_graph.specs.Sound.{Sound}
-use Rattle.tp_graph.proofs.PastLaws.{past-In}
+use Rattle.tp_graph.proofs.PastLaws.{past-In, length-past}
 use Rattle.tp_graph.proofs.SoundLaws.{sound_pasts}
 use Rattle.tp_change.proofs.ElementLaws.{In-inserts, inserts-In}
 use Rattle.tp_text.specs.Text.{chars_of, IsTextOf}
@@ -36,7 +35,7 @@ use Rattle.tp_document.specs.DocState.{Holds}
 use Rattle.tp_document.specs.Showing.{HasElementAt}
 use Rattle.tp_document.proofs.ShowingLaws.{Holds-bytes, Holds-element}
 use Rattle.tp_document.specs.History.{end_at, end_of, has_op, AreEnds, inserts_by, deletes_by, shown_by}
-use Rattle.tp_document.proofs.SoundText.{IsTree-inserts}
+use Rattle.tp_graph.proofs.TreeLaws.{inserts_tree}
 use Rattle.tp_document.proofs.EndLaws.{below_end, in_past}
 
 -- ---- the identifiers of a change's inserts and deletes are its own
@@ -146,18 +145,9 @@ pub order_of_past : (C : List ChangeParts) (H : List Hash) (K : List (Actor × �
 order_of_past C H K L s ends order =
     let P = past C H in
     let same = inserts_of_past C H K s ends in
-    let part : IsTree (inserts_by K (inserts C)) = IsTree-same (inserts P) (inserts_by K (inserts C)) (SameMembers-sym (inserts_by K (inserts C)) (inserts P) same) (IsTree-inserts P (sound_pasts C s H)) in
+    let part : IsTree (inserts_by K (inserts C)) = IsTree-same (inserts P) (inserts_by K (inserts C)) (SameMembers-sym (inserts_by K (inserts C)) (inserts P) same) (inserts_tree P (sound_pasts C s H)) in
     order_of_set (inserts_by K (inserts C)) (inserts P) (inserts_by K L) same
-    (order_of_part (inserts C) L (λ (x : Insert). has_op K x.id) (IsTree-inserts C s) part order)
-
-length-past : (C : List ChangeParts) (H : List Hash) → length (past C H) ≤ length C
-length-past [] H = omega arith
-length-past (c ∷ C) H =
-    let h = length-past C H in
-    elim (names H c || is_needed (past C H) c) as (λ b. length (cond b (c ∷ past C H) (past C H)) ≤ suc (length C)) [
-      | true ↦ omega arith
-      | false ↦ omega arith
-    ]
+    (order_of_part (inserts C) L (λ (x : Insert). has_op K x.id) (inserts_tree C s) part order)
 
 pub Holds-past : (C : List ChangeParts) (L : List Insert) (R : List (OpId × OpId)) (H : List Hash) (K : List (Actor × ℕ)) → Holds C L R → AreEnds K (past C H) → Holds (past C H) (inserts_by K L) (deletes (past C H))
 Holds-past C L R H K h ends = record {

@@ -8,6 +8,7 @@ use Rattle.std.proofs.lemmas.Str.{chars-encodes}
 use Rattle.std.proofs.lemmas.Option.{slice_get-map}
 use Rattle.std.proofs.lemmas.List.{length-map}
 use Rattle.tp_list.specs.Members.{In}
+use Rattle.tp_list.proofs.Tests.{both_right}
 use Rattle.tp_opid.specs.declared.actor.Actor.{Actor}
 use Rattle.tp_opid.specs.declared.op_id.OpId.{OpId}
 use Rattle.tp_opid.specs.declared.op_id.Place.{Place}
@@ -27,7 +28,7 @@ use Rattle.tp_change.proofs.ElementLaws.{inserts_in-append, inserts-In}
 use Rattle.tp_graph.specs.Sound.{Sound}
 use Rattle.tp_document.specs.DocState.{Holds, AllChanges}
 use Rattle.tp_document.specs.Showing.{HasLength, HasCharAt, HasElementAt, HasPosition}
-use Rattle.tp_document.proofs.SoundText.{IsTree-inserts}
+use Rattle.tp_graph.proofs.TreeLaws.{inserts_tree}
 
 -- ---- characters are Unicode scalar values
 
@@ -42,14 +43,10 @@ first_of_two : (b c : Bool) → (b && c) ≡ true → (b && true) ≡ true
 first_of_two true c h = refl
 first_of_two false c h = h
 
-rest_of_two : (b c : Bool) → (b && c) ≡ true → c ≡ true
-rest_of_two true c h = h
-rest_of_two false c h = cc
-
 scalar_run : (a : Actor) (n : ℕ) (after : Place) (text : List ℕ) → all_scalars text ≡ true → (e : Insert) → In e (inserts_in (run a n after text)) → IsScalar e.ch
 scalar_run a n after [] all e i = absurd i
 scalar_run a n after (ch ∷ text) all e (inl same) = subst (λ (x : Insert). IsScalar x.ch) (sym same) (first_of_two _ (all_scalars text) all)
-scalar_run a n after (ch ∷ text) all e (inr i) = scalar_run a (n + 1) (After (id_of a n)) text (rest_of_two _ (all_scalars text) all) e i
+scalar_run a n after (ch ∷ text) all e (inr i) = scalar_run a (n + 1) (After (id_of a n)) text (both_right _ (all_scalars text) all) e i
 
 scalar_from : (a : Actor) (n : ℕ) (rs : List Record) → AllByRecursion IsRecord rs → (e : Insert) → In e (inserts_in (ops_from a n rs)) → IsScalar e.ch
 scalar_from a n [] is e i = absurd i
@@ -92,7 +89,7 @@ Holds-char C L R at o h e = (chars_of (shown R L), Holds-text C L R h, e ∙ sym
 -- sound changes have one text
 pub one_text : (C : List ChangeParts) (s t : List ℕ) → Sound C → IsTextOf C s → IsTextOf C t → s ≡ t
 one_text C s t sound a b =
-    let same = one_order (inserts C) a.elements b.elements (IsTree-inserts C sound) a.order b.order in
+    let same = one_order (inserts C) a.elements b.elements (inserts_tree C sound) a.order b.order in
     a.spells ∙ ap (λ L. chars_of (shown (deletes C) L)) same ∙ sym b.spells
 
 pub Holds-element : (C : List ChangeParts) (L : List Insert) (R : List (OpId × OpId)) (at : ℕ) (o : Option OpId) → Holds C L R → o ≡ option_map (λ (e : Insert). e.id) (slice_get (shown R L) at) → HasElementAt C at o

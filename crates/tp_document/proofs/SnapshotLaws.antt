@@ -77,7 +77,7 @@ no_place R L k lt h = elim (slice_get_cases L k).1 [
 test_at : (K : List (Actor × ℕ)) (R : List (OpId × OpId)) (T : List OpId) (x : Element) (e : Insert) (b : Bool) → AreTargets T K R → x ≡ element_of R e → tested K T x ≡ b → is_shown K R e ≡ b
 test_at K R T x e b targets is h = sym (test_is K R T e targets) ∙ ap (tested K T) (sym is) ∙ h
 
--- ---- the text of a front
+-- ---- the text of a prefix
 
 -- the bytes of the characters that are shown
 abbrev pub bytes_by : List (Actor × ℕ) → List (OpId × OpId) → List Insert → List ℕ

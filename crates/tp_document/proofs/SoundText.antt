@@ -1,6 +1,6 @@
 -- The elements of sound changes: they are a tree, the next counter stands above them, and the operations of a change
 -- that fits may come.
-use Rattle.std.proofs.Common.{◌≡◌, ℕ, ◌+◌, ◌≤◌, ◌==◌, inl, inr, List, [], ◌∷◌, ◌++◌, length, Bool, true, false, Option, Some, None, refl, sym, ap, ◌∙◌, subst, arith, append_assoc, append-nil, lit≤}
+use Rattle.std.proofs.Common.{◌≡◌, ℕ, ◌+◌, ◌≤◌, ◌==◌, inl, inr, List, [], ◌∷◌, ◌++◌, length, Bool, true, false, Option, Some, None, refl, sym, ap, ◌∙◌, subst, arith, append_assoc}
 use Rattle.std.proofs.lemmas.List.{length-append}
 use Rattle.std.proofs.lemmas.Bool.Decides.{nat_tests}
 use Rattle.tp_list.specs.Members.{In}
@@ -15,9 +15,9 @@ use Rattle.tp_change.specs.declared.parts.ChangeParts.{ChangeParts}
 use Rattle.tp_change.specs.Operations.{id_of, ops_of}
 use Rattle.tp_change.specs.Limits.{IsChange}
 use Rattle.tp_change.specs.Elements.{element, inserts_in, inserts, deletes_in, deletes, next_counter}
-use Rattle.tp_opid.specs.Tree.{IsThere, IsTree}
+use Rattle.tp_opid.specs.Tree.{IsThere}
 use Rattle.tp_rga.specs.Order.{IsInOrder}
-use Rattle.tp_opid.proofs.Trees.{IsThere-grow, IsTree-push}
+use Rattle.tp_opid.proofs.Trees.{IsThere-grow}
 use Rattle.tp_list.proofs.Members.{In-left, In-append}
 use Rattle.tp_text.specs.Applying.{CanApply, Extends, AllUnder}
 use Rattle.tp_text.proofs.Applied.{CanApply-same}
@@ -27,23 +27,15 @@ use Rattle.tp_change.proofs.OpsLaws.{length-ops_of}
 use Rattle.tp_change.proofs.ElementLaws.{inserts-push, deletes-push, In-inserts, inserts-In, inserts-more, next_counter-above}
 use Rattle.tp_graph.specs.declared.error.GraphError.{GraphError}
 use Rattle.tp_graph.specs.Past.{past}
-use Rattle.tp_graph.specs.Fit.{misfit, or_full, cause, most_changes}
+use Rattle.tp_graph.specs.Fit.{defect, or_full, cause, most_changes}
 use Rattle.tp_graph.specs.Sound.{Sound, Fits}
 use Rattle.tp_list.proofs.Tests.{truth}
 use Rattle.tp_graph.proofs.PastLaws.{past-In}
-use Rattle.tp_graph.proofs.SoundLaws.{Fits-from_misfit, Sound-push, sound-induct}
+use Rattle.tp_graph.proofs.SoundLaws.{Sound-push, sound-induct}
 use Rattle.tp_graph.proofs.CountLaws.{own_past}
+use Rattle.tp_graph.proofs.KeptLaws.{Fits-from_cause}
+use Rattle.tp_graph.proofs.TreeLaws.{inserts_tree}
 use Rattle.tp_document.specs.DocState.{Holds}
-
--- ---- what can enter fits
-
-no_full : (o : Option GraphError) (b : Bool) → or_full o b ≡ None → o ≡ None
-no_full (Some e) b h = cc
-no_full None b h = refl
-
-pub Fits-from_cause : (C : List ChangeParts) (c : ChangeParts) → cause C c ≡ None → Fits C c
-unfolding cause
-Fits-from_cause C c h = Fits-from_misfit C c (no_full (misfit C c) _ h)
 
 -- ---- the next counter
 
@@ -88,24 +80,7 @@ CanApply-fits C c s f =
     let under : AllUnder (inserts P) (id_of c.actor c.start) = subst (λ n. AllUnder (inserts P) (id_of c.actor n)) (sym f.start) (AllUnder-inserts P c.actor) in
     CanApply-refers (ops_of c) (inserts P) (inserts C) c.actor c.start (Numbered-ops_of c) (inserts-more P C (past-In C c.deps)) under (fresh C c s f) f.refs
 
--- ---- trees and targets
-
-grown_tree : (S : List Insert) (ops : List Op) → IsTree S → CanApply S ops → IsTree (S ++ inserts_in ops)
-grown_tree S [] t h = subst IsTree (sym (append-nil S)) t
-grown_tree S (op_of.Insert id after ch ∷ ops) t h =
-    subst IsTree (append_assoc S (element id after ch ∷ []) (inserts_in ops))
-    (grown_tree (S ++ element id after ch ∷ []) ops (IsTree-push S (element id after ch) t h.0) h.1)
-grown_tree S (op_of.Delete id target ∷ ops) t h = grown_tree S ops t h.1
-
-abbrev HasTree : List ChangeParts → Type 0
-HasTree C = IsTree (inserts C)
-
-tree_step : (C : List ChangeParts) (c : ChangeParts) → Sound C → HasTree C → Fits C c → HasTree (C ++ c ∷ [])
-tree_step C c s t f = subst IsTree (sym (inserts-push C c)) (grown_tree (inserts C) (ops_of c) t (CanApply-fits C c s f))
-
--- the elements of sound changes are a tree
-pub IsTree-inserts : (C : List ChangeParts) → Sound C → IsTree (inserts C)
-IsTree-inserts = sound-induct HasTree (record { once = λ a b i j e. absurd i; placed = λ e i. absurd i }) tree_step
+-- ---- targets
 
 targets_in : (S : List Insert) (ops : List Op) (r : OpId × OpId) → CanApply S ops → In r (deletes_in ops) → IsThere (S ++ inserts_in ops) r.0
 targets_in S [] r h i = absurd i
@@ -133,15 +108,6 @@ targets_there = sound-induct HasTargets (λ r i. absurd i) targets_step
 
 -- ---- a document and one change more
 
-pub Holds-none : Holds [] [] []
-Holds-none = record {
-  sound = tt;
-  limits = λ c i. absurd i;
-  few = lit≤ tt;
-  order = record { same = record { there = λ x i. i; back = λ x i. i }; sorted = tt };
-  deletes = refl;
-}
-
 -- the operations of a change that can enter may come
 pub Holds-applies : (C : List ChangeParts) (L : List Insert) (R : List (OpId × OpId)) (c : ChangeParts) → Holds C L R → cause C c ≡ None → CanApply L (ops_of c)
 Holds-applies C L R c h none = CanApply-same (inserts C) L h.order.same (ops_of c) (CanApply-fits C c h.sound (Fits-from_cause C c none))
@@ -149,7 +115,7 @@ Holds-applies C L R c h none = CanApply-same (inserts C) L h.order.same (ops_of 
 few_more : (C : List ChangeParts) (c : ChangeParts) → length C ≤ most_changes → cause C c ≡ None → length (C ++ c ∷ []) ≤ most_changes
 unfolding cause
 few_more C c few none =
-    let apart : (length C == most_changes) ≡ false = not_full (misfit C c) (length C == most_changes) none in
+    let apart : (length C == most_changes) ≡ false = not_full (defect C c) (length C == most_changes) none in
     let more = length-append C (c ∷ []) in
     fewer (length C) (length (C ++ c ∷ [])) few apart more where
       not_full : (o : Option GraphError) (b : Bool) → or_full o b ≡ None → b ≡ false
@@ -165,7 +131,7 @@ pub Holds-push : (C : List ChangeParts) (L M : List Insert) (R Q : List (OpId ×
     → Holds C L R → cause C c ≡ None → IsChange c → Extends L M (ops_of c) → Q ≡ R ++ deletes_in (ops_of c) → Holds (C ++ c ∷ []) M Q
 Holds-push C L M R Q c h none limits grown more =
     let f = Fits-from_cause C c none in
-    let placed = grown.order (inserts C) (IsTree-inserts C h.sound) h.order in
+    let placed = grown.order (inserts C) (inserts_tree C h.sound) h.order in
     record {
       sound = Sound-push C c h.sound f;
       limits = λ d i. elim (In-append d C (c ∷ []) i) [

@@ -18,7 +18,7 @@ use Rattle.tp_graph.proofs.SetLaws.{heads_decide}
 use Rattle.tp_graph.proofs.SoundLaws.{deps_first, Sound-before, sound_pasts}
 use Rattle.tp_document.proofs.PastElements.{In-deletes, deletes-In}
 use Rattle.tp_document.proofs.ShowingLaws.{one_text}
-use Rattle.tp_document.proofs.SoundText.{IsTree-inserts}
+use Rattle.tp_graph.proofs.TreeLaws.{inserts_tree}
 
 deletes-more : (C D : List ChangeParts) → AllIn C D → AllIn (deletes C) (deletes D)
 deletes-more C D more r i = let w = deletes-In C r i in In-deletes D w.0 r (more w.0 w.1) w.2
@@ -54,7 +54,7 @@ equal_heads_equal_texts C D s t sound other apart same a b =
 pub each_past_has_a_text : (C : List ChangeParts) (H : List Hash) → Sound C → (t : List ℕ) × IsTextOf (past C H) t
 each_past_has_a_text C H s =
     let P = past C H in
-    let found = order_exists (inserts P) (IsTree-inserts P (sound_pasts C s H)) in
+    let found = order_exists (inserts P) (inserts_tree P (sound_pasts C s H)) in
     (chars_of (shown (deletes P) found.0), record { elements = found.0; order = found.1; spells = refl })
 
 pub later_changes_leave_the_text_at_heads : (C D : List ChangeParts) (H : List Hash) (t : List ℕ) → has_all C H ≡ true → Sound (C ++ D) → IsTextOf (past (C ++ D) H) t ↔ IsTextOf (past C H) t

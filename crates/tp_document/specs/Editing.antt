@@ -3,6 +3,7 @@ use Rattle.std.specs.Prelude.{◌≡◌, ℕ, ◌+◌, ◌<◌, ◌≤◌, ◌^�
 use Rattle.tp_opid.specs.declared.actor.Actor.{Actor}
 use Rattle.tp_opid.specs.declared.hash.Hash.{Hash}
 use Rattle.tp_opid.specs.Insert.{Insert}
+use Rattle.tp_change.specs.declared.limits.TheConstants.{MAX_BYTES, MAX_OPS, MAX_DEPS, MAX_MESSAGE_BYTES, COUNTERS_END}
 use Rattle.tp_change.specs.declared.parts.ChangeParts.{ChangeParts}
 use Rattle.tp_change.specs.ChangeHash.{hash_of}
 use Rattle.tp_change.specs.Elements.{inserts, deletes, next_counter}
@@ -59,27 +60,27 @@ pub record Edited (C : List ChangeParts) (asked : Asked) (c : ChangeParts) : Typ
 pub record AsksSome (C : List ChangeParts) (asked : Asked) : Type 0 where
   pub range : AreInRange C asked.splices
   pub some : 0 < total_count asked.splices
-  pub few : total_count asked.splices ≤ 65536
+  pub few : total_count asked.splices ≤ MAX_OPS
 
 -- And there aren't too many heads.
 pub record HasHeads (C : List ChangeParts) (asked : Asked) : Type 0 where
   pub asks : AsksSome C asked
-  pub heads : length (head.heads C) ≤ 65535
+  pub heads : length (head.heads C) ≤ MAX_DEPS
 
 -- And its counters are within their limit.
 pub record HasCounters (C : List ChangeParts) (asked : Asked) : Type 0 where
   pub before : HasHeads C asked
-  pub counters : next_counter C + total_count asked.splices ≤ 2 ^ 48
+  pub counters : next_counter C + total_count asked.splices ≤ COUNTERS_END
 
 -- And so are its message and the bytes of its change.
 pub record HasSize (C : List ChangeParts) (asked : Asked) : Type 0 where
   pub before : HasCounters C asked
-  pub message : length (encode_utf8_all asked.message) ≤ 65535
-  pub change : (c : ChangeParts) × IsEdit C asked c × (length (spelling c) ≤ 4194304)
+  pub message : length (encode_utf8_all asked.message) ≤ MAX_MESSAGE_BYTES
+  pub change : (c : ChangeParts) × IsEdit C asked c × (length (spelling c) ≤ MAX_BYTES)
 
 -- The message or the change of the edit is too long.
 abbrev pub IsTooLong : List ChangeParts → Asked → Type 0
-IsTooLong C asked = (65535 < length (encode_utf8_all asked.message)) ⊎ ((c : ChangeParts) × IsEdit C asked c × (4194304 < length (spelling c)))
+IsTooLong C asked = (MAX_MESSAGE_BYTES < length (encode_utf8_all asked.message)) ⊎ ((c : ChangeParts) × IsEdit C asked c × (MAX_BYTES < length (spelling c)))
 
 -- A change that is there has the hash of the edit: no two different changes with one hash are known.
 abbrev pub IsTaken : List ChangeParts → Asked → Type 0
@@ -89,9 +90,9 @@ IsTaken C asked = (c : ChangeParts) × IsEdit C asked c × (has C (hash_of c) �
 abbrev pub IsRefused : List ChangeParts → Asked → DocError → Type 0
 IsRefused C asked OutOfMemory = Unit {0}
 IsRefused C asked OutOfRange = AreOutOfRange C asked.splices
-IsRefused C asked TooManyOps = AreInRange C asked.splices × (65536 < total_count asked.splices)
-IsRefused C asked TooManyHeads = AsksSome C asked × (65535 < length (head.heads C))
-IsRefused C asked CounterLimit = HasHeads C asked × (2 ^ 48 < next_counter C + total_count asked.splices)
+IsRefused C asked TooManyOps = AreInRange C asked.splices × (MAX_OPS < total_count asked.splices)
+IsRefused C asked TooManyHeads = AsksSome C asked × (MAX_DEPS < length (head.heads C))
+IsRefused C asked CounterLimit = HasHeads C asked × (COUNTERS_END < next_counter C + total_count asked.splices)
 IsRefused C asked TooLong = HasCounters C asked × IsTooLong C asked
 IsRefused C asked Full = HasSize C asked × (length C ≡ most_changes)
 IsRefused C asked HashTaken = HasSize C asked × (length C < most_changes) × IsTaken C asked
@@ -111,9 +112,9 @@ asking actor splices time message = record { actor = actor; splices = splices; t
 
 -- What an edit did of the changes C, where D are those afterwards: nothing where it asked nothing, and else one change
 -- more, whose hash is answered.
-abbrev pub IsDone : List ChangeParts → Asked → List ChangeParts → Option Hash → Type 0
-IsDone C asked D None = AsksNothing C asked × (D ≡ C)
-IsDone C asked D (Some h) = (c : ChangeParts) × Edited C asked c × (D ≡ C ++ c ∷ []) × (h ≡ hash_of c)
+abbrev pub IsEditDone : List ChangeParts → Asked → List ChangeParts → Option Hash → Type 0
+IsEditDone C asked D None = AsksNothing C asked × (D ≡ C)
+IsEditDone C asked D (Some h) = (c : ChangeParts) × Edited C asked c × (D ≡ C ++ c ∷ []) × (h ≡ hash_of c)
 
 -- The text of D is that of C with each splice done in turn.
 abbrev pub DoesSplices : List ChangeParts → List ChangeParts → List Splice → Type 0

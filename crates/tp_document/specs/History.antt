@@ -1,4 +1,4 @@
--- The operations of a part of the changes, told by counters: of each actor the part has those below one number.
+-- The operations of a part of the changes, given by counters: of each actor the part has those below one number.
 use Rattle.std.specs.Prelude.{◌≡◌, ℕ, ◌+◌, List, [], ◌∷◌, Bool, cond, nat_lt, filter, Option, Some, None}
 use Rattle.std.specs.List.{slice_get, list_any}
 use Rattle.std.specs.Map.{lookup}

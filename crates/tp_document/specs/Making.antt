@@ -1,6 +1,7 @@
 -- What the steps of an edit answer.
 use Rattle.std.specs.Prelude.{◌≡◌, ℕ, ◌<◌, ◌≤◌, ◌^◌, List, length, Bool, true, false, Result, Ok, Err, encode_utf8_all}
 use Rattle.std.specs.Str.{all_scalars}
+use Rattle.tp_change.specs.declared.limits.TheConstants.{MAX_BYTES, MAX_OPS, MAX_MESSAGE_BYTES}
 use Rattle.tp_change.specs.Limits.{IsActor, IsChange}
 use Rattle.tp_document.specs.Editing.{Asked, asking, AsksNothing, IsRefused, IsEdit, HasCounters, HasSize}
 use Rattle.tp_opid.specs.declared.actor.Actor.{Actor}
@@ -20,18 +21,18 @@ use Rattle.tp_document.specs.declared.error.DocError.TheVariants.{OutOfRange, To
 -- why the splices of a text of so many characters are refused
 abbrev pub IsBad : ℕ → List Splice → DocError → Type 0
 IsBad len ss OutOfRange = AllInRange len ss → ⊥
-IsBad len ss TooManyOps = AllInRange len ss × (65536 < total_count ss)
+IsBad len ss TooManyOps = AllInRange len ss × (MAX_OPS < total_count ss)
 IsBad len ss _ = ⊥
 
 -- how many operations the splices take, or why they are refused
-abbrev pub IsJudged : ℕ → List Splice → Result ℕ DocError → Type 0
-IsJudged len ss (Ok n) = AllInRange len ss × (total_count ss ≡ n) × (n ≤ 65536) × AllScalars ss
-IsJudged len ss (Err e) = IsBad len ss e
+abbrev pub IsValidated : ℕ → List Splice → Result ℕ DocError → Type 0
+IsValidated len ss (Ok n) = AllInRange len ss × (total_count ss ≡ n) × (n ≤ MAX_OPS) × AllScalars ss
+IsValidated len ss (Err e) = IsBad len ss e
 
 -- the parts are too long for a change, or memory is short
 abbrev pub IsLong : ChangeParts → DocError → Type 0
 IsLong parts OutOfMemory = Unit {0}
-IsLong parts TooLong = 4194304 < length (spelling parts)
+IsLong parts TooLong = MAX_BYTES < length (spelling parts)
 IsLong parts _ = ⊥
 
 -- what the types of a program say of what an actor asks
@@ -54,15 +55,15 @@ parts_made asked seq start deps V = record {
 }
 
 -- The edit is within all limits that are judged before its records are made.
-pub record IsWithin (C : List ChangeParts) (asked : Asked) : Type 0 where
+pub record IsWithinLimits (C : List ChangeParts) (asked : Asked) : Type 0 where
   pub counters : HasCounters C asked
-  pub message : length (encode_utf8_all asked.message) ≤ 65535
+  pub message : length (encode_utf8_all asked.message) ≤ MAX_MESSAGE_BYTES
   pub spelled : all_scalars asked.message ≡ true
   pub texts : AllScalars asked.splices
 
 -- Whoever asks, and whenever: Ok true where the edit is within limits, Ok false where it asks nothing.
 abbrev pub IsAllowed : List ChangeParts → List Splice → List ℕ → Result Bool DocError → Type 0
-IsAllowed C ss message (Ok true) = (a : Actor) (time : ℕ) → IsWithin C (asking a ss time message)
+IsAllowed C ss message (Ok true) = (a : Actor) (time : ℕ) → IsWithinLimits C (asking a ss time message)
 IsAllowed C ss message (Ok false) = (a : Actor) (time : ℕ) → AsksNothing C (asking a ss time message)
 IsAllowed C ss message (Err e) = (a : Actor) (time : ℕ) → IsRefused C (asking a ss time message) e
 

@@ -14,11 +14,11 @@ use Rattle.tp_text.specs.Text.{IsTextOf}
 abbrev pub HasLength : List ChangeParts → ℕ → Type 0
 HasLength C n = (t : List ℕ) × IsTextOf C t × (n ≡ length t)
 
--- The text of the changes has this character at the place, or none past its end.
+-- The text of the changes has this character at the position, or none past its end.
 abbrev pub HasCharAt : List ChangeParts → ℕ → Option ℕ → Type 0
 HasCharAt C at o = (t : List ℕ) × IsTextOf C t × (o ≡ slice_get t at)
 
--- The visible element at the place in the text of the changes, or none past its end.
+-- The visible element at the position in the text of the changes, or none past its end.
 abbrev pub HasElementAt : List ChangeParts → ℕ → Option OpId → Type 0
 HasElementAt C at o = (L : List Insert) × IsInOrder (inserts C) L × (o ≡ option_map (λ (e : Insert). e.id) (slice_get (shown (deletes C) L) at))
 

@@ -57,7 +57,7 @@ impl<S: Sequence> Document<S> {
     /// Receives changes in any order, as Automerge's call `apply_changes` does: each is refused, waits where a
     /// dependency is missing, or enters. They are taken in the given order. First, and after each entry, the pending
     /// changes whose dependencies are all there are tried, from the earliest that came; one that doesn't fit is
-    /// dropped and told. A change that is pending already doesn't wait twice. See [`receive`] for the rules in full.
+    /// dropped and reported. A change that is pending already doesn't wait twice. See [`receive`] for the rules in full.
     ///
     /// `PendingFull` where more than 1,024 changes would have to wait: nothing changes. `OutOfMemory` leaves the
     /// document between: it holds a beginning of the changes that it would have entered, each whole, and of what

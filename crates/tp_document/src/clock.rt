@@ -1,4 +1,4 @@
-//! The operations of a past, told by their counters.
+//! The operations of a past, reported by their counters.
 
 ghost use Rattle.std.specs.Prelude.{◌≡◌, ℕ, [], IfOk, OnOk, OnErr, cond, ◌||◌, ◌<◌, length};
 ghost use Rattle.tp_list.specs.Members.{In};
@@ -59,7 +59,8 @@ impl Clock {
     pub(crate) fn note(&mut self, actor: Actor, end: u64) -> Result<(), AllocError>
         ensures { OnOk result
             ((other : ActorOf) → end_at self.new other
-            ≡ cond (same_actor actor other) (later end (end_at self.old other)) (end_at self.old other)) }
+            ≡ cond (same_actor actor other) (later end (end_at self.old other))
+            (end_at self.old other)) }
     {
         if self.end(&actor) < end {
             self.ends.insert(actor, end)?;
@@ -103,7 +104,8 @@ impl Targets {
 
     /// Takes in an element.
     pub(crate) fn add(&mut self, id: OpId) -> Result<(), AllocError>
-        ensures { OnOk result ((x : Id) → is_one_of self.new x ≡ (id_eq id x || is_one_of self.old x)) }
+        ensures { OnOk result ((x : Id)
+            → is_one_of self.new x ≡ (id_eq id x || is_one_of self.old x)) }
     {
         self.ids.insert(id)?;
         Ok(())

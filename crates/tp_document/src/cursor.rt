@@ -1,4 +1,4 @@
-//! Cursors: places of a text that stay with their element while the text changes.
+//! Cursors: positions of a text that stay with their element while the text changes.
 
 ghost use Rattle.std.specs.Prelude.{◌≡◌, Some, None, MatchResult, IfOk, IsOkUnless};
 ghost use Rattle.tp_document.specs.Showing.{HasElementAt, HasPosition};
@@ -11,7 +11,7 @@ use tp_change::Change;
 use tp_opid::{Hash, OpId};
 use tp_rga::Sequence;
 
-/// A place of a text, as Automerge's cursor: the element that it stands at, whatever comes before it later.
+/// A position of a text, as Automerge's cursor: the element that it stands at, whatever comes before it later.
 #[derive(Clone, Copy, Debug, PartialEq, Eq)]
 pub struct Cursor {
     /// The element.
@@ -19,9 +19,10 @@ pub struct Cursor {
 }
 
 impl<S: Sequence> Document<S> {
-    /// A cursor at the visible character at a place, from 0. `OutOfRange` where the text ends before it.
+    /// A cursor at the visible character at a position, from 0. `OutOfRange` where the text ends before it.
     pub fn cursor(&self, at: usize) -> Result<Cursor, DocError>
-        ensures { MatchResult result (λ cursor. HasElementAt self.now.applied at (Some cursor.element))
+        ensures { MatchResult result
+            (λ cursor. HasElementAt self.now.applied at (Some cursor.element))
             (λ e. HasElementAt self.now.applied at None × (e ≡ DocError.OutOfRange)) }
     {
         let found = self.sequence.id_at(at);
@@ -34,8 +35,10 @@ impl<S: Sequence> Document<S> {
     /// How many visible characters stand before the cursor's element, which may have been deleted since.
     /// `UnknownElement` where the document hasn't the element.
     pub fn cursor_position(&self, cursor: &Cursor) -> Result<usize, DocError>
-        ensures { MatchResult result (λ at. HasPosition self.now.applied cursor.now.element (Some at))
-            (λ e. HasPosition self.now.applied cursor.now.element None × (e ≡ DocError.UnknownElement)) }
+        ensures { MatchResult result
+            (λ at. HasPosition self.now.applied cursor.now.element (Some at))
+            (λ e. HasPosition self.now.applied cursor.now.element None
+            × (e ≡ DocError.UnknownElement)) }
     {
         let found = self.sequence.position(&cursor.element);
         match found {

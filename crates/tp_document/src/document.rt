@@ -96,10 +96,7 @@ impl<S: Sequence> Document<S> {
         ensures text { IfOk result (λ t. IsTextOf self.now.applied (chars (string_bytes t))) }
         ensures err { IsOkUnless result OutOfMemory }
     {
-        match tp_text::text(self.alloc, &self.sequence) {
-            Ok(text) => Ok(text),
-            Err(_) => Err(DocError::OutOfMemory),
-        }
+        Ok(tp_text::text(self.alloc, &self.sequence)?)
     }
 
     /// How many characters (Unicode scalar values) the text has.
@@ -109,7 +106,7 @@ impl<S: Sequence> Document<S> {
         self.sequence.len()
     }
 
-    /// The character at a place of the text, from 0; `None` past its end.
+    /// The character at a position of the text, from 0; `None` past its end.
     pub fn char_at(&self, at: usize) -> Option<char>
         ensures { HasCharAt self.now.applied at result }
     {
@@ -160,7 +157,8 @@ impl<S: Sequence> Document<S> {
     /// once. The only refusal is `OutOfMemory`.
     pub fn missing(&self) -> Result<Vec<Hash>, DocError>
         ensures rising { IfOk result (λ v. IsRising hash_cmp v.items) }
-        ensures there { IfOk result (λ v. (h : HashOf) → In h v.items ↔ IsMissing self.now.applied self.now.waiting h) }
+        ensures there { IfOk result
+            (λ v. (h : HashOf) → In h v.items ↔ IsMissing self.now.applied self.now.waiting h) }
         ensures err { IsOkUnless result OutOfMemory }
     {
         match self.graph.missing() {
@@ -198,27 +196,25 @@ impl<S: Sequence> Document<S> {
         ensures err { OnErr result (self.new.room ≡ self.old.room) }
         ensures space { self.old.space ≤ self.new.space }
     {
-        match self.sequence.reserve(change.op_count()) {
-            Ok(()) => self.graph.ready(change),
-            Err(_) => Err(GraphError::OutOfMemory),
-        }
+        self.sequence.reserve(change.op_count())?;
+        self.graph.ready(change)
     }
 
     /// Makes ready for the waiting change with the number `i`, from 0, as [`ready`](Document::ready) does. It goes on
     /// waiting.
     pub(crate) fn ready_waiting(&mut self, i: usize) -> Result<(), GraphError>
         requires { i < length self.old.waiting }
-        ensures answers { (c : ChangeParts) → slice_get self.old.waiting i ≡ Some c → Answers result (cause self.old.applied c) }
+        ensures answers { (c : ChangeParts) → slice_get self.old.waiting i ≡ Some c
+            → Answers result (cause self.old.applied c) }
         ensures id { self.new.id ≡ self.old.id }
         ensures applied { self.new.applied ≡ self.old.applied }
         ensures waiting { self.new.waiting ≡ self.old.waiting }
-        ensures room { (c : ChangeParts) → slice_get self.old.waiting i ≡ Some c → OnOk result (HasRoomFor self.new c) }
+        ensures room { (c : ChangeParts) → slice_get self.old.waiting i ≡ Some c
+            → OnOk result (HasRoomFor self.new c) }
     {
         let count = self.graph.pending()[i].op_count();
-        match self.sequence.reserve(count) {
-            Ok(()) => self.graph.ready_waiting(i),
-            Err(_) => Err(GraphError::OutOfMemory),
-        }
+        self.sequence.reserve(count)?;
+        self.graph.ready_waiting(i)
     }
 
     /// Enters a change that can enter and that was made [`ready`](Document::ready) for, as the last applied one: its
@@ -233,34 +229,5 @@ impl<S: Sequence> Document<S> {
         let _hash = change.hash();
         apply_change(&mut self.sequence, &change);
         self.graph.enter(change);
-    }
-
-    /// Keeps a change that waits, behind those that wait already. There are fewer than 1,024 of them, and none has its
-    /// hash. The only refusal is `OutOfMemory`, which gives the change back and leaves the document as it was.
-    pub(crate) fn hold(&mut self, change: Change) -> Result<(), Rejected>
-        requires few { length self.old.waiting < most_waiting }
-        requires apart { named.has self.old.waiting (hash_of change) ≡ false }
-        ensures waiting { self.new.waiting ≡ (if is_ok result then self.old.waiting ++ change ∷ [] else self.old.waiting) }
-        ensures err { IfErr result (λ rejected. (rejected.change ≡ change) × (rejected.error ≡ GraphError.OutOfMemory)) }
-        ensures id { self.new.id ≡ self.old.id }
-        ensures applied { self.new.applied ≡ self.old.applied }
-        ensures room { self.new.room ≡ self.old.room }
-        ensures space { self.new.space ≡ self.old.space }
-    {
-        self.graph.hold(change)
-    }
-
-    /// Takes out the waiting change with the number `i`, from 0 in the order in which they came. The others keep
-    /// their order. No memory.
-    pub(crate) fn release(&mut self, i: usize) -> Change
-        requires { i < length self.old.waiting }
-        ensures change { slice_get self.old.waiting i ≡ Some result }
-        ensures waiting { self.new.waiting ≡ remove self.old.waiting i }
-        ensures id { self.new.id ≡ self.old.id }
-        ensures applied { self.new.applied ≡ self.old.applied }
-        ensures room { self.new.room ≡ self.old.room }
-        ensures space { self.new.space ≡ self.old.space }
-    {
-        self.graph.release(i)
     }
 }

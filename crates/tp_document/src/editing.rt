@@ -9,19 +9,19 @@ ghost use Rattle.tp_graph.specs.Fit.{most_changes};
 ghost use Rattle.tp_edit.specs.Splices.{AllInRange, total_count};
 ghost use Rattle.tp_edit.specs.EditRecords.{records_of, visible_ids};
 ghost use Rattle.tp_rga.specs.Shown.{shown};
-ghost use Rattle.tp_document.specs.Editing.{asking, IsRefused, AsksNothing, Edited, IsDone, DoesSplices};
-ghost use Rattle.tp_document.specs.Making.{parts_made, IsAllowed, IsWithin, IsWithinSize, IsShut};
+ghost use Rattle.tp_document.specs.Editing.{asking, IsRefused, AsksNothing, Edited, IsEditDone, DoesSplices};
+ghost use Rattle.tp_document.specs.Making.{parts_made, IsAllowed, IsWithinLimits, IsWithinSize, IsShut};
 ghost use Rattle.tp_document.specs.DocState.{Holds};
 ghost use Rattle.tp_graph.specs.Named.{has};
 ghost use Rattle.tp_change.specs.ChangeHash.{hash_of};
 
 use crate::document::Document;
 use crate::error::DocError;
-use crate::making::{actor_len, judge_splices, make_change, next_seq};
+use crate::making::{actor_len, validate_splices, make_change, next_seq};
 use std::alloc::{AllocError, Global};
-use tp_change::{Change, ChangeParts};
+use tp_change::{COUNTERS_END, Change, ChangeParts, MAX_DEPS, MAX_MESSAGE_BYTES};
 use tp_edit::{Splice, records};
-use tp_graph::Graph;
+use tp_graph::{Graph, MOST_CHANGES};
 use tp_list::{Items, Text};
 use tp_opid::{Actor, Hash};
 use tp_rga::Sequence;
@@ -46,7 +46,8 @@ fn parts_of<S: Sequence>(
     time: u64,
     message: &str,
 ) -> Result<ChangeParts, AllocError>
-    requires in_range { AllInRange (length (shown (S.removals sequence.now) (S.placed sequence.now))) splices.now }
+    requires in_range { AllInRange
+        (length (shown (S.removals sequence.now) (S.placed sequence.now))) splices.now }
     requires counters { start + total_count splices.now < 2 ^ 64 }
     ensures { IfOk result (λ parts. parts
         ≡ parts_made (asking actor splices.now time (chars message.now)) seq start deps.now
@@ -67,7 +68,7 @@ fn parts_of<S: Sequence>(
 }
 
 // Whether an edit asks for some operations, which are within all limits that are judged before its records are made.
-fn judge_edit<S: Sequence>(
+fn validate_edit<S: Sequence>(
     graph: &Graph,
     sequence: &S,
     splices: &[Splice],
@@ -76,21 +77,21 @@ fn judge_edit<S: Sequence>(
     requires { Holds graph.now.applied (S.placed sequence.now) (S.removals sequence.now) }
     ensures { IsAllowed graph.now.applied splices.now (chars message.now) result }
 {
-    let count = match judge_splices(splices, sequence.len()) {
+    let count = match validate_splices(splices, sequence.len()) {
         Ok(count) => count,
         Err(error) => return Err(error),
     };
     if count == 0 {
         return Ok(false);
     }
-    if graph.heads().len() > 65535 {
+    if graph.heads().len() > MAX_DEPS {
         return Err(DocError::TooManyHeads);
     }
     let next = graph.next_counter();
-    if next as u128 + count as u128 > 281474976710656 {
+    if next as u128 + count as u128 > COUNTERS_END as u128 {
         return Err(DocError::CounterLimit);
     }
-    if byte_count(message) > 65535 {
+    if byte_count(message) > MAX_MESSAGE_BYTES {
         return Err(DocError::TooLong);
     }
     Ok(true)
@@ -107,7 +108,8 @@ fn change_of<S: Sequence>(
     message: &str,
 ) -> Result<Change, DocError>
     requires holds { Holds graph.now.applied (S.placed sequence.now) (S.removals sequence.now) }
-    requires within { IsWithin graph.now.applied (asking actor splices.now time (chars message.now)) }
+    requires within { IsWithinLimits graph.now.applied
+        (asking actor splices.now time (chars message.now)) }
     ensures { MatchResult result
         (λ c. IsWithinSize graph.now.applied (asking actor splices.now time (chars message.now)) c)
         (λ e. IsRefused graph.now.applied (asking actor splices.now time (chars message.now)) e) }
@@ -115,33 +117,22 @@ fn change_of<S: Sequence>(
     let _actor = actor_len(actor);
     let seq = next_seq(graph, &actor);
     let next = graph.next_counter();
-    match parts_of(
-        alloc,
-        sequence,
-        graph.heads(),
-        actor,
-        seq,
-        next,
-        splices,
-        time,
-        message,
-    ) {
-        Ok(parts) => match make_change(alloc, parts) {
-            Ok(change) => Ok(change),
-            Err(error) => Err(error),
-        },
-        Err(_) => Err(DocError::OutOfMemory),
-    }
+    let heads = graph.heads();
+    let parts = parts_of(
+        alloc, sequence, heads, actor, seq, next, splices, time, message,
+    )?;
+    make_change(alloc, parts)
 }
 
 // The change, unless the graph is full or has a change with its hash.
-fn judge_change(graph: &Graph, change: Change) -> Result<Change, DocError>
+fn unless_shut(graph: &Graph, change: Change) -> Result<Change, DocError>
     requires { length graph.now.applied ≤ most_changes }
     ensures { MatchResult result
-        (λ c. (c ≡ change) × (length graph.now.applied < most_changes) × (has graph.now.applied (hash_of change) ≡ false))
+        (λ c. (c ≡ change) × (length graph.now.applied < most_changes)
+        × (has graph.now.applied (hash_of change) ≡ false))
         (λ e. IsShut graph.now.applied change e) }
 {
-    if graph.changes().len() == 4294967295 {
+    if graph.changes().len() == MOST_CHANGES {
         return Err(DocError::Full);
     }
     if graph.contains(&change.hash()) {
@@ -173,9 +164,10 @@ impl<S: Sequence> Document<S> {
             (λ made. MatchOption made
             (AsksNothing self.now.applied (asking actor splices.now time (chars message.now)))
             (λ c. Edited self.now.applied (asking actor splices.now time (chars message.now)) c))
-            (λ e. IsRefused self.now.applied (asking actor splices.now time (chars message.now)) e) }
+            (λ e. IsRefused self.now.applied
+            (asking actor splices.now time (chars message.now)) e) }
     {
-        match judge_edit(&self.graph, &self.sequence, splices, message) {
+        match validate_edit(&self.graph, &self.sequence, splices, message) {
             Ok(true) => {}
             Ok(false) => return Ok(None),
             Err(error) => return Err(error),
@@ -189,7 +181,7 @@ impl<S: Sequence> Document<S> {
             time,
             message,
         ) {
-            Ok(change) => match judge_change(&self.graph, change) {
+            Ok(change) => match unless_shut(&self.graph, change) {
                 Ok(change) => Ok(Some(change)),
                 Err(error) => Err(error),
             },
@@ -207,9 +199,14 @@ impl<S: Sequence> Document<S> {
         time: u64,
         message: &str,
     ) -> Result<Option<Hash>, DocError>
-        ensures done { IfOk result (λ made. IsDone self.old.applied (asking actor splices.now time (chars message.now)) self.new.applied made) }
-        ensures text { IfOk result (λ _. DoesSplices self.old.applied self.new.applied splices.now) }
-        ensures refused { IfErr result (λ e. IsRefused self.old.applied (asking actor splices.now time (chars message.now)) e) }
+        ensures done { IfOk result
+            (λ made. IsEditDone self.old.applied
+            (asking actor splices.now time (chars message.now)) self.new.applied made) }
+        ensures text { IfOk result
+            (λ _. DoesSplices self.old.applied self.new.applied splices.now) }
+        ensures refused { IfErr result
+            (λ e. IsRefused self.old.applied
+            (asking actor splices.now time (chars message.now)) e) }
         ensures err { OnErr result (self.new.applied ≡ self.old.applied) }
         ensures id { self.new.id ≡ self.old.id }
         ensures waiting { self.new.waiting ≡ self.old.waiting }

@@ -99,7 +99,8 @@ impl<S: Sequence> Document<S> {
         ensures id { IfOk result (λ d. d.id ≡ self.now.id) }
         ensures applied { IfOk result (λ d. d.applied ≡ pasts.past self.now.applied hashes.now) }
         ensures waiting { IfOk result (λ d. d.waiting ≡ []) }
-        ensures unknown { (result ≡ Err DocError.UnknownHead) ↔ (has_all self.now.applied hashes.now ≡ false) }
+        ensures unknown { (result ≡ Err DocError.UnknownHead)
+            ↔ (has_all self.now.applied hashes.now ≡ false) }
         ensures err { IfErr result (λ e. (e ≡ DocError.UnknownHead) ⊎ (e ≡ OutOfMemory)) }
     {
         match self.graph.past(hashes) {

@@ -41,8 +41,10 @@ impl Snapshot {
 // The past of the hashes as places.
 fn past_of(graph: &Graph, heads: &[Hash]) -> Result<Past, DocError>
     ensures places { IfOk result (λ places. places ≡ past_places graph.now.applied heads.now) }
-    ensures unknown { (result ≡ Err DocError.UnknownHead) ↔ (named.has_all graph.now.applied heads.now ≡ false) }
-    ensures err { IfErr result (λ error. (error ≡ DocError.UnknownHead) ⊎ (error ≡ DocError.OutOfMemory)) }
+    ensures unknown { (result ≡ Err DocError.UnknownHead)
+        ↔ (named.has_all graph.now.applied heads.now ≡ false) }
+    ensures err { IfErr result
+        (λ error. (error ≡ DocError.UnknownHead) ⊎ (error ≡ DocError.OutOfMemory)) }
 {
     match graph.past(heads) {
         Ok(past) => Ok(past),
@@ -60,8 +62,10 @@ fn snapshot_at<S: Sequence>(
 ) -> Result<Snapshot, DocError>
     ensures ends { IfOk result (λ s. AreEnds s.clock (past graph.now.applied heads.now)) }
     ensures targets { IfOk result (λ s. AreTargets s.targets s.clock (S.removals sequence.now)) }
-    ensures unknown { (result ≡ Err DocError.UnknownHead) ↔ (named.has_all graph.now.applied heads.now ≡ false) }
-    ensures err { IfErr result (λ error. (error ≡ DocError.UnknownHead) ⊎ (error ≡ DocError.OutOfMemory)) }
+    ensures unknown { (result ≡ Err DocError.UnknownHead)
+        ↔ (named.has_all graph.now.applied heads.now ≡ false) }
+    ensures err { IfErr result
+        (λ error. (error ≡ DocError.UnknownHead) ⊎ (error ≡ DocError.OutOfMemory)) }
 {
     let past = past_of(graph, heads)?;
     let clock = clock_of(alloc, graph.changes(), past.places())?;
@@ -77,11 +81,12 @@ fn text_of<S: Sequence>(
 ) -> Result<String, AllocError>
     requires { AreTargets snapshot.now.targets snapshot.now.clock (S.removals sequence.now) }
     ensures { IfOk result (λ text. string_bytes text
-        ≡ encode_utf8_all (chars_of (shown_by snapshot.now.clock (S.removals sequence.now) (S.placed sequence.now)))) }
+        ≡ encode_utf8_all (chars_of
+        (shown_by snapshot.now.clock (S.removals sequence.now) (S.placed sequence.now)))) }
 {
     let mut text = String::new(alloc);
-    for place in 0..sequence.all() {
-        if let Some(element) = sequence.element(place) {
+    for index in 0..sequence.all() {
+        if let Some(element) = sequence.element(index) {
             if snapshot.shows(&element) {
                 text.push(element.ch)?;
             }
@@ -90,15 +95,15 @@ fn text_of<S: Sequence>(
     Ok(text)
 }
 
-// The element at a place of the text that a past shows: one walk over the elements up to it.
+// The element at a position of the text that a past shows: one walk over the elements up to it.
 fn element_at<S: Sequence>(sequence: &S, snapshot: &Snapshot, at: usize) -> Option<OpId>
     requires { AreTargets snapshot.now.targets snapshot.now.clock (S.removals sequence.now) }
     ensures { result ≡ option_map (λ e. e.id)
         (slice_get (shown_by snapshot.now.clock (S.removals sequence.now) (S.placed sequence.now)) at) }
 {
     let mut left = at;
-    for place in 0..sequence.all() {
-        if let Some(element) = sequence.element(place) {
+    for index in 0..sequence.all() {
+        if let Some(element) = sequence.element(index) {
             if snapshot.shows(&element) {
                 if left == 0 {
                     return Some(element.id);
@@ -119,24 +124,31 @@ impl<S: Sequence> Document<S> {
     /// among them. Each takes a look-up among the actors of the past, and an element that is deleted now one more
     /// among those that the past deletes.
     pub fn text_at(&self, heads: &[Hash]) -> Result<String, DocError>
-        ensures text { IfOk result (λ t. IsTextOf (past self.now.applied heads.now) (chars (string_bytes t))) }
-        ensures unknown { (result ≡ Err DocError.UnknownHead) ↔ (named.has_all self.now.applied heads.now ≡ false) }
-        ensures err { IfErr result (λ error. (error ≡ DocError.UnknownHead) ⊎ (error ≡ DocError.OutOfMemory)) }
+        ensures text { IfOk result
+            (λ t. IsTextOf (past self.now.applied heads.now) (chars (string_bytes t))) }
+        ensures unknown { (result ≡ Err DocError.UnknownHead)
+            ↔ (named.has_all self.now.applied heads.now ≡ false) }
+        ensures err { IfErr result
+            (λ error. (error ≡ DocError.UnknownHead) ⊎ (error ≡ DocError.OutOfMemory)) }
     {
         let snapshot = snapshot_at(self.alloc, &self.graph, &self.sequence, heads)?;
         Ok(text_of(self.alloc, &self.sequence, &snapshot)?)
     }
 
-    /// A cursor at the visible character at a place, from 0, of the text of the past of the hashes. A hash that no
-    /// applied change has is refused as `UnknownHead`, whatever the place; then a place past the end of that text as
+    /// A cursor at the visible character at a position, from 0, of the text of the past of the hashes. A hash that no
+    /// applied change has is refused as `UnknownHead`, whatever the position; then a position past the end of that text as
     /// `OutOfRange`. The only other refusal is `OutOfMemory`.
     ///
     /// The cost is that of [`text_at`](Document::text_at), but the walk over the elements ends at the one that is found.
     pub fn cursor_at(&self, at: usize, heads: &[Hash]) -> Result<Cursor, DocError>
-        ensures found { IfOk result (λ cursor. HasElementAt (past self.now.applied heads.now) at (Some cursor.element)) }
-        ensures unknown { (result ≡ Err DocError.UnknownHead) ↔ (named.has_all self.now.applied heads.now ≡ false) }
-        ensures err { IfErr result (λ error. (error ≡ DocError.UnknownHead) ⊎ ((error ≡ DocError.OutOfMemory)
-            ⊎ ((error ≡ DocError.OutOfRange) × HasElementAt (past self.now.applied heads.now) at None))) }
+        ensures found { IfOk result
+            (λ cursor. HasElementAt (past self.now.applied heads.now) at (Some cursor.element)) }
+        ensures unknown { (result ≡ Err DocError.UnknownHead)
+            ↔ (named.has_all self.now.applied heads.now ≡ false) }
+        ensures err { IfErr result
+            (λ error. (error ≡ DocError.UnknownHead) ⊎ ((error ≡ DocError.OutOfMemory)
+            ⊎ ((error ≡ DocError.OutOfRange)
+            × HasElementAt (past self.now.applied heads.now) at None))) }
     {
         let view = snapshot_at(self.alloc, &self.graph, &self.sequence, heads)?;
         match element_at(&self.sequence, &view, at) {

@@ -14,22 +14,26 @@ ghost use Rattle.tp_document.specs.Editing.{Asked, Edited};
 
 /// Sound changes have one text.
 pub fn one_text()
-    ensures { (C : List ChangeParts) (s t : List ℕ) → Sound C → IsTextOf C s → IsTextOf C t → s ≡ t }
+    ensures { (C : List ChangeParts) (s t : List ℕ) → Sound C → IsTextOf C s → IsTextOf C t
+        → s ≡ t }
 {}
 
 /// What an edit asks determines its change.
 pub fn edit_is_determined()
-    ensures { (C : List ChangeParts) (asked : Asked) (c d : ChangeParts) → Sound C → Edited C asked c → Edited C asked d → c ≡ d }
+    ensures { (C : List ChangeParts) (asked : Asked) (c d : ChangeParts) → Sound C
+        → Edited C asked c → Edited C asked d → c ≡ d }
 {}
 
 /// The text depends on the changes as a set.
 pub fn text_of_a_set()
-    ensures { (C D : List ChangeParts) (t : List ℕ) → SameMembers C D → IsTextOf C t ↔ IsTextOf D t }
+    ensures { (C D : List ChangeParts) (t : List ℕ) → SameMembers C D → IsTextOf C t
+        ↔ IsTextOf D t }
 {}
 
 /// The text at all heads is the text.
 pub fn text_at_all_heads()
-    ensures { (C : List ChangeParts) (t : List ℕ) → Sound C → IsTextOf (past C (heads C)) t ↔ IsTextOf C t }
+    ensures { (C : List ChangeParts) (t : List ℕ) → Sound C → IsTextOf (past C (heads C)) t
+        ↔ IsTextOf C t }
 {}
 
 /// Equal heads have equal texts, where equal hashes mean equal changes.
@@ -41,11 +45,13 @@ pub fn equal_heads_equal_texts()
 
 /// The past of any hashes has a text.
 pub fn each_past_has_a_text()
-    ensures { (C : List ChangeParts) (H : List Hash) → Sound C → (t : List ℕ) × IsTextOf (past C H) t }
+    ensures { (C : List ChangeParts) (H : List Hash) → Sound C → (t : List ℕ)
+        × IsTextOf (past C H) t }
 {}
 
 /// The text at heads stays as it is while other changes enter.
 pub fn later_changes_leave_the_text_at_heads()
-    ensures { (C D : List ChangeParts) (H : List Hash) (t : List ℕ) → has_all C H ≡ true → Sound (C ++ D)
+    ensures { (C D : List ChangeParts) (H : List Hash) (t : List ℕ) → has_all C H ≡ true
+        → Sound (C ++ D)
         → IsTextOf (past (C ++ D) H) t ↔ IsTextOf (past C H) t }
 {}

@@ -2,17 +2,18 @@
 
 ghost use Rattle.std.specs.Prelude.{◌≡◌, ◌+◌, ◌<◌, ◌≤◌, ◌^◌, length, encode_utf8_all, IfOk, MatchResult};
 ghost use Rattle.std.specs.Str.{chars};
+ghost use Rattle.tp_change.specs.declared.limits.TheConstants.{MAX_BYTES};
 ghost use Rattle.tp_change.specs.Limits.{IsActor, IsChange};
 ghost use Rattle.tp_change.specs.Spelling.{spelling};
 ghost use Rattle.tp_graph.specs.Fit.{count_by, most_changes};
 ghost use Rattle.tp_rga.specs.Shown.{shown};
 ghost use Rattle.tp_edit.specs.Splices.{AllInRange, total_count};
 ghost use Rattle.tp_edit.specs.EditRecords.{records_of, visible_ids};
-ghost use Rattle.tp_document.specs.Making.{IsJudged, IsLong};
+ghost use Rattle.tp_document.specs.Making.{IsValidated, IsLong};
 
 use crate::error::DocError;
 use std::alloc::{AllocError, Global};
-use tp_change::{Change, ChangeError, ChangeParts};
+use tp_change::{Change, ChangeError, ChangeParts, MAX_OPS};
 use tp_edit::{Splice, in_range, operation_count, records};
 use tp_graph::Graph;
 use tp_list::{Items, Text};
@@ -28,14 +29,14 @@ pub(crate) fn actor_len(actor: Actor) -> usize
 }
 
 // How many operations an edit of a text of `len` characters has: none where it asks nothing.
-pub(crate) fn judge_splices(splices: &[Splice], len: usize) -> Result<usize, DocError>
-    ensures { IsJudged len splices.now result }
+pub(crate) fn validate_splices(splices: &[Splice], len: usize) -> Result<usize, DocError>
+    ensures { IsValidated len splices.now result }
 {
     if !in_range(splices, len) {
         return Err(DocError::OutOfRange);
     }
     let count = operation_count(splices);
-    if count > 65536 {
+    if count > MAX_OPS {
         return Err(DocError::TooManyOps);
     }
     Ok(count)
@@ -52,7 +53,7 @@ pub(crate) fn next_seq(graph: &Graph, actor: &Actor) -> u64
 
 // Makes a change of parts that are within all limits but, perhaps, that of the bytes.
 pub(crate) fn make_change(alloc: Global, parts: ChangeParts) -> Result<Change, DocError>
-    requires { length (spelling parts) ≤ 4194304 → IsChange parts }
+    requires { length (spelling parts) ≤ MAX_BYTES → IsChange parts }
     ensures { MatchResult result (λ c. (c ≡ parts) × IsChange c) (IsLong parts) }
 {
     match Change::new(alloc, parts) {

@@ -15,7 +15,8 @@ fn note_absent<S: Sequence>(
     changes: &mut Vec<Change>,
     change: &Change,
 ) -> Result<(), DocError>
-    ensures ok { IfOk result (λ _. changes.new.items ≡ changes.old.items ++ merging.absent document.now.applied (change.now ∷ [])) }
+    ensures ok { IfOk result (λ _. changes.new.items
+        ≡ changes.old.items ++ merging.absent document.now.applied (change.now ∷ [])) }
     ensures err { IsOkUnless result OutOfMemory }
 {
     if document.contains(&change.hash()) {

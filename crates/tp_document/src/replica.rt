@@ -48,10 +48,10 @@ impl<S: Sequence> Replica for Document<S> {
     }
 
     fn hold(&mut self, change: Change) -> Result<(), Rejected> {
-        Document::hold(self, change)
+        self.graph.hold(change)
     }
 
     fn release(&mut self, i: usize) -> Change {
-        Document::release(self, i)
+        self.graph.release(i)
     }
 }

@@ -19,7 +19,7 @@ use Rattle.tp_change.specs.declared.record.Record.{Record}
 use Rattle.tp_change.specs.declared.parts.ChangeParts.{ChangeParts}
 use Rattle.tp_change.specs.Operations.{id_of, run, ops_from, ops_of}
 use Rattle.tp_change.specs.Operations as operations
-use Rattle.tp_change.specs.Elements.{element, inserts_in, deletes_in, is_inserted, is_place, refers}
+use Rattle.tp_change.specs.Elements.{element, inserts_in, deletes_in, is_inserted, is_reference, refers}
 use Rattle.tp_change.specs.OpIds.{ids_from}
 use Rattle.tp_change.proofs.ElementLaws.{inserts_in-append, deletes_in-append, ops_from-append, is_inserted-member, is_inserted-more}
 use Rattle.tp_change.proofs.Numbered.{Numbered-ops_of, Numbered}
@@ -63,15 +63,15 @@ ops_from-runs a n after (ch ∷ text) = append-nil (run a n after (ch ∷ text))
 is_inserted-there : (S : List Insert) (x : OpId) → IsThere S x → is_inserted S x ≡ true
 is_inserted-there S x (p, (ch, i)) = is_inserted-member S (element x p ch) i
 
-is_place-grow : (S T : List Insert) → AllIn S T → (p : Place) → is_place S p ≡ true → is_place T p ≡ true
-is_place-grow S T sub Start h = refl
-is_place-grow S T sub (After r) h = is_inserted-more S T r sub h
+is_reference-grow : (S T : List Insert) → AllIn S T → (p : Place) → is_reference S p ≡ true → is_reference T p ≡ true
+is_reference-grow S T sub Start h = refl
+is_reference-grow S T sub (After r) h = is_inserted-more S T r sub h
 
 refers-grow : (ops : List Op) (S T : List Insert) → AllIn S T → refers S ops ≡ true → refers T ops ≡ true
 refers-grow [] S T sub h = refl
 refers-grow (op_of.Insert id after ch ∷ ops) S T sub h =
-    let parts = and_parts (is_place S after) (refers (element id after ch ∷ S) ops) h in
-    both (is_place T after) (refers (element id after ch ∷ T) ops) (is_place-grow S T sub after parts.0)
+    let parts = and_parts (is_reference S after) (refers (element id after ch ∷ S) ops) h in
+    both (is_reference T after) (refers (element id after ch ∷ T) ops) (is_reference-grow S T sub after parts.0)
     (refers-grow ops (element id after ch ∷ S) (element id after ch ∷ T) (λ e i. elim i [ inl same ↦ inl same | inr old ↦ inr (sub e old) ]) parts.1)
 refers-grow (op_of.Delete id target ∷ ops) S T sub h =
     let parts = and_parts (is_inserted S target) (refers S ops) h in
@@ -82,8 +82,8 @@ refers-join : (xs ys : List Op) (S : List Insert) → refers S xs ≡ true → r
 refers-join [] ys S h k = subst (λ T. refers T ys ≡ true) (append-nil S) k
 refers-join (op_of.Insert id after ch ∷ xs) ys S h k =
     let x = element id after ch in
-    let parts = and_parts (is_place S after) (refers (x ∷ S) xs) h in
-    both (is_place S after) (refers (x ∷ S) (xs ++ ys)) parts.0
+    let parts = and_parts (is_reference S after) (refers (x ∷ S) xs) h in
+    both (is_reference S after) (refers (x ∷ S) (xs ++ ys)) parts.0
     (refers-join xs ys (x ∷ S) parts.1 (refers-grow ys (S ++ x ∷ inserts_in xs) ((x ∷ S) ++ inserts_in xs) (λ e i. elim (In-append e S (x ∷ inserts_in xs) i) [
       | inl old ↦ inr (In-left e S (inserts_in xs) old)
       | inr (inl same) ↦ inl same
@@ -99,14 +99,14 @@ refers-deletes a n (x ∷ xs) S there =
     both (is_inserted S x) (refers S (ops_from a (n + 1) (deletes_of xs))) (is_inserted-there S x (there x (inl refl)))
     (refers-deletes a (n + 1) xs S (λ y i. there y (inr i)))
 
-refers-run : (a : Actor) (n : ℕ) (after : Place) (text : List ℕ) (S : List Insert) → is_place S after ≡ true → refers S (run a n after text) ≡ true
+refers-run : (a : Actor) (n : ℕ) (after : Place) (text : List ℕ) (S : List Insert) → is_reference S after ≡ true → refers S (run a n after text) ≡ true
 refers-run a n after [] S h = refl
 refers-run a n after (ch ∷ text) S h =
     let x = element (id_of a n) after ch in
-    both (is_place S after) (refers (x ∷ S) (run a (n + 1) (After (id_of a n)) text)) h
+    both (is_reference S after) (refers (x ∷ S) (run a (n + 1) (After (id_of a n)) text)) h
     (refers-run a (n + 1) (After (id_of a n)) text (x ∷ S) (is_inserted-member (x ∷ S) x (inl refl)))
 
-place_is_there : (S F : List Insert) (p : Place) → AllIn F S → EndsAt F p → is_place S p ≡ true
+place_is_there : (S F : List Insert) (p : Place) → AllIn F S → EndsAt F p → is_reference S p ≡ true
 place_is_there S F Start sub ends = refl
 place_is_there S F (After r) sub (A, f, is, names) =
     ap (is_inserted S) (sym names) ∙ is_inserted-member S f (sub f (subst (In f) (sym is) (In-last f A)))
@@ -114,13 +114,13 @@ place_is_there S F (After r) sub (A, f, is, names) =
 -- ---- what operations leave
 
 -- The operations lead from a text that is ready to one that is ready for the counter m, whose visible elements are W.
-pub record Leaves (T L : List Insert) (R : List (OpId × OpId)) (a : Actor) (n : ℕ) (ops : List Op) (m : ℕ) (M W : List Insert) : Type 0 where
+pub record Transforms (T L : List Insert) (R : List (OpId × OpId)) (a : Actor) (n : ℕ) (ops : List Op) (m : ℕ) (M W : List Insert) : Type 0 where
   pub refers : refers T ops ≡ true
   pub ready : IsReady (T ++ inserts_in ops) M (R ++ deletes_in ops) a m
   pub shows : shown (R ++ deletes_in ops) M ≡ W
 
-pub Leaves-join : (T L : List Insert) (R : List (OpId × OpId)) (a : Actor) (n : ℕ) (xs : List Op) (m : ℕ) (M W : List Insert) (ys : List Op) (k : ℕ) (N X : List Insert) → Leaves T L R a n xs m M W → Leaves (T ++ inserts_in xs) M (R ++ deletes_in xs) a m ys k N X → Leaves T L R a n (xs ++ ys) k N X
-Leaves-join T L R a n xs m M W ys k N X p q =
+pub Transforms-join : (T L : List Insert) (R : List (OpId × OpId)) (a : Actor) (n : ℕ) (xs : List Op) (m : ℕ) (M W : List Insert) (ys : List Op) (k : ℕ) (N X : List Insert) → Transforms T L R a n xs m M W → Transforms (T ++ inserts_in xs) M (R ++ deletes_in xs) a m ys k N X → Transforms T L R a n (xs ++ ys) k N X
+Transforms-join T L R a n xs m M W ys k N X p q =
     let members : (T ++ inserts_in xs) ++ inserts_in ys ≡ T ++ inserts_in (xs ++ ys) =
     append_assoc T (inserts_in xs) (inserts_in ys) ∙ ap (λ l. T ++ l) (sym (inserts_in-append xs ys)) in
     let named : (R ++ deletes_in xs) ++ deletes_in ys ≡ R ++ deletes_in (xs ++ ys) =
@@ -152,7 +152,7 @@ none_named T (r ∷ R) a n k above named le =
     ∙ none_named T R a n k above (λ q i. named q (inr i)) le
 
 -- a delete of each element between A and B leaves A and B
-deletes_leave : (T L : List Insert) (R : List (OpId × OpId)) (a : Actor) (n : ℕ) (A X B : List Insert) → IsReady T L R a n → shown R L ≡ A ++ (X ++ B) → Leaves T L R a n (ops_from a n (deletes_of (ids_of X))) (n + length X) L (A ++ B)
+deletes_leave : (T L : List Insert) (R : List (OpId × OpId)) (a : Actor) (n : ℕ) (A X B : List Insert) → IsReady T L R a n → shown R L ≡ A ++ (X ++ B) → Transforms T L R a n (ops_from a n (deletes_of (ids_of X))) (n + length X) L (A ++ B)
 deletes_leave T L R a n A X B ready shows =
     let xs = ids_of X in
     let ops = ops_from a n (deletes_of xs) in
@@ -183,7 +183,7 @@ deletes_leave T L R a n A X B ready shows =
         λ e i. Below-trans e.id (id_of a n) (id_of a (n + suc k)) (above e i) (Below-counter (id_of a n) (id_of a (n + suc k)) (omega arith))
 
 -- a run after the last of A comes directly behind A
-run_leaves : (T L : List Insert) (R : List (OpId × OpId)) (a : Actor) (n : ℕ) (A B : List Insert) (text : List ℕ) → IsReady T L R a n → shown R L ≡ A ++ B → (M : List Insert) × Leaves T L R a n (run a n (after_last Start (ids_of A)) text) (n + length text) M (A ++ (elements_of_run a n (after_last Start (ids_of A)) text ++ B))
+run_leaves : (T L : List Insert) (R : List (OpId × OpId)) (a : Actor) (n : ℕ) (A B : List Insert) (text : List ℕ) → IsReady T L R a n → shown R L ≡ A ++ B → (M : List Insert) × Transforms T L R a n (run a n (after_last Start (ids_of A)) text) (n + length text) M (A ++ (elements_of_run a n (after_last Start (ids_of A)) text ++ B))
 run_leaves T L R a n A B text ready shows =
     let after = after_last Start (ids_of A) in
     let es = elements_of_run a n after text in
@@ -220,7 +220,7 @@ run_leaves T L R a n A B text ready shows =
 record Splices (T L : List Insert) (R : List (OpId × OpId)) (a : Actor) (n : ℕ) (ops : List Op) (m : ℕ) (V : List OpId) (t : List ℕ) : Type 0 where
   pub placed : List Insert
   pub visible : List Insert
-  pub leaves : Leaves T L R a n ops m placed visible
+  pub leaves : Transforms T L R a n ops m placed visible
   pub ids : ids_of visible ≡ V
   pub text : chars_of visible ≡ t
 
@@ -247,7 +247,7 @@ splice_leaves T L R a n s ready range =
     let split : W ≡ A ++ (X ++ B) =
     sym (ap (λ l. A ++ (X ++ l)) (sym (drop-drop s.del s.at W)) ∙ ap (λ l. A ++ l) (take-append-drop s.del (drop s.at W)) ∙ take-append-drop s.at W) in
     let size : length X ≡ s.del = length-take-le s.del (drop s.at W) (let rest = length-drop s.at W in omega (arith, rest)) in
-    let front : take s.at V ≡ ids_of A = take-map id s.at W in
+    let prefix : take s.at V ≡ ids_of A = take-map id s.at W in
     let middle : take s.del (drop s.at V) ≡ ids_of X = ap (take s.del) (drop-map id s.at W) ∙ take-map id s.del (drop s.at W) in
     let back : drop (s.at + s.del) V ≡ ids_of B = drop-map id (s.at + s.del) W in
     let after = after_last Start (ids_of A) in
@@ -256,23 +256,23 @@ splice_leaves T L R a n s ready range =
     let q = run_leaves (T ++ inserts_in cut) L (R ++ deletes_in cut) a (n + length X) A B text p.ready p.shows in
     let put = run a (n + length X) after text in
     let es = elements_of_run a (n + length X) after text in
-    let joined = Leaves-join T L R a n cut (n + length X) L (A ++ B) put ((n + length X) + length text) q.0 (A ++ (es ++ B)) p q.1 in
+    let joined = Transforms-join T L R a n cut (n + length X) L (A ++ B) put ((n + length X) + length text) q.0 (A ++ (es ++ B)) p q.1 in
     let counter : operations.count_of (deletes_of (ids_of X)) ≡ length X = count-deletes (ids_of X) ∙ length-map X id in
     let ops : cut ++ put ≡ ops_from a n (records_of_splice V s) =
     ap (λ l. cut ++ l) (sym (ap (λ m. ops_from a (n + m) (runs_of after text)) counter ∙ ops_from-runs a (n + length X) after text))
     ∙ sym (ops_from-append a n (deletes_of (ids_of X)) (runs_of after text))
     ∙ ap (λ xs. ops_from a n (deletes_of xs ++ runs_of after text)) (sym middle)
-    ∙ ap (λ xs. ops_from a n (deletes_of (take s.del (drop s.at V)) ++ runs_of (after_last Start xs) text)) (sym front) in
+    ∙ ap (λ xs. ops_from a n (deletes_of (take s.del (drop s.at V)) ++ runs_of (after_last Start xs) text)) (sym prefix) in
     let end : (n + length X) + length text ≡ n + count_of s = omega (arith, size) in
     record {
       placed = q.0;
       visible = A ++ (es ++ B);
       leaves =
-          subst (λ m. Leaves T L R a n (ops_from a n (records_of_splice V s)) m q.0 (A ++ (es ++ B))) end
-          (subst (λ o. Leaves T L R a n o ((n + length X) + length text) q.0 (A ++ (es ++ B))) ops joined);
+          subst (λ m. Transforms T L R a n (ops_from a n (records_of_splice V s)) m q.0 (A ++ (es ++ B))) end
+          (subst (λ o. Transforms T L R a n o ((n + length X) + length text) q.0 (A ++ (es ++ B))) ops joined);
       ids =
           map-append id A (es ++ B) ∙ ap (λ l. ids_of A ++ l) (map-append id es B)
-          ∙ ap (λ l. l ++ (ids_of es ++ ids_of B)) (sym front)
+          ∙ ap (λ l. l ++ (ids_of es ++ ids_of B)) (sym prefix)
           ∙ ap (λ l. take s.at V ++ (l ++ ids_of B)) (ids_of-run a (n + length X) after text ∙ ap (λ k. ids_from a (n + k) (length text)) size)
           ∙ ap (λ l. take s.at V ++ (ids_from a (n + s.del) (length text) ++ l)) (sym back);
       text =
@@ -296,7 +296,7 @@ then_leave T L R a n ops m V t first ss k rest =
     record {
       placed = more.placed;
       visible = more.visible;
-      leaves = Leaves-join T L R a n ops m first.placed first.visible (ops_from a m (records_of a m V ss)) k more.placed more.visible first.leaves more.leaves;
+      leaves = Transforms-join T L R a n ops m first.placed first.visible (ops_from a m (records_of a m V ss)) k more.placed more.visible first.leaves more.leaves;
       ids = more.ids;
       text = more.text;
     }

@@ -16,18 +16,18 @@ use Rattle.tp_edit.specs.Landings.{ids_landed, ids_through, AllFit}
 
 pub length-spliced : {X : Type 0} (V : List X) (at del : ℕ) (N : List X) → at + del ≤ length V → length (spliced V at del N) ≡ (length V - del) + length N
 length-spliced V at del N fit =
-    let front = length-take-le at V (omega arith) in
+    let prefix = length-take-le at V (omega arith) in
     let whole = length-append (take at V) (N ++ drop (at + del) V) in
     let back = length-append N (drop (at + del) V) in
     let rest = length-drop (at + del) V in
-    omega (arith, front, whole, back, rest)
+    omega (arith, prefix, whole, back, rest)
 
 -- an element before the splice keeps its place
 spliced_before : {X : Type 0} (V : List X) (at del : ℕ) (N : List X) (i : ℕ) (d : X) → at + del ≤ length V → i < at → slice_get (spliced V at del N) i ≡ slice_get V i
 spliced_before V at del N i d fit lt =
-    let front = length-take-le at V (omega arith) in
+    let prefix = length-take-le at V (omega arith) in
     let size = length-spliced V at del N fit in
-    let short : i < length (take at V) = omega (arith, front) in
+    let short : i < length (take at V) = omega (arith, prefix) in
     let within : i < length (spliced V at del N) = omega (arith, size) in
     slice_get-get_or (spliced V at del N) i d within
     ∙ ap Some (get_or_append_left (take at V) (N ++ drop (at + del) V) d i short ∙ get_or-take at V i d lt)
@@ -36,21 +36,21 @@ spliced_before V at del N i d fit lt =
 -- an element of the inserted ones
 spliced_new : {X : Type 0} (V : List X) (at del : ℕ) (N : List X) (i : ℕ) (d : X) → at + del ≤ length V → at ≤ i → i < at + length N → slice_get (spliced V at del N) i ≡ Some (get_or N (i - at) d)
 spliced_new V at del N i d fit le lt =
-    let front = length-take-le at V (omega arith) in
+    let prefix = length-take-le at V (omega arith) in
     let size = length-spliced V at del N fit in
     let within : i < length (spliced V at del N) = omega (arith, size) in
     slice_get-get_or (spliced V at del N) i d within
-    ∙ ap Some (get_or-append_right (take at V) (N ++ drop (at + del) V) at i d front le ∙ get_or_append_left N (drop (at + del) V) d (i - at) (omega arith))
+    ∙ ap Some (get_or-append_right (take at V) (N ++ drop (at + del) V) at i d prefix le ∙ get_or_append_left N (drop (at + del) V) d (i - at) (omega arith))
 
 -- an element behind the splice
 spliced_behind : {X : Type 0} (V : List X) (at del : ℕ) (N : List X) (i : ℕ) (d : X) → at + del ≤ length V → at + length N ≤ i → i < length (spliced V at del N) → slice_get (spliced V at del N) i ≡ slice_get V ((i - length N) + del)
 spliced_behind V at del N i d fit le within =
-    let front = length-take-le at V (omega arith) in
+    let prefix = length-take-le at V (omega arith) in
     let size = length-spliced V at del N fit in
     let place : (at + del) + ((i - at) - length N) ≡ (i - length N) + del = omega arith in
     slice_get-get_or (spliced V at del N) i d within
     ∙ ap Some (
-    get_or-append_right (take at V) (N ++ drop (at + del) V) at i d front (omega arith)
+    get_or-append_right (take at V) (N ++ drop (at + del) V) at i d prefix (omega arith)
     ∙ get_or-append_right N (drop (at + del) V) (length N) (i - at) d refl (omega arith)
     ∙ get_or-drop (at + del) V ((i - at) - length N) d
     ∙ ap (λ k. get_or V k d) place

@@ -38,9 +38,9 @@ pub after_last-at : (W : List OpId) (at : ℕ) (x : OpId) → 0 < at → slice_g
 after_last-at W at x some is =
     let within = slice_get_within W (at - 1) x is in
     let up : (at - 1) + 1 ≡ at = omega arith in
-    let front : take at W ≡ take (at - 1) W ++ x ∷ [] =
+    let prefix : take at W ≡ take (at - 1) W ++ x ∷ [] =
     ap (λ k. take k W) (sym up) ∙ take_more W (at - 1) x within ∙ ap (λ y. take (at - 1) W ++ y ∷ []) (get_or_from_slice_get W (at - 1) x x is) in
-    sym (ap (after_last Start) front ∙ after_last-push Start (take (at - 1) W) x)
+    sym (ap (after_last Start) prefix ∙ after_last-push Start (take (at - 1) W) x)
 
 pub after_last-start : (W : List OpId) (at : ℕ) → at ≡ 0 → Start ≡ after_last Start (take at W)
 after_last-start W at none = ap (λ k. after_last Start (take k W)) (sym none)
@@ -103,11 +103,11 @@ AllFit-landings a n V (s ∷ ss) h room =
     (h.0, omega (arith, room), AllFit-landings a (n + count_of s) (ids_after a n V s) ss (subst (λ k. AllInRange k ss) (sym size) h.1) (omega (arith, room)))
 
 -- the part of the splices up to a place is in range, and so is the next one
-pub AllInRange-front : (a : Actor) (n : ℕ) (V : List OpId) (ss : List Splice) (s : Splice) (rest : List Splice) → AllInRange (length V) (ss ++ s ∷ rest) → AllInRange (length V) ss × IsInRange (length (ids_after_all a n V ss)) s
-AllInRange-front a n V [] s rest h = (tt, h.0)
-AllInRange-front a n V (k ∷ ss) s rest h =
+pub AllInRange-prefix : (a : Actor) (n : ℕ) (V : List OpId) (ss : List Splice) (s : Splice) (rest : List Splice) → AllInRange (length V) (ss ++ s ∷ rest) → AllInRange (length V) ss × IsInRange (length (ids_after_all a n V ss)) s
+AllInRange-prefix a n V [] s rest h = (tt, h.0)
+AllInRange-prefix a n V (k ∷ ss) s rest h =
     let size = length-ids_landed a V (landing_of n k) h.0 in
-    let more = AllInRange-front a (n + count_of k) (ids_after a n V k) ss s rest (subst (λ m. AllInRange m (ss ++ s ∷ rest)) (sym size) h.1) in
+    let more = AllInRange-prefix a (n + count_of k) (ids_after a n V k) ss s rest (subst (λ m. AllInRange m (ss ++ s ∷ rest)) (sym size) h.1) in
     ((h.0, subst (λ m. AllInRange m ss) size more.0), more.1)
 
 total_count-append : (xs ys : List Splice) → total_count (xs ++ ys) ≡ total_count xs + total_count ys
@@ -126,10 +126,10 @@ IsNext-at a n V ss i d lt range room =
     let s = get_or ss i d in
     let rest = drop (i + 1) ss in
     let whole : done ++ s ∷ rest ≡ ss = ap (λ l. done ++ l) (sym (drop_more ss i d lt)) ∙ take-append-drop i ss in
-    let front = AllInRange-front a n V done s rest (subst (AllInRange (length V)) (sym whole) range) in
+    let prefix = AllInRange-prefix a n V done s rest (subst (AllInRange (length V)) (sym whole) range) in
     let counted = ap total_count (sym whole) ∙ total_count-append done (s ∷ rest) in
     record {
-      fit = AllFit-landings a n V done front.0 (omega (arith, room, counted));
-      place = subst (λ W. IsInRange (length W) s) (sym (ids_through-landings a n V done)) front.1;
+      fit = AllFit-landings a n V done prefix.0 (omega (arith, room, counted));
+      place = subst (λ W. IsInRange (length W) s) (sym (ids_through-landings a n V done)) prefix.1;
       room = omega (arith, room, counted);
     }

@@ -8,7 +8,7 @@ use Rattle.tp_opid.specs.declared.op_id.Place.{Place}
 use Rattle.tp_opid.specs.declared.op_id.Place.TheVariants.{Start, After}
 use Rattle.tp_opid.specs.Insert.{Insert}
 use Rattle.tp_opid.specs.Order.{Below}
-use Rattle.tp_opid.specs.Tree.{IsThere, IsAboveAll, IsPlaceBelow, IsTree, CanInsert}
+use Rattle.tp_opid.specs.Tree.{IsThere, IsAboveAll, IsReferenceBelow, IsTree, CanInsert}
 use Rattle.tp_opid.proofs.Orders.{Below-asym, Below-trans, Below-counter}
 use Rattle.tp_opid.proofs.Trees.{IsThere-member, IsTree-push}
 use Rattle.tp_change.specs.Operations.{id_of, run}
@@ -50,11 +50,11 @@ stops : (T B : List Insert) (x : OpId) → IsAboveAll T x → AllIn B T → Stop
 stops T [] x above part = tt
 stops T (h ∷ B) x above part = λ b. Below-asym x h.id b (above h (part h (inl refl)))
 
-place_there : (T F B : List Insert) (x : OpId) (p : Place) → IsInOrder T (F ++ B) → IsAboveAll T x → EndsAt F p → IsPlaceBelow T x p
+place_there : (T F B : List Insert) (x : OpId) (p : Place) → IsInOrder T (F ++ B) → IsAboveAll T x → EndsAt F p → IsReferenceBelow T x p
 place_there T F B x Start order above ends = tt
 place_there T F B x (After r) order above (A, f, is, names) =
-    let in_front : In f F = subst (In f) (sym is) (In-last f A) in
-    let there : In f T = order.same.back f (In-left f F B in_front) in
+    let in_prefix : In f F = subst (In f) (sym is) (In-last f A) in
+    let there : In f T = order.same.back f (In-left f F B in_prefix) in
     subst (λ w. IsThere T w × Below w x) names (IsThere-member T f there, above f there)
 
 -- an insert of the next identifier can come

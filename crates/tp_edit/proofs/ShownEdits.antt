@@ -107,7 +107,7 @@ pub shown_cut : (a : Actor) (n : ℕ) (A X B : List Insert) → AreApart (A ++ (
 shown_cut a n A X B apart =
     let D = named_from a n (ids_of X) in
     let keep = λ (e : Insert). not (is_removed D e.id) in
-    let front : shown D A ≡ A = shown_kept D A (λ e i. named_from-leaves a n (ids_of X) e.id (λ x j.
+    let prefix : shown D A ≡ A = shown_kept D A (λ e i. named_from-leaves a n (ids_of X) e.id (λ x j.
     let f = In-ids X x j in
     ap (λ w. id_eq w e.id) f.2 ∙ AreApart-across A (X ++ B) apart e f.0 i (In-left f.0 X B f.1))) in
     let middle : shown D X ≡ [] = shown_gone D X (λ e i. named_from-removes a n (ids_of X) e.id (ids-In X e i)) in
@@ -115,9 +115,9 @@ shown_cut a n A X B apart =
     let f = In-ids X x j in
     ap (λ w. id_eq w e.id) f.2 ∙ id_eq-flip e.id f.0.id (AreApart-across X B (AreApart-back A (X ++ B) apart) f.0 e f.1 i))) in
     filter-append keep A (X ++ B) ∙ ap (λ M. shown D A ++ M) (filter-append keep X B)
-    ∙ ap (λ M. M ++ (shown D X ++ shown D B)) front ∙ ap (λ M. A ++ (M ++ shown D B)) middle ∙ ap (λ M. A ++ M) back
+    ∙ ap (λ M. M ++ (shown D X ++ shown D B)) prefix ∙ ap (λ M. A ++ (M ++ shown D B)) middle ∙ ap (λ M. A ++ M) back
 
--- ---- where the last visible element of a front stands
+-- ---- where the last visible element of a prefix stands
 
 -- a list is empty or has a last element
 snoc_cases : {X : Type 0} (xs : List X) → (xs ≡ []) ⊎ ((ys : List X) × (x : X) × (xs ≡ ys ++ x ∷ []))

@@ -20,7 +20,7 @@ ids_of L = map (λ (e : Insert). e.id) L
 abbrev pub visible_ids : List (OpId × OpId) → List Insert → List OpId
 visible_ids R L = ids_of (shown R L)
 
--- the place after the last of the identifiers, or p where there are none
+-- the reference after the last of the identifiers, or p where there are none
 abbrev pub after_last : Place → List OpId → Place
 after_last p [] = p
 after_last p (x ∷ xs) = after_last (After x) xs

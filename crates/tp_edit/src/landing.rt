@@ -18,28 +18,28 @@ pub struct Landing {
     pub first: u64,
 }
 
-// The identifier of the element that is visible at a place after the landings. Each landing is looked at once at
+// The identifier of the element that is visible at a position after the landings. Each landing is looked at once at
 // most, the latest first, and the sequence once at most.
 pub fn id_through<S: Sequence>(
     sequence: &S,
     actor: Actor,
     landings: &[Landing],
-    mut place: u128,
+    mut position: u128,
 ) -> OpId
     requires fit { AllFit actor
         (visible_ids (S.removals sequence.now) (S.placed sequence.now))
         landings.now }
-    requires there { place < length
+    requires there { position < length
         (ids_through actor
         (visible_ids (S.removals sequence.now) (S.placed sequence.now))
         landings.now) }
-    requires near { place < 2 ^ 65 }
+    requires near { position < 2 ^ 65 }
     requires counted { length (shown (S.removals sequence.now) (S.placed sequence.now)) < 2 ^ 64 }
     ensures { slice_get
         (ids_through actor
         (visible_ids (S.removals sequence.now) (S.placed sequence.now))
         landings.now)
-        place
+        position
         ≡ Some result }
 {
     let mut left = landings.len();
@@ -48,15 +48,15 @@ pub fn id_through<S: Sequence>(
         let landing = &landings[left];
         let at = landing.at as u128;
         let len = landing.len as u128;
-        if at <= place {
-            if place < at + len {
-                let counter = landing.first + (place - at) as u64;
+        if at <= position {
+            if position < at + len {
+                let counter = landing.first + (position - at) as u64;
                 return OpId { counter, actor };
             }
-            place = place - len + landing.del as u128;
+            position = position - len + landing.del as u128;
         }
     }
-    match sequence.id_at(place as usize) {
+    match sequence.id_at(position as usize) {
         Some(id) => id,
         None => unreachable!(),
     }

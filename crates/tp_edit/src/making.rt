@@ -67,7 +67,7 @@ fn append_splice<S: Sequence>(
 /// below 2^64, by [`operation_count`](crate::operation_count). The only refusal is for want of memory.
 ///
 /// One splice looks up each deleted element in the sequence and the one before the run, and makes no pass over the
-/// text. A later splice traces each place back through the ones before it. Each inserted text is copied once.
+/// text. A later splice traces each position back through the ones before it. Each inserted text is copied once.
 pub fn records<S: Sequence>(
     alloc: Global,
     sequence: &S,

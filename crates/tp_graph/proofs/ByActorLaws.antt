@@ -15,7 +15,7 @@ use Rattle.tp_opid.specs.Order.{actor_cmp}
 use Rattle.tp_opid.specs.Same.{same_actor}
 use Rattle.tp_opid.proofs.Orders.{actor_total, same_actor-same, same_actor-itself, same_actor-tied}
 use Rattle.tp_change.specs.declared.parts.ChangeParts.{ChangeParts}
-use Rattle.tp_graph.specs.ByActor.{is_above, after_by, is_after, StandsBefore, IsByActor, IsCut, IsWithin, IsLatest}
+use Rattle.tp_graph.specs.ByActor.{is_above, after_by, is_after, StandsBefore, IsByActor, IsCut, StartsWithin, IsLatest}
 
 -- ---- numbers
 
@@ -115,15 +115,15 @@ cut-back C order a limit low high mid c o w small at up = record {
 
 -- ---- the latest
 
-within-not_after : (a : Actor) (limit : Option ℕ) (d : ChangeParts) → IsWithin a limit d → is_after a limit d ≡ false
+within-not_after : (a : Actor) (limit : Option ℕ) (d : ChangeParts) → StartsWithin a limit d → is_after a limit d ≡ false
 within-not_after a limit d w = rw (equal-actors d.actor a w.actor) w.start
 
-not_after-within : (a : Actor) (limit : Option ℕ) (d : ChangeParts) → same_actor d.actor a ≡ true → is_after a limit d ≡ false → IsWithin a limit d
+not_after-within : (a : Actor) (limit : Option ℕ) (d : ChangeParts) → same_actor d.actor a ≡ true → is_after a limit d ≡ false → StartsWithin a limit d
 not_after-within a limit d s f = record { actor = s; start = sym (ap (λ o. after_by o limit d.start) (equal-actors d.actor a s)) ∙ f }
 
 -- a change within the limit stands before the cut
 before_cut : (C : List ChangeParts) (order : List ℕ) (a : Actor) (limit : Option ℕ) (i : ℕ) (d : ChangeParts)
-    → IsByActor C order → IsCut C order a limit i i → In d C → IsWithin a limit d → (k : ℕ) × (k < i) × (k < length order) × (slice_get C (get_or order k 0) ≡ Some d)
+    → IsByActor C order → IsCut C order a limit i i → In d C → StartsWithin a limit d → (k : ℕ) × (k < i) × (k < length order) × (slice_get C (get_or order k 0) ≡ Some d)
 before_cut C order a limit i d o w j within =
     let at = In-at C d j in
     let h = o.there at.0 at.1 in

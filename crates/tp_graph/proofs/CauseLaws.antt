@@ -7,15 +7,15 @@ use Rattle.tp_graph.specs.declared.error.GraphError.{GraphError}
 use Rattle.tp_graph.specs.declared.error.GraphError.TheVariants.{Known, MissingDeps, BadSeq, BadStart, BadReference, SeqClash, UnknownHead, Full, OutOfMemory}
 use Rattle.tp_graph.specs.Named.{has, has_all}
 use Rattle.tp_graph.specs.Past.{past}
-use Rattle.tp_graph.specs.Fit.{misfit, misfit_behind, cause}
+use Rattle.tp_graph.specs.Fit.{defect, defect_behind, cause}
 use Rattle.tp_graph.specs.Answers.{IsCause, Answers}
 
 -- a fault behind the past is the cause, where the change is new and its dependencies are there
-cause_behind : (C : List ChangeParts) (c : ChangeParts) (e : GraphError) → has C (hash_of c) ≡ false → has_all C c.deps ≡ true → misfit_behind (past C c.deps) c ≡ Some e → cause C c ≡ Some e
-unfolding cause misfit
+cause_behind : (C : List ChangeParts) (c : ChangeParts) (e : GraphError) → has C (hash_of c) ≡ false → has_all C c.deps ≡ true → defect_behind (past C c.deps) c ≡ Some e → cause C c ≡ Some e
+unfolding cause defect
 cause_behind C c e new there h = rw (new, there, h) refl
 
-IsCause-behind : (C : List ChangeParts) (c : ChangeParts) (e : GraphError) → has C (hash_of c) ≡ false → has_all C c.deps ≡ true → IsCause e (misfit_behind (past C c.deps) c) → IsCause e (cause C c)
+IsCause-behind : (C : List ChangeParts) (c : ChangeParts) (e : GraphError) → has C (hash_of c) ≡ false → has_all C c.deps ≡ true → IsCause e (defect_behind (past C c.deps) c) → IsCause e (cause C c)
 IsCause-behind C c Known new there h = cause_behind C c Known new there h
 IsCause-behind C c MissingDeps new there h = cause_behind C c MissingDeps new there h
 IsCause-behind C c BadSeq new there h = cause_behind C c BadSeq new there h
@@ -27,6 +27,6 @@ IsCause-behind C c Full new there h = cause_behind C c Full new there h
 IsCause-behind C c OutOfMemory new there h = tt
 
 pub Answers-behind : (C : List ChangeParts) (c : ChangeParts) (e : GraphError) (r : Result (Unit {0}) GraphError)
-    → has C (hash_of c) ≡ false → has_all C c.deps ≡ true → IsCause e (misfit_behind (past C c.deps) c) → IsErrAnd r (λ x. x ≡ e) → Answers r (cause C c)
+    → has C (hash_of c) ≡ false → has_all C c.deps ≡ true → IsCause e (defect_behind (past C c.deps) c) → IsErrAnd r (λ x. x ≡ e) → Answers r (cause C c)
 Answers-behind C c e (Ok x) new there h k = absurd k
 Answers-behind C c e (Err x) new there h k = subst (λ y. IsCause y (cause C c)) (sym k) (IsCause-behind C c e new there h)

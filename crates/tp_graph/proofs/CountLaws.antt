@@ -17,7 +17,7 @@ use Rattle.tp_change.proofs.ElementLaws.{is_inserted-more, refers-same, inserts-
 use Rattle.tp_graph.specs.declared.error.GraphError.TheVariants.{BadSeq, BadStart, BadReference}
 use Rattle.tp_graph.specs.Named.{names, is_needed}
 use Rattle.tp_graph.specs.Past.{past, with_reached}
-use Rattle.tp_graph.specs.Fit.{count_by, misfit_behind}
+use Rattle.tp_graph.specs.Fit.{count_by, defect_behind}
 use Rattle.tp_graph.specs.Sound.{Sound, Fits}
 use Rattle.tp_graph.specs.GraphState.{HashesOnce}
 use Rattle.tp_graph.proofs.NamedLaws.{In-has}
@@ -73,9 +73,9 @@ is_inserted-same C D f g id =
     (is_inserted-more (inserts D) (inserts C) id (inserts-more D C g))
 
 -- the faults of numbers and references depend on the past as a set
-pub misfit_behind-same : (P Q : List ChangeParts) (c : ChangeParts) → HashesOnce P → HashesOnce Q → AllIn P Q → AllIn Q P → misfit_behind P c ≡ misfit_behind Q c
-unfolding misfit_behind
-misfit_behind-same P Q c o q f g =
+pub defect_behind-same : (P Q : List ChangeParts) (c : ChangeParts) → HashesOnce P → HashesOnce Q → AllIn P Q → AllIn Q P → defect_behind P c ≡ defect_behind Q c
+unfolding defect_behind
+defect_behind-same P Q c o q f g =
     let refs : refers (inserts P) (ops_of c) ≡ refers (inserts Q) (ops_of c) = refers-same (inserts P) (inserts Q) (ops_of c) (is_inserted-same P Q f g) in
     ap (λ n. cond (c.seq == n + 1) (cond (c.start == next_counter P) (cond (refers (inserts P) (ops_of c)) None (Some BadReference)) (Some BadStart)) (Some BadSeq)) (count_by-same c.actor P Q o q f g)
     ∙ ap (λ n. cond (c.seq == count_by c.actor Q + 1) (cond (c.start == n) (cond (refers (inserts P) (ops_of c)) None (Some BadReference)) (Some BadStart)) (Some BadSeq)) (next_counter-same P Q f g)

@@ -7,19 +7,8 @@ use Rattle.std.proofs.lemmas.List.{take_more, take_all, drop_all, take-append-dr
 use Rattle.tp_list.specs.Rising.{put, put_at}
 use Rattle.tp_opid.specs.declared.hash.Hash.{Hash}
 use Rattle.tp_opid.specs.Order.{hash_cmp}
-use Rattle.tp_opid.specs.Same.{same_hash}
 use Rattle.tp_graph.specs.Named.{among}
 use Rattle.tp_graph.specs.Heads.{without}
-
-pub among-drop : (H : List Hash) (i : ℕ) (d : Hash) (h : Hash) → i < length H → among (drop i H) h ≡ (same_hash (get_or H i d) h || among (drop (i + 1) H) h)
-among-drop H i d h small =
-    ap (λ l. among l h) (drop-cons H i d small) ∙ ap (λ k. same_hash (get_or H i d) h || among (drop k H) h) (sym (add-one i))
-
-pub among-found : (H : List Hash) (i : ℕ) (d : Hash) (h : Hash) → i < length H → among (drop i H) h ≡ among H h → same_hash (get_or H i d) h ≡ true → true ≡ among H h
-among-found H i d h small e s = sym (sym e ∙ among-drop H i d h small ∙ ap (λ b. b || among (drop (i + 1) H) h) s)
-
-pub among-on : (H : List Hash) (i : ℕ) (d : Hash) (h : Hash) → i < length H → among (drop i H) h ≡ among H h → same_hash (get_or H i d) h ≡ false → among (drop (i + 1) H) h ≡ among H h
-among-on H i d h small e s = sym (sym e ∙ among-drop H i d h small ∙ ap (λ b. b || among (drop (i + 1) H) h) s)
 
 pub filter-without : (D H : List Hash) → filter (λ h. not (among D h)) H ≡ without D H
 filter-without D [] = refl

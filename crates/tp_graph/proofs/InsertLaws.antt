@@ -17,8 +17,8 @@ use Rattle.tp_change.specs.declared.record.Record.TheVariants.{Insert, Delete}
 use Rattle.tp_change.specs.declared.parts.ChangeParts.{ChangeParts}
 use Rattle.tp_change.specs.Operations.{ops_of, ops_from, ops_in, run, id_of, count_in, count_of, op_count}
 use Rattle.tp_change.specs.Limits.{IsRecord, IsChange}
-use Rattle.tp_change.specs.Elements.{element, inserts_in, is_inserted, is_place, refers}
-use Rattle.tp_change.proofs.ElementLaws.{inserts_in-append, is_inserted-append, ops_from-append, SameIds, is_place-same, grown, refers-append, grown-ids}
+use Rattle.tp_change.specs.Elements.{element, inserts_in, is_inserted, is_reference, refers}
+use Rattle.tp_change.proofs.ElementLaws.{inserts_in-append, is_inserted-append, ops_from-append, SameIds, is_reference-same, grown, refers-append, grown-ids}
 use Rattle.tp_graph.specs.Covers.{covers, only_inserts, is_there, all_there}
 
 -- ---- which identifiers are inserted
@@ -82,12 +82,12 @@ run_goes_on a n (ch ∷ text) S p e =
     both (is_inserted S p) (refers (element (id_of a n) (After p) ch ∷ S) (run a (n + 1) (After (id_of a n)) text)) e
     (run_goes_on a (n + 1) text (element (id_of a n) (After p) ch ∷ S) (id_of a n) (or_left (id_eq (id_of a n) (id_of a n)) (is_inserted S (id_of a n)) (id_eq-itself (id_of a n))))
 
-refers-run : (a : Actor) (n : ℕ) (after : Place) (text : List ℕ) (S : List element_of.Insert) → 0 < length text → refers S (run a n after text) ≡ is_place S after
+refers-run : (a : Actor) (n : ℕ) (after : Place) (text : List ℕ) (S : List element_of.Insert) → 0 < length text → refers S (run a n after text) ≡ is_reference S after
 refers-run a n after [] S some = absurd (omega arith)
 refers-run a n after (ch ∷ text) S some =
-    ap (λ b. is_place S after && b)
+    ap (λ b. is_reference S after && b)
     (run_goes_on a (n + 1) text (element (id_of a n) after ch ∷ S) (id_of a n) (or_left (id_eq (id_of a n) (id_of a n)) (is_inserted S (id_of a n)) (id_eq-itself (id_of a n))))
-    ∙ alone (is_place S after) where
+    ∙ alone (is_reference S after) where
       alone : (b : Bool) → (b && true) ≡ b
       alone true = refl
       alone false = refl
@@ -100,7 +100,7 @@ refers-record a n (Delete target) S h = alone (is_inserted S target) where
   alone false = refl
 
 is_there-same : (S T : List element_of.Insert) (r : Record) → SameIds S T → is_there S r ≡ is_there T r
-is_there-same S T (Insert after text) f = is_place-same S T after f
+is_there-same S T (Insert after text) f = is_reference-same S T after f
 is_there-same S T (Delete target) f = f target
 
 -- references, record by record

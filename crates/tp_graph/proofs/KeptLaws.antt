@@ -15,13 +15,13 @@ use Rattle.tp_change.proofs.ElementLaws.{next_counter-push}
 use Rattle.tp_graph.specs.declared.error.GraphError.{GraphError}
 use Rattle.tp_graph.specs.Named.{has}
 use Rattle.tp_graph.specs.Heads as head
-use Rattle.tp_graph.specs.Fit.{misfit, cause, or_full, most_changes}
+use Rattle.tp_graph.specs.Fit.{defect, cause, or_full, most_changes}
 use Rattle.tp_graph.specs.Places.{noted}
 use Rattle.tp_graph.specs.Sound.{Fits}
-use Rattle.tp_graph.specs.AppliedState.{IsKept}
+use Rattle.tp_graph.specs.AppliedState.{IsGraphIndex}
 use Rattle.tp_graph.specs.ByActor.{IsByActor}
 use Rattle.tp_graph.proofs.NamedLaws.{In-has}
-use Rattle.tp_graph.proofs.SoundLaws.{Fits-from_misfit, misfit-from_Fits, Sound-push}
+use Rattle.tp_graph.proofs.SoundLaws.{Fits-from_defect, defect-from_Fits, Sound-push}
 use Rattle.tp_graph.proofs.HeadsLaws.{heads-push}
 use Rattle.tp_graph.proofs.PlacesLaws.{NotesFrom-more, NotesFrom-push}
 use Rattle.tp_graph.proofs.PickLaws.{ends_of-push}
@@ -31,13 +31,13 @@ no_cause (Some e) b h = cc
 no_cause None true h = cc
 no_cause None false h = (refl, refl)
 
--- a change that can enter has no misfit, and the list isn't full
-pub enters : (C : List ChangeParts) (c : ChangeParts) → cause C c ≡ None → (misfit C c ≡ None) × ((length C == most_changes) ≡ false)
+-- a change that can enter has no defect, and the list isn't full
+pub enters : (C : List ChangeParts) (c : ChangeParts) → cause C c ≡ None → (defect C c ≡ None) × ((length C == most_changes) ≡ false)
 unfolding cause
-enters C c h = no_cause (misfit C c) (length C == most_changes) h
+enters C c h = no_cause (defect C c) (length C == most_changes) h
 
 pub Fits-from_cause : (C : List ChangeParts) (c : ChangeParts) → cause C c ≡ None → Fits C c
-Fits-from_cause C c h = Fits-from_misfit C c (enters C c h).0
+Fits-from_cause C c h = Fits-from_defect C c (enters C c h).0
 
 -- where a change can enter there are fewer changes than a graph has at most
 pub room_for_one : (C : List ChangeParts) (c : ChangeParts) → cause C c ≡ None → length C ≤ most_changes → length C < most_changes
@@ -48,12 +48,12 @@ pub cause-from_Fits : (C : List ChangeParts) (c : ChangeParts) → Fits C c → 
 unfolding cause
 cause-from_Fits C c f small =
     let room : (length C == most_changes) ≡ false = grind (arith, nat_tests) in
-    ap (λ o. or_full o (length C == most_changes)) (misfit-from_Fits C c f) ∙ ap (or_full None) room
+    ap (λ o. or_full o (length C == most_changes)) (defect-from_Fits C c f) ∙ ap (or_full None) room
 
 -- a new note for a hash that isn't there
-pub IsKept-noted : (C : List ChangeParts) (heads : List Hash) (old new : List (Hash × ℕ)) (ends : List ℕ) (next : ℕ) (order : List ℕ) (h : Hash) (p : ℕ)
-    → IsKept C heads old ends next order → has C h ≡ false → ((other : Hash) → noted new other ≡ cond (same_hash h other) (Some p) (noted old other)) → IsKept C heads new ends next order
-IsKept-noted C heads old new ends next order h p k lacks notes = record {
+pub IsGraphIndex-noted : (C : List ChangeParts) (heads : List Hash) (old new : List (Hash × ℕ)) (ends : List ℕ) (next : ℕ) (order : List ℕ) (h : Hash) (p : ℕ)
+    → IsGraphIndex C heads old ends next order → has C h ≡ false → ((other : Hash) → noted new other ≡ cond (same_hash h other) (Some p) (noted old other)) → IsGraphIndex C heads new ends next order
+IsGraphIndex-noted C heads old new ends next order h p k lacks notes = record {
   sound = k.sound;
   few = k.few;
   heads_are = k.heads_are;
@@ -71,10 +71,10 @@ pub noted_itself : (old new : List (Hash × ℕ)) (h : Hash) (p : ℕ) → ((oth
 noted_itself old new h p notes = notes h ∙ ap (λ b. cond b (Some p) (noted old h)) (same_hash-itself h)
 
 -- a change that enters
-pub IsKept-push : (C : List ChangeParts) (c : ChangeParts) (heads : List Hash) (entries : List (Hash × ℕ)) (ends : List ℕ) (next : ℕ) (order order_after : List ℕ)
-    → IsKept C heads entries ends next order → cause C c ≡ None → noted entries (hash_of c) ≡ Some (length C) → IsByActor (C ++ c ∷ []) order_after
-    → IsKept (C ++ c ∷ []) (list.put hash_cmp (hash_of c) (head.without c.deps heads)) entries (ends ++ (c.start + op_count c) ∷ []) (later next (c.start + op_count c)) order_after
-IsKept-push C c heads entries ends next order order_after k none at by_actor =
+pub IsGraphIndex-push : (C : List ChangeParts) (c : ChangeParts) (heads : List Hash) (entries : List (Hash × ℕ)) (ends : List ℕ) (next : ℕ) (order order_after : List ℕ)
+    → IsGraphIndex C heads entries ends next order → cause C c ≡ None → noted entries (hash_of c) ≡ Some (length C) → IsByActor (C ++ c ∷ []) order_after
+    → IsGraphIndex (C ++ c ∷ []) (list.put hash_cmp (hash_of c) (head.without c.deps heads)) entries (ends ++ (c.start + op_count c) ∷ []) (later next (c.start + op_count c)) order_after
+IsGraphIndex-push C c heads entries ends next order order_after k none at by_actor =
     let f = Fits-from_cause C c none in
     let one = (enters C c none).1 in
     let small = k.few in
@@ -93,11 +93,11 @@ IsKept-push C c heads entries ends next order order_after k none at by_actor =
       counted n = omega arith
 
 -- the same, of vectors that were changed so
-pub IsKept-entered : (C : List ChangeParts) (c : ChangeParts) (heads : List Hash) (entries : List (Hash × ℕ)) (ends : List ℕ) (next : ℕ) (order : List ℕ)
+pub IsGraphIndex-entered : (C : List ChangeParts) (c : ChangeParts) (heads : List Hash) (entries : List (Hash × ℕ)) (ends : List ℕ) (next : ℕ) (order : List ℕ)
     (D : List ChangeParts) (heads_after : List Hash) (ends_after : List ℕ) (next_after : ℕ) (order_after : List ℕ) (h : Hash) (deps : List Hash) (end : ℕ)
-    → IsKept C heads entries ends next order → cause C c ≡ None → noted entries (hash_of c) ≡ Some (length C)
+    → IsGraphIndex C heads entries ends next order → cause C c ≡ None → noted entries (hash_of c) ≡ Some (length C)
     → h ≡ hash_of c → deps ≡ c.deps → end ≡ c.start + op_count c
     → D ≡ C ++ c ∷ [] → heads_after ≡ list.put hash_cmp h (head.without deps heads) → ends_after ≡ ends ++ end ∷ [] → next_after ≡ later next end → IsByActor (C ++ c ∷ []) order_after
-    → IsKept D heads_after entries ends_after next_after order_after
-IsKept-entered C c heads entries ends next order D heads_after ends_after next_after order_after h deps end k none at hash_is deps_are end_is all heads_are ends_are next_is by_actor =
-    rw (all, heads_are, ends_are, next_is, hash_is, deps_are, end_is) (IsKept-push C c heads entries ends next order order_after k none at by_actor)
+    → IsGraphIndex D heads_after entries ends_after next_after order_after
+IsGraphIndex-entered C c heads entries ends next order D heads_after ends_after next_after order_after h deps end k none at hash_is deps_are end_is all heads_are ends_are next_is by_actor =
+    rw (all, heads_are, ends_are, next_is, hash_is, deps_are, end_is) (IsGraphIndex-push C c heads entries ends next order order_after k none at by_actor)

@@ -14,7 +14,7 @@ use Rattle.tp_change.specs.declared.parts.ChangeParts.{ChangeParts}
 use Rattle.tp_change.specs.Operations.{op_count, ops_of}
 use Rattle.tp_change.specs.Elements.{inserts_in, inserts, is_inserted, next_counter}
 use Rattle.tp_change.proofs.ElementLaws.{is_inserted-append, next_counter-above}
-use Rattle.tp_graph.specs.ByActor.{IsWithin, IsLatest}
+use Rattle.tp_graph.specs.ByActor.{StartsWithin, IsLatest}
 use Rattle.tp_graph.specs.Fit.{count_by}
 use Rattle.tp_graph.specs.Past.{past}
 use Rattle.tp_graph.specs.Sound.{Sound, Fits}
@@ -114,7 +114,7 @@ count-within C P a p c s t more w at i =
 -- ---- who inserted what
 
 -- a change inserts operations of its own actor alone, from its start on
-inserts-within : (d : ChangeParts) (id : OpId) → is_inserted (inserts_in (ops_of d)) id ≡ true → IsWithin id.actor (Some id.counter) d
+inserts-within : (d : ChangeParts) (id : OpId) → is_inserted (inserts_in (ops_of d)) id ≡ true → StartsWithin id.actor (Some id.counter) d
 inserts-within d id t = record {
   actor = both_left (same_actor d.actor id.actor) _ (sym (inserts_id-is d id) ∙ t);
   start = not_true (nat_lt id.counter d.start) (λ u. let low : id.counter < d.start = grind (arith, nat_tests) in never t (sym (inserts_id-low d id low)));
@@ -163,7 +163,7 @@ inserted-latest C P id p c held b s more w at holds held_by is =
     let h : Some w.0 ≡ Some c = sym w.1 ∙ at in
     let one : w.0 ≡ c = cc in
     let most : d.0.seq ≤ c.seq = subst (λ (x : ChangeParts). d.0.seq ≤ x.seq) one (w.3 d.0 (more d.0 d.1) within) in
-    let mine : IsWithin id.actor (Some id.counter) c = subst (IsWithin id.actor (Some id.counter)) one w.2 in
+    let mine : StartsWithin id.actor (Some id.counter) c = subst (StartsWithin id.actor (Some id.counter)) one w.2 in
     let who : same_actor d.0.actor c.actor ≡ true = rw (same_actor-same d.0.actor id.actor within.actor, same_actor-same c.actor id.actor mine.actor) (same_actor-itself id.actor) in
     let apart = own_apart C s d.0 c (more d.0 d.1) (In-slice_get C p c at) who in
     let same : d.0 ≡ c = elim (le_cases d.0.seq c.seq most) [

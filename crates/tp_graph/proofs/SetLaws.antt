@@ -16,37 +16,37 @@ use Rattle.tp_graph.specs.Named.{has, has_all}
 use Rattle.tp_graph.specs.Past.{past}
 use Rattle.tp_graph.specs.Reach.{Chain}
 use Rattle.tp_graph.specs.Heads.{heads}
-use Rattle.tp_graph.specs.Fit.{misfit, misfit_behind, or_clash, clashes, count_by}
+use Rattle.tp_graph.specs.Fit.{defect, defect_behind, or_clash, clashes, count_by}
 use Rattle.tp_graph.specs.Sound.{Sound, Fits}
 use Rattle.tp_graph.proofs.NamedLaws.{has-In, has-append, has-more, lacks-fewer, has_all-In, has_all-more}
 use Rattle.tp_graph.proofs.PastLaws.{past-In}
-use Rattle.tp_graph.proofs.SoundLaws.{Fits-from_misfit, misfit-from_Fits, Sound-front, Fits-at, hashes_apart, deps_there, IsClosed, deps_first, Sound-before, sound_pasts}
+use Rattle.tp_graph.proofs.SoundLaws.{Fits-from_defect, defect-from_Fits, Sound-prefix, Fits-at, hashes_apart, deps_there, IsClosed, deps_first, Sound-before, sound_pasts}
 use Rattle.tp_graph.proofs.ClashLaws.{clashes-fewer, clashes-append, clash_of, In-clashes}
 use Rattle.tp_graph.proofs.ReachLaws.{InPast-from_past, past-held, past-held_back}
 use Rattle.tp_graph.proofs.HeadsLaws.{past-heads, has_all-heads}
 use Rattle.tp_graph.proofs.MarksLaws.{hashes_once}
-use Rattle.tp_graph.proofs.CountLaws.{misfit_behind-same, seqs_run}
+use Rattle.tp_graph.proofs.CountLaws.{defect_behind-same, seqs_run}
 
--- ---- the misfit, part by part
+-- ---- the defect, part by part
 
-misfit-parts : (C D : List ChangeParts) (c : ChangeParts) → has C (hash_of c) ≡ has D (hash_of c) → has_all C c.deps ≡ has_all D c.deps
-    → misfit_behind (past C c.deps) c ≡ misfit_behind (past D c.deps) c → clashes C c ≡ clashes D c → misfit C c ≡ misfit D c
-unfolding misfit
-misfit-parts C D c e f g h =
-    ap (λ b. cond b (Some Known) (cond (has_all C c.deps) (or_clash (misfit_behind (past C c.deps) c) (clashes C c)) (Some MissingDeps))) e
-    ∙ ap (λ b. cond (has D (hash_of c)) (Some Known) (cond b (or_clash (misfit_behind (past C c.deps) c) (clashes C c)) (Some MissingDeps))) f
+defect-parts : (C D : List ChangeParts) (c : ChangeParts) → has C (hash_of c) ≡ has D (hash_of c) → has_all C c.deps ≡ has_all D c.deps
+    → defect_behind (past C c.deps) c ≡ defect_behind (past D c.deps) c → clashes C c ≡ clashes D c → defect C c ≡ defect D c
+unfolding defect
+defect-parts C D c e f g h =
+    ap (λ b. cond b (Some Known) (cond (has_all C c.deps) (or_clash (defect_behind (past C c.deps) c) (clashes C c)) (Some MissingDeps))) e
+    ∙ ap (λ b. cond (has D (hash_of c)) (Some Known) (cond b (or_clash (defect_behind (past C c.deps) c) (clashes C c)) (Some MissingDeps))) f
     ∙ ap (λ o. cond (has D (hash_of c)) (Some Known) (cond (has_all D c.deps) (or_clash o (clashes C c)) (Some MissingDeps))) g
-    ∙ ap (λ b. cond (has D (hash_of c)) (Some Known) (cond (has_all D c.deps) (or_clash (misfit_behind (past D c.deps) c) b) (Some MissingDeps))) h
+    ∙ ap (λ b. cond (has D (hash_of c)) (Some Known) (cond (has_all D c.deps) (or_clash (defect_behind (past D c.deps) c) b) (Some MissingDeps))) h
 
 pub has-same : (C D : List ChangeParts) (h : Hash) → AllIn C D → AllIn D C → has C h ≡ has D h
 has-same C D h f g = same_test (has C h) (has D h) (has-more C D h f) (has-more D C h g)
 
--- the misfit depends on the changes as a set
-pub misfit-same : (C D : List ChangeParts) (c : ChangeParts) → Sound C → Sound D → AllIn C D → AllIn D C → misfit C c ≡ misfit D c
-misfit-same C D c s t f g =
-    misfit-parts C D c (has-same C D (hash_of c) f g)
+-- the defect depends on the changes as a set
+pub defect-same : (C D : List ChangeParts) (c : ChangeParts) → Sound C → Sound D → AllIn C D → AllIn D C → defect C c ≡ defect D c
+defect-same C D c s t f g =
+    defect-parts C D c (has-same C D (hash_of c) f g)
     (same_test (has_all C c.deps) (has_all D c.deps) (has_all-more C D c.deps f) (has_all-more D C c.deps g))
-    (misfit_behind-same (past C c.deps) (past D c.deps) c
+    (defect_behind-same (past C c.deps) (past D c.deps) c
     (hashes_once (past C c.deps) (sound_pasts C s c.deps)) (hashes_once (past D c.deps) (sound_pasts D t c.deps))
     (past-held C D c.deps (deps_first C s) (deps_first D t) (λ x i. f x (past-In C c.deps x i)))
     (past-held D C c.deps (deps_first D t) (deps_first C s) (λ x i. g x (past-In D c.deps x i))))
@@ -76,17 +76,17 @@ Fits-later C D c s f new free =
       free = clashes-append C D c f.free free;
     }
 
--- a misfit of a change whose dependencies are there stays, unless its hash enters
-pub misfit-later : (C D : List ChangeParts) (c : ChangeParts) (e : GraphError) → Sound (C ++ D) → has_all C c.deps ≡ true → has D (hash_of c) ≡ false
-    → misfit C c ≡ Some e → misfit (C ++ D) c ≡ Some e
-unfolding misfit
-misfit-later C D c e s all new m =
+-- a defect of a change whose dependencies are there stays, unless its hash enters
+pub defect-later : (C D : List ChangeParts) (c : ChangeParts) (e : GraphError) → Sound (C ++ D) → has_all C c.deps ≡ true → has D (hash_of c) ≡ false
+    → defect C c ≡ Some e → defect (C ++ D) c ≡ Some e
+unfolding defect
+defect-later C D c e s all new m =
     let same_hash : has (C ++ D) (hash_of c) ≡ has C (hash_of c) = has-append C D (hash_of c) ∙ ap (λ b. has C (hash_of c) || b) new ∙ alone (has C (hash_of c)) in
     let all_there : has_all (C ++ D) c.deps ≡ true = has_all-more C (C ++ D) c.deps (λ x i. In-left x C D i) all in
     let same : past (C ++ D) c.deps ≡ past C c.deps = Sound-before C D c.deps all s in
     rw (same_hash, all_there, same)
-    (step (has C (hash_of c)) (misfit_behind (past C c.deps) c) (clashes C c) (clashes (C ++ D) c)
-    (λ t. more t) (ap (λ b. cond (has C (hash_of c)) (Some Known) (cond b (or_clash (misfit_behind (past C c.deps) c) (clashes C c)) (Some MissingDeps))) (sym all) ∙ m)) where
+    (step (has C (hash_of c)) (defect_behind (past C c.deps) c) (clashes C c) (clashes (C ++ D) c)
+    (λ t. more t) (ap (λ b. cond (has C (hash_of c)) (Some Known) (cond b (or_clash (defect_behind (past C c.deps) c) (clashes C c)) (Some MissingDeps))) (sym all) ∙ m)) where
       alone : (b : Bool) → (b || false) ≡ b
       alone true = refl
       alone false = refl
@@ -101,15 +101,15 @@ misfit-later C D c e s all new m =
       step false None false d f k = cc
 
 -- a change that is refused for good never enters
-pub refused_stays_out : (C D : List ChangeParts) (c : ChangeParts) (e : GraphError) → Sound (C ++ D) → has_all C c.deps ≡ true → misfit C c ≡ Some e → In c D → ⊥
+pub refused_stays_out : (C D : List ChangeParts) (c : ChangeParts) (e : GraphError) → Sound (C ++ D) → has_all C c.deps ≡ true → defect C c ≡ Some e → In c D → ⊥
 refused_stays_out C D c e s all m i =
     let w = In-split c D i in
     let A = w.0 in
     let whole : Sound ((C ++ A) ++ c ∷ w.1) = subst Sound (ap (λ l. C ++ l) w.2 ∙ sym (append_assoc C A (c ∷ w.1))) s in
     let f = Fits-at (C ++ A) c w.1 whole in
     let new : has A (hash_of c) ≡ false = lacks-fewer A (C ++ A) (hash_of c) (λ x j. In-right x C A j) f.new in
-    let late : misfit (C ++ A) c ≡ Some e = misfit-later C A c e (Sound-front (C ++ A) (c ∷ w.1) whole) all new m in
-    let none : misfit (C ++ A) c ≡ None = misfit-from_Fits (C ++ A) c f in
+    let late : defect (C ++ A) c ≡ Some e = defect-later C A c e (Sound-prefix (C ++ A) (c ∷ w.1) whole) all new m in
+    let none : defect (C ++ A) c ≡ None = defect-from_Fits (C ++ A) c f in
     cc
 
 -- ---- an edit
@@ -159,21 +159,21 @@ heads_decide C D s t twins e c i =
 
 -- what fits a part fits the whole, unless it clashes or is there
 pub Fits-part : (P C : List ChangeParts) (c : ChangeParts) → Sound P → Sound C → AllIn P C → Fits P c → has C (hash_of c) ≡ false → clashes C c ≡ false → Fits C c
-unfolding misfit
+unfolding defect
 Fits-part P C c p s more f new free =
     let there = past-held P C c.deps (deps_first P p) (deps_first C s) (λ x i. more x (past-In P c.deps x i)) in
     let back = past-held_back P C c.deps (deps_first P p) (deps_there P p) (hashes_apart C s) f.deps (λ x i. more x (past-In P c.deps x i)) in
-    let same = misfit_behind-same (past P c.deps) (past C c.deps) c (hashes_once (past P c.deps) (sound_pasts P p c.deps)) (hashes_once (past C c.deps) (sound_pasts C s c.deps)) there back in
+    let same = defect_behind-same (past P c.deps) (past C c.deps) c (hashes_once (past P c.deps) (sound_pasts P p c.deps)) (hashes_once (past C c.deps) (sound_pasts C s c.deps)) there back in
     let all = has_all-more P C c.deps more f.deps in
-    Fits-from_misfit C c (parts (sym same) all new free (misfit-from_Fits P c f) f.new f.deps) where
+    Fits-from_defect C c (parts (sym same) all new free (defect-from_Fits P c f) f.new f.deps) where
       first : (o : Option GraphError) (b : Bool) → or_clash o b ≡ None → o ≡ None
       first (Some e) b h = cc
       first None b h = refl
 
-      parts : misfit_behind (past C c.deps) c ≡ misfit_behind (past P c.deps) c → has_all C c.deps ≡ true → has C (hash_of c) ≡ false → clashes C c ≡ false
-          → misfit P c ≡ None → has P (hash_of c) ≡ false → has_all P c.deps ≡ true → misfit C c ≡ None
+      parts : defect_behind (past C c.deps) c ≡ defect_behind (past P c.deps) c → has_all C c.deps ≡ true → has C (hash_of c) ≡ false → clashes C c ≡ false
+          → defect P c ≡ None → has P (hash_of c) ≡ false → has_all P c.deps ≡ true → defect C c ≡ None
       parts same all new free m new_too all_too =
-          let none : misfit_behind (past P c.deps) c ≡ None = first (misfit_behind (past P c.deps) c) (clashes P c) (sym (rw (new_too, all_too) refl) ∙ m) in
+          let none : defect_behind (past P c.deps) c ≡ None = first (defect_behind (past P c.deps) c) (clashes P c) (sym (rw (new_too, all_too) refl) ∙ m) in
           rw (new, all, same, none, free) refl
 
 -- what fits a part that has all of its actor's changes fits the whole, unless it is there

@@ -1,4 +1,4 @@
--- Laws of sound lists: fronts and pushes, induction, hashes apart, dependencies first.
+-- Laws of sound lists: prefixes and pushes, induction, hashes apart, dependencies first.
 use Rattle.std.proofs.Common.{◌≡◌, ◌+◌, ◌==◌, inl, inr, List, [], ◌∷◌, ◌++◌, Bool, true, false, ◌||◌, cond, Option, Some, None, refl, sym, ap, ◌∙◌, subst, append_assoc, append-nil}
 use Rattle.std.proofs.lemmas.Bool.{eqb-true, eq-eqb}
 use Rattle.tp_list.specs.Members.{In, AllIn}
@@ -13,7 +13,7 @@ use Rattle.tp_graph.specs.declared.error.GraphError.{GraphError}
 use Rattle.tp_graph.specs.declared.error.GraphError.TheVariants.{Known, MissingDeps, BadSeq, BadStart, BadReference, SeqClash}
 use Rattle.tp_graph.specs.Named.{names, has, has_all, is_needed, HashesApart}
 use Rattle.tp_graph.specs.Past.{past}
-use Rattle.tp_graph.specs.Fit.{misfit, misfit_behind, or_clash, clashes, count_by}
+use Rattle.tp_graph.specs.Fit.{defect, defect_behind, or_clash, clashes, count_by}
 use Rattle.tp_graph.specs.Sound.{SoundAfter, Sound, Fits}
 use Rattle.tp_graph.proofs.NamedLaws.{names-In, In-names, has-In, In-has, lacks-fewer, has_all-In, In-has_all, has_all-more, In-is_needed}
 use Rattle.tp_graph.proofs.PastLaws.{past-In, past-push, past-push_other, past-of_part, past-named, with_reached-In, In-with_reached, kept-In}
@@ -33,13 +33,13 @@ no_clash : (o : Option GraphError) (b : Bool) → or_clash o b ≡ None → (o �
 no_clash (Some e) b h = cc
 no_clash None b h = let w = first_out b SeqClash None h in (refl, w.0)
 
--- what has no misfit fits
-pub Fits-from_misfit : (C : List ChangeParts) (c : ChangeParts) → misfit C c ≡ None → Fits C c
-unfolding misfit misfit_behind
-Fits-from_misfit C c h =
+-- what has no defect fits
+pub Fits-from_defect : (C : List ChangeParts) (c : ChangeParts) → defect C c ≡ None → Fits C c
+unfolding defect defect_behind
+Fits-from_defect C c h =
     let one = first_out (has C (hash_of c)) Known _ h in
     let two = first_in (has_all C c.deps) MissingDeps _ one.1 in
-    let six = no_clash (misfit_behind (past C c.deps) c) (clashes C c) two.1 in
+    let six = no_clash (defect_behind (past C c.deps) c) (clashes C c) two.1 in
     let three = first_in (c.seq == count_by c.actor (past C c.deps) + 1) BadSeq _ six.0 in
     let four = first_in (c.start == next_counter (past C c.deps)) BadStart _ three.1 in
     let five = first_in (refers (inserts (past C c.deps)) (ops_of c)) BadReference None four.1 in
@@ -52,36 +52,36 @@ Fits-from_misfit C c h =
       free = six.1;
     }
 
--- what fits has no misfit
-pub misfit-from_Fits : (C : List ChangeParts) (c : ChangeParts) → Fits C c → misfit C c ≡ None
-unfolding misfit misfit_behind
-misfit-from_Fits C c f = rw (f.new, f.deps, eq-eqb _ _ f.seq, eq-eqb _ _ f.start, f.refs, f.free) refl
+-- what fits has no defect
+pub defect-from_Fits : (C : List ChangeParts) (c : ChangeParts) → Fits C c → defect C c ≡ None
+unfolding defect defect_behind
+defect-from_Fits C c f = rw (f.new, f.deps, eq-eqb _ _ f.seq, eq-eqb _ _ f.start, f.refs, f.free) refl
 
--- ---- fronts, rests and pushes
+-- ---- prefixes, rests and pushes
 
 pub SoundAfter-append : (B C D : List ChangeParts) → SoundAfter B C → SoundAfter (B ++ C) D → SoundAfter B (C ++ D)
 SoundAfter-append B [] D s t = subst (λ l. SoundAfter l D) (append-nil B) t
 SoundAfter-append B (c ∷ C) D s t =
     (s.0, SoundAfter-append (B ++ c ∷ []) C D s.1 (subst (λ l. SoundAfter l D) (sym (append_assoc B (c ∷ []) C)) t))
 
-pub SoundAfter-front : (B C D : List ChangeParts) → SoundAfter B (C ++ D) → SoundAfter B C
-SoundAfter-front B [] D s = tt
-SoundAfter-front B (c ∷ C) D s = (s.0, SoundAfter-front (B ++ c ∷ []) C D s.1)
+pub SoundAfter-prefix : (B C D : List ChangeParts) → SoundAfter B (C ++ D) → SoundAfter B C
+SoundAfter-prefix B [] D s = tt
+SoundAfter-prefix B (c ∷ C) D s = (s.0, SoundAfter-prefix (B ++ c ∷ []) C D s.1)
 
 pub SoundAfter-rest : (B C D : List ChangeParts) → SoundAfter B (C ++ D) → SoundAfter (B ++ C) D
 SoundAfter-rest B [] D s = subst (λ l. SoundAfter l D) (sym (append-nil B)) s
 SoundAfter-rest B (c ∷ C) D s = subst (λ l. SoundAfter l D) (append_assoc B (c ∷ []) C) (SoundAfter-rest (B ++ c ∷ []) C D s.1)
 
--- a front of a sound list is sound
-pub Sound-front : (C D : List ChangeParts) → Sound (C ++ D) → Sound C
-Sound-front C D s = SoundAfter-front [] C D s
+-- a prefix of a sound list is sound
+pub Sound-prefix : (C D : List ChangeParts) → Sound (C ++ D) → Sound C
+Sound-prefix C D s = SoundAfter-prefix [] C D s
 
 pub Sound-push : (C : List ChangeParts) (c : ChangeParts) → Sound C → Fits C c → Sound (C ++ c ∷ [])
-Sound-push C c s f = SoundAfter-append [] C (c ∷ []) s (misfit-from_Fits C c f, tt)
+Sound-push C c s f = SoundAfter-append [] C (c ∷ []) s (defect-from_Fits C c f, tt)
 
 -- each change of a sound list fits behind those before it
 pub Fits-at : (A : List ChangeParts) (c : ChangeParts) (B : List ChangeParts) → Sound (A ++ c ∷ B) → Fits A c
-Fits-at A c B s = Fits-from_misfit A c (SoundAfter-rest [] A (c ∷ B) s).0
+Fits-at A c B s = Fits-from_defect A c (SoundAfter-rest [] A (c ∷ B) s).0
 
 -- what holds of no changes, and is kept where a change enters that fits, holds of each sound list
 induct_after : (P : List ChangeParts → Type 0)
@@ -89,7 +89,7 @@ induct_after : (P : List ChangeParts → Type 0)
     → (B C : List ChangeParts) → Sound B → P B → SoundAfter B C → P (B ++ C)
 induct_after P step B [] s p t = subst P (sym (append-nil B)) p
 induct_after P step B (c ∷ C) s p t =
-    let f = Fits-from_misfit B c t.0 in
+    let f = Fits-from_defect B c t.0 in
     subst P (append_assoc B (c ∷ []) C) (induct_after P step (B ++ c ∷ []) C (Sound-push B c s f) (step B c s p f) t.1)
 
 pub sound-induct : (P : List ChangeParts → Type 0)
@@ -183,7 +183,7 @@ past-closed (x ∷ C) H o c d i (inr j) n =
 pub past-before : (C D : List ChangeParts) (H : List Hash) → has_all C H ≡ true → SoundAfter C D → past (C ++ D) H ≡ past C H
 past-before C [] H all s = ap (λ l. past l H) (append-nil C)
 past-before C (d ∷ D) H all s =
-    let f = Fits-from_misfit C d s.0 in
+    let f = Fits-from_defect C d s.0 in
     let more : AllIn C (C ++ d ∷ []) = λ x j. In-left x C (d ∷ []) j in
     ap (λ l. past l H) (sym (append_assoc C (d ∷ []) D))
     ∙ past-before (C ++ d ∷ []) D H (has_all-more C (C ++ d ∷ []) H more all) s.1

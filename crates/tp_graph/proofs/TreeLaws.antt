@@ -1,4 +1,4 @@
--- The inserts of a sound list are a tree, and so is each front of what a change adds.
+-- The inserts of a sound list are a tree, and so is each prefix of what a change adds.
 use Rattle.std.proofs.Common.{◌≡◌, ℕ, ◌+◌, ◌<◌, ◌≤◌, inl, inr, List, [], ◌∷◌, ◌++◌, length, true, ◌||◌, sym, ap, ◌∙◌, subst, arith}
 use Rattle.std.proofs.lemmas.List.{append-nil}
 use Rattle.tp_list.specs.Members.{In}
@@ -9,16 +9,16 @@ use Rattle.tp_opid.specs.declared.op_id.Place.{Place}
 use Rattle.tp_opid.specs.declared.op_id.Place.TheVariants.{Start, After}
 use Rattle.tp_opid.specs.Insert as element_of
 use Rattle.tp_opid.specs.Same.{same_actor, id_eq}
-use Rattle.tp_opid.specs.Tree.{IsThere, IsPlaceBelow, IsTree, CanInsert}
+use Rattle.tp_opid.specs.Tree.{IsThere, IsReferenceBelow, IsTree, CanInsert}
 use Rattle.tp_opid.proofs.Orders.{same_actor-itself, id_eq-same, Below-counter}
-use Rattle.tp_opid.proofs.Trees.{IsPlaceBelow-grow}
+use Rattle.tp_opid.proofs.Trees.{IsReferenceBelow-grow}
 use Rattle.tp_change.specs.declared.op.Op.{Op}
 use Rattle.tp_change.specs.declared.op.Op.TheVariants as op_of
 use Rattle.tp_change.specs.declared.parts.ChangeParts.{ChangeParts}
 use Rattle.tp_change.specs.Operations.{ops_of, op_count}
-use Rattle.tp_change.specs.Elements.{element, inserts_in, inserts, is_inserted, is_place, refers, next_counter}
+use Rattle.tp_change.specs.Elements.{element, inserts_in, inserts, is_inserted, is_reference, refers, next_counter}
 use Rattle.tp_change.proofs.ElementLaws.{inserts_in-append, inserts-append, is_inserted-In, grown, refers-append, grown-ids, inserts-In, inserts-more, next_counter-above}
-use Rattle.tp_change.proofs.Numbered.{Numbered, Numbered-front, Numbered-rest, Numbered-ops_of, Numbered-In, Numbered-once, inserts-within}
+use Rattle.tp_change.proofs.Numbered.{Numbered, Numbered-prefix, Numbered-rest, Numbered-ops_of, Numbered-In, Numbered-once, inserts-within}
 use Rattle.tp_graph.specs.Past.{past}
 use Rattle.tp_graph.specs.Sound.{Sound, Fits}
 use Rattle.tp_graph.proofs.PastLaws.{past-In}
@@ -53,7 +53,7 @@ there_by S r y i e = (y.after, (y.ch, subst (λ id. In (element id y.after y.ch)
 
 -- The reference of an operation is there and smaller, among the list and what the change inserts before it.
 place_there : (C : List ChangeParts) (c : ChangeParts) → Fits C c → (xs : List Op) → Numbered c.actor c.start xs → (n : ℕ) → c.start + length xs ≤ n
-    → (id : OpId) → id.counter ≡ n → (p : Place) → is_place (grown (inserts (past C c.deps)) xs) p ≡ true → IsPlaceBelow (inserts C ++ inserts_in xs) id p
+    → (id : OpId) → id.counter ≡ n → (p : Place) → is_reference (grown (inserts (past C c.deps)) xs) p ≡ true → IsReferenceBelow (inserts C ++ inserts_in xs) id p
 place_there C c f xs num n at id here Start e = tt
 place_there C c f xs num n at id here (After r) e =
     let split : (is_inserted (inserts_in xs) r || is_inserted (inserts (past C c.deps)) r) ≡ true = sym (grown-ids (inserts (past C c.deps)) xs r) ∙ e in
@@ -81,7 +81,7 @@ pub can_insert : (C : List ChangeParts) (c : ChangeParts) → Sound C → Fits C
     → ops_of c ≡ xs ++ op_of.Insert id after ch ∷ ys → CanInsert (inserts C ++ inserts_in xs) id after
 can_insert C c s f xs id after ch ys e =
     let num : Numbered c.actor c.start (xs ++ op_of.Insert id after ch ∷ ys) = subst (λ l. Numbered c.actor c.start l) e (Numbered-ops_of c) in
-    let front = Numbered-front c.actor c.start xs (op_of.Insert id after ch ∷ ys) num in
+    let prefix = Numbered-prefix c.actor c.start xs (op_of.Insert id after ch ∷ ys) num in
     let own = (Numbered-rest c.actor c.start xs (op_of.Insert id after ch ∷ ys) num).0 in
     let counter : id.counter ≡ c.start + length xs = ap (λ (z : OpId). z.counter) own in
     let actor : id.actor ≡ c.actor = ap (λ (z : OpId). z.actor) own in
@@ -93,11 +93,11 @@ can_insert C c s f xs id after ch ys e =
           elim (In-append y (inserts C) (inserts_in xs) i) [
             | inl l ↦ let low : y.id.counter < c.start = own-below C c s f y l (ap (λ (z : OpId). z.actor) same ∙ actor) in absurd (omega arith)
             | inr r ↦
-                let q = Numbered-In c.actor c.start xs y front r in
+                let q = Numbered-In c.actor c.start xs y prefix r in
                 let high : y.id.counter < c.start + length xs = q.high in absurd (omega arith)
           ]);
-      place = place_there C c f xs front (c.start + length xs) (omega arith) id counter after
-          (both_left (is_place (grown (inserts (past C c.deps)) xs) after) _ (rest_refers C c f xs (op_of.Insert id after ch ∷ ys) e));
+      place = place_there C c f xs prefix (c.start + length xs) (omega arith) id counter after
+          (both_left (is_reference (grown (inserts (past C c.deps)) xs) after) _ (rest_refers C c f xs (op_of.Insert id after ch ∷ ys) e));
     }
 
 -- The target of each delete of a change that fits is among the list's inserts and those that stand before it in the change.
@@ -139,12 +139,12 @@ tree_step C c s t f =
         ]
       ];
       placed = λ x i. elim (In-append x (inserts C) (inserts_in (ops_of c)) i) [
-        | inl l ↦ IsPlaceBelow-grow (inserts C) (inserts C ++ inserts_in (ops_of c)) (λ y k. In-left y (inserts C) (inserts_in (ops_of c)) k) x.id x.after (t.placed x l)
+        | inl l ↦ IsReferenceBelow-grow (inserts C) (inserts C ++ inserts_in (ops_of c)) (λ y k. In-left y (inserts C) (inserts_in (ops_of c)) k) x.id x.after (t.placed x l)
         | inr r ↦
             let w = insert_at (ops_of c) x r in
             let can = can_insert C c s f w.0 x.id x.after x.ch w.1 w.2 in
             let parts : inserts_in (ops_of c) ≡ inserts_in w.0 ++ (x ∷ inserts_in w.1) = ap inserts_in w.2 ∙ inserts_in-append w.0 (op_of.Insert x.id x.after x.ch ∷ w.1) in
-            IsPlaceBelow-grow (inserts C ++ inserts_in w.0) (inserts C ++ inserts_in (ops_of c))
+            IsReferenceBelow-grow (inserts C ++ inserts_in w.0) (inserts C ++ inserts_in (ops_of c))
             (λ y k. elim (In-append y (inserts C) (inserts_in w.0) k) [
               | inl l ↦ In-left y (inserts C) (inserts_in (ops_of c)) l
               | inr m ↦ In-right y (inserts C) (inserts_in (ops_of c)) (subst (λ l. In y l) (sym parts) (In-left y (inserts_in w.0) (x ∷ inserts_in w.1) m))

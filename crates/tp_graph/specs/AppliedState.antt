@@ -16,7 +16,7 @@ pub record AppliedState : Type 0 where
   pub room : Option Hash
 
 -- The changes are sound, and heads, places, ends, the next counter and the order by actors are theirs.
-pub record IsKept (changes : List ChangeParts) (heads : List Hash) (entries : List (Hash × ℕ)) (ends : List ℕ) (next : ℕ) (order : List ℕ) : Type 0 where
+pub record IsGraphIndex (changes : List ChangeParts) (heads : List Hash) (entries : List (Hash × ℕ)) (ends : List ℕ) (next : ℕ) (order : List ℕ) : Type 0 where
   pub sound : Sound changes
   pub few : length changes ≤ most_changes
   pub heads_are : heads ≡ head.heads changes

@@ -44,12 +44,12 @@ pub record IsCut (C : List ChangeParts) (order : List ℕ) (a : Actor) (limit : 
   pub behind : (k : ℕ) → high ≤ k → k < length order → (c : ChangeParts) → slice_get C (get_or order k 0) ≡ Some c → is_after a limit c ≡ true
 
 -- c is a change of the actor's that starts within the limit.
-pub record IsWithin (a : Actor) (limit : Option ℕ) (c : ChangeParts) : Type 0 where
+pub record StartsWithin (a : Actor) (limit : Option ℕ) (c : ChangeParts) : Type 0 where
   pub actor : same_actor c.actor a ≡ true
   pub start : is_above limit c.start ≡ false
 
 -- The place is that of the latest of the actor's changes that start within the limit; None where there is none.
 abbrev pub IsLatest : List ChangeParts → Actor → Option ℕ → Option ℕ → Type 0
-IsLatest C a limit None = (d : ChangeParts) → In d C → IsWithin a limit d → ⊥
+IsLatest C a limit None = (d : ChangeParts) → In d C → StartsWithin a limit d → ⊥
 IsLatest C a limit (Some p) =
-    (c : ChangeParts) × (slice_get C p ≡ Some c) × IsWithin a limit c × ((d : ChangeParts) → In d C → IsWithin a limit d → d.seq ≤ c.seq)
+    (c : ChangeParts) × (slice_get C p ≡ Some c) × StartsWithin a limit c × ((d : ChangeParts) → In d C → StartsWithin a limit d → d.seq ≤ c.seq)

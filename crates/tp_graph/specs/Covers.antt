@@ -5,7 +5,7 @@ use Rattle.tp_opid.specs.Insert as element_of
 use Rattle.tp_change.specs.declared.record.Record.{Record}
 use Rattle.tp_change.specs.declared.record.Record.TheVariants.{Insert, Delete}
 use Rattle.tp_change.specs.Operations.{ops_from}
-use Rattle.tp_change.specs.Elements.{inserts_in, is_inserted, is_place}
+use Rattle.tp_change.specs.Elements.{inserts_in, is_inserted, is_reference}
 
 -- The records, the first of which has the counter n, insert at the counter k.
 abbrev pub covers : ℕ → List Record → ℕ → Bool
@@ -21,7 +21,7 @@ only_inserts (Delete target ∷ rs) = false
 
 -- The reference or the target of the record is among S.
 abbrev pub is_there : List element_of.Insert → Record → Bool
-is_there S (Insert after text) = is_place S after
+is_there S (Insert after text) = is_reference S after
 is_there S (Delete target) = is_inserted S target
 
 -- The reference or the target of each record of rs is among S, or inserted by a record that stands before it.

@@ -23,8 +23,8 @@ clashes [] c = false
 clashes (d ∷ C) c = (same_actor d.actor c.actor && (d.seq == c.seq)) || clashes C c
 
 -- The fault of numbers or references that c has behind its past P, the first that holds.
-unfoldable pub misfit_behind : List ChangeParts → ChangeParts → Option GraphError
-misfit_behind P c =
+unfoldable pub defect_behind : List ChangeParts → ChangeParts → Option GraphError
+defect_behind P c =
     cond (c.seq == count_by c.actor P + 1)
     (cond (c.start == next_counter P) (cond (refers (inserts P) (ops_of c)) None (Some BadReference)) (Some BadStart))
     (Some BadSeq)
@@ -37,20 +37,20 @@ or_clash None b = cond b (Some SeqClash) None
 -- Why c doesn't fit behind C: the first that holds, or None where it fits. Known: a change of C has its hash.
 -- MissingDeps: a dependency isn't in C. BadSeq, BadStart, BadReference: judged on the past of its dependencies
 -- alone. SeqClash: another change of C has its actor and sequence number.
-unfoldable pub misfit : List ChangeParts → ChangeParts → Option GraphError
-misfit C c =
+unfoldable pub defect : List ChangeParts → ChangeParts → Option GraphError
+defect C c =
     cond (has C (hash_of c)) (Some Known)
-    (cond (has_all C c.deps) (or_clash (misfit_behind (past C c.deps) c) (clashes C c)) (Some MissingDeps))
+    (cond (has_all C c.deps) (or_clash (defect_behind (past C c.deps) c) (clashes C c)) (Some MissingDeps))
 
 -- how many changes a graph has at most
 abbrev pub most_changes : ℕ
 most_changes = MOST_CHANGES
 
--- the misfit, or else Full where the list has as many changes as a graph may have
+-- the defect, or else Full where the list has as many changes as a graph may have
 abbrev pub or_full : Option GraphError → Bool → Option GraphError
 or_full (Some e) b = Some e
 or_full None b = cond b (Some Full) None
 
--- Why c can't enter behind C: its misfit, or else Full; None where it can enter.
+-- Why c can't enter behind C: its defect, or else Full; None where it can enter.
 unfoldable pub cause : List ChangeParts → ChangeParts → Option GraphError
-cause C c = or_full (misfit C c) (length C == most_changes)
+cause C c = or_full (defect C c) (length C == most_changes)

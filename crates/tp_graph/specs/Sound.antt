@@ -6,18 +6,18 @@ use Rattle.tp_change.specs.Operations.{ops_of}
 use Rattle.tp_graph.specs.Named.{has, has_all}
 use Rattle.tp_graph.specs.Past.{past}
 use Rattle.tp_change.specs.Elements.{inserts, refers, next_counter}
-use Rattle.tp_graph.specs.Fit.{misfit, count_by, clashes}
+use Rattle.tp_graph.specs.Fit.{defect, count_by, clashes}
 
 -- Each change fits behind those of `before` and those of the list that stand before it.
 abbrev pub SoundAfter : List ChangeParts → List ChangeParts → Type 0
 SoundAfter before [] = Unit {0}
-SoundAfter before (c ∷ C) = (misfit before c ≡ None) × SoundAfter (before ++ c ∷ []) C
+SoundAfter before (c ∷ C) = (defect before c ≡ None) × SoundAfter (before ++ c ∷ []) C
 
 -- Each change fits behind those that stand before it.
 abbrev pub Sound : List ChangeParts → Type 0
 Sound C = SoundAfter [] C
 
--- What it takes to fit: c has no misfit behind C.
+-- What it takes to fit: c has no defect behind C.
 pub record Fits (C : List ChangeParts) (c : ChangeParts) : Type 0 where
   pub new : has C (hash_of c) ≡ false
   pub deps : has_all C c.deps ≡ true

@@ -44,14 +44,14 @@ pub(crate) struct Applied {
 
 impl Model for Applied {
     ghost use Rattle.std.specs.Prelude.{vec_len, vec_capacity};
-    ghost use Rattle.tp_graph.specs.AppliedState.{AppliedState, IsKept, HasRoom};
+    ghost use Rattle.tp_graph.specs.AppliedState.{AppliedState, IsGraphIndex, HasRoom};
 
     ghost Value = { AppliedState };
 
     ghost view = { λ a. record { changes = a.changes.items; room = a.room } };
 
     ghost invariant = { λ a.
-        IsKept a.changes.items a.heads.items a.index a.ends.items a.next a.order.items
+        IsGraphIndex a.changes.items a.heads.items a.index a.ends.items a.next a.order.items
         × HasRoom a.room (vec_len a.changes) a.index (vec_capacity a.changes) (vec_len a.heads) (vec_capacity a.heads) (vec_len a.ends) (vec_capacity a.ends) (vec_len a.order) (vec_capacity a.order) };
 }
 

@@ -22,7 +22,7 @@ use tp_change::Change;
 use tp_opid::Hash;
 
 // The numbers and references of the change behind its past, where one that fits starts at `start`.
-#[tactic(auto, unfolding(crate::specs::Fit::misfit_behind))]
+#[tactic(auto, unfolding(crate::specs::Fit::defect_behind))]
 fn check_behind(
     applied: &[Change],
     ends: &[u64],
@@ -38,7 +38,7 @@ fn check_behind(
     requires part { IsPartOf part.now applied.now }
     requires past { Sound (picked part.now applied.now) }
     requires start { start ≡ made.next_counter (picked part.now applied.now) }
-    ensures answers { Answers result (fit.misfit_behind (picked part.now applied.now) change.now) }
+    ensures answers { Answers result (fit.defect_behind (picked part.now applied.now) change.now) }
     ensures memory { result ≡ Err GraphError.OutOfMemory → ⊥ }
 {
     if change.seq() != count_in(applied, order, part, &change.actor()) + 1 {
@@ -69,7 +69,7 @@ fn check_past(
     requires ends { ends.now ≡ ends_of applied.now }
     requires heads { heads.now ≡ head.heads applied.now }
     requires order { IsByActor applied.now order.now }
-    ensures answers { Answers result (fit.misfit_behind (past applied.now change.now.deps) change.now) }
+    ensures answers { Answers result (fit.defect_behind (past applied.now change.now.deps) change.now) }
     ensures memory { result ≡ Err GraphError.OutOfMemory → change.now.deps ≡ heads.now → ⊥ }
 {
     let part = part_of(alloc, applied, index, heads, change.deps())?;
@@ -89,7 +89,7 @@ fn clashes(applied: &[Change], order: &[u32], change: &Change) -> bool
 }
 
 /// Why the change can't enter behind the applied changes, or `OutOfMemory`.
-#[tactic(auto, unfolding(crate::specs::Fit::misfit, crate::specs::Fit::cause))]
+#[tactic(auto, unfolding(crate::specs::Fit::defect, crate::specs::Fit::cause))]
 pub(crate) fn check(
     alloc: Global,
     applied: &[Change],

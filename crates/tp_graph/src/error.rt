@@ -9,7 +9,7 @@ use thiserror::Error;
 
 /// Why a change doesn't fit the graph, or why a call was refused.
 ///
-/// A change may have several of these faults. The first in the order of the variants up to `SeqClash` is told,
+/// A change may have several of these faults. The first in the order of the variants up to `SeqClash` is reported,
 /// and `Full` where it has none of them.
 #[derive(Clone, Copy, Debug, PartialEq, Eq, Error)]
 pub enum GraphError {

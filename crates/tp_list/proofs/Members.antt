@@ -4,7 +4,7 @@ use Rattle.std.specs.Prelude.{insert}
 use Rattle.std.specs.List.{All}
 use Rattle.tp_list.specs.Members.{In, SameMembers}
 
--- a member of the front
+-- a member of the prefix
 pub In-left : {X : Type 0} (x : X) (xs ys : List X) → In x xs → In x (xs ++ ys)
 In-left x [] ys h = absurd h
 In-left x (z ∷ xs) ys (inl h) = inl h

@@ -4,10 +4,10 @@ use Rattle.std.specs.Prelude.{encode_utf8_all}
 use Rattle.std.specs.Str.{IsUtf8}
 use Rattle.std.proofs.lemmas.Str.{encodes-chars, scalars-chars, length-le-encodes}
 use Rattle.std.proofs.lemmas.Bool.Decides.{nat_tests}
-use Rattle.tp_list.specs.Utf8.{IsTextOf}
+use Rattle.tp_list.specs.Utf8.{IsEncodedText}
 
-pub IsTextOf_utf8 : (bytes : List ℕ) → IsUtf8 bytes → IsTextOf bytes
-IsTextOf_utf8 bytes u = record { scalars = scalars-chars bytes u; spelled = encodes-chars bytes u }
+pub IsEncodedText_utf8 : (bytes : List ℕ) → IsUtf8 bytes → IsEncodedText bytes
+IsEncodedText_utf8 bytes u = record { scalars = scalars-chars bytes u; spelled = encodes-chars bytes u }
 
 -- a text has no byte exactly where it has no character
 pub is_empty_by : (cs bs : List ℕ) → encode_utf8_all cs ≡ bs → eqb (length bs) 0 ≡ eqb (length cs) 0

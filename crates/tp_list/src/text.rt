@@ -20,9 +20,9 @@ impl Model for Text {
 
     ghost view = { λ t. chars (string_bytes t.string) };
 
-    ghost use Rattle.tp_list.specs.Utf8.{IsTextOf};
+    ghost use Rattle.tp_list.specs.Utf8.{IsEncodedText};
 
-    ghost invariant = { λ t. IsTextOf (string_bytes t.string) };
+    ghost invariant = { λ t. IsEncodedText (string_bytes t.string) };
 }
 
 impl Text {

@@ -3,7 +3,7 @@ use Rattle.std.specs.Prelude.{ℕ}
 use Rattle.tp_opid.specs.declared.op_id.OpId.{OpId}
 use Rattle.tp_opid.specs.declared.op_id.Place.{Place}
 
--- the identifier, the place after which it is inserted, and the character
+-- the identifier, the reference after which it is inserted, and the character
 pub record Insert : Type 0 where
   pub id : OpId
   pub after : Place

@@ -1,4 +1,4 @@
--- Whether two identifiers, actors, hashes or places are one.
+-- Whether two identifiers, actors, hashes or references are one.
 use Rattle.std.specs.Prelude.{Bool, true, false}
 use Rattle.std.specs.Ordering.{is_eq}
 use Rattle.tp_opid.specs.declared.actor.Actor.{Actor}

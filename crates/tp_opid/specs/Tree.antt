@@ -10,7 +10,7 @@ use Rattle.tp_opid.specs.Insert.{Insert}
 use Rattle.tp_opid.specs.Order.{Below}
 use Rattle.tp_opid.specs.Same.{id_eq}
 
--- S inserts the element x directly after the place p.
+-- S inserts the element x directly after the reference p.
 abbrev pub Inserts : List Insert → OpId → Place → Type 0
 Inserts S x p = (ch : ℕ) × In (record { id = x; after = p; ch = ch }) S
 
@@ -31,22 +31,22 @@ AreApart (e ∷ L) = IsNew L e.id × AreApart L
 abbrev pub IsAboveAll : List Insert → OpId → Type 0
 IsAboveAll S x = (e : Insert) → In e S → Below e.id x
 
--- The place p is the start, or an element of S.
-abbrev pub HasPlace : List Insert → Place → Type 0
-HasPlace S Start = Unit {0}
-HasPlace S (After r) = IsThere S r
+-- The reference p is the start, or an element of S.
+abbrev pub HasReference : List Insert → Place → Type 0
+HasReference S Start = Unit {0}
+HasReference S (After r) = IsThere S r
 
--- The place p is the start, or an element of S with an identifier below x.
-abbrev pub IsPlaceBelow : List Insert → OpId → Place → Type 0
-IsPlaceBelow S x Start = Unit {0}
-IsPlaceBelow S x (After r) = IsThere S r × Below r x
+-- The reference p is the start, or an element of S with an identifier below x.
+abbrev pub IsReferenceBelow : List Insert → OpId → Place → Type 0
+IsReferenceBelow S x Start = Unit {0}
+IsReferenceBelow S x (After r) = IsThere S r × Below r x
 
 -- S is a tree: no identifier is that of two elements, and each element stands after the start or an earlier element.
 pub record IsTree (S : List Insert) : Type 0 where
   pub once : (a b : Insert) → In a S → In b S → a.id ≡ b.id → a ≡ b
-  pub placed : (e : Insert) → In e S → IsPlaceBelow S e.id e.after
+  pub placed : (e : Insert) → In e S → IsReferenceBelow S e.id e.after
 
 -- S can take an insert of x after p: the identifier is new, and the reference is there and smaller.
 pub record CanInsert (S : List Insert) (x : OpId) (p : Place) : Type 0 where
   pub new : IsNew S x
-  pub place : IsPlaceBelow S x p
+  pub place : IsReferenceBelow S x p

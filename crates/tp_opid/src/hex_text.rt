@@ -53,7 +53,8 @@ pub(crate) fn write_hex(alloc: Global, bytes: &[u8]) -> Result<String, HexError>
 // The 16 bytes that the text has the digits of, in either case.
 pub(crate) fn read_hex_16(text: &str) -> Result<[u8; 16], HexError>
     ensures found { IfOk result (IsHexOf text.now) }
-    ensures only { (bytes : List ℕ) → length bytes ≡ 16 → IsHexOf text.now bytes → result ≡ Ok bytes }
+    ensures only { (bytes : List ℕ) → length bytes ≡ 16 → IsHexOf text.now bytes
+        → result ≡ Ok bytes }
     ensures err { IsOkUnless result HexError.BadHex }
 {
     match <[u8; 16] as FromHex>::from_hex(text) {
@@ -65,7 +66,8 @@ pub(crate) fn read_hex_16(text: &str) -> Result<[u8; 16], HexError>
 // The 32 bytes that the text has the digits of, in either case.
 pub(crate) fn read_hex_32(text: &str) -> Result<[u8; 32], HexError>
     ensures found { IfOk result (IsHexOf text.now) }
-    ensures only { (bytes : List ℕ) → length bytes ≡ 32 → IsHexOf text.now bytes → result ≡ Ok bytes }
+    ensures only { (bytes : List ℕ) → length bytes ≡ 32 → IsHexOf text.now bytes
+        → result ≡ Ok bytes }
     ensures err { IsOkUnless result HexError.BadHex }
 {
     match <[u8; 32] as FromHex>::from_hex(text) {

@@ -1,4 +1,4 @@
-//! Identifiers of operations, and places in the sequence.
+//! Identifiers of operations, and references to elements.
 
 ghost use Rattle.std.specs.Prelude.{◌≡◌, ◌↔◌, IsTrue};
 ghost use Rattle.tp_opid.specs.Order.{Below};
@@ -10,7 +10,7 @@ use std::cmp::Ordering;
 /// The identifier of an operation: the counter that its author had reached, and the author.
 ///
 /// Identifiers are ordered by counter and then by the actor's bytes, as Lamport timestamps are. In RGA
-/// (Roh and others 2011) this order decides which of several inserts at one place stands first.
+/// (Roh and others 2011) this order decides which of several inserts after one reference stands first.
 #[derive(Clone, Copy, Debug, PartialEq, Eq, PartialOrd, Ord, Hash)]
 pub struct OpId {
     /// From 1 to 2^48 - 1.
@@ -37,7 +37,7 @@ impl OpId {
     }
 }
 
-/// Where an element is inserted: at the start, or directly after another element.
+/// The reference of an insert (origin, in Yjs): the start, or the element directly after which it is inserted.
 #[derive(Clone, Copy, Debug, PartialEq, Eq, PartialOrd, Ord, Hash)]
 pub enum Place {
     /// Before every element. It stands below every identifier.
@@ -47,7 +47,7 @@ pub enum Place {
 }
 
 impl Place {
-    /// Whether the two are one place.
+    /// Whether the two are one reference.
     pub fn is(&self, other: &Place) -> bool
         ensures { result ≡ place_eq self.now other.now }
     {

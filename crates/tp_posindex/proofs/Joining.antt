@@ -4,14 +4,9 @@ use Rattle.std.proofs.Common.{◌≡◌, ◌⊎◌, inl, inr, ℕ, zero, suc, �
 use Rattle.std.proofs.lemmas.List.{map-append}
 use Rattle.std.proofs.lemmas.List.Edits.{insert-append_left, insert-append_right}
 use Rattle.tp_list.specs.Members.{In}
-use Rattle.tp_posindex.specs.Layout.{joined, block_at, place_at, IsGap, AreSized}
+use Rattle.tp_posindex.specs.Layout.{joined, block_at, index_at, IsGap, AreSized}
 
 -- ---- joining
-
--- two parts of the blocks
-pub joined-append : {X : Type 0} (bs cs : List (List X)) → joined (bs ++ cs) ≡ joined bs ++ joined cs
-joined-append [] cs = refl
-joined-append (b ∷ bs) cs = ap (λ z. b ++ z) (joined-append bs cs) ∙ sym (append_assoc b (joined bs) (joined cs))
 
 -- a map of each block's elements
 pub joined-map : {X Y : Type 0} (f : X → Y) (bs : List (List X)) → joined (map (map f) bs) ≡ map f (joined bs)
@@ -31,77 +26,77 @@ In-block (b ∷ bs) zero lt = inl refl
 In-block (b ∷ bs) (suc p) lt = inr (In-block bs p (omega arith))
 
 -- how many stand before the next block
-pub place_at-next : {X : Type 0} (bs : List (List X)) (p : ℕ) → p < length bs → place_at bs (suc p) 0 ≡ place_at bs p (length (block_at bs p))
-place_at-next [] p lt = absurd (omega arith)
-place_at-next (b ∷ bs) zero lt = ap (λ n. n + 0) (length-append b []) ∙ omega arith
-place_at-next (b ∷ bs) (suc p) lt =
-    let rest = place_at-next bs p (omega arith) in
+pub index_at-next : {X : Type 0} (bs : List (List X)) (p : ℕ) → p < length bs → index_at bs (suc p) 0 ≡ index_at bs p (length (block_at bs p))
+index_at-next [] p lt = absurd (omega arith)
+index_at-next (b ∷ bs) zero lt = ap (λ n. n + 0) (length-append b []) ∙ omega arith
+index_at-next (b ∷ bs) (suc p) lt =
+    let rest = index_at-next bs p (omega arith) in
     let l = length-append b (joined (take (suc p) bs)) in
     let r = length-append b (joined (take p bs)) in
     omega arith
 
 -- behind the last block
-pub place_at-end : {X : Type 0} (bs : List (List X)) → place_at bs (length bs) 0 ≡ length (joined bs)
-place_at-end [] = refl
-place_at-end (b ∷ bs) =
-    let rest = place_at-end bs in
+pub index_at-end : {X : Type 0} (bs : List (List X)) → index_at bs (length bs) 0 ≡ length (joined bs)
+index_at-end [] = refl
+index_at-end (b ∷ bs) =
+    let rest = index_at-end bs in
     let l = length-append b (joined (take (length bs) bs)) in
     let r = length-append b (joined bs) in
     omega arith
 
 -- a place in a block is a place in all
-pub place_at-within : {X : Type 0} (bs : List (List X)) (p offset : ℕ) → p < length bs → offset ≤ length (block_at bs p) → place_at bs p offset ≤ length (joined bs)
-place_at-within [] p offset lt le = absurd (omega arith)
-place_at-within (b ∷ bs) zero offset lt le = let l = length-append b (joined bs) in omega arith
-place_at-within (b ∷ bs) (suc p) offset lt le =
-    let rest = place_at-within bs p offset (omega arith) le in
+pub index_at-within : {X : Type 0} (bs : List (List X)) (p offset : ℕ) → p < length bs → offset ≤ length (block_at bs p) → index_at bs p offset ≤ length (joined bs)
+index_at-within [] p offset lt le = absurd (omega arith)
+index_at-within (b ∷ bs) zero offset lt le = let l = length-append b (joined bs) in omega arith
+index_at-within (b ∷ bs) (suc p) offset lt le =
+    let rest = index_at-within bs p offset (omega arith) le in
     let l = length-append b (joined (take p bs)) in
     let r = length-append b (joined bs) in
     omega arith
 
 -- a place before a block's end is before the end of all
-pub place_at-before : {X : Type 0} (bs : List (List X)) (p offset : ℕ) → p < length bs → offset < length (block_at bs p) → place_at bs p offset < length (joined bs)
-place_at-before [] p offset lt le = absurd (omega arith)
-place_at-before (b ∷ bs) zero offset lt le = let l = length-append b (joined bs) in omega arith
-place_at-before (b ∷ bs) (suc p) offset lt le =
-    let rest = place_at-before bs p offset (omega arith) le in
+pub index_at-before : {X : Type 0} (bs : List (List X)) (p offset : ℕ) → p < length bs → offset < length (block_at bs p) → index_at bs p offset < length (joined bs)
+index_at-before [] p offset lt le = absurd (omega arith)
+index_at-before (b ∷ bs) zero offset lt le = let l = length-append b (joined bs) in omega arith
+index_at-before (b ∷ bs) (suc p) offset lt le =
+    let rest = index_at-before bs p offset (omega arith) le in
     let l = length-append b (joined (take p bs)) in
     let r = length-append b (joined bs) in
     omega arith
 
--- the whole begins with what stands before a block, and then the block's front
-pub take-joined : {X : Type 0} (bs : List (List X)) (p offset : ℕ) → p < length bs → offset ≤ length (block_at bs p) → take (place_at bs p offset) (joined bs) ≡ joined (take p bs) ++ take offset (block_at bs p)
+-- the whole begins with what stands before a block, and then the block's prefix
+pub take-joined : {X : Type 0} (bs : List (List X)) (p offset : ℕ) → p < length bs → offset ≤ length (block_at bs p) → take (index_at bs p offset) (joined bs) ≡ joined (take p bs) ++ take offset (block_at bs p)
 take-joined [] p offset lt le = absurd (omega arith)
 take-joined (b ∷ bs) zero offset lt le =
-    ap (λ n. take n (b ++ joined bs)) (zero-add offset) ∙ take_front offset b (joined bs) le
+    ap (λ n. take n (b ++ joined bs)) (zero-add offset) ∙ take_prefix offset b (joined bs) le
   where
-    take_front : {X : Type 0} (n : ℕ) (xs ys : List X) → n ≤ length xs → take n (xs ++ ys) ≡ take n xs
-    take_front zero xs ys h = refl
-    take_front (suc n) [] ys h = absurd (omega arith)
-    take_front (suc n) (x ∷ xs) ys h = ap (λ z. x ∷ z) (take_front n xs ys (omega arith))
+    take_prefix : {X : Type 0} (n : ℕ) (xs ys : List X) → n ≤ length xs → take n (xs ++ ys) ≡ take n xs
+    take_prefix zero xs ys h = refl
+    take_prefix (suc n) [] ys h = absurd (omega arith)
+    take_prefix (suc n) (x ∷ xs) ys h = ap (λ z. x ∷ z) (take_prefix n xs ys (omega arith))
 take-joined (b ∷ bs) (suc p) offset lt le =
     let l = length-append b (joined (take p bs)) in
-    let at : place_at (b ∷ bs) (suc p) offset ≡ length b + place_at bs p offset = omega arith in
-    ap (λ n. take n (b ++ joined bs)) at ∙ take_behind (place_at bs p offset) b (joined bs) ∙ ap (λ z. b ++ z) (take-joined bs p offset (omega arith) le) ∙ sym (append_assoc b (joined (take p bs)) (take offset (block_at bs p)))
+    let at : index_at (b ∷ bs) (suc p) offset ≡ length b + index_at bs p offset = omega arith in
+    ap (λ n. take n (b ++ joined bs)) at ∙ take_behind (index_at bs p offset) b (joined bs) ∙ ap (λ z. b ++ z) (take-joined bs p offset (omega arith) le) ∙ sym (append_assoc b (joined (take p bs)) (take offset (block_at bs p)))
   where
     take_behind : {X : Type 0} (n : ℕ) (xs ys : List X) → take (length xs + n) (xs ++ ys) ≡ xs ++ take n ys
     take_behind n [] ys = ap (λ m. take m ys) (zero-add n)
     take_behind n (x ∷ xs) ys = (let e : suc (length xs) + n ≡ suc (length xs + n) = omega arith in ap (λ m. take m (x ∷ (xs ++ ys))) e) ∙ ap (λ z. x ∷ z) (take_behind n xs ys)
 
 -- what stands at an offset of a block stands at its place
-pub get_or-joined : {X : Type 0} (bs : List (List X)) (p offset : ℕ) (d : X) → p < length bs → offset < length (block_at bs p) → get_or (joined bs) (place_at bs p offset) d ≡ get_or (block_at bs p) offset d
+pub get_or-joined : {X : Type 0} (bs : List (List X)) (p offset : ℕ) (d : X) → p < length bs → offset < length (block_at bs p) → get_or (joined bs) (index_at bs p offset) d ≡ get_or (block_at bs p) offset d
 get_or-joined [] p offset d lt le = absurd (omega arith)
 get_or-joined (b ∷ bs) zero offset d lt le =
-    ap (λ n. get_or (b ++ joined bs) n d) (zero-add offset) ∙ front b (joined bs) offset d le
+    ap (λ n. get_or (b ++ joined bs) n d) (zero-add offset) ∙ prefix b (joined bs) offset d le
   where
-    front : {X : Type 0} (xs ys : List X) (n : ℕ) (d : X) → n < length xs → get_or (xs ++ ys) n d ≡ get_or xs n d
-    front [] ys n d h = absurd (omega arith)
-    front (x ∷ xs) ys zero d h = refl
-    front (x ∷ xs) ys (suc n) d h = front xs ys n d (omega arith)
+    prefix : {X : Type 0} (xs ys : List X) (n : ℕ) (d : X) → n < length xs → get_or (xs ++ ys) n d ≡ get_or xs n d
+    prefix [] ys n d h = absurd (omega arith)
+    prefix (x ∷ xs) ys zero d h = refl
+    prefix (x ∷ xs) ys (suc n) d h = prefix xs ys n d (omega arith)
 get_or-joined (b ∷ bs) (suc p) offset d lt le =
     let l = length-append b (joined (take p bs)) in
-    let at : place_at (b ∷ bs) (suc p) offset ≡ length b + place_at bs p offset = omega arith in
-    ap (λ n. get_or (b ++ joined bs) n d) at ∙ behind b (joined bs) (place_at bs p offset) d ∙ get_or-joined bs p offset d (omega arith) le
+    let at : index_at (b ∷ bs) (suc p) offset ≡ length b + index_at bs p offset = omega arith in
+    ap (λ n. get_or (b ++ joined bs) n d) at ∙ behind b (joined bs) (index_at bs p offset) d ∙ get_or-joined bs p offset d (omega arith) le
   where
     behind : {X : Type 0} (xs ys : List X) (n : ℕ) (d : X) → get_or (xs ++ ys) (length xs + n) d ≡ get_or ys n d
     behind [] ys n d = ap (λ m. get_or ys m d) (zero-add n)
@@ -110,15 +105,15 @@ get_or-joined (b ∷ bs) (suc p) offset d lt le =
 -- ---- an insert and a split
 
 -- an insert at an offset of a block is an insert at its place
-pub insert-joined : {X : Type 0} (bs : List (List X)) (p offset : ℕ) (x : X) → p < length bs → offset ≤ length (block_at bs p) → joined (set bs p (insert (block_at bs p) offset x)) ≡ insert (joined bs) (place_at bs p offset) x
+pub insert-joined : {X : Type 0} (bs : List (List X)) (p offset : ℕ) (x : X) → p < length bs → offset ≤ length (block_at bs p) → joined (set bs p (insert (block_at bs p) offset x)) ≡ insert (joined bs) (index_at bs p offset) x
 insert-joined [] p offset x lt le = absurd (omega arith)
 insert-joined (b ∷ bs) zero offset x lt le =
     sym (ap (λ n. insert (b ++ joined bs) n x) (zero-add offset) ∙ insert-append_left b (joined bs) offset x le)
 insert-joined (b ∷ bs) (suc p) offset x lt le =
     let l = length-append b (joined (take p bs)) in
-    let at : place_at (b ∷ bs) (suc p) offset - length b ≡ place_at bs p offset = omega arith in
+    let at : index_at (b ∷ bs) (suc p) offset - length b ≡ index_at bs p offset = omega arith in
     ap (λ z. b ++ z) (insert-joined bs p offset x (omega arith) le)
-    ∙ sym (insert-append_right b (joined bs) (length b) (place_at (b ∷ bs) (suc p) offset) x refl (omega arith)
+    ∙ sym (insert-append_right b (joined bs) (length b) (index_at (b ∷ bs) (suc p) offset) x refl (omega arith)
     ∙ ap (λ n. b ++ insert (joined bs) n x) at)
 
 -- the blocks with one cut in two
@@ -142,36 +137,36 @@ length-cut [] p n lt = absurd (omega arith)
 length-cut (b ∷ bs) zero n lt = refl
 length-cut (b ∷ bs) (suc p) n lt = ap suc (length-cut bs p n (omega arith))
 
--- the front of the block that was cut, and what stood behind the cut
+-- the prefix of the block that was cut, and what stood behind the cut
 pub block_at-cut : {X : Type 0} (bs : List (List X)) (p n : ℕ) → p < length bs → (block_at (cut_at bs p n) p ≡ take n (block_at bs p)) × (block_at (cut_at bs p n) (suc p) ≡ drop n (block_at bs p))
 block_at-cut [] p n lt = absurd (omega arith)
 block_at-cut (b ∷ bs) zero n lt = (refl, refl)
 block_at-cut (b ∷ bs) (suc p) n lt = block_at-cut bs p n (omega arith)
 
--- the places in the front are as before
-pub place_at-front : {X : Type 0} (bs : List (List X)) (p n offset : ℕ) → p < length bs → place_at (cut_at bs p n) p offset ≡ place_at bs p offset
-place_at-front [] p n offset lt = absurd (omega arith)
-place_at-front (b ∷ bs) zero n offset lt = refl
-place_at-front (b ∷ bs) (suc p) n offset lt =
-    let rest = place_at-front bs p n offset (omega arith) in
+-- the spots in the prefix are as before
+pub index_at-prefix : {X : Type 0} (bs : List (List X)) (p n offset : ℕ) → p < length bs → index_at (cut_at bs p n) p offset ≡ index_at bs p offset
+index_at-prefix [] p n offset lt = absurd (omega arith)
+index_at-prefix (b ∷ bs) zero n offset lt = refl
+index_at-prefix (b ∷ bs) (suc p) n offset lt =
+    let rest = index_at-prefix bs p n offset (omega arith) in
     let l = length-append b (joined (take p (cut_at bs p n))) in
     let r = length-append b (joined (take p bs)) in
     omega arith
 
--- the places behind the cut are as before
-pub place_at-back : {X : Type 0} (bs : List (List X)) (p n offset : ℕ) → p < length bs → n ≤ length (block_at bs p) → place_at (cut_at bs p n) (suc p) offset ≡ place_at bs p (n + offset)
-place_at-back [] p n offset lt le = absurd (omega arith)
-place_at-back (b ∷ bs) zero n offset lt le =
+-- the spots behind the cut are as before
+pub index_at-back : {X : Type 0} (bs : List (List X)) (p n offset : ℕ) → p < length bs → n ≤ length (block_at bs p) → index_at (cut_at bs p n) (suc p) offset ≡ index_at bs p (n + offset)
+index_at-back [] p n offset lt le = absurd (omega arith)
+index_at-back (b ∷ bs) zero n offset lt le =
     let l = length-append (take n b) [] in
-    let s = length-front n b le in
+    let s = length-prefix n b le in
     omega arith
   where
-    length-front : {X : Type 0} (n : ℕ) (xs : List X) → n ≤ length xs → length (take n xs) ≡ n
-    length-front zero xs h = refl
-    length-front (suc n) [] h = absurd (omega arith)
-    length-front (suc n) (x ∷ xs) h = ap suc (length-front n xs (omega arith))
-place_at-back (b ∷ bs) (suc p) n offset lt le =
-    let rest = place_at-back bs p n offset (omega arith) le in
+    length-prefix : {X : Type 0} (n : ℕ) (xs : List X) → n ≤ length xs → length (take n xs) ≡ n
+    length-prefix zero xs h = refl
+    length-prefix (suc n) [] h = absurd (omega arith)
+    length-prefix (suc n) (x ∷ xs) h = ap suc (length-prefix n xs (omega arith))
+index_at-back (b ∷ bs) (suc p) n offset lt le =
+    let rest = index_at-back bs p n offset (omega arith) le in
     let l = length-append b (joined (take (suc p) (cut_at bs p n))) in
     let r = length-append b (joined (take p bs)) in
     omega arith
@@ -251,5 +246,5 @@ gap_block bs p offset gap some = elim gap.block as (λ _. p < length bs) [ inl l
 -- where one block is full, there are 64 for each block
 pub many_each : {X : Type 0} (bs : List (List X)) (p : ℕ) → AreSized bs → p < length bs → length (block_at bs p) ≡ 128 → 64 * length bs ≤ length (joined bs)
 many_each [] p sized lt full = absurd (omega arith)
-many_each (b ∷ []) p sized lt full = (let within = place_at-within (b ∷ []) p 128 lt (omega arith) in omega arith)
+many_each (b ∷ []) p sized lt full = (let within = index_at-within (b ∷ []) p 128 lt (omega arith) in omega arith)
 many_each (b ∷ c ∷ bs) p sized lt full = length-halves (b ∷ c ∷ bs) (sized.half (omega arith))

@@ -8,7 +8,7 @@ use Rattle.std.proofs.lemmas.List.Elements.{filter-append}
 use Rattle.tp_list.specs.Members.{In}
 use Rattle.tp_rga.proofs.Flagging.{map-insert, map_agree, length-filter-insert}
 use Rattle.tp_rga.proofs.Lookups.{IsFirst, position-first}
-use Rattle.tp_posindex.specs.Layout.{joined, block_at, place_at, StandsAt}
+use Rattle.tp_posindex.specs.Layout.{joined, block_at, index_at, StandsAt}
 use Rattle.tp_posindex.specs.Laid.{flag_of, flags_of, count_of, Once, IsNumbered, laid, IsLaid}
 use Rattle.tp_posindex.proofs.Joining.{In-joined, In-block, insert-joined, cut_at, joined-cut, take-joined, In-set, In-insert, In-inserted, In-insert_still, In-parts, In-drop}
 
@@ -66,10 +66,10 @@ IsNumbered-insert n ks i numbered = record {
 -- ---- look-ups
 
 -- what stands in the first of two lists
-pub get_or-front : {X : Type 0} (xs ys : List X) (n : ℕ) (d : X) → n < length xs → get_or (xs ++ ys) n d ≡ get_or xs n d
-get_or-front [] ys n d h = absurd (omega arith)
-get_or-front (x ∷ xs) ys zero d h = refl
-get_or-front (x ∷ xs) ys (suc n) d h = get_or-front xs ys n d (omega arith)
+pub get_or-prefix : {X : Type 0} (xs ys : List X) (n : ℕ) (d : X) → n < length xs → get_or (xs ++ ys) n d ≡ get_or xs n d
+get_or-prefix [] ys n d h = absurd (omega arith)
+get_or-prefix (x ∷ xs) ys zero d h = refl
+get_or-prefix (x ∷ xs) ys (suc n) d h = get_or-prefix xs ys n d (omega arith)
 
 -- the last of a list
 pub get_or-last : {X : Type 0} (xs : List X) (y : X) (n : ℕ) (d : X) → n ≡ length xs → get_or (xs ++ y ∷ []) n d ≡ y
@@ -184,7 +184,7 @@ laid_written pool order p k v ordered lt is =
 laid-push : (pool : List (List ℕ)) (order : List ℕ) (v : List ℕ) → ((k : ℕ) → In k order → k < length pool) → laid (pool ++ v ∷ []) order ≡ laid pool order
 laid-push pool [] v below = refl
 laid-push pool (k ∷ order) v below =
-    let here : block_at (pool ++ v ∷ []) k ≡ block_at pool k = get_or-front pool (v ∷ []) k [] (below k (inl refl)) in
+    let here : block_at (pool ++ v ∷ []) k ≡ block_at pool k = get_or-prefix pool (v ∷ []) k [] (below k (inl refl)) in
     let rest = laid-push pool order v (λ j i. below j (inr i)) in
     cc
 
@@ -220,7 +220,7 @@ count-le f (k ∷ ks) =
 
 -- a flag more
 pub flag-push : (f : List Bool) (k : ℕ) → k < length f → flag_of (f ++ false ∷ []) k ≡ flag_of f k
-flag-push f k lt = get_or-front f (false ∷ []) k false lt
+flag-push f k lt = get_or-prefix f (false ∷ []) k false lt
 
 -- a raised flag of a number that isn't in the list
 pub count-other : (f : List Bool) (k : ℕ) (ks : List ℕ) → (In k ks → ⊥) → flags_of (set f k true) ks ≡ flags_of f ks
@@ -249,7 +249,7 @@ count-hidden f k (j ∷ ks) once (inr i) lt down =
     more true xs ys e = e
     more false xs ys e = ap suc e
 
--- two fronts of a list without two of one are so
+-- two prefixes of a list without two of one are so
 pub Once-left : (xs ys : List ℕ) → Once (xs ++ ys) → Once xs
 Once-left [] ys once = tt
 Once-left (x ∷ xs) ys once = (λ i. once.0 (In-left x xs ys i), Once-left xs ys once.1)
@@ -298,7 +298,7 @@ count_few pool order visible home flags p v kept lt read =
 
 -- the home of the next number
 home_of : {pool : List (List ℕ)} {order visible home : List ℕ} {flags : List Bool} → IsLaid pool order visible home flags → (k h : ℕ) → k < length flags → get_or (home ++ h ∷ []) k 0 ≡ get_or home k 0
-home_of {home = home} kept k h lt = get_or-front home (h ∷ []) k 0 (omega (arith, kept.homes))
+home_of {home = home} kept k h lt = get_or-prefix home (h ∷ []) k 0 (omega (arith, kept.homes))
 
 -- an insert into a block that isn't full
 pub IsLaid-put : (pool : List (List ℕ)) (order visible home : List ℕ) (flags : List Bool) (p offset h n v : ℕ) (w : List ℕ) → IsLaid pool order visible home flags → p < length order → h ≡ get_or order p h → n ≡ length flags → v ≡ get_or visible p v → w ≡ insert (block_at pool h) offset n → offset ≤ length (block_at pool h) → length (block_at pool h) < 128 → IsLaid (set pool h w) order (set visible p (v + 1)) (home ++ h ∷ []) (flags ++ false ∷ [])
@@ -315,8 +315,8 @@ IsLaid-put pool order visible home flags p offset h n v w kept lt h_is n_is v_is
     ap (λ (z : ℕ). laid (set pool z w) order) at
     ∙ laid-set pool order p w kept.ordered.once lt (subst (λ (z : ℕ). z < length pool) at within)
     ∙ ap (set bs p) (w_is ∙ ap (λ (z : List ℕ). insert z offset n) (sym b_is)) in
-    let whole : joined (laid (set pool h w) order) ≡ insert (joined bs) (place_at bs p offset) (length flags) =
-    ap joined written ∙ insert-joined bs p offset n lt_bs le_bs ∙ ap (insert (joined bs) (place_at bs p offset)) n_is in
+    let whole : joined (laid (set pool h w) order) ≡ insert (joined bs) (index_at bs p offset) (length flags) =
+    ap joined written ∙ insert-joined bs p offset n lt_bs le_bs ∙ ap (insert (joined bs) (index_at bs p offset)) n_is in
     let more : length f' ≡ suc (length flags) = length-append flags (false ∷ []) ∙ omega arith in
     let pool_same : length (set pool h w) ≡ length pool = length-set pool h w in
     let down : flag_of f' n ≡ false = get_or-last flags false n false n_is in
@@ -351,7 +351,7 @@ IsLaid-put pool order visible home flags p offset h n v w kept lt h_is n_is v_is
             let g : get_or (home ++ h ∷ []) k 0 ≡ get_or home k 0 = home_of kept k h inside in
             subst (λ (z : ℕ). In k (block_at (set pool h w) z)) (sym g) (in_written pool h offset n w k (get_or home k 0) within w_is (kept.housed k inside)))
       ];
-      numbered = subst (λ (z : List ℕ). IsNumbered (length f') z) (sym whole) (subst (λ m. IsNumbered m (insert (joined bs) (place_at bs p offset) (length flags))) (sym more) (IsNumbered-insert (length flags) (joined bs) (place_at bs p offset) kept.numbered));
+      numbered = subst (λ (z : List ℕ). IsNumbered (length f') z) (sym whole) (subst (λ m. IsNumbered m (insert (joined bs) (index_at bs p offset) (length flags))) (sym more) (IsNumbered-insert (length flags) (joined bs) (index_at bs p offset) kept.numbered));
       counted = sym (ap (map (count_of f')) written ∙ map-replaced (count_of f') bs p (insert (block_at bs p) offset n) ∙ ap (λ z. set z p (count_of f' (insert (block_at bs p) offset n))) counts ∙ ap (set visible p) new_count);
       sized = record {
         some = λ c i. elim (still c i) as (λ _. 1 ≤ length c) [
@@ -390,46 +390,46 @@ laid_inserted pool order q m w below m_is =
     ∙ ap (λ z. insert z q w) (laid-push pool order w below)
 
 -- the blocks after a split
-pub laid_split : (pool : List (List ℕ)) (order : List ℕ) (p q f m : ℕ) (front half : List ℕ) → IsNumbered (length pool) order → p < length order → q ≡ suc p → f ≡ get_or order p f → m ≡ length order → front ≡ take 64 (block_at pool f) → half ≡ drop 64 (block_at pool f) → laid (set pool f front ++ half ∷ []) (insert order q m) ≡ cut_at (laid pool order) p 64
-laid_split pool order p q f m front half ordered lt q_is f_is m_is front_is half_is =
+pub laid_split : (pool : List (List ℕ)) (order : List ℕ) (p q f m : ℕ) (prefix half : List ℕ) → IsNumbered (length pool) order → p < length order → q ≡ suc p → f ≡ get_or order p f → m ≡ length order → prefix ≡ take 64 (block_at pool f) → half ≡ drop 64 (block_at pool f) → laid (set pool f prefix ++ half ∷ []) (insert order q m) ≡ cut_at (laid pool order) p 64
+laid_split pool order p q f m prefix half ordered lt q_is f_is m_is prefix_is half_is =
     let bs = laid pool order in
-    let same : length (set pool f front) ≡ length pool = length-set pool f front in
-    let m_end : m ≡ length (set pool f front) = m_is ∙ ordered.many ∙ sym same in
-    let below : (k : ℕ) → In k order → k < length (set pool f front) = (λ k i. subst (λ (z : ℕ). k < z) (sym same) (ordered.below k i)) in
+    let same : length (set pool f prefix) ≡ length pool = length-set pool f prefix in
+    let m_end : m ≡ length (set pool f prefix) = m_is ∙ ordered.many ∙ sym same in
+    let below : (k : ℕ) → In k order → k < length (set pool f prefix) = (λ k i. subst (λ (z : ℕ). k < z) (sym same) (ordered.below k i)) in
     let b_is : block_at pool f ≡ block_at bs p = ap (block_at pool) (f_is ∙ get_or-any order p f 0 lt) ∙ sym (block_at-laid pool order p lt) in
-    laid_inserted (set pool f front) order q m half below m_end
-    ∙ ap (λ z. insert z q half) (laid_written pool order p f front ordered lt f_is)
-    ∙ ap (λ z. insert (set bs p z) q half) (front_is ∙ ap (take 64) b_is)
+    laid_inserted (set pool f prefix) order q m half below m_end
+    ∙ ap (λ z. insert z q half) (laid_written pool order p f prefix ordered lt f_is)
+    ∙ ap (λ z. insert (set bs p z) q half) (prefix_is ∙ ap (take 64) b_is)
     ∙ ap (insert (set bs p (take 64 (block_at bs p))) q) (half_is ∙ ap (drop 64) b_is)
     ∙ ap (λ z. insert (set bs p (take 64 (block_at bs p))) z (drop 64 (block_at bs p))) q_is
 
 -- a full block is split
-pub IsLaid-split : (pool : List (List ℕ)) (order visible home home' : List ℕ) (flags : List Bool) (p q f m v c : ℕ) (front half : List ℕ) → IsLaid pool order visible home flags → p < length order → q ≡ suc p → f ≡ get_or order p f → m ≡ length order → v ≡ get_or visible p v → c ≡ count_of flags half → front ≡ take 64 (block_at pool f) → half ≡ drop 64 (block_at pool f) → length (block_at pool f) ≡ 128 → length home' ≡ length home → ((k : ℕ) → In k half → get_or home' k 0 ≡ m) → ((k : ℕ) → (In k half → ⊥) → get_or home' k 0 ≡ get_or home k 0) → IsLaid (set pool f front ++ half ∷ []) (insert order q m) (insert (set visible p (v - c)) q c) home' flags
-IsLaid-split pool order visible home home' flags p q f m v c front half kept lt q_is f_is m_is v_is c_is front_is half_is full homes renamed others =
+pub IsLaid-split : (pool : List (List ℕ)) (order visible home home' : List ℕ) (flags : List Bool) (p q f m v c : ℕ) (prefix half : List ℕ) → IsLaid pool order visible home flags → p < length order → q ≡ suc p → f ≡ get_or order p f → m ≡ length order → v ≡ get_or visible p v → c ≡ count_of flags half → prefix ≡ take 64 (block_at pool f) → half ≡ drop 64 (block_at pool f) → length (block_at pool f) ≡ 128 → length home' ≡ length home → ((k : ℕ) → In k half → get_or home' k 0 ≡ m) → ((k : ℕ) → (In k half → ⊥) → get_or home' k 0 ≡ get_or home k 0) → IsLaid (set pool f prefix ++ half ∷ []) (insert order q m) (insert (set visible p (v - c)) q c) home' flags
+IsLaid-split pool order visible home home' flags p q f m v c prefix half kept lt q_is f_is m_is v_is c_is prefix_is half_is full homes renamed others =
     let bs = laid pool order in
-    let pool' = set pool f front ++ half ∷ [] in
-    let new : laid pool' (insert order q m) ≡ cut_at bs p 64 = laid_split pool order p q f m front half kept.ordered lt q_is f_is m_is front_is half_is in
+    let pool' = set pool f prefix ++ half ∷ [] in
+    let new : laid pool' (insert order q m) ≡ cut_at bs p 64 = laid_split pool order p q f m prefix half kept.ordered lt q_is f_is m_is prefix_is half_is in
     let many : length bs ≡ length order = length-laid pool order in
     let lt_bs : p < length bs = omega arith in
-    let same : length (set pool f front) ≡ length pool = length-set pool f front in
-    let more : length pool' ≡ suc (length pool) = length-append (set pool f front) (half ∷ []) ∙ (let l = same in omega arith) in
+    let same : length (set pool f prefix) ≡ length pool = length-set pool f prefix in
+    let more : length pool' ≡ suc (length pool) = length-append (set pool f prefix) (half ∷ []) ∙ (let l = same in omega arith) in
     let m_pool : m ≡ length pool = m_is ∙ kept.ordered.many in
     let in_pool : f < length pool = order_within pool order p f kept.ordered lt f_is in
     let b_is : block_at pool f ≡ block_at bs p = ap (block_at pool) (f_is ∙ get_or-any order p f 0 lt) ∙ sym (block_at-laid pool order p lt) in
-    let front_cut : front ≡ take 64 (block_at bs p) = front_is ∙ ap (take 64) b_is in
+    let prefix_cut : prefix ≡ take 64 (block_at bs p) = prefix_is ∙ ap (take 64) b_is in
     let half_cut : half ≡ drop 64 (block_at bs p) = half_is ∙ ap (drop 64) b_is in
     let whole : joined (laid pool' (insert order q m)) ≡ joined bs = ap joined new ∙ joined-cut bs p 64 lt_bs in
     let v_count : v ≡ count_of flags (block_at bs p) = count_read pool order visible home flags p v kept lt v_is in
     let c_count : c ≡ count_of flags (drop 64 (block_at bs p)) = c_is ∙ ap (count_of flags) half_cut in
     let parts = count-parts flags 64 (block_at bs p) in
     let rest_count : count_of flags (take 64 (block_at bs p)) ≡ v - c = omega arith in
-    let len_front : length front ≡ 64 = ap length front_is ∙ (let l = length-take 64 (block_at pool f) in omega arith) in
+    let len_prefix : length prefix ≡ 64 = ap length prefix_is ∙ (let l = length-take 64 (block_at pool f) in omega arith) in
     let len_half : length half ≡ 64 = ap length half_is ∙ (let l = length-drop 64 (block_at pool f) in omega arith) in
-    let still : (x : List ℕ) → In x (laid pool' (insert order q m)) → (x ≡ half) ⊎ ((x ≡ front) ⊎ (In x bs × (1 < length bs))) = (λ x i.
-    elim (In-insert (set bs p (take 64 (block_at bs p))) (suc p) (drop 64 (block_at bs p)) x (subst (In x) new i)) as (λ _. (x ≡ half) ⊎ ((x ≡ front) ⊎ (In x bs × (1 < length bs)))) [
+    let still : (x : List ℕ) → In x (laid pool' (insert order q m)) → (x ≡ half) ⊎ ((x ≡ prefix) ⊎ (In x bs × (1 < length bs))) = (λ x i.
+    elim (In-insert (set bs p (take 64 (block_at bs p))) (suc p) (drop 64 (block_at bs p)) x (subst (In x) new i)) as (λ _. (x ≡ half) ⊎ ((x ≡ prefix) ⊎ (In x bs × (1 < length bs)))) [
       | inl e ↦ inl (e ∙ sym half_cut)
-      | inr j ↦ inr (elim (In-set bs p (take 64 (block_at bs p)) x lt_bs j) as (λ _. (x ≡ front) ⊎ (In x bs × (1 < length bs))) [
-        | inl e ↦ inl (e ∙ sym front_cut)
+      | inr j ↦ inr (elim (In-set bs p (take 64 (block_at bs p)) x lt_bs j) as (λ _. (x ≡ prefix) ⊎ (In x bs × (1 < length bs))) [
+        | inl e ↦ inl (e ∙ sym prefix_cut)
         | inr h ↦ inr h
       ])
     ]) in
@@ -442,13 +442,13 @@ IsLaid-split pool order visible home home' flags p q f m v c front half kept lt 
       ];
       housed = λ k lt'. elim (In-or_not k half) as (λ _. In k (block_at pool' (get_or home' k 0))) [
         | inl i ↦ (
-            let got : block_at pool' (get_or home' k 0) ≡ half = ap (block_at pool') (renamed k i) ∙ get_or-last (set pool f front) half m [] (m_pool ∙ sym same) in
+            let got : block_at pool' (get_or home' k 0) ≡ half = ap (block_at pool') (renamed k i) ∙ get_or-last (set pool f prefix) half m [] (m_pool ∙ sym same) in
             subst (In k) (sym got) i)
         | inr not_in ↦ (
             let g = get_or home k 0 in
-            let g_in : g < length (set pool f front) = (let t = kept.at_home k lt' in omega arith) in
-            let got : block_at pool' (get_or home' k 0) ≡ block_at (set pool f front) g = ap (block_at pool') (others k not_in) ∙ get_or-front (set pool f front) (half ∷ []) g [] g_in in
-            subst (In k) (sym got) (in_front pool f front half k g in_pool front_is half_is not_in (kept.housed k lt')))
+            let g_in : g < length (set pool f prefix) = (let t = kept.at_home k lt' in omega arith) in
+            let got : block_at pool' (get_or home' k 0) ≡ block_at (set pool f prefix) g = ap (block_at pool') (others k not_in) ∙ get_or-prefix (set pool f prefix) (half ∷ []) g [] g_in in
+            subst (In k) (sym got) (in_prefix pool f prefix half k g in_pool prefix_is half_is not_in (kept.housed k lt')))
       ];
       numbered = subst (IsNumbered (length flags)) (sym whole) kept.numbered;
       counted = sym (ap (map (count_of flags)) new
@@ -475,18 +475,18 @@ IsLaid-split pool order visible home home' flags p q f m v c front half kept lt 
       };
     }
   where
-    in_front : (pool : List (List ℕ)) (f : ℕ) (front half : List ℕ) (k g : ℕ) → f < length pool → front ≡ take 64 (block_at pool f) → half ≡ drop 64 (block_at pool f) → (In k half → ⊥) → In k (block_at pool g) → In k (block_at (set pool f front) g)
-    in_front pool f front half k g in_pool front_is half_is not_in i =
-        elim (same_or_not g f) as (λ _. In k (block_at (set pool f front) g)) [
+    in_prefix : (pool : List (List ℕ)) (f : ℕ) (prefix half : List ℕ) (k g : ℕ) → f < length pool → prefix ≡ take 64 (block_at pool f) → half ≡ drop 64 (block_at pool f) → (In k half → ⊥) → In k (block_at pool g) → In k (block_at (set pool f prefix) g)
+    in_prefix pool f prefix half k g in_pool prefix_is half_is not_in i =
+        elim (same_or_not g f) as (λ _. In k (block_at (set pool f prefix) g)) [
           | inl e ↦ (
-              let got : block_at (set pool f front) g ≡ front = ap (block_at (set pool f front)) e ∙ get_or-set_same pool f front [] in_pool in
-              subst (In k) (sym got) (elim (In-parts 64 (block_at pool f) k (subst (λ (z : ℕ). In k (block_at pool z)) e i)) as (λ _. In k front) [
-                | inl j ↦ subst (In k) (sym front_is) j
+              let got : block_at (set pool f prefix) g ≡ prefix = ap (block_at (set pool f prefix)) e ∙ get_or-set_same pool f prefix [] in_pool in
+              subst (In k) (sym got) (elim (In-parts 64 (block_at pool f) k (subst (λ (z : ℕ). In k (block_at pool z)) e i)) as (λ _. In k prefix) [
+                | inl j ↦ subst (In k) (sym prefix_is) j
                 | inr j ↦ absurd (not_in (subst (In k) (sym half_is) j))
               ]))
           | inr apart ↦ (
               let ne : g ≡ f → ⊥ = apart in
-              let got : block_at (set pool f front) g ≡ block_at pool g = get_or-set_other pool f g front [] ne in
+              let got : block_at (set pool f prefix) g ≡ block_at pool g = get_or-set_other pool f g prefix [] ne in
               subst (In k) (sym got) i)
         ]
 
@@ -572,7 +572,7 @@ counts_all f (b ∷ bs) =
     ∙ sym (count-append f b (joined bs))
 
 -- the counts before a block and the count within it are the count before the place
-pub count_before : (f : List Bool) (bs : List (List ℕ)) (visible : List ℕ) (p offset : ℕ) → visible ≡ map (count_of f) bs → p < length bs → offset ≤ length (block_at bs p) → sum (take p visible) + count_of f (take offset (block_at bs p)) ≡ count_of f (take (place_at bs p offset) (joined bs))
+pub count_before : (f : List Bool) (bs : List (List ℕ)) (visible : List ℕ) (p offset : ℕ) → visible ≡ map (count_of f) bs → p < length bs → offset ≤ length (block_at bs p) → sum (take p visible) + count_of f (take offset (block_at bs p)) ≡ count_of f (take (index_at bs p offset) (joined bs))
 count_before f bs visible p offset counted lt le =
     ap (λ n. n + count_of f (take offset (block_at bs p))) (ap (λ z. sum (take p z)) counted ∙ counts_before f bs p)
     ∙ sym (count-append f (joined (take p bs)) (take offset (block_at bs p)))
@@ -596,7 +596,7 @@ half_count pool order visible home flags p v half kept lt v_is is =
 -- a whole list that was written
 pub written_whole : (xs ys : List ℕ) (n : ℕ) → length xs ≡ length ys → n ≡ length ys → take n (xs ++ drop (length xs) ys) ≡ xs
 written_whole xs ys n e m =
-    ap (λ z. take n (xs ++ z)) (drop_all (length xs) ys (omega arith)) ∙ front n xs (omega arith)
+    ap (λ z. take n (xs ++ z)) (drop_all (length xs) ys (omega arith)) ∙ prefix n xs (omega arith)
   where
     drop_all : (m : ℕ) (ys : List ℕ) → m ≡ length ys → drop m ys ≡ []
     drop_all zero [] h = refl
@@ -604,11 +604,11 @@ written_whole xs ys n e m =
     drop_all (suc m) [] h = refl
     drop_all (suc m) (y ∷ ys) h = drop_all m ys (omega arith)
 
-    front : (m : ℕ) (xs : List ℕ) → m ≡ length xs → take m (xs ++ []) ≡ xs
-    front zero [] h = refl
-    front zero (x ∷ xs) h = absurd (omega arith)
-    front (suc m) [] h = refl
-    front (suc m) (x ∷ xs) h = ap (λ z. x ∷ z) (front m xs (omega arith))
+    prefix : (m : ℕ) (xs : List ℕ) → m ≡ length xs → take m (xs ++ []) ≡ xs
+    prefix zero [] h = refl
+    prefix zero (x ∷ xs) h = absurd (omega arith)
+    prefix (suc m) [] h = refl
+    prefix (suc m) (x ∷ xs) h = ap (λ z. x ∷ z) (prefix m xs (omega arith))
 
 -- ---- sums of stretches
 

@@ -12,7 +12,7 @@ use Rattle.tp_posindex.specs.declared.links.Link.{Link}
 use Rattle.tp_posindex.specs.declared.links.Latest.{Latest}
 use Rattle.tp_posindex.specs.Blocked.{blank, element_at}
 use Rattle.tp_posindex.specs.Indexed.{actor_at, counter_at, no_link, link_at, noted, IsLink, IsIndexed}
-use Rattle.tp_posindex.proofs.Laying.{get_or-front, get_or-last}
+use Rattle.tp_posindex.proofs.Laying.{get_or-prefix, get_or-last}
 
 -- ---- an element more
 
@@ -29,11 +29,11 @@ lt_or_le zero (suc n) = inl (omega arith)
 lt_or_le (suc k) (suc n) = elim (lt_or_le k n) as (λ _. (suc k < suc n) ⊎ (suc n ≤ suc k)) [ inl h ↦ inl (omega (arith, h)) | inr h ↦ inr (omega (arith, h)) ]
 
 -- the elements that came before are as they were
-actor_front : (E : List Insert) (e : Insert) (k : ℕ) → k < length E → actor_at (E ++ e ∷ []) k ≡ actor_at E k
-actor_front E e k lt = ap (λ (w : Insert). w.id.actor) (get_or-front E (e ∷ []) k blank lt)
+actor_prefix : (E : List Insert) (e : Insert) (k : ℕ) → k < length E → actor_at (E ++ e ∷ []) k ≡ actor_at E k
+actor_prefix E e k lt = ap (λ (w : Insert). w.id.actor) (get_or-prefix E (e ∷ []) k blank lt)
 
-counter_front : (E : List Insert) (e : Insert) (k : ℕ) → k < length E → counter_at (E ++ e ∷ []) k ≡ counter_at E k
-counter_front E e k lt = ap (λ (w : Insert). w.id.counter) (get_or-front E (e ∷ []) k blank lt)
+counter_prefix : (E : List Insert) (e : Insert) (k : ℕ) → k < length E → counter_at (E ++ e ∷ []) k ≡ counter_at E k
+counter_prefix E e k lt = ap (λ (w : Insert). w.id.counter) (get_or-prefix E (e ∷ []) k blank lt)
 
 -- the new one
 actor_last : (E : List Insert) (e : Insert) (n : ℕ) → n ≡ length E → actor_at (E ++ e ∷ []) n ≡ e.id.actor
@@ -43,13 +43,13 @@ counter_last : (E : List Insert) (e : Insert) (n : ℕ) → n ≡ length E → c
 counter_last E e n is = ap (λ (w : Insert). w.id.counter) (get_or-last E e n blank is)
 
 -- a link stays one
-IsLink-front : (E : List Insert) (e : Insert) (k : ℕ) (l : Link) → k < length E → IsLink E k l → IsLink (E ++ e ∷ []) k l
-IsLink-front E e k l lt link = record {
+IsLink-prefix : (E : List Insert) (e : Insert) (k : ℕ) (l : Link) → k < length E → IsLink E k l → IsLink (E ++ e ∷ []) k l
+IsLink-prefix E e k l lt link = record {
   before = link.before;
-  before_by = actor_front E e l.before (let b = link.before in omega arith) ∙ link.before_by ∙ sym (actor_front E e k lt);
+  before_by = actor_prefix E e l.before (let b = link.before in omega arith) ∙ link.before_by ∙ sym (actor_prefix E e k lt);
   jump = link.jump;
-  jump_by = actor_front E e l.jump (let b = link.jump in omega arith) ∙ link.jump_by ∙ sym (actor_front E e k lt);
-  prior = λ j less same. link.prior j less (sym (actor_front E e j (omega arith)) ∙ same ∙ actor_front E e k lt);
+  jump_by = actor_prefix E e l.jump (let b = link.jump in omega arith) ∙ link.jump_by ∙ sym (actor_prefix E e k lt);
+  prior = λ j less same. link.prior j less (sym (actor_prefix E e j (omega arith)) ∙ same ∙ actor_prefix E e k lt);
 }
 
 -- the links with one more
@@ -57,7 +57,7 @@ links_more : (E : List Insert) (e : Insert) (links : List Link) (l : Link) → l
 links_more E e links l many linked new k lt =
     let more = length-append E (e ∷ []) in
     elim (below_next k (length E) (omega arith)) as (λ _. IsLink (E ++ e ∷ []) k (link_at (links ++ l ∷ []) k)) [
-      | inl less ↦ subst (IsLink (E ++ e ∷ []) k) (sym (get_or-front links (l ∷ []) k no_link (omega arith))) (IsLink-front E e k (link_at links k) less (linked k less))
+      | inl less ↦ subst (IsLink (E ++ e ∷ []) k) (sym (get_or-prefix links (l ∷ []) k no_link (omega arith))) (IsLink-prefix E e k (link_at links k) less (linked k less))
       | inr is ↦ subst (IsLink (E ++ e ∷ []) k) (sym (get_or-last links l k no_link (is ∙ sym many))) (subst (λ n. IsLink (E ++ e ∷ []) n l) (sym is) new)
     ]
 
@@ -82,7 +82,7 @@ none_of latest id e by none y i = ap (same_actor y.actor) by ∙ none y i
 
 -- a whole list that was written
 pub written_all : {X : Type 0} (xs ys : List X) (n : ℕ) → length xs ≡ length ys → n ≡ length ys → take n (xs ++ drop (length xs) ys) ≡ xs
-written_all xs ys n e m = ap (λ z. take n (xs ++ z)) (drop_all (length xs) ys (omega arith)) ∙ front n xs (omega arith)
+written_all xs ys n e m = ap (λ z. take n (xs ++ z)) (drop_all (length xs) ys (omega arith)) ∙ prefix n xs (omega arith)
   where
     drop_all : {X : Type 0} (m : ℕ) (ys : List X) → m ≡ length ys → drop m ys ≡ []
     drop_all zero [] h = refl
@@ -90,11 +90,11 @@ written_all xs ys n e m = ap (λ z. take n (xs ++ z)) (drop_all (length xs) ys (
     drop_all (suc m) [] h = refl
     drop_all (suc m) (y ∷ ys) h = drop_all m ys (omega arith)
 
-    front : {X : Type 0} (m : ℕ) (xs : List X) → m ≡ length xs → take m (xs ++ []) ≡ xs
-    front zero [] h = refl
-    front zero (x ∷ xs) h = absurd (omega arith)
-    front (suc m) [] h = refl
-    front (suc m) (x ∷ xs) h = ap (λ z. x ∷ z) (front m xs (omega arith))
+    prefix : {X : Type 0} (m : ℕ) (xs : List X) → m ≡ length xs → take m (xs ++ []) ≡ xs
+    prefix zero [] h = refl
+    prefix zero (x ∷ xs) h = absurd (omega arith)
+    prefix (suc m) [] h = refl
+    prefix (suc m) (x ∷ xs) h = ap (λ z. x ∷ z) (prefix m xs (omega arith))
 
 In-map : {X Y : Type 0} (f : X → Y) (xs : List X) (x : X) → In x xs → In (f x) (map f xs)
 In-map f [] x i = absurd i
@@ -116,7 +116,7 @@ IsIndexed-more E latest links e x l kept i by greater before_is jump_is =
     let m = x.number in
     let there = kept.there x i in
     let at_n : actor_at E' n ≡ a = actor_last E e n refl in
-    let at_m : actor_at E' m ≡ actor_at E' n = actor_front E e m there.0 ∙ there.1 ∙ by ∙ sym at_n in
+    let at_m : actor_at E' m ≡ actor_at E' n = actor_prefix E e m there.0 ∙ there.1 ∙ by ∙ sym at_n in
     let near = kept.linked m there.0 in
     let near_in : (link_at links m).jump < n = (let b = near.jump in let t = there.0 in omega arith) in
     let far = kept.linked (link_at links m).jump near_in in
@@ -129,9 +129,9 @@ IsIndexed-more E latest links e x l kept i by greater before_is jump_is =
         | inr e2 ↦ (
             let j = (link_at links (link_at links m).jump).jump in
             let j_in : j < n = (let b = far.jump in omega arith) in
-            ap (actor_at E') e2 ∙ actor_front E e j j_in ∙ far.jump_by ∙ near.jump_by ∙ sym (actor_front E e m there.0) ∙ at_m)
+            ap (actor_at E') e2 ∙ actor_prefix E e j j_in ∙ far.jump_by ∙ near.jump_by ∙ sym (actor_prefix E e m there.0) ∙ at_m)
       ];
-      prior = λ j less same. (let t = there.0 in omega (arith, before_is), (let le = kept.last x i j less (sym (actor_front E e j less) ∙ same ∙ at_n ∙ sym by) in omega (arith, before_is)));
+      prior = λ j less same. (let t = there.0 in omega (arith, before_is), (let le = kept.last x i j less (sym (actor_prefix E e j less) ∙ same ∙ at_n ∙ sym by) in omega (arith, before_is)));
     } in
     record {
       many = length-append links (l ∷ []) ∙ ap (λ z. z + 1) kept.many ∙ sym (length-append E (e ∷ []));
@@ -139,13 +139,13 @@ IsIndexed-more E latest links e x l kept i by greater before_is jump_is =
       rises = λ j k less lt same. elim (below_next k n (omega arith)) as (λ _. counter_at E' j < counter_at E' k) [
         | inl inside ↦ (
             let j_in : j < n = omega arith in
-            let old = kept.rises j k less inside (sym (actor_front E e j j_in) ∙ same ∙ actor_front E e k inside) in
-            let cj = counter_front E e j j_in in let ck = counter_front E e k inside in omega arith)
+            let old = kept.rises j k less inside (sym (actor_prefix E e j j_in) ∙ same ∙ actor_prefix E e k inside) in
+            let cj = counter_prefix E e j j_in in let ck = counter_prefix E e k inside in omega arith)
         | inr is ↦ (
             let j_in : j < n = omega arith in
-            let same_a : actor_at E j ≡ x.actor = sym (actor_front E e j j_in) ∙ same ∙ ap (actor_at E') is ∙ at_n ∙ sym by in
+            let same_a : actor_at E j ≡ x.actor = sym (actor_prefix E e j j_in) ∙ same ∙ ap (actor_at E') is ∙ at_n ∙ sym by in
             let le = kept.last x i j j_in same_a in
-            let cj = counter_front E e j j_in in
+            let cj = counter_prefix E e j j_in in
             let ck : counter_at E' k ≡ e.id.counter = counter_last E e k is in
             elim (below_next j m (omega arith)) as (λ _. counter_at E' j < counter_at E' k) [
               | inl lower ↦ (let old = kept.rises j m lower there.0 (same_a ∙ sym there.1) in omega arith)
@@ -153,7 +153,7 @@ IsIndexed-more E latest links e x l kept i by greater before_is jump_is =
             ])
       ];
       known = λ k lt. elim (below_next k n (omega arith)) as (λ _. (y : Latest) × In y (map (noted a n) latest) × (y.actor ≡ actor_at E' k)) [
-        | inl inside ↦ (let r = kept.known k inside in (noted a n r.0, In-map (noted a n) latest r.0 r.1, noted-actor a n r.0 ∙ r.2 ∙ sym (actor_front E e k inside)))
+        | inl inside ↦ (let r = kept.known k inside in (noted a n r.0, In-map (noted a n) latest r.0 r.1, noted-actor a n r.0 ∙ r.2 ∙ sym (actor_prefix E e k inside)))
         | inr is ↦ (noted a n x, In-map (noted a n) latest x i, noted-actor a n x ∙ by ∙ sym (ap (actor_at E') is ∙ at_n))
       ];
       there = λ y h. (let r = In-of_map (noted a n) latest y h in there_noted E e latest links kept r.0 r.1 y r.2);
@@ -172,7 +172,7 @@ IsIndexed-more E latest links e x l kept i by greater before_is jump_is =
           | false ↦ λ other. (
               let num : y.number ≡ x.number = ap (λ (w : Latest). w.number) is ∙ noted-number e.id.actor (length E) x false other in
               let lt = old.0 in
-              (omega arith, ap (actor_at (E ++ e ∷ [])) num ∙ actor_front E e x.number old.0 ∙ old.1 ∙ sym act))
+              (omega arith, ap (actor_at (E ++ e ∷ [])) num ∙ actor_prefix E e x.number old.0 ∙ old.1 ∙ sym act))
         ] refl
 
     last_noted : (E : List Insert) (e : Insert) (latest : List Latest) (links : List Link) → IsIndexed E latest links → (x : Latest) → In x latest → (y : Latest) → y ≡ noted e.id.actor (length E) x → (j : ℕ) → j < length (E ++ e ∷ []) → actor_at (E ++ e ∷ []) j ≡ y.actor → j ≤ y.number
@@ -184,7 +184,7 @@ IsIndexed-more E latest links e x l kept i by greater before_is jump_is =
           | false ↦ λ other. (
               let num : y.number ≡ x.number = ap (λ (w : Latest). w.number) is ∙ noted-number e.id.actor (length E) x false other in
               elim (below_next j (length E) (omega arith)) as (λ _. j ≤ y.number) [
-                | inl inside ↦ (let le = kept.last x i j inside (sym (actor_front E e j inside) ∙ same ∙ act) in omega arith)
+                | inl inside ↦ (let le = kept.last x i j inside (sym (actor_prefix E e j inside) ∙ same ∙ act) in omega arith)
                 | inr top ↦ absurd (same_actor-apart x.actor e.id.actor other (sym (sym (actor_last E e j top) ∙ same ∙ act)))
               ])
         ] refl
@@ -198,7 +198,7 @@ IsIndexed-first E latest links e x l kept none by at before_is jump_is =
     let more : length E' ≡ suc n = length-append E (e ∷ []) ∙ omega arith in
     let at_n : actor_at E' n ≡ a = actor_last E e n refl in
     let nobody : (j : ℕ) → j < n → actor_at E j ≡ a → ⊥ = (λ j lt same. let r = kept.known j lt in same_actor-apart r.0.actor a (none r.0 r.1) (r.2 ∙ same)) in
-    let nobody' : (j : ℕ) → j < n → actor_at E' j ≡ a → ⊥ = (λ j lt same. nobody j lt (sym (actor_front E e j lt) ∙ same)) in
+    let nobody' : (j : ℕ) → j < n → actor_at E' j ≡ a → ⊥ = (λ j lt same. nobody j lt (sym (actor_prefix E e j lt) ∙ same)) in
     let new : IsLink E' n l = record {
       before = omega (arith, before_is);
       before_by = ap (actor_at E') before_is;
@@ -212,23 +212,23 @@ IsIndexed-first E latest links e x l kept none by at before_is jump_is =
       rises = λ j k less lt same. elim (below_next k n (omega arith)) as (λ _. counter_at E' j < counter_at E' k) [
         | inl inside ↦ (
             let j_in : j < n = omega arith in
-            let old = kept.rises j k less inside (sym (actor_front E e j j_in) ∙ same ∙ actor_front E e k inside) in
-            let cj = counter_front E e j j_in in let ck = counter_front E e k inside in omega arith)
+            let old = kept.rises j k less inside (sym (actor_prefix E e j j_in) ∙ same ∙ actor_prefix E e k inside) in
+            let cj = counter_prefix E e j j_in in let ck = counter_prefix E e k inside in omega arith)
         | inr is ↦ absurd (let j_in : j < n = omega arith in nobody' j j_in (same ∙ ap (actor_at E') is ∙ at_n))
       ];
       known = λ k lt. elim (below_next k n (omega arith)) as (λ _. (y : Latest) × In y (latest ++ x ∷ []) × (y.actor ≡ actor_at E' k)) [
-        | inl inside ↦ (let r = kept.known k inside in (r.0, In-left r.0 latest (x ∷ []) r.1, r.2 ∙ sym (actor_front E e k inside)))
+        | inl inside ↦ (let r = kept.known k inside in (r.0, In-left r.0 latest (x ∷ []) r.1, r.2 ∙ sym (actor_prefix E e k inside)))
         | inr is ↦ (x, In-last x latest, by ∙ sym (ap (actor_at E') is ∙ at_n))
       ];
       there = λ y h. elim (In-push y latest x h) as (λ _. (y.number < length E') × (actor_at E' y.number ≡ y.actor)) [
-        | inl i ↦ (let old = kept.there y i in (let t = old.0 in omega arith, actor_front E e y.number old.0 ∙ old.1))
+        | inl i ↦ (let old = kept.there y i in (let t = old.0 in omega arith, actor_prefix E e y.number old.0 ∙ old.1))
         | inr is ↦ (
             let num : y.number ≡ n = ap (λ (w : Latest). w.number) is ∙ at in
             (omega arith, actor_last E e y.number num ∙ sym (ap (λ (w : Latest). w.actor) is ∙ by)))
       ];
       last = λ y h j lt same. elim (In-push y latest x h) as (λ _. j ≤ y.number) [
         | inl i ↦ elim (below_next j n (omega arith)) as (λ _. j ≤ y.number) [
-          | inl inside ↦ kept.last y i j inside (sym (actor_front E e j inside) ∙ same)
+          | inl inside ↦ kept.last y i j inside (sym (actor_prefix E e j inside) ∙ same)
           | inr top ↦ absurd (same_actor-apart y.actor a (none y i) (sym same ∙ ap (actor_at E') top ∙ at_n))
         ]
         | inr is ↦ (let num : y.number ≡ n = ap (λ (w : Latest). w.number) is ∙ at in omega arith)

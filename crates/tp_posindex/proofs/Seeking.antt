@@ -1,6 +1,6 @@
 -- The elements by number: look-ups, and the place where an insert goes.
 use Rattle.tp_list.proofs.Members.{In-get_or}
-use Rattle.tp_opid.specs.Tree.{IsThere, IsNew, HasPlace, IsPlaceBelow, CanInsert}
+use Rattle.tp_opid.specs.Tree.{IsThere, IsNew, HasReference, IsReferenceBelow, CanInsert}
 use Rattle.std.proofs.Common.{◌≡◌, ◌⊎◌, inl, inr, ℕ, zero, suc, ◌+◌, ◌-◌, ◌<◌, ◌≤◌, true, None, Some, List, [], ◌∷◌, ◌++◌, length, take, get_or, insert, map, position, refl, sym, ap, ◌∙◌, subst, arith, length-append}
 use Rattle.std.specs.List.{AllWithin, HoldsAt}
 use Rattle.std.proofs.lemmas.List.{length-map}
@@ -13,12 +13,12 @@ use Rattle.tp_opid.specs.Order.{Below}
 use Rattle.tp_opid.specs.Same.{id_eq}
 use Rattle.tp_rga.specs.Order.{EndsAt, IsInserted}
 use Rattle.tp_rga.proofs.Lookups.{IsFirst-position, IsThere-found, EndsAt-found, place_found}
-use Rattle.tp_posindex.specs.Layout.{joined, block_at, place_at, IsGap, StandsAt}
+use Rattle.tp_posindex.specs.Layout.{joined, block_at, index_at, IsGap, StandsAt}
 use Rattle.tp_posindex.specs.Blocked.{blank, element_at}
-use Rattle.tp_posindex.proofs.Joining.{place_at-within, place_at-before, get_or-joined}
+use Rattle.tp_posindex.proofs.Joining.{index_at-within, index_at-before, get_or-joined}
 use Rattle.tp_posindex.proofs.Laying.{slice_get-there, get_or-of_map}
 
--- ---- what holds between places
+-- ---- what holds between spots
 
 -- one number is below another or isn't
 lt_or_ge : (k n : ℕ) → (k < n) ⊎ (n ≤ k)
@@ -30,24 +30,24 @@ lt_or_ge (suc k) (suc n) = elim (lt_or_ge k n) as (λ _. (suc k < suc n) ⊎ (su
 pub AllWithin-empty : {X : Type 0} (P : X → Type 0) (xs : List X) (a : ℕ) → AllWithin P xs a a
 AllWithin-empty P xs a = λ i d low high. absurd (omega arith)
 
--- the front of a stretch
-pub AllWithin-front : {X : Type 0} (P : X → Type 0) (xs : List X) (a b c : ℕ) → c ≤ b → AllWithin P xs a b → AllWithin P xs a c
-AllWithin-front P xs a b c le h = λ i d low high. h i d low (omega arith)
+-- the prefix of a stretch
+pub AllWithin-prefix : {X : Type 0} (P : X → Type 0) (xs : List X) (a b c : ℕ) → c ≤ b → AllWithin P xs a b → AllWithin P xs a c
+AllWithin-prefix P xs a b c le h = λ i d low high. h i d low (omega arith)
 
 -- two stretches one after another
 pub AllWithin-join : {X : Type 0} (P : X → Type 0) (xs : List X) (a b c : ℕ) → AllWithin P xs a b → AllWithin P xs b c → AllWithin P xs a c
 AllWithin-join P xs a b c h k = λ i d low high. elim (lt_or_ge i b) as (λ _. P (get_or xs i d)) [ inl lt ↦ h i d low lt | inr ge ↦ k i d ge high ]
 
 -- a stretch of a block is a stretch of the whole
-pub AllWithin-joined : {X : Type 0} (P : X → Type 0) (bs : List (List X)) (p a b : ℕ) → p < length bs → b ≤ length (block_at bs p) → AllWithin P (block_at bs p) a b → AllWithin P (joined bs) (place_at bs p a) (place_at bs p b)
+pub AllWithin-joined : {X : Type 0} (P : X → Type 0) (bs : List (List X)) (p a b : ℕ) → p < length bs → b ≤ length (block_at bs p) → AllWithin P (block_at bs p) a b → AllWithin P (joined bs) (index_at bs p a) (index_at bs p b)
 AllWithin-joined P bs p a b lt le h = λ i d low high.
     let j = i - length (joined (take p bs)) in
-    let at : place_at bs p j ≡ i = omega arith in
+    let at : index_at bs p j ≡ i = omega arith in
     let short : j < length (block_at bs p) = omega arith in
     subst P (sym (get_or-joined bs p j d lt short) ∙ ap (λ n. get_or (joined bs) n d) at) (h j d (omega arith) (omega arith))
 
 -- what holds at an offset of a block holds at its place
-pub HoldsAt-joined : {X : Type 0} (P : X → Type 0) (bs : List (List X)) (p offset : ℕ) → p < length bs → offset < length (block_at bs p) → HoldsAt P (block_at bs p) offset → HoldsAt P (joined bs) (place_at bs p offset)
+pub HoldsAt-joined : {X : Type 0} (P : X → Type 0) (bs : List (List X)) (p offset : ℕ) → p < length bs → offset < length (block_at bs p) → HoldsAt P (block_at bs p) offset → HoldsAt P (joined bs) (index_at bs p offset)
 HoldsAt-joined P bs p offset lt le h = λ d. subst P (sym (get_or-joined bs p offset d lt le)) (h d)
 
 -- a stretch of a map
@@ -61,31 +61,26 @@ pub HoldsAt-of_map : {X Y : Type 0} (P : Y → Type 0) (f : X → Y) (xs : List 
 HoldsAt-of_map P f xs i e lt h = λ d. subst P (sym (get_or-of_map f xs i d e lt)) (h e)
 
 -- a gap is within the whole
-pub gap_within : {X : Type 0} (bs : List (List X)) (p offset : ℕ) → IsGap bs p offset → place_at bs p offset ≤ length (joined bs)
-gap_within bs p offset gap = elim gap.block as (λ _. place_at bs p offset ≤ length (joined bs)) [
-  | inl lt ↦ place_at-within bs p offset lt gap.offset_in
+pub gap_within : {X : Type 0} (bs : List (List X)) (p offset : ℕ) → IsGap bs p offset → index_at bs p offset ≤ length (joined bs)
+gap_within bs p offset gap = elim gap.block as (λ _. index_at bs p offset ≤ length (joined bs)) [
+  | inl lt ↦ index_at-within bs p offset lt gap.offset_in
   | inr none ↦ at_start bs p offset none gap.offset_in
 ]
   where
-    at_start : {X : Type 0} (bs : List (List X)) (p offset : ℕ) → bs ≡ [] → offset ≤ length (block_at bs p) → place_at bs p offset ≤ length (joined bs)
+    at_start : {X : Type 0} (bs : List (List X)) (p offset : ℕ) → bs ≡ [] → offset ≤ length (block_at bs p) → index_at bs p offset ≤ length (joined bs)
     at_start [] zero offset e h = omega arith
     at_start [] (suc p) offset e h = omega arith
     at_start (b ∷ bs) p offset e h = cc
 
 -- past the last block there is nothing
-pub place_at-past : {X : Type 0} (bs : List (List X)) (p offset : ℕ) → length bs ≤ p → length (joined bs) ≤ place_at bs p offset
-place_at-past [] p offset h = omega arith
-place_at-past (b ∷ bs) zero offset h = absurd (omega arith)
-place_at-past (b ∷ bs) (suc p) offset h =
-    let rest = place_at-past bs p offset (omega arith) in
+pub index_at-past : {X : Type 0} (bs : List (List X)) (p offset : ℕ) → length bs ≤ p → length (joined bs) ≤ index_at bs p offset
+index_at-past [] p offset h = omega arith
+index_at-past (b ∷ bs) zero offset h = absurd (omega arith)
+index_at-past (b ∷ bs) (suc p) offset h =
+    let rest = index_at-past bs p offset (omega arith) in
     let l = length-append b (joined (take p bs)) in
     let r = length-append b (joined bs) in
     omega arith
-
--- the start is a gap
-pub gap_start : {X : Type 0} (bs : List (List X)) → IsGap bs 0 0
-gap_start [] = record { block = inr refl; offset_in = omega arith }
-gap_start (b ∷ bs) = record { block = inl (omega arith); offset_in = omega arith }
 
 -- right behind what stands somewhere there is a gap
 pub gap_behind : {X : Type 0} (bs : List (List X)) (p offset : ℕ) (x : X) → StandsAt bs p offset x → IsGap bs p (offset + 1)
@@ -95,10 +90,10 @@ gap_behind bs p offset x at = record {
 }
 
 -- what stands somewhere stands at its place of the whole
-pub stands_whole : {X : Type 0} (bs : List (List X)) (p offset : ℕ) (x d : X) → StandsAt bs p offset x → (place_at bs p offset < length (joined bs)) × (get_or (joined bs) (place_at bs p offset) d ≡ x)
+pub stands_whole : {X : Type 0} (bs : List (List X)) (p offset : ℕ) (x d : X) → StandsAt bs p offset x → (index_at bs p offset < length (joined bs)) × (get_or (joined bs) (index_at bs p offset) d ≡ x)
 stands_whole bs p offset x d at =
     let there = slice_get-there (block_at bs p) offset x d at.at in
-    (place_at-before bs p offset at.block there.0, get_or-joined bs p offset d at.block there.0 ∙ there.1)
+    (index_at-before bs p offset at.block there.0, get_or-joined bs p offset d at.block there.0 ∙ there.1)
 
 -- ---- elements
 
@@ -135,23 +130,18 @@ none_placed E ks x below e = λ d i. IsFirst-position E x None e d (In-placed E 
 pub found_placed : (E : List Insert) (ks : List ℕ) (x : OpId) (k : ℕ) → In k ks → position (λ (e : Insert). id_eq e.id x) E ≡ Some k → IsThere (map (element_at E) ks) x
 found_placed E ks x k i e = IsThere-found (map (element_at E) ks) x (element_at E k) (In-element E ks k i) (number_is E x k e).1
 
--- the front of the elements up to the one that was found
-pub ends_found : (E : List Insert) (bs : List (List ℕ)) (p offset k : ℕ) (r : OpId) → StandsAt bs p offset k → position (λ (e : Insert). id_eq e.id r) E ≡ Some k → EndsAt (take (place_at bs p (offset + 1)) (map (element_at E) (joined bs))) (After r)
+-- the prefix of the elements up to the one that was found
+pub ends_found : (E : List Insert) (bs : List (List ℕ)) (p offset k : ℕ) (r : OpId) → StandsAt bs p offset k → position (λ (e : Insert). id_eq e.id r) E ≡ Some k → EndsAt (take (index_at bs p (offset + 1)) (map (element_at E) (joined bs))) (After r)
 ends_found E bs p offset k r at found =
     let whole = stands_whole bs p offset k 0 at in
     let named = (number_is E r k found).1 in
-    let i = place_at bs p offset in
+    let i = index_at bs p offset in
     let size : length (map (element_at E) (joined bs)) ≡ length (joined bs) = length-map (joined bs) (element_at E) in
     let lt : i < length (map (element_at E) (joined bs)) = (let l = whole.0 in omega arith) in
     let held : HoldsAt (λ (e : Insert). id_eq e.id r ≡ true) (map (element_at E) (joined bs)) i =
     (λ d. subst (λ (w : Insert). id_eq w.id r ≡ true) (sym (get_or-of_map (element_at E) (joined bs) i d 0 whole.0 ∙ ap (element_at E) whole.1)) named) in
-    let next : i + 1 ≡ place_at bs p (offset + 1) = omega arith in
+    let next : i + 1 ≡ index_at bs p (offset + 1) = omega arith in
     subst (λ n. EndsAt (take n (map (element_at E) (joined bs))) (After r)) next (EndsAt-found (map (element_at E) (joined bs)) i r lt held)
-
--- the place of an insert that may come is there
-pub place_there : (S : List Insert) (x : OpId) (p : Place) → IsPlaceBelow S x p → HasPlace S p
-place_there S x Start h = tt
-place_there S x (After r) h = h.0
 
 -- an insert at the place that the code finds stands in order
 pub inserted_found : (E : List Insert) (ks : List ℕ) (x : Insert) (from to : ℕ) → CanInsert (map (element_at E) ks) x.id x.after → from ≤ to → to ≤ length ks → EndsAt (take from (map (element_at E) ks)) x.after → AllWithin (λ k. Below x.id (element_at E k).id) ks from to → (to < length ks → HoldsAt (λ k. Below x.id (element_at E k).id → ⊥) ks to) → IsInserted (map (element_at E) ks) (insert (map (element_at E) ks) to x) x

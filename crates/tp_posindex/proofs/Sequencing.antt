@@ -14,15 +14,15 @@ use Rattle.tp_opid.specs.Same.{id_eq}
 use Rattle.tp_opid.proofs.Orders.{id_eq-same, id_eq-flip}
 use Rattle.tp_rga.specs.declared.element.Element.{Element}
 use Rattle.tp_rga.specs.Shown.{is_removed, shown, shown_before, element_of}
-use Rattle.tp_rga.specs.Kept.{IsKept}
+use Rattle.tp_rga.specs.PlainState.{IsPlainState}
 use Rattle.tp_rga.proofs.Flagging.{map-insert, map_agree, length-left, take-map_lem, slice_get-past}
 use Rattle.tp_rga.proofs.Lookups.{IsFirst, IsFirst-position, position-first, IsThere-not_new, found-position}
-use Rattle.tp_rga.proofs.Keeping.{IsKept-insert, IsKept-delete, IsKept-delete_again, shown-found, shown-past, shown-before, shown_before-found}
-use Rattle.tp_posindex.specs.Layout.{joined, block_at, place_at, AreSized, StandsAt}
+use Rattle.tp_rga.proofs.PlainStates.{IsPlainState-insert, IsPlainState-delete, IsPlainState-delete_again, shown-found, shown-past, shown-before, shown_before-found}
+use Rattle.tp_posindex.specs.Layout.{joined, block_at, index_at, AreSized, StandsAt}
 use Rattle.tp_posindex.specs.Laid.{IsNumbered, Once, flag_of, flags_of, count_of}
 use Rattle.tp_posindex.specs.Blocked.{blank, element_at, pieces, IsBlocked}
-use Rattle.tp_posindex.proofs.Joining.{joined-map, In-joined, In-block, get_or-joined, place_at-before}
-use Rattle.tp_posindex.proofs.Laying.{IsNumbered-insert, get_or-any, get_or-front, get_or-last, get_or-of_map, get_or-there, count-other}
+use Rattle.tp_posindex.proofs.Joining.{joined-map, In-joined, In-block, get_or-joined, index_at-before}
+use Rattle.tp_posindex.proofs.Laying.{IsNumbered-insert, get_or-any, get_or-prefix, get_or-last, get_or-of_map, get_or-there, count-other}
 use Rattle.tp_posindex.proofs.Seeking.{number_is, none_placed, found_placed, stands_whole}
 
 -- ---- blocks of elements
@@ -34,9 +34,9 @@ block_at-map f [] (suc p) = refl
 block_at-map f (b ∷ bs) zero = refl
 block_at-map f (b ∷ bs) (suc p) = block_at-map f bs p
 
--- the places are as those of the numbers
-pub place_at-map : {X Y : Type 0} (f : X → Y) (bs : List (List X)) (p offset : ℕ) → place_at (map (map f) bs) p offset ≡ place_at bs p offset
-place_at-map f bs p offset =
+-- the spots are as those of the numbers
+pub index_at-map : {X Y : Type 0} (f : X → Y) (bs : List (List X)) (p offset : ℕ) → index_at (map (map f) bs) p offset ≡ index_at bs p offset
+index_at-map f bs p offset =
     ap (λ z. length (joined z) + offset) (take-map_lem (map f) p bs)
     ∙ ap (λ z. length z + offset) (joined-map f (take p bs))
     ∙ ap (λ n. n + offset) (length-map (joined (take p bs)) f)
@@ -91,21 +91,21 @@ pub placed_is : (E : List Insert) (bs : List (List ℕ)) → joined (pieces E bs
 placed_is E bs = joined-map (element_at E) bs
 
 -- the element at a spot
-pub element_read : (E : List Insert) (bs : List (List ℕ)) (p offset : ℕ) (x : Insert) → IsNumbered (length E) (joined bs) → p < length bs → offset < length (block_at bs p) → x ≡ get_or E (get_or (block_at bs p) offset 0) x → (d : Insert) → get_or (map (element_at E) (joined bs)) (place_at bs p offset) d ≡ x
+pub element_read : (E : List Insert) (bs : List (List ℕ)) (p offset : ℕ) (x : Insert) → IsNumbered (length E) (joined bs) → p < length bs → offset < length (block_at bs p) → x ≡ get_or E (get_or (block_at bs p) offset 0) x → (d : Insert) → get_or (map (element_at E) (joined bs)) (index_at bs p offset) d ≡ x
 element_read E bs p offset x numbered lt short read d =
     let k = get_or (block_at bs p) offset 0 in
     let within : k < length E = numbered.below k (In-joined k (block_at bs p) bs (In-block bs p lt) (In-get_or (block_at bs p) offset 0 short)) in
-    get_or-of_map (element_at E) (joined bs) (place_at bs p offset) d 0 (place_at-before bs p offset lt short)
+    get_or-of_map (element_at E) (joined bs) (index_at bs p offset) d 0 (index_at-before bs p offset lt short)
     ∙ ap (element_at E) (get_or-joined bs p offset 0 lt short)
     ∙ get_or-any E k blank x within
     ∙ sym read
 
 -- the element found by the counts has that place in the text
-pub shown_at : (E : List Insert) (bs : List (List ℕ)) (flags : List Bool) (R : List (OpId × OpId)) (left p offset i : ℕ) (x : Insert) → IsBlocked E bs flags R left → p < length bs → offset < length (block_at bs p) → flag_of flags (get_or (block_at bs p) offset 0) ≡ false → count_of flags (take (place_at bs p offset) (joined bs)) ≡ i → x ≡ get_or E (get_or (block_at bs p) offset 0) x → slice_get (shown R (joined (pieces E bs))) i ≡ Some x
+pub shown_at : (E : List Insert) (bs : List (List ℕ)) (flags : List Bool) (R : List (OpId × OpId)) (left p offset i : ℕ) (x : Insert) → IsBlocked E bs flags R left → p < length bs → offset < length (block_at bs p) → flag_of flags (get_or (block_at bs p) offset 0) ≡ false → count_of flags (take (index_at bs p offset) (joined bs)) ≡ i → x ≡ get_or E (get_or (block_at bs p) offset 0) x → slice_get (shown R (joined (pieces E bs))) i ≡ Some x
 shown_at E bs flags R left p offset i x kept lt short down before read =
-    let G = place_at bs p offset in
+    let G = index_at bs p offset in
     let js = joined bs in
-    let inside : G < length js = place_at-before bs p offset lt short in
+    let inside : G < length js = index_at-before bs p offset lt short in
     let at : get_or (flags_of flags js) G false ≡ false = get_or-of_map (flag_of flags) js G false 0 inside ∙ ap (flag_of flags) (get_or-joined bs p offset 0 lt short) ∙ down in
     let stands : slice_get (flags_of flags js) G ≡ Some false = get_or-there (flags_of flags js) G false false (let l = length-map js (flag_of flags) in omega arith) at in
     let counted : length (filter not (take G (flags_of flags js))) ≡ i = ap (λ z. length (filter not z)) (take-map_lem (flag_of flags) G js) ∙ before in
@@ -117,7 +117,7 @@ pub shown_past : (E : List Insert) (bs : List (List ℕ)) (flags : List Bool) (R
 shown_past E bs flags R left i kept past =
     ap (λ z. slice_get (shown R z) i) (placed_is E bs) ∙ shown-past (map (element_at E) (joined bs)) (flags_of flags (joined bs)) R left i kept.kept past
 
--- two places of one identifier are one
+-- two spots of one identifier are one
 one_place : (L : List Insert) (i j : ℕ) (d e : Insert) → AreApart L → i < length L → j < length L → id_eq (get_or L i d).id (get_or L j e).id ≡ true → i ≡ j
 one_place [] i j d e apart h k same = absurd (omega arith)
 one_place (a ∷ L) zero zero d e apart h k same = refl
@@ -155,19 +155,19 @@ position_new L x new = from (position (λ (e : Insert). id_eq e.id x) L) (positi
     from (Some j) h = let other : id_eq h.1.id x ≡ false = new h.1 (subst (In h.1) (sym h.3) (In-middle h.0 h.1 h.2)) in let named = h.5 in cc
 
 -- where an element that was found stands among the elements in order
-pub position_placed : (E : List Insert) (bs : List (List ℕ)) (flags : List Bool) (R : List (OpId × OpId)) (left p offset k : ℕ) (x : OpId) → IsBlocked E bs flags R left → StandsAt bs p offset k → position (λ (e : Insert). id_eq e.id x) E ≡ Some k → position (λ (e : Insert). id_eq e.id x) (map (element_at E) (joined bs)) ≡ Some (place_at bs p offset)
+pub position_placed : (E : List Insert) (bs : List (List ℕ)) (flags : List Bool) (R : List (OpId × OpId)) (left p offset k : ℕ) (x : OpId) → IsBlocked E bs flags R left → StandsAt bs p offset k → position (λ (e : Insert). id_eq e.id x) E ≡ Some k → position (λ (e : Insert). id_eq e.id x) (map (element_at E) (joined bs)) ≡ Some (index_at bs p offset)
 position_placed E bs flags R left p offset k x kept at found =
     let whole = stands_whole bs p offset k 0 at in
     let L = map (element_at E) (joined bs) in
-    let G = place_at bs p offset in
+    let G = index_at bs p offset in
     let here : get_or L G blank ≡ element_at E k = get_or-of_map (element_at E) (joined bs) G blank 0 whole.0 ∙ ap (element_at E) whole.1 in
     position_at L G blank x kept.kept.apart (let l = length-map (joined bs) (element_at E) in let w = whole.0 in omega arith) (ap (λ (w : Insert). id_eq w.id x) here ∙ (number_is E x k found).1)
 
 -- how many are shown before an element that was found
-pub position_shown : (E : List Insert) (bs : List (List ℕ)) (flags : List Bool) (R : List (OpId × OpId)) (left p offset k n : ℕ) (x : OpId) → IsBlocked E bs flags R left → StandsAt bs p offset k → position (λ (e : Insert). id_eq e.id x) E ≡ Some k → n ≡ count_of flags (take (place_at bs p offset) (joined bs)) → shown_before R (joined (pieces E bs)) x ≡ Some n
+pub position_shown : (E : List Insert) (bs : List (List ℕ)) (flags : List Bool) (R : List (OpId × OpId)) (left p offset k n : ℕ) (x : OpId) → IsBlocked E bs flags R left → StandsAt bs p offset k → position (λ (e : Insert). id_eq e.id x) E ≡ Some k → n ≡ count_of flags (take (index_at bs p offset) (joined bs)) → shown_before R (joined (pieces E bs)) x ≡ Some n
 position_shown E bs flags R left p offset k n x kept at found count =
     let L = map (element_at E) (joined bs) in
-    let G = place_at bs p offset in
+    let G = index_at bs p offset in
     ap (λ z. shown_before R z x) (placed_is E bs)
     ∙ shown_before-found R L x G (position_placed E bs flags R left p offset k x kept at found)
     ∙ ap Some (sym (shown-before L (flags_of flags (joined bs)) R left G kept.kept) ∙ ap (λ z. length (filter not z)) (take-map_lem (flag_of flags) G (joined bs)) ∙ sym count)
@@ -179,13 +179,13 @@ position_none E bs flags R left x kept none =
     ∙ ap (option_map (λ i. length (shown R (take i (map (element_at E) (joined bs)))))) (position_new (map (element_at E) (joined bs)) x (none_placed E (joined bs) x kept.numbered.below none))
 
 -- the element at a place of all elements
-pub element_at_place : (E : List Insert) (bs : List (List ℕ)) (flags : List Bool) (R : List (OpId × OpId)) (left p offset k i : ℕ) (x : Insert) (gone : Bool) → IsBlocked E bs flags R left → p < length bs → offset < length (block_at bs p) → place_at bs p offset ≡ i → k ≡ get_or (block_at bs p) offset 0 → x ≡ get_or E k x → gone ≡ flag_of flags k → option_map (element_of R) (slice_get (joined (pieces E bs)) i) ≡ Some (record { id = x.id; after = x.after; ch = x.ch; deleted = gone })
+pub element_at_place : (E : List Insert) (bs : List (List ℕ)) (flags : List Bool) (R : List (OpId × OpId)) (left p offset k i : ℕ) (x : Insert) (gone : Bool) → IsBlocked E bs flags R left → p < length bs → offset < length (block_at bs p) → index_at bs p offset ≡ i → k ≡ get_or (block_at bs p) offset 0 → x ≡ get_or E k x → gone ≡ flag_of flags k → option_map (element_of R) (slice_get (joined (pieces E bs)) i) ≡ Some (record { id = x.id; after = x.after; ch = x.ch; deleted = gone })
 element_at_place E bs flags R left p offset k i x gone kept lt short at k_is read flag =
     let js = joined bs in
     let read' : x ≡ get_or E (get_or (block_at bs p) offset 0) x = read ∙ ap (λ n. get_or E n x) k_is in
     let within : k < length E = kept.numbered.below k (subst (λ (n : ℕ). In n js) (sym k_is) (In-joined (get_or (block_at bs p) offset 0) (block_at bs p) bs (In-block bs p lt) (In-get_or (block_at bs p) offset 0 short))) in
     let here : get_or (map (element_at E) js) i x ≡ x = ap (λ n. get_or (map (element_at E) js) n x) (sym at) ∙ element_read E bs p offset x kept.numbered lt short read' x in
-    let inside : i < length (map (element_at E) js) = (let l = length-map js (element_at E) in let b = place_at-before bs p offset lt short in omega arith) in
+    let inside : i < length (map (element_at E) js) = (let l = length-map js (element_at E) in let b = index_at-before bs p offset lt short in omega arith) in
     let stands : slice_get (map (element_at E) js) i ≡ Some x = get_or-there (map (element_at E) js) i x x inside here in
     let element : element_at E k ≡ x = get_or-any E k blank x within ∙ sym read in
     let down : gone ≡ is_removed R x.id = flag ∙ flag_is E bs flags R left k kept within ∙ ap (λ (w : Insert). is_removed R w.id) element in
@@ -245,14 +245,14 @@ pub placed_insert : (E : List Insert) (ks : List ℕ) (G n : ℕ) (x : Insert) �
 placed_insert E ks G n x below is =
     map-insert (element_at (E ++ x ∷ [])) ks G n
     ∙ ap (insert (map (element_at (E ++ x ∷ [])) ks) G) (get_or-last E x n blank is)
-    ∙ ap (λ z. insert z G x) (map_agree (element_at (E ++ x ∷ [])) (element_at E) ks (λ k i. get_or-front E (x ∷ []) k blank (below k i)))
+    ∙ ap (λ z. insert z G x) (map_agree (element_at (E ++ x ∷ [])) (element_at E) ks (λ k i. get_or-prefix E (x ∷ []) k blank (below k i)))
 
 -- the flags with a new one put in at a place
 flags_insert : (flags : List Bool) (ks : List ℕ) (G n : ℕ) → ((k : ℕ) → In k ks → k < length flags) → n ≡ length flags → flags_of (flags ++ false ∷ []) (insert ks G n) ≡ insert (flags_of flags ks) G false
 flags_insert flags ks G n below is =
     map-insert (flag_of (flags ++ false ∷ [])) ks G n
     ∙ ap (insert (flags_of (flags ++ false ∷ []) ks) G) (get_or-last flags false n false is)
-    ∙ ap (λ z. insert z G false) (map_agree (flag_of (flags ++ false ∷ [])) (flag_of flags) ks (λ k i. get_or-front flags (false ∷ []) k false (below k i)))
+    ∙ ap (λ z. insert z G false) (map_agree (flag_of (flags ++ false ∷ [])) (flag_of flags) ks (λ k i. get_or-prefix flags (false ∷ []) k false (below k i)))
 
 -- a new element is put in
 pub IsBlocked-insert : (E : List Insert) (bs bs' : List (List ℕ)) (flags : List Bool) (R : List (OpId × OpId)) (left G : ℕ) (x : Insert) → IsBlocked E bs flags R left → joined bs' ≡ insert (joined bs) G (length flags) → IsNew (map (element_at E) (joined bs)) x.id → IsBlocked (E ++ x ∷ []) bs' (flags ++ false ∷ []) R (left + 1)
@@ -262,13 +262,13 @@ IsBlocked-insert E bs bs' flags R left G x kept whole new =
     let below : (k : ℕ) → In k js → k < length flags = (λ k i. subst (λ (z : ℕ). k < z) (sym kept.matched) (kept.numbered.below k i)) in
     let elements = placed_insert E js G (length flags) x kept.numbered.below kept.matched in
     let downs = flags_insert flags js G (length flags) below refl in
-    let put = IsKept-insert (map (element_at E) js) (flags_of flags js) R left G x kept.kept new in
+    let put = IsPlainState-insert (map (element_at E) js) (flags_of flags js) R left G x kept.kept new in
     record {
       matched = length-append flags (false ∷ []) ∙ ap (λ n. n + 1) kept.matched ∙ sym (length-append E (x ∷ []));
       numbered = subst (λ n. IsNumbered n (joined bs')) (sym more) (subst (IsNumbered (suc (length E))) (sym (whole ∙ ap (insert js G) kept.matched)) (IsNumbered-insert (length E) js G kept.numbered));
-      kept = subst (λ z. IsKept (map (element_at (E ++ x ∷ [])) z) (flags_of (flags ++ false ∷ []) z) R (left + 1)) (sym whole)
-          (subst (λ z. IsKept z (flags_of (flags ++ false ∷ []) (insert js G (length flags))) R (left + 1)) (sym elements)
-          (subst (λ z. IsKept (insert (map (element_at E) js) G x) z R (left + 1)) (sym downs) put));
+      kept = subst (λ z. IsPlainState (map (element_at (E ++ x ∷ [])) z) (flags_of (flags ++ false ∷ []) z) R (left + 1)) (sym whole)
+          (subst (λ z. IsPlainState z (flags_of (flags ++ false ∷ []) (insert js G (length flags))) R (left + 1)) (sym elements)
+          (subst (λ z. IsPlainState (insert (map (element_at E) js) G x) z R (left + 1)) (sym downs) put));
     }
 
 -- ---- a delete
@@ -305,13 +305,13 @@ IsBlocked-delete E bs flags R left k t b kept found down there =
     let named = number_is E t k found in
     let within : k < length flags = (let n = named.0 in let m = kept.matched in omega arith) in
     let read : flag_of flags k ≡ get_or (flags_of flags js) at.0 (flag_of flags k) = sym (get_or-of_map (flag_of flags) js at.0 (flag_of flags k) 0 at.1 ∙ ap (flag_of flags) at.2) in
-    let gone = IsKept-delete L (flags_of flags js) R left t b at.0 kept.kept (IsFirst-position L t (Some at.0) at.3) (flag_of flags k) read down there in
+    let gone = IsPlainState-delete L (flags_of flags js) R left t b at.0 kept.kept (IsFirst-position L t (Some at.0) at.3) (flag_of flags k) read down there in
     let same = flags_set flags js at.0 k kept.numbered.once at.1 at.2 within in (
       gone.0,
       record {
         matched = length-set flags k true ∙ kept.matched;
         numbered = kept.numbered;
-        kept = subst (λ z. IsKept L z (R ++ (t, b) ∷ []) (left - 1)) (sym same) gone.1;
+        kept = subst (λ z. IsPlainState L z (R ++ (t, b) ∷ []) (left - 1)) (sym same) gone.1;
       },
     )
 
@@ -325,5 +325,5 @@ IsBlocked-delete_again E bs flags R left k t b kept found up there =
     record {
       matched = kept.matched;
       numbered = kept.numbered;
-      kept = IsKept-delete_again L (flags_of flags js) R left t b at.0 kept.kept (IsFirst-position L t (Some at.0) at.3) (flag_of flags k) read up there;
+      kept = IsPlainState-delete_again L (flags_of flags js) R left t b at.0 kept.kept (IsFirst-position L t (Some at.0) at.3) (flag_of flags k) read up there;
     }

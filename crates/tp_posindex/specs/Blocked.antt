@@ -3,7 +3,7 @@ use Rattle.std.specs.Prelude.{◌≡◌, ℕ, Bool, List, [], length, map, slice
 use Rattle.tp_opid.specs.declared.op_id.OpId.{OpId}
 use Rattle.tp_opid.specs.declared.op_id.Place.TheVariants.{Start}
 use Rattle.tp_opid.specs.Insert.{Insert}
-use Rattle.tp_rga.specs.Kept.{IsKept}
+use Rattle.tp_rga.specs.PlainState.{IsPlainState}
 use Rattle.tp_posindex.specs.Layout.{joined}
 use Rattle.tp_posindex.specs.Laid.{IsNumbered, flags_of}
 
@@ -24,4 +24,4 @@ pieces E bs = map (map (element_at E)) bs
 pub record IsBlocked (E : List Insert) (bs : List (List ℕ)) (flags : List Bool) (R : List (OpId × OpId)) (left : ℕ) : Type 0 where
   pub matched : length flags ≡ length E
   pub numbered : IsNumbered (length E) (joined bs)
-  pub kept : IsKept (map (element_at E) (joined bs)) (flags_of flags (joined bs)) R left
+  pub kept : IsPlainState (map (element_at E) (joined bs)) (flags_of flags (joined bs)) R left

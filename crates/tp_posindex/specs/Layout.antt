@@ -11,9 +11,9 @@ joined (b ∷ bs) = b ++ joined bs
 abbrev pub block_at : {X : Type 0} → List (List X) → ℕ → List X
 block_at bs p = slice_index_or bs p []
 
--- the place in the whole list of what stands at an offset of the block numbered p
-abbrev pub place_at : {X : Type 0} → List (List X) → ℕ → ℕ → ℕ
-place_at bs p offset = length (joined (take p bs)) + offset
+-- the index in the whole list of what stands at an offset of the block numbered p
+abbrev pub index_at : {X : Type 0} → List (List X) → ℕ → ℕ → ℕ
+index_at bs p offset = length (joined (take p bs)) + offset
 
 -- An offset of the block numbered p at which a new element may be put in; where there is no block yet, any block's
 -- start.

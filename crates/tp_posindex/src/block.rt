@@ -59,7 +59,7 @@ impl Block {
     /// Moves the second half of a full block into another, in place of what that holds. It takes no memory.
     pub fn split(&mut self, back: &mut Block)
         requires { length self.old ≡ MOST }
-        ensures front { self.new ≡ take HALF self.old }
+        ensures prefix { self.new ≡ take HALF self.old }
         ensures back { back.new ≡ drop HALF self.old }
     {
         back.numbers.clear();

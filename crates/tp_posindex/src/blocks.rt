@@ -3,7 +3,7 @@
 ghost use Rattle.std.specs.Prelude.{◌≡◌, ℕ, ◌+◌, ◌-◌, ◌^◌, ◌<◌, ◌≤◌, Bool, true, false, not, [], ◌∷◌, ◌++◌, length, take, drop, filter, insert, slice_set, vec_len, slice_get, slice_index_or, Some, MatchOption, IfSome, IfNone, IsOk, OnOk, OnErr};
 ghost use Rattle.std.specs.List.{All};
 ghost use Rattle.tp_list.specs.Members.{In};
-ghost use Rattle.tp_posindex.specs.Layout.{joined, block_at, place_at, IsGap, StandsAt, AreSized};
+ghost use Rattle.tp_posindex.specs.Layout.{joined, block_at, index_at, IsGap, StandsAt, AreSized};
 ghost use Rattle.tp_posindex.specs.Laid.{room_of, flag_of, flags_of, count_of, IsNumbered};
 
 use crate::block::{Block, HALF, MOST};
@@ -14,7 +14,7 @@ use std::marker::Model;
 /// How many numbers there are at most: 4,294,967,295.
 const MOST_NUMBERS: usize = 4_294_967_295;
 
-/// A place in blocks: which block in list order, from 0, and how many of its elements stand before.
+/// A spot in blocks: which block in list order, from 0, and how many of its elements stand before.
 #[derive(Clone, Copy)]
 pub(crate) struct Spot {
     pub block: usize,
@@ -25,7 +25,7 @@ pub(crate) struct Spot {
 ///
 /// `pool` has the blocks by their own numbers, `order` these in list order, `visible` for each block in list order how
 /// many flags are down, `home` for each number the block that holds it, and `spare` blocks to be opened. `recent` is
-/// the place in the order of the block that the latest number went to, and is looked at first.
+/// the index in the order of the block that the latest number went to, and is looked at first.
 #[derive(Drop)]
 pub(crate) struct Blocks {
     alloc: Global,
@@ -115,7 +115,7 @@ impl Blocks {
         requires { block < length self.now.blocks }
         ensures value { result.now ≡ block_at self.now.blocks block }
         ensures below { All (λ k. k < length self.now.flags) result.now }
-        ensures fits { place_at self.now.blocks block (length result.now) < 2 ^ 64 }
+        ensures fits { index_at self.now.blocks block (length result.now) < 2 ^ 64 }
     {
         let number = self.order[block] as usize;
         self.pool[number].numbers()
@@ -141,7 +141,8 @@ impl Blocks {
     pub fn number_at(&self, spot: Spot) -> usize
         requires block { spot.block < length self.now.blocks }
         requires offset { spot.offset < length (block_at self.now.blocks spot.block) }
-        ensures number { result ≡ slice_index_or (block_at self.now.blocks spot.block) spot.offset 0 }
+        ensures number { result ≡ slice_index_or
+            (block_at self.now.blocks spot.block) spot.offset 0 }
         ensures below { result < length self.now.flags }
     {
         self.block(spot.block)[spot.offset] as usize
@@ -164,10 +165,10 @@ impl Blocks {
         }
     }
 
-    /// The place in the whole list of the first number of a block. It adds up the lengths of the blocks before.
+    /// The index in the whole list of the first number of a block. It adds up the lengths of the blocks before.
     pub fn first_of(&self, block: usize) -> usize
         requires { block < length self.now.blocks }
-        ensures { result ≡ place_at self.now.blocks block 0 }
+        ensures { result ≡ index_at self.now.blocks block 0 }
     {
         let mut first = 0;
         for before in 0..block {
@@ -176,16 +177,16 @@ impl Blocks {
         first
     }
 
-    /// Where the number at a place of the whole list stands, or `None` past its end. It passes over the lengths of the
+    /// Where the number at an index of the whole list stands, or `None` past its end. It passes over the lengths of the
     /// blocks before.
-    pub fn spot_at(&self, place: usize) -> Option<Spot>
+    pub fn spot_at(&self, index: usize) -> Option<Spot>
         ensures found { IfSome result
             (λ s. (s.block < length self.now.blocks)
             × (s.offset < length (block_at self.now.blocks s.block))
-            × (place_at self.now.blocks s.block s.offset ≡ place)) }
-        ensures none { IfNone result (length (joined self.now.blocks) ≤ place) }
+            × (index_at self.now.blocks s.block s.offset ≡ index)) }
+        ensures none { IfNone result (length (joined self.now.blocks) ≤ index) }
     {
-        let mut left = place;
+        let mut left = index;
         for block in 0..self.order.len() {
             let len = self.block(block).len();
             if left < len {
@@ -205,8 +206,10 @@ impl Blocks {
         ensures found { IfSome result
             (λ s. (s.block < length self.now.blocks)
             × (s.offset < length (block_at self.now.blocks s.block))
-            × (flag_of self.now.flags (slice_index_or (block_at self.now.blocks s.block) s.offset 0) ≡ false)
-            × (count_of self.now.flags (take (place_at self.now.blocks s.block s.offset) (joined self.now.blocks)) ≡ i)) }
+            × (flag_of self.now.flags (slice_index_or (block_at self.now.blocks s.block) s.offset 0)
+            ≡ false)
+            × (count_of self.now.flags
+            (take (index_at self.now.blocks s.block s.offset) (joined self.now.blocks)) ≡ i)) }
         ensures none { IfNone result (count_of self.now.flags (joined self.now.blocks) ≤ i) }
     {
         let (block, left) = nth_counted(&self.visible, i)?;
@@ -220,7 +223,8 @@ impl Blocks {
     pub fn visible_before(&self, spot: Spot) -> usize
         requires block { spot.block < length self.now.blocks }
         requires offset { spot.offset ≤ length (block_at self.now.blocks spot.block) }
-        ensures { result ≡ count_of self.now.flags (take (place_at self.now.blocks spot.block spot.offset) (joined self.now.blocks)) }
+        ensures { result ≡ count_of self.now.flags
+            (take (index_at self.now.blocks spot.block spot.offset) (joined self.now.blocks)) }
     {
         let numbers = self.block(spot.block);
         total(&self.visible[..spot.block]) + count_down(&numbers[..spot.offset], &self.deleted)
@@ -229,7 +233,8 @@ impl Blocks {
     /// Behind all numbers.
     pub fn end(&self) -> Spot
         ensures gap { IsGap self.now.blocks result.block result.offset }
-        ensures end { place_at self.now.blocks result.block result.offset ≡ length (joined self.now.blocks) }
+        ensures end { index_at self.now.blocks result.block result.offset
+            ≡ length (joined self.now.blocks) }
     {
         let count = self.order.len();
         if count == 0 {
@@ -250,7 +255,8 @@ impl Blocks {
         requires room { 0 < room_of self.old }
         requires gap { IsGap self.old.blocks spot.block spot.offset }
         ensures joined { joined self.new.blocks
-            ≡ insert (joined self.old.blocks) (place_at self.old.blocks spot.block spot.offset) (length self.old.flags) }
+            ≡ insert (joined self.old.blocks) (index_at self.old.blocks spot.block spot.offset)
+            (length self.old.flags) }
         ensures flags { self.new.flags ≡ self.old.flags ++ false ∷ [] }
         ensures room { room_of self.old ≤ room_of self.new + 1 }
     {
@@ -280,7 +286,8 @@ impl Blocks {
         requires few { length (block_at self.old.blocks spot.block) < MOST }
         requires slots { 0 < self.old.slots }
         ensures blocks { self.new.blocks
-            ≡ slice_set self.old.blocks spot.block (insert (block_at self.old.blocks spot.block) spot.offset (length self.old.flags)) }
+            ≡ slice_set self.old.blocks spot.block
+            (insert (block_at self.old.blocks spot.block) spot.offset (length self.old.flags)) }
         ensures flags { self.new.flags ≡ self.old.flags ++ false ∷ [] }
         ensures spare { self.new.spare ≡ self.old.spare }
         ensures slots { self.old.slots ≤ self.new.slots + 1 }
@@ -297,31 +304,32 @@ impl Blocks {
     }
 
     /// Splits a full block into two of 64.
-    fn split(&mut self, place: usize)
-        requires block { place < length self.old.blocks }
-        requires full { length (block_at self.old.blocks place) ≡ MOST }
+    fn split(&mut self, index: usize)
+        requires block { index < length self.old.blocks }
+        requires full { length (block_at self.old.blocks index) ≡ MOST }
         requires spare { 0 < self.old.spare }
         requires slots { 0 < self.old.slots }
         ensures blocks { self.new.blocks
-            ≡ insert (slice_set self.old.blocks place (take HALF (block_at self.old.blocks place))) (place + 1)
-            (drop HALF (block_at self.old.blocks place)) }
+            ≡ insert (slice_set self.old.blocks index (take HALF (block_at self.old.blocks index)))
+            (index + 1)
+            (drop HALF (block_at self.old.blocks index)) }
         ensures flags { self.new.flags ≡ self.old.flags }
         ensures spare { self.old.spare ≤ self.new.spare + 1 }
         ensures slots { self.new.slots ≡ self.old.slots }
     {
-        let front = self.order[place];
+        let prefix = self.order[index];
         let back = self.order.len() as u32;
         let Some(mut half) = self.spare.pop() else {
             unreachable!()
         };
-        let block = &mut self.pool[front as usize];
+        let block = &mut self.pool[prefix as usize];
         block.split(&mut half);
         let count = count_down(half.numbers(), &self.deleted) as u32;
         rename(&mut self.home, half.numbers(), back);
-        self.visible[place] -= count;
+        self.visible[index] -= count;
         if self.pool.push(half).is_err()
-            || self.order.insert(place + 1, back).is_err()
-            || self.visible.insert(place + 1, count).is_err()
+            || self.order.insert(index + 1, back).is_err()
+            || self.visible.insert(index + 1, count).is_err()
         {
             unreachable!()
         }
@@ -370,7 +378,8 @@ impl Blocks {
 fn rename(home: &mut [u32], numbers: &[u32], block: u32)
     requires { All (λ k. k < length home.old) numbers.now }
     ensures renamed { (k : ℕ) → In k numbers.now → slice_index_or home.new k 0 ≡ block }
-    ensures others { (k : ℕ) → (In k numbers.now → ⊥) → slice_index_or home.new k 0 ≡ slice_index_or home.old k 0 }
+    ensures others { (k : ℕ) → (In k numbers.now → ⊥)
+        → slice_index_or home.new k 0 ≡ slice_index_or home.old k 0 }
 {
     for number in numbers {
         home[*number as usize] = block;

@@ -2,7 +2,7 @@
 //!
 //! The elements stand in memory in the order in which they came, each under its number. The order of the text is that
 //! of blocks, each of which lists the numbers of up to 128 elements, and keeps how many of these nobody deleted. So an
-//! insert moves no element, and a read by place adds up the counts and looks into one block.
+//! insert moves no element, and a read by position adds up the counts and looks into one block.
 #![tactic(auto)]
 
 mod block;
@@ -12,7 +12,7 @@ mod elements;
 mod links;
 mod lookup;
 mod numbers;
-mod places;
+mod spots;
 mod sequence;
 
 pub use block_info::BlockInfo;

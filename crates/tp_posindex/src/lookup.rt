@@ -14,8 +14,10 @@ use tp_rga::Insertion;
 /// The number of an actor's latest element, or `None` where it has none. One pass over the actors.
 pub(crate) fn last_by(latest: &[Latest], actor: &Actor) -> Option<u32>
     ensures found { IfSome result
-        (λ m. (x : Last) × In x latest.now × (x.number ≡ m) × (same_actor x.actor actor.now ≡ true)) }
-    ensures none { IfNone result ((x : Last) → In x latest.now → same_actor x.actor actor.now ≡ false) }
+        (λ m. (x : Last) × In x latest.now × (x.number ≡ m)
+        × (same_actor x.actor actor.now ≡ true)) }
+    ensures none { IfNone result ((x : Last) → In x latest.now
+        → same_actor x.actor actor.now ≡ false) }
 {
     for entry in latest {
         if entry.actor.is(actor) {
@@ -41,7 +43,8 @@ fn link_behind(links: &[Link], last: u32) -> Link
     requires last { last < length links.now }
     requires jumps { (k : ℕ) → k < length links.now → (link_at links.now k).jump ≤ k }
     ensures before { result.before ≡ last }
-    ensures jump { (result.jump ≡ last) ⊎ (result.jump ≡ (link_at links.now (link_at links.now last).jump).jump) }
+    ensures jump { (result.jump ≡ last)
+        ⊎ (result.jump ≡ (link_at links.now (link_at links.now last).jump).jump) }
 {
     let near = links[last as usize];
     let far = links[near.jump as usize];
@@ -61,7 +64,8 @@ fn back(items: &[Insertion], links: &[Link], at: usize, counter: u64) -> Option<
     requires indexed { (latest : List Last) × IsIndexed items.now latest links.now }
     ensures found { IfSome result
         (λ next. (next < at) × (actor_at items.now next ≡ actor_at items.now at)
-        × ((j : ℕ) → j < at → actor_at items.now j ≡ actor_at items.now at → counter_at items.now j ≤ counter → j ≤ next)) }
+        × ((j : ℕ) → j < at → actor_at items.now j ≡ actor_at items.now at
+        → counter_at items.now j ≤ counter → j ≤ next)) }
     ensures none { IfNone result
         ((j : ℕ) → j < at → actor_at items.now j ≡ actor_at items.now at → ⊥) }
 {
@@ -85,9 +89,11 @@ pub(crate) fn seek(items: &[Insertion], links: &[Link], from: usize, counter: u6
     ensures found { IfSome result
         (λ at. (at < length items.now) × (actor_at items.now at ≡ actor_at items.now from)
         × (counter_at items.now at ≤ counter)
-        × ((j : ℕ) → j ≤ from → actor_at items.now j ≡ actor_at items.now from → counter_at items.now j ≤ counter → j ≤ at)) }
+        × ((j : ℕ) → j ≤ from → actor_at items.now j ≡ actor_at items.now from
+        → counter_at items.now j ≤ counter → j ≤ at)) }
     ensures none { IfNone result
-        ((j : ℕ) → j ≤ from → actor_at items.now j ≡ actor_at items.now from → counter < counter_at items.now j) }
+        ((j : ℕ) → j ≤ from → actor_at items.now j ≡ actor_at items.now from
+        → counter < counter_at items.now j) }
 {
     let mut at = from;
     'steps: loop {
@@ -114,11 +120,14 @@ fn link_more(
     requires few { length items.now < 4294967295 }
     requires room { vec_len links.old < vec_capacity links.old }
     requires indexed { IsIndexed items.now latest.old.items links.old.items }
-    requires last { (x : Last) × In x latest.old.items × (x.number ≡ last) × (same_actor x.actor id.now.actor ≡ true) }
+    requires last { (x : Last) × In x latest.old.items × (x.number ≡ last)
+        × (same_actor x.actor id.now.actor ≡ true) }
     ensures indexed { (e : Insert) → e.id ≡ id.now → result ≡ true
         → IsIndexed (items.now ++ e ∷ []) latest.new.items links.new.items }
-    ensures latest_room { vec_capacity latest.old - vec_len latest.old ≤ vec_capacity latest.new - vec_len latest.new }
-    ensures links_room { vec_capacity links.old - vec_len links.old ≤ vec_capacity links.new - vec_len links.new + 1 }
+    ensures latest_room { vec_capacity latest.old - vec_len latest.old
+        ≤ vec_capacity latest.new - vec_len latest.new }
+    ensures links_room { vec_capacity links.old - vec_len links.old
+        ≤ vec_capacity links.new - vec_len links.new + 1 }
 {
     let e = &items[last as usize];
     if id.counter <= e.id.counter {
@@ -141,8 +150,10 @@ fn link_first(items: &[Insertion], latest: &mut Vec<Latest>, links: &mut Vec<Lin
     requires none { (x : Last) → In x latest.old.items → same_actor x.actor id.now.actor ≡ false }
     ensures indexed { (e : Insert) → e.id ≡ id.now
         → IsIndexed (items.now ++ e ∷ []) latest.new.items links.new.items }
-    ensures latest_room { vec_capacity latest.old - vec_len latest.old ≤ vec_capacity latest.new - vec_len latest.new + 1 }
-    ensures links_room { vec_capacity links.old - vec_len links.old ≤ vec_capacity links.new - vec_len links.new + 1 }
+    ensures latest_room { vec_capacity latest.old - vec_len latest.old
+        ≤ vec_capacity latest.new - vec_len latest.new + 1 }
+    ensures links_room { vec_capacity links.old - vec_len links.old
+        ≤ vec_capacity links.new - vec_len links.new + 1 }
 {
     let number = items.len() as u32;
     let entry = Latest {
@@ -172,8 +183,10 @@ pub(crate) fn link_next(
     requires indexed { IsIndexed items.now latest.old.items links.old.items }
     ensures indexed { (e : Insert) → e.id ≡ id.now → result ≡ true
         → IsIndexed (items.now ++ e ∷ []) latest.new.items links.new.items }
-    ensures latest_room { vec_capacity latest.old - vec_len latest.old ≤ vec_capacity latest.new - vec_len latest.new + 1 }
-    ensures links_room { vec_capacity links.old - vec_len links.old ≤ vec_capacity links.new - vec_len links.new + 1 }
+    ensures latest_room { vec_capacity latest.old - vec_len latest.old
+        ≤ vec_capacity latest.new - vec_len latest.new + 1 }
+    ensures links_room { vec_capacity links.old - vec_len links.old
+        ≤ vec_capacity links.new - vec_len links.new + 1 }
 {
     match last_by(latest, &id.actor) {
         Some(last) => link_more(items, latest, links, id, last),

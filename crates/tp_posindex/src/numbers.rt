@@ -5,14 +5,14 @@ ghost use Rattle.std.specs.List.{All};
 ghost use Rattle.tp_list.specs.Members.{In};
 ghost use Rattle.tp_posindex.specs.Laid.{flag_of, count_of};
 
-/// The place of a number in a list, or `None` where it isn't there. One pass.
+/// The index of a number in a list, or `None` where it isn't there. One pass.
 pub(crate) fn index_of(numbers: &[u32], number: usize) -> Option<usize>
     ensures { result ≡ position (λ other. other == number) numbers.now }
 {
     numbers.iter().position(|other| *other as usize == number)
 }
 
-/// The place of a number in a list, or `None` where it isn't there; a place that is likely is looked at first.
+/// The index of a number in a list, or `None` where it isn't there; an index that is likely is looked at first.
 pub(crate) fn index_near(numbers: &[u32], number: usize, likely: usize) -> Option<usize>
     ensures { MatchOption result
         (In number numbers.now → ⊥)
@@ -27,7 +27,7 @@ pub(crate) fn index_near(numbers: &[u32], number: usize, likely: usize) -> Optio
 /// How many counts are added up at once by a search among them.
 const GROUP: usize = 64;
 
-/// The place of the count in which the `i`-th of what is counted falls, and how many of it come before in that count;
+/// The index of the count in which the `i`-th of what is counted falls, and how many of it come before in that count;
 /// `None` where less is counted. One pass over the counts before it, 64 at once.
 pub(crate) fn nth_counted(counts: &[u32], i: usize) -> Option<(usize, usize)>
     requires { sum counts.now < 2 ^ 64 }
@@ -50,7 +50,7 @@ pub(crate) fn nth_counted(counts: &[u32], i: usize) -> Option<(usize, usize)>
     nth_counted_from(counts, from, left)
 }
 
-/// What the 64 counts from a place on are together.
+/// What the 64 counts from an index on are together.
 fn group_total(counts: &[u32], from: usize) -> usize
     requires group { from + GROUP ≤ length counts.now }
     requires fits { sum counts.now < 2 ^ 64 }
@@ -59,7 +59,7 @@ fn group_total(counts: &[u32], from: usize) -> usize
     total(&counts[from..from + GROUP])
 }
 
-/// `nth_counted`, from a place on: `left` is what is counted from there.
+/// `nth_counted`, from an index on: `left` is what is counted from there.
 fn nth_counted_from(counts: &[u32], from: usize, mut left: usize) -> Option<(usize, usize)>
     requires { from ≤ length counts.now }
     ensures found { IfSome result
@@ -68,10 +68,10 @@ fn nth_counted_from(counts: &[u32], from: usize, mut left: usize) -> Option<(usi
         × (r.1 < slice_index_or counts.now r.0 0)) }
     ensures none { IfNone result (sum counts.now ≤ sum (take from counts.now) + left) }
 {
-    for place in from..counts.len() {
-        let count = counts[place] as usize;
+    for index in from..counts.len() {
+        let count = counts[index] as usize;
         if left < count {
-            return Some((place, left));
+            return Some((index, left));
         }
         left -= count;
     }
@@ -104,21 +104,21 @@ pub(crate) fn count_down(numbers: &[u32], flags: &[bool]) -> usize
     count
 }
 
-/// The place of the number with its flag down before which `i` others have theirs down, or `None` where fewer have.
+/// The index of the number with its flag down before which `i` others have theirs down, or `None` where fewer have.
 /// One pass over the numbers before it.
 pub(crate) fn nth_down(numbers: &[u32], flags: &[bool], i: usize) -> Option<usize>
     requires { All (λ k. k < length flags.now) numbers.now }
     ensures found { IfSome result
-        (λ place. (place < length numbers.now)
-        × (flag_of flags.now (slice_index_or numbers.now place 0) ≡ false)
-        × (count_of flags.now (take place numbers.now) ≡ i)) }
+        (λ index. (index < length numbers.now)
+        × (flag_of flags.now (slice_index_or numbers.now index 0) ≡ false)
+        × (count_of flags.now (take index numbers.now) ≡ i)) }
     ensures none { IfNone result (count_of flags.now numbers.now ≤ i) }
 {
     let mut left = i;
-    for (place, number) in numbers.iter().enumerate() {
+    for (index, number) in numbers.iter().enumerate() {
         if !flags[*number as usize] {
             if left == 0 {
-                return Some(place);
+                return Some(index);
             }
             left -= 1;
         }

@@ -10,7 +10,7 @@ ghost use Rattle.tp_posindex.specs.BlockState.{IsInfoOf};
 use crate::block_info::BlockInfo;
 use crate::blocks::Blocks;
 use crate::elements::Elements;
-use crate::places::spot_for;
+use crate::spots::spot_for;
 use std::alloc::{AllocError, Global};
 use std::marker::Model;
 use tp_opid::{OpId, Place};
@@ -20,7 +20,7 @@ use tp_rga::{Element, Insertion, Sequence};
 ///
 /// An insert moves no element, and at most 128 numbers of four bytes; it splits a full block into two of 64. A look-up
 /// by identifier takes as many steps as the logarithm of how many elements its actor has, and a pass over the actors.
-/// What goes by place, and where an element stands, passes over four bytes for each block before it and looks into one
+/// What goes by position, and where an element stands, passes over four bytes for each block before it and looks into one
 /// block; `len` and `all` pass over nothing.
 #[derive(Drop)]
 pub struct BlockSequence {

@@ -12,7 +12,7 @@ use Rattle.tp_graph.specs.Named.{has}
 use Rattle.tp_graph.specs.Fit.{cause}
 use Rattle.tp_graph.specs.GraphState.{most_waiting}
 use Rattle.tp_receive.specs.Receiving.{AllWait, lacks_deps, is_refusal}
-use Rattle.tp_receive.specs.Delivery.{places}
+use Rattle.tp_receive.specs.Delivery.{slots}
 use Rattle.tp_receive.specs.Intake.{Intake, Ends, Meets, Next, NextWaits, Run, Turn, Turns, hold, intake, refuse}
 use Rattle.tp_receive.specs.Replies.{Alike}
 
@@ -50,13 +50,13 @@ next_alike s rest t last c d h (inl n) (inl m) =
 next_alike s rest t last c d h (inl n) (inr m) = absurd (none_ready s t.applied t.waiting c rest n (sym h.applied) (sym h.waiting) m.settled)
 next_alike s rest t last c d h (inr n) (inl m) = absurd (none_ready t s.applied s.waiting d last m h.applied h.waiting n.settled)
 next_alike s rest t last c d h (inr n) (inr m) =
-    let w = one_comes c d n.place m.place n.behind m.behind (sym n.comes ∙ h.coming ∙ m.comes) in
+    let w = one_comes c d n.slot m.slot n.behind m.behind (sym n.comes ∙ h.coming ∙ m.comes) in
     (w.0, rw (n.without, m.without) (record { applied = h.applied; waiting = h.waiting; coming = w.1; entered = h.entered; refused = h.refused }))
 
 -- ---- one outcome of a turn
 
 held_alike : {S R : Type 0} (k : S) (j : R) (C W : List ChangeParts) (P : List (ChangeParts × Bool)) (a : List Hash) (r : List (Hash × GraphError)) (c : ChangeParts) → Alike (hold (intake k C W P a r) c) (hold (intake j C W P a r) c)
-held_alike k j C W P a r c = by (has W (hash_of c)) (nat_lt (length W + places P) most_waiting) where
+held_alike k j C W P a r c = by (has W (hash_of c)) (nat_lt (length W + slots P) most_waiting) where
   by : (b l : Bool) → Alike (cond b (intake k C W P a r) (cond l (intake k C (W ++ c ∷ []) P a r) (refuse (intake k C W P a r) c MissingDeps))) (cond b (intake j C W P a r) (cond l (intake j C (W ++ c ∷ []) P a r) (refuse (intake j C W P a r) c MissingDeps)))
   by true l = record { applied = refl; waiting = refl; coming = refl; entered = refl; refused = refl }
   by false true = record { applied = refl; waiting = refl; coming = refl; entered = refl; refused = refl }
@@ -110,7 +110,7 @@ turn_alike {S} {R} keeps stores s x t y h u v =
 no_turn : {S R : Type 0} (stores : R → ChangeParts → R → Type 0) (s : Intake S) (t y : Intake R) → Alike s t → Ends s → Turn stores t y → ⊥
 no_turn stores s t y h e u = elim u.next [
   | inl n ↦ none_ready t s.applied s.waiting u.change u.rest n h.applied h.waiting e.settled
-  | inr n ↦ let no : [] ≡ (u.change, n.place) ∷ n.behind = sym e.came ∙ h.coming ∙ n.comes in cc
+  | inr n ↦ let no : [] ≡ (u.change, n.slot) ∷ n.behind = sym e.came ∙ h.coming ∙ n.comes in cc
 ]
 
 Alike-sym : {S R : Type 0} (s : Intake S) (t : Intake R) → Alike s t → Alike t s

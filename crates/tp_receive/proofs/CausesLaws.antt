@@ -6,16 +6,16 @@ use Rattle.tp_change.specs.declared.parts.ChangeParts.{ChangeParts}
 use Rattle.tp_change.specs.ChangeHash.{hash_of}
 use Rattle.tp_graph.specs.declared.error.GraphError.{GraphError}
 use Rattle.tp_graph.specs.declared.error.GraphError.TheVariants.{Known, MissingDeps, BadSeq, BadStart, BadReference, SeqClash, UnknownHead, Full, OutOfMemory}
-use Rattle.tp_graph.specs.Named.{has, has_all}
-use Rattle.tp_graph.specs.Fit.{misfit, or_full, cause, most_changes}
+use Rattle.tp_graph.specs.Named.{has, has_all, HashesApart}
+use Rattle.tp_graph.specs.Fit.{defect, or_full, cause, most_changes}
 use Rattle.tp_graph.specs.Sound.{Sound}
 use Rattle.tp_list.proofs.Tests.{truth, never, not_true}
 use Rattle.tp_graph.proofs.NamedLaws.{has-In, has-append, has-left, has_all-In}
 use Rattle.tp_graph.proofs.SoundLaws.{Sound-push}
-use Rattle.tp_graph.proofs.SetLaws.{misfit-later}
+use Rattle.tp_graph.proofs.SetLaws.{defect-later}
 use Rattle.tp_graph.proofs.FirstFaults.{missing_deps_is}
 use Rattle.tp_graph.proofs.KeptLaws.{enters, Fits-from_cause}
-use Rattle.tp_receive.specs.Receiving.{EntersAfter, HashesApart, lacks_deps, is_refusal}
+use Rattle.tp_receive.specs.Receiving.{EntersAfter, lacks_deps, is_refusal}
 use Rattle.tp_receive.proofs.RefusalLaws.{cause-known, refused-stays, EntersAfter-append}
 
 -- ---- a cause other than a missing dependency stays the same
@@ -25,12 +25,12 @@ not_full (Some f) b e n h = h
 not_full None true e n h = cc
 not_full None false e n h = cc
 
-final-misfit : (C : List ChangeParts) (c : ChangeParts) (e : GraphError) → has C (hash_of c) ≡ false → is_refusal (Some e) ≡ true → misfit C c ≡ Some e → has_all C c.deps ≡ true
-final-misfit C c e new final m =
+final-defect : (C : List ChangeParts) (c : ChangeParts) (e : GraphError) → has C (hash_of c) ≡ false → is_refusal (Some e) ≡ true → defect C c ≡ Some e → has_all C c.deps ≡ true
+final-defect C c e new final m =
     elim (truth (has_all C c.deps)) [
       | inl t ↦ t
       | inr f ↦
-          let lacks : misfit C c ≡ Some MissingDeps = (missing_deps_is C c).1 (new, f) in
+          let lacks : defect C c ≡ Some MissingDeps = (missing_deps_is C c).1 (new, f) in
           let same : Some MissingDeps ≡ Some e = sym lacks ∙ m in
           let no : false ≡ true = ap is_refusal same ∙ final in
           cc
@@ -43,8 +43,8 @@ same-push C x c e s none apart final h =
     elim (truth (has C (hash_of c))) [
       | inl t ↦ cause-known (C ++ x ∷ []) c (has-left C (x ∷ []) (hash_of c) t) ∙ sym (cause-known C c t) ∙ h
       | inr new ↦
-          let m = not_full (misfit C c) (length C == most_changes) e (enters C x none).1 h in
-          let later = misfit-later C (x ∷ []) c e (Sound-push C x s (Fits-from_cause C x none)) (final-misfit C c e new final m) apart m in
+          let m = not_full (defect C c) (length C == most_changes) e (enters C x none).1 h in
+          let later = defect-later C (x ∷ []) c e (Sound-push C x s (Fits-from_cause C x none)) (final-defect C c e new final m) apart m in
           ap (λ o. or_full o (length (C ++ x ∷ []) == most_changes)) later
     ]
 
@@ -76,15 +76,15 @@ lacks_cause (Some UnknownHead) h = cc
 lacks_cause (Some Full) h = cc
 lacks_cause (Some OutOfMemory) h = cc
 
-waits_misfit : (o : Option GraphError) (b : Bool) → or_full o b ≡ Some MissingDeps → o ≡ Some MissingDeps
-waits_misfit (Some f) b h = h
-waits_misfit None true h = cc
-waits_misfit None false h = cc
+waits_defect : (o : Option GraphError) (b : Bool) → or_full o b ≡ Some MissingDeps → o ≡ Some MissingDeps
+waits_defect (Some f) b h = h
+waits_defect None true h = cc
+waits_defect None false h = cc
 
 -- a change that must wait isn't there, and lacks a dependency
 pub waits_for : (C : List ChangeParts) (c : ChangeParts) → cause C c ≡ Some MissingDeps → (has C (hash_of c) ≡ false) × (has_all C c.deps ≡ false)
 unfolding cause
-waits_for C c h = (missing_deps_is C c).0 (waits_misfit (misfit C c) (length C == most_changes) h)
+waits_for C c h = (missing_deps_is C c).0 (waits_defect (defect C c) (length C == most_changes) h)
 
 pub lacking : (C : List ChangeParts) (H : List Hash) → has_all C H ≡ false → (d : Hash) × In d H × (has C d ≡ false)
 lacking C [] h = cc
@@ -109,8 +109,8 @@ abbrev pub Never : List ChangeParts → List ChangeParts → Hash → Type 0
 Never F C h = (new : List ChangeParts) → EntersAfter C new → AllIn new F → has (C ++ new) h ≡ false
 
 -- Whatever changes of F enter behind C, the change isn't one of them.
-abbrev pub StaysOut : List ChangeParts → List ChangeParts → ChangeParts → Type 0
-StaysOut F C c = (new : List ChangeParts) → EntersAfter C new → AllIn new F → In c new → ⊥
+abbrev pub NeverEnters : List ChangeParts → List ChangeParts → ChangeParts → Type 0
+NeverEnters F C c = (new : List ChangeParts) → EntersAfter C new → AllIn new F → In c new → ⊥
 
 -- The change isn't there, and a dependency never will be.
 pub record Barred (F C : List ChangeParts) (c : ChangeParts) : Type 0 where
@@ -145,13 +145,13 @@ pub Never-now : (F C : List ChangeParts) (h : Hash) → Never F C h → has C h 
 Never-now F C h n = subst (λ l. has l h ≡ false) (append-nil C) (n [] tt (λ x i. absurd i))
 
 -- what lacks a dependency for ever stays out
-pub out_of_dep : (F C : List ChangeParts) (c : ChangeParts) (d : Hash) → In d c.deps → Never F C d → StaysOut F C c
+pub out_of_dep : (F C : List ChangeParts) (c : ChangeParts) (d : Hash) → In d c.deps → Never F C d → NeverEnters F C c
 out_of_dep F C c d needs n new fits came i =
     let w = entry_of C new F c fits came i in
     never (has_all-In (C ++ w.0) c.deps ((Fits-from_cause (C ++ w.0) c w.3).deps) d needs) (n w.0 w.1 w.2)
 
 -- what is refused for good stays out
-pub out_of_refusal : (F C : List ChangeParts) (c : ChangeParts) → is_refusal (cause C c) ≡ true → StaysOut F C c
+pub out_of_refusal : (F C : List ChangeParts) (c : ChangeParts) → is_refusal (cause C c) ≡ true → NeverEnters F C c
 out_of_refusal F C c final new fits came i =
     let w = entry_of C new F c fits came i in
     let still : is_refusal (cause (C ++ w.0) c) ≡ true = refused-stays C w.0 c w.1 final in
@@ -159,7 +159,7 @@ out_of_refusal F C c final new fits came i =
     cc
 
 -- the hash of a change that stays out never comes
-pub Never-out : (F C : List ChangeParts) (c : ChangeParts) → HashesApart F → In c F → has C (hash_of c) ≡ false → StaysOut F C c → Never F C (hash_of c)
+pub Never-out : (F C : List ChangeParts) (c : ChangeParts) → HashesApart F → In c F → has C (hash_of c) ≡ false → NeverEnters F C c → Never F C (hash_of c)
 Never-out F C c apart i lacks out new fits came =
     has-append C new (hash_of c) ∙ neither (has C (hash_of c)) (has new (hash_of c)) lacks (not_true (has new (hash_of c)) (λ t.
     let w = has-In new (hash_of c) t in

@@ -11,36 +11,36 @@ use Rattle.tp_change.specs.declared.parts.ChangeParts.{ChangeParts}
 use Rattle.tp_change.specs.ChangeHash.{hash_of}
 use Rattle.tp_graph.specs.declared.error.GraphError.{GraphError}
 use Rattle.tp_graph.specs.declared.error.GraphError.TheVariants.{MissingDeps}
-use Rattle.tp_graph.specs.Named.{has, has_all}
+use Rattle.tp_graph.specs.Named.{has, has_all, HashesApart}
 use Rattle.tp_graph.specs.Fit.{cause}
 use Rattle.tp_graph.specs.GraphState.{most_waiting}
 use Rattle.tp_graph.proofs.NamedLaws.{has-In, In-has, has-left, has-append, has_all-In, has_all-more}
-use Rattle.tp_receive.specs.Receiving.{HashesApart, is_refusal}
-use Rattle.tp_receive.specs.Delivery.{delivery, undeliverable, placing, places, takes_place}
+use Rattle.tp_receive.specs.Receiving.{is_refusal}
+use Rattle.tp_receive.specs.Delivery.{delivery, undeliverable, with_slots, slots, takes_slot}
 use Rattle.tp_receive.specs.Intake.{Intake, Turn, enter, refuse}
-use Rattle.tp_receive.proofs.CausesLaws.{Never, Barred, Never-later, Never-out, Barred-later, StaysOut, out_of_dep, out_of_refusal, waits_for, lacking}
+use Rattle.tp_receive.proofs.CausesLaws.{Never, Barred, Never-later, Never-out, Barred-later, NeverEnters, out_of_dep, out_of_refusal, waits_for, lacking}
 use Rattle.tp_receive.proofs.TurnLaws.{Turn-cases, IsHere, changes_of, with_rest}
 use Rattle.tp_receive.proofs.RunLaws.{In-pushed, HasRoom, refusal_drops, placing_of}
-use Rattle.tp_receive.proofs.PlacedLaws.{IsDone, HadTurn, HadTurn-turn, done_entered, done_refused, waits_already}
+use Rattle.tp_receive.proofs.AccountedLaws.{IsSettled, HadTurn, HadTurn-turn, done_entered, done_refused, waits_already}
 
 -- Where F is what waited and came and the list K began behind C0, and P is to come: D are the deliverable ones so far
--- and what was applied, V those with a place, U the undeliverable ones so far, and zs are to come. Each of D is there or
+-- and what was applied, V those with a slot, U the undeliverable ones so far, and zs are to come. Each of D is there or
 -- never comes; each of V had its turn; and what was dropped is barred and not undeliverable.
 pub record Delivering {S : Type 0} (F C0 K : List ChangeParts) (P : List (ChangeParts × Bool)) (t : Intake S) : Type 0 where
   pub D : List ChangeParts
   pub V : List ChangeParts
   pub U : List ChangeParts
   pub zs : List ChangeParts
-  pub coming : P ≡ placing V (delivery D zs)
+  pub coming : P ≡ with_slots V (delivery D zs)
   pub whole : undeliverable (delivery C0 K) ≡ U ++ undeliverable (delivery D zs)
   pub delivered : (h : Hash) → has D h ≡ true → (has t.applied h ≡ true) ⊎ Never F t.applied h
   pub placed : (c : ChangeParts) → In c V → In c F × HadTurn t c
-  pub places : (h : Hash) → has U h ≡ true → has V h ≡ true
+  pub slots : (h : Hash) → has U h ≡ true → has V h ≡ true
   pub barred : (c : ChangeParts) → In c F → In (hash_of c, MissingDeps) t.refused → Barred F t.applied c
   pub apart : (h : Hash) → In (h, MissingDeps) t.refused → has (undeliverable (delivery C0 K)) h ≡ false
 
 -- Nothing had its turn.
-pub Delivering-first : {S : Type 0} (C W K : List ChangeParts) (t : Intake S) → t.applied ≡ C → t.waiting ≡ W → t.refused ≡ [] → Delivering (W ++ K) C K (placing W (delivery C K)) t
+pub Delivering-first : {S : Type 0} (C W K : List ChangeParts) (t : Intake S) → t.applied ≡ C → t.waiting ≡ W → t.refused ≡ [] → Delivering (W ++ K) C K (with_slots W (delivery C K)) t
 Delivering-first C W K t a w r = record {
   D = C;
   V = W;
@@ -50,7 +50,7 @@ Delivering-first C W K t a w r = record {
   whole = refl;
   delivered = λ h e. inl (rw a e);
   placed = λ c i. (In-left c W K i, inl (rw w i));
-  places = λ h e. cc;
+  slots = λ h e. cc;
   barred = λ c i j. absurd (subst (λ (l : List (Hash × GraphError)). In (hash_of c, MissingDeps) l) r j);
   apart = λ h j. absurd (subst (λ (l : List (Hash × GraphError)). In (h, MissingDeps) l) r j);
 }
@@ -58,23 +58,23 @@ Delivering-first C W K t a w r = record {
 -- ---- the next that comes
 
 -- the first of what comes, and the rest
-record IsFirst (D V zs : List ChangeParts) (c : ChangeParts) (place : Bool) (Q : List (ChangeParts × Bool)) : Type 0 where
+record IsFirst (D V zs : List ChangeParts) (c : ChangeParts) (slot : Bool) (Q : List (ChangeParts × Bool)) : Type 0 where
   more : List ChangeParts
   split : zs ≡ c ∷ more
-  takes : place ≡ takes_place V (c, has_all D c.deps)
-  rest : Q ≡ placing (cond (takes_place V (c, has_all D c.deps)) (V ++ c ∷ []) V) (delivery (cond (has_all D c.deps) (D ++ c ∷ []) D) more)
+  takes : slot ≡ takes_slot V (c, has_all D c.deps)
+  rest : Q ≡ with_slots (cond (takes_slot V (c, has_all D c.deps)) (V ++ c ∷ []) V) (delivery (cond (has_all D c.deps) (D ++ c ∷ []) D) more)
 
 pair_of : ChangeParts → Bool → ChangeParts × Bool
 pair_of c b = (c, b)
 
-first_of_coming : (D V zs : List ChangeParts) (c : ChangeParts) (place : Bool) (Q : List (ChangeParts × Bool)) → (c, place) ∷ Q ≡ placing V (delivery D zs) → IsFirst D V zs c place Q
+first_of_coming : (D V zs : List ChangeParts) (c : ChangeParts) (slot : Bool) (Q : List (ChangeParts × Bool)) → (c, slot) ∷ Q ≡ with_slots V (delivery D zs) → IsFirst D V zs c slot Q
 unfolding pair_of
-first_of_coming D V [] c place Q e = cc
-first_of_coming D V (x ∷ zs) c place Q e =
-    let b = takes_place V (x, has_all D x.deps) in
-    let first : pair_of c place ≡ pair_of x b = cc in
-    let rest : Q ≡ placing (cond b (V ++ x ∷ []) V) (delivery (cond (has_all D x.deps) (D ++ x ∷ []) D) zs) = cc in
-    subst (λ (y : ChangeParts). IsFirst D V (x ∷ zs) y place Q) (sym (ap (λ (p : ChangeParts × Bool). p.0) first))
+first_of_coming D V [] c slot Q e = cc
+first_of_coming D V (x ∷ zs) c slot Q e =
+    let b = takes_slot V (x, has_all D x.deps) in
+    let first : pair_of c slot ≡ pair_of x b = cc in
+    let rest : Q ≡ with_slots (cond b (V ++ x ∷ []) V) (delivery (cond (has_all D x.deps) (D ++ x ∷ []) D) zs) = cc in
+    subst (λ (y : ChangeParts). IsFirst D V (x ∷ zs) y slot Q) (sym (ap (λ (p : ChangeParts × Bool). p.0) first))
     (record { more = zs; split = refl; takes = ap (λ (p : ChangeParts × Bool). p.1) first; rest = rest })
 
 -- the hash of one more: an earlier one's, or its own
@@ -94,26 +94,26 @@ lacks_for_ever F C D c delivered all waits =
 
 -- a deliverable change that had its turn is there or never comes
 arrives : {S : Type 0} (F D : List ChangeParts) (t : Intake S) (c : ChangeParts) → HashesApart F → In c F → ((h : Hash) → has D h ≡ true → (has t.applied h ≡ true) ⊎ Never F t.applied h)
-    → IsDone t.applied t.entered t.refused c ⊎ (cause t.applied c ≡ Some MissingDeps) → has_all D c.deps ≡ true → (has t.applied (hash_of c) ≡ true) ⊎ Never F t.applied (hash_of c)
+    → IsSettled t.applied t.entered t.refused c ⊎ (cause t.applied c ≡ Some MissingDeps) → has_all D c.deps ≡ true → (has t.applied (hash_of c) ≡ true) ⊎ Never F t.applied (hash_of c)
 arrives F D t c apart i delivered met all =
     elim (truth (has t.applied (hash_of c))) [
       | inl there ↦ inl there
       | inr new ↦ inr (Never-out F t.applied c apart i new (out met))
     ] where
-      out : IsDone t.applied t.entered t.refused c ⊎ (cause t.applied c ≡ Some MissingDeps) → StaysOut F t.applied c
+      out : IsSettled t.applied t.entered t.refused c ⊎ (cause t.applied c ≡ Some MissingDeps) → NeverEnters F t.applied c
       out (inl done) = out_of_refusal F t.applied c done.final
       out (inr waits) = let w = lacks_for_ever F t.applied D c delivered all waits in out_of_dep F t.applied c w.0 w.1 w.2
 
 -- The next had its turn.
-Delivering-next : {S : Type 0} (F C0 K : List ChangeParts) (P Q : List (ChangeParts × Bool)) (c : ChangeParts) (place : Bool) (t : Intake S) → HashesApart F → In c F → P ≡ (c, place) ∷ Q
-    → HadTurn t c → IsDone t.applied t.entered t.refused c ⊎ (cause t.applied c ≡ Some MissingDeps) → Delivering F C0 K P t → Delivering F C0 K Q t
-Delivering-next {S} F C0 K P Q c place t apart i is turn met g =
-    let f = first_of_coming g.D g.V g.zs c place Q (sym is ∙ g.coming) in
+Delivering-next : {S : Type 0} (F C0 K : List ChangeParts) (P Q : List (ChangeParts × Bool)) (c : ChangeParts) (slot : Bool) (t : Intake S) → HashesApart F → In c F → P ≡ (c, slot) ∷ Q
+    → HadTurn t c → IsSettled t.applied t.entered t.refused c ⊎ (cause t.applied c ≡ Some MissingDeps) → Delivering F C0 K P t → Delivering F C0 K Q t
+Delivering-next {S} F C0 K P Q c slot t apart i is turn met g =
+    let f = first_of_coming g.D g.V g.zs c slot Q (sym is ∙ g.coming) in
     step f (truth (has_all g.D c.deps)) (truth (has g.V (hash_of c))) where
-      next : (more D V U : List ChangeParts) → Q ≡ placing V (delivery D more) → undeliverable (delivery C0 K) ≡ U ++ undeliverable (delivery D more)
+      next : (more D V U : List ChangeParts) → Q ≡ with_slots V (delivery D more) → undeliverable (delivery C0 K) ≡ U ++ undeliverable (delivery D more)
           → ((h : Hash) → has D h ≡ true → (has t.applied h ≡ true) ⊎ Never F t.applied h) → ((d : ChangeParts) → In d V → In d F × HadTurn t d) → ((h : Hash) → has U h ≡ true → has V h ≡ true)
           → Delivering F C0 K Q t
-      next more D V U coming whole delivered placed places = record {
+      next more D V U coming whole delivered placed slots = record {
         D = D;
         V = V;
         U = U;
@@ -122,37 +122,37 @@ Delivering-next {S} F C0 K P Q c place t apart i is turn met g =
         whole = whole;
         delivered = delivered;
         placed = placed;
-        places = places;
+        slots = slots;
         barred = g.barred;
         apart = g.apart;
       }
 
-      step : IsFirst g.D g.V g.zs c place Q → (has_all g.D c.deps ≡ true) ⊎ (has_all g.D c.deps ≡ false) → (has g.V (hash_of c) ≡ true) ⊎ (has g.V (hash_of c) ≡ false) → Delivering F C0 K Q t
+      step : IsFirst g.D g.V g.zs c slot Q → (has_all g.D c.deps ≡ true) ⊎ (has_all g.D c.deps ≡ false) → (has g.V (hash_of c) ≡ true) ⊎ (has g.V (hash_of c) ≡ false) → Delivering F C0 K Q t
       step f (inl all) known =
           next f.more (g.D ++ c ∷ []) g.V g.U (rw all at f.rest) (g.whole ∙ ap (λ (l : List ChangeParts). g.U ++ undeliverable (delivery g.D l)) f.split ∙ rw all refl)
           (λ h e. elim (pushed_cases g.D c h e) [
             | inl old ↦ g.delivered h old
             | inr same ↦ subst (λ (x : Hash). (has t.applied x ≡ true) ⊎ Never F t.applied x) same (arrives F g.D t c apart i g.delivered met all)
           ])
-          g.placed g.places
+          g.placed g.slots
       step f (inr lacks) (inl known) =
           next f.more g.D g.V (g.U ++ c ∷ []) (rw (lacks, known) at f.rest)
           (g.whole ∙ ap (λ (l : List ChangeParts). g.U ++ undeliverable (delivery g.D l)) f.split ∙ rw lacks (sym (append_assoc g.U (c ∷ []) (undeliverable (delivery g.D f.more)))))
           g.delivered g.placed
-          (λ h e. elim (pushed_cases g.U c h e) [ inl old ↦ g.places h old | inr same ↦ subst (λ (x : Hash). has g.V x ≡ true) same known ])
+          (λ h e. elim (pushed_cases g.U c h e) [ inl old ↦ g.slots h old | inr same ↦ subst (λ (x : Hash). has g.V x ≡ true) same known ])
       step f (inr lacks) (inr new) =
           next f.more g.D (g.V ++ c ∷ []) (g.U ++ c ∷ []) (rw (lacks, new) at f.rest)
           (g.whole ∙ ap (λ (l : List ChangeParts). g.U ++ undeliverable (delivery g.D l)) f.split ∙ rw lacks (sym (append_assoc g.U (c ∷ []) (undeliverable (delivery g.D f.more)))))
           g.delivered
           (λ d j. elim (In-pushed g.V c d j) [ inl e ↦ rw e (i, turn) | inr k ↦ g.placed d k ])
           (λ h e. elim (pushed_cases g.U c h e) [
-            | inl old ↦ has-left g.V (c ∷ []) h (g.places h old)
+            | inl old ↦ has-left g.V (c ∷ []) h (g.slots h old)
             | inr same ↦ In-has (g.V ++ c ∷ []) c h (In-last c g.V) same
           ])
 
 -- ---- one turn
 
--- The same of a state whose turn changed what is applied and told, where what is dropped is so still.
+-- The same of a state whose turn changed what is applied and reported, where what is dropped is so still.
 moved : {S : Type 0} (F C0 K : List ChangeParts) (P : List (ChangeParts × Bool)) (s t : Intake S) → Delivering F C0 K P s
     → ((h : Hash) → has s.applied h ≡ true → has t.applied h ≡ true) → ((h : Hash) → Never F s.applied h → Never F t.applied h) → ((c : ChangeParts) → HadTurn s c → HadTurn t c)
     → ((c : ChangeParts) → In c F → In (hash_of c, MissingDeps) t.refused → Barred F t.applied c) → ((h : Hash) → In (h, MissingDeps) t.refused → has (undeliverable (delivery C0 K)) h ≡ false)
@@ -166,7 +166,7 @@ moved F C0 K P s t g grown still later barred apart = record {
   whole = g.whole;
   delivered = λ h e. elim (g.delivered h e) [ inl there ↦ inl (grown h there) | inr n ↦ inr (still h n) ];
   placed = λ c i. let w = g.placed c i in (w.0, later c w.1);
-  places = g.places;
+  slots = g.slots;
   barred = barred;
   apart = apart;
 }
@@ -183,17 +183,17 @@ stays_deliverable D (c ∷ K) h all =
     ]
 
 -- What was dropped is barred, and none of the undeliverable ones.
-dropped_barred : {S : Type 0} (F C0 K : List ChangeParts) (s : Intake S) (c : ChangeParts) (Q : List (ChangeParts × Bool)) (place : Bool) → HashesApart F → ((d : ChangeParts) → IsHere s.waiting s.coming d → In d F)
-    → HasRoom s → Delivering F C0 K s.coming s → s.coming ≡ (c, place) ∷ Q → cause s.applied c ≡ Some MissingDeps → has s.waiting (hash_of c) ≡ false → most_waiting ≤ length s.waiting + places Q
+dropped_barred : {S : Type 0} (F C0 K : List ChangeParts) (s : Intake S) (c : ChangeParts) (Q : List (ChangeParts × Bool)) (slot : Bool) → HashesApart F → ((d : ChangeParts) → IsHere s.waiting s.coming d → In d F)
+    → HasRoom s → Delivering F C0 K s.coming s → s.coming ≡ (c, slot) ∷ Q → cause s.applied c ≡ Some MissingDeps → has s.waiting (hash_of c) ≡ false → most_waiting ≤ length s.waiting + slots Q
     → Barred F s.applied c × (has (undeliverable (delivery C0 K)) (hash_of c) ≡ false)
-dropped_barred {S} F C0 K s c Q place apart here room g is lacks new full =
-    by (first_of_coming g.D g.V g.zs c place Q (sym is ∙ g.coming)) (truth (has g.V (hash_of c))) (truth (has_all g.D c.deps)) where
+dropped_barred {S} F C0 K s c Q slot apart here room g is lacks new full =
+    by (first_of_coming g.D g.V g.zs c slot Q (sym is ∙ g.coming)) (truth (has g.V (hash_of c))) (truth (has_all g.D c.deps)) where
       came : In c F
       came = here c (inr (subst (λ (P : List (ChangeParts × Bool)). In c (changes_of P)) (sym is) (inl refl)))
 
-      crowded : place ≡ true → ⊥
+      crowded : slot ≡ true → ⊥
       crowded t =
-          let all : places s.coming ≡ places Q + 1 = ap places is ∙ ap (λ b. cond b (places Q + 1) (places Q)) t in
+          let all : slots s.coming ≡ slots Q + 1 = ap slots is ∙ ap (λ b. cond b (slots Q + 1) (slots Q)) t in
           absurd (omega arith)
 
       earlier : In c g.V → Barred F s.applied c × (has (undeliverable (delivery C0 K)) (hash_of c) ≡ false)
@@ -203,11 +203,11 @@ dropped_barred {S} F C0 K s c Q place apart here room g is lacks new full =
           | inl done ↦
               let no : false ≡ true = sym (ap is_refusal lacks) ∙ done.final in
               cc
-          | inr told ↦ (g.barred c came told, g.apart (hash_of c) told)
+          | inr reported ↦ (g.barred c came reported, g.apart (hash_of c) reported)
         ]
       ]
 
-      by : IsFirst g.D g.V g.zs c place Q → (has g.V (hash_of c) ≡ true) ⊎ (has g.V (hash_of c) ≡ false) → (has_all g.D c.deps ≡ true) ⊎ (has_all g.D c.deps ≡ false)
+      by : IsFirst g.D g.V g.zs c slot Q → (has g.V (hash_of c) ≡ true) ⊎ (has g.V (hash_of c) ≡ false) → (has_all g.D c.deps ≡ true) ⊎ (has_all g.D c.deps ≡ false)
           → Barred F s.applied c × (has (undeliverable (delivery C0 K)) (hash_of c) ≡ false)
       by f (inl known) b =
           let w = has-In g.V (hash_of c) known in
@@ -220,7 +220,7 @@ dropped_barred {S} F C0 K s c Q place apart here room g is lacks new full =
             ap (λ l. has l (hash_of c)) (g.whole ∙ ap (λ (l : List ChangeParts). g.U ++ undeliverable (delivery g.D l)) f.split ∙ rw all refl)
                 ∙ has-append g.U (undeliverable (delivery (g.D ++ c ∷ []) f.more)) (hash_of c)
                 ∙ neither (has g.U (hash_of c)) (has (undeliverable (delivery (g.D ++ c ∷ []) f.more)) (hash_of c))
-                (not_true (has g.U (hash_of c)) (λ u. never (g.places (hash_of c) u) fresh))
+                (not_true (has g.U (hash_of c)) (λ u. never (g.slots (hash_of c) u) fresh))
                 (stays_deliverable (g.D ++ c ∷ []) f.more (hash_of c)
                 (λ d i e. subst (λ (x : ChangeParts). has_all (g.D ++ c ∷ []) x.deps ≡ true) (sym (apart d c (rest d i) came e))
                 (has_all-more g.D (g.D ++ c ∷ []) c.deps (λ x j. In-left x g.D (c ∷ []) j) all))),
@@ -254,17 +254,17 @@ Delivering-turn {S} keeps F C0 K s t apart here room u g =
             | inl same ↦ subst (λ (P : List (ChangeParts × Bool)). Delivering F C0 K P (refuse (with_rest s V Q) c e)) (sym same) g2
             | inr w ↦ Delivering-next F C0 K s.coming Q c w.0 (refuse (with_rest s V Q) c e) apart (here c out.here) w.1 (inr (inl done)) (inl done) g2
           ];
-      again = λ c Q place out is lacks there later.
-          Delivering-next F C0 K s.coming Q c place (with_rest s s.waiting Q) apart (here c out.here) is
+      again = λ c Q slot out is lacks there later.
+          Delivering-next F C0 K s.coming Q c slot (with_rest s s.waiting Q) apart (here c out.here) is
           (inl (waits_already F s.waiting c apart (λ d i. here d (inl i)) (here c out.here) there)) (inr lacks)
           (moved F C0 K s.coming s (with_rest s s.waiting Q) g (λ h x. x) (λ h n. n) later g.barred g.apart);
-      held = λ c Q place out is lacks new space later.
-          Delivering-next F C0 K s.coming Q c place (with_rest s (s.waiting ++ c ∷ []) Q) apart (here c out.here) is
+      held = λ c Q slot out is lacks new space later.
+          Delivering-next F C0 K s.coming Q c slot (with_rest s (s.waiting ++ c ∷ []) Q) apart (here c out.here) is
           (inl (In-last c s.waiting)) (inr lacks)
           (moved F C0 K s.coming s (with_rest s (s.waiting ++ c ∷ []) Q) g (λ h x. x) (λ h n. n) later g.barred g.apart);
-      dropped = λ c Q place out is lacks new full later.
-          let b = dropped_barred F C0 K s c Q place apart here room g is lacks new full in
-          Delivering-next F C0 K s.coming Q c place (refuse (with_rest s s.waiting Q) c MissingDeps) apart (here c out.here) is
+      dropped = λ c Q slot out is lacks new full later.
+          let b = dropped_barred F C0 K s c Q slot apart here room g is lacks new full in
+          Delivering-next F C0 K s.coming Q c slot (refuse (with_rest s s.waiting Q) c MissingDeps) apart (here c out.here) is
           (inr (inr (In-last (hash_of c, MissingDeps) s.refused))) (inr lacks)
           (moved F C0 K s.coming s (refuse (with_rest s s.waiting Q) c MissingDeps) g (λ h x. x) (λ h n. n) later
           (λ d i j. elim (In-pushed s.refused (hash_of c, MissingDeps) (hash_of d, MissingDeps) j) [

@@ -6,7 +6,7 @@ pub mod WaitLaws
 pub mod HashLaws
 pub mod TurnLaws
 pub mod RunLaws
-pub mod PlacedLaws
+pub mod AccountedLaws
 pub mod DroppedLaws
 pub mod ResultLaws
 pub mod AlikeLaws

@@ -1,36 +1,21 @@
 -- Any two results of receiving one list have the same members.
-use Rattle.std.proofs.Common.{◌≡◌, ℕ, ◌==◌, ◌<◌, ◌&&◌, inl, inr, List, [], ◌∷◌, ◌++◌, length, true, false, None, IsSome, refl, sym, ap, subst, append_assoc, append-nil, arith}
-use Rattle.std.proofs.lemmas.Bool.Decides.{nat_tests}
+use Rattle.std.proofs.Common.{◌≡◌, ◌==◌, ◌<◌, ◌&&◌, inl, inr, List, [], ◌∷◌, ◌++◌, length, false, None, IsSome, refl, sym, ap, subst, append_assoc, append-nil}
 use Rattle.tp_list.specs.Members.{In, AllIn, SameMembers}
-use Rattle.tp_opid.specs.Same.{same_actor}
 use Rattle.tp_opid.proofs.Orders.{same_actor-same}
 use Rattle.tp_change.specs.declared.parts.ChangeParts.{ChangeParts}
 use Rattle.tp_change.specs.ChangeHash.{hash_of}
 use Rattle.tp_graph.specs.declared.error.GraphError.{GraphError}
-use Rattle.tp_graph.specs.Named.{has}
+use Rattle.tp_graph.specs.Named.{has, HashesApart}
 use Rattle.tp_graph.specs.Fit.{cause, clashes, most_changes}
 use Rattle.tp_graph.specs.Sound.{Sound}
-use Rattle.tp_list.proofs.Tests.{truth, never, not_true, or_cases, both_left, both_right}
+use Rattle.tp_list.proofs.Tests.{truth, never, not_true}
 use Rattle.tp_graph.proofs.NamedLaws.{has-In, In-has}
 use Rattle.tp_list.proofs.Members.{In-left, In-right, In-append}
+use Rattle.tp_graph.proofs.ClashLaws.{clash_of}
 use Rattle.tp_graph.proofs.SoundLaws.{Sound-push}
 use Rattle.tp_graph.proofs.SetLaws.{Fits-part}
 use Rattle.tp_graph.proofs.KeptLaws.{Fits-from_cause, cause-from_Fits}
-use Rattle.tp_receive.specs.Receiving.{EntersAfter, HashesApart, SeqsApart, Receives}
-
-same_seq : (a b : ℕ) → (a == b) ≡ true → a ≡ b
-same_seq a b h = grind (arith, nat_tests)
-
-clashes-In : (D : List ChangeParts) (c : ChangeParts) → clashes D c ≡ true → (d : ChangeParts) × In d D × (d.actor ≡ c.actor) × (d.seq ≡ c.seq)
-clashes-In [] c h = cc
-clashes-In (d ∷ D) c h =
-    elim (or_cases (same_actor d.actor c.actor && (d.seq == c.seq)) (clashes D c) h) [
-      | inl t ↦
-          let a = both_left (same_actor d.actor c.actor) (d.seq == c.seq) t in
-          let s = both_right (same_actor d.actor c.actor) (d.seq == c.seq) t in
-          (d, inl refl, same_actor-same d.actor c.actor a, same_seq d.seq c.seq s)
-      | inr t ↦ let w = clashes-In D c t in (w.0, inr w.1, w.2, w.3)
-    ]
+use Rattle.tp_receive.specs.Receiving.{EntersAfter, SeqsApart, Receives}
 
 -- The changes of a result are of what was there and came.
 pub of_both : (C K long : List ChangeParts) → Receives C K long → AllIn long (C ++ K)
@@ -48,8 +33,8 @@ there C K P other x apart seqs small r s part came none =
           subst (λ (y : ChangeParts). In y other) (apart w.0 x (of_both C K other r w.0 w.1) here w.2) w.1
       | inr new ↦
           let free : clashes other x ≡ false = not_true (clashes other x) (λ t.
-          let w = clashes-In other x t in
-          let one : w.0 ≡ x = seqs w.0 x (of_both C K other r w.0 w.1) here w.2 w.3 in
+          let w = clash_of other x t in
+          let one : w.0 ≡ x = seqs w.0 x (of_both C K other r w.0 w.1) here (same_actor-same w.0.actor x.actor w.2) w.3 in
           never (In-has other w.0 (hash_of x) w.1 (ap hash_of one)) new) in
           let enters : cause other x ≡ None = cause-from_Fits other x (Fits-part P other x s r.sound part (Fits-from_cause P x none) new free) small in
           let closed : IsSome (cause other x) = r.closed x came in

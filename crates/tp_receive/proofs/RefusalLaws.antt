@@ -7,7 +7,7 @@ use Rattle.tp_graph.specs.declared.error.GraphError.{GraphError}
 use Rattle.tp_graph.specs.declared.error.GraphError.TheVariants.{Known}
 use Rattle.tp_graph.specs.Named.{has, has_all}
 use Rattle.tp_graph.specs.Past.{past}
-use Rattle.tp_graph.specs.Fit.{misfit, misfit_behind, or_clash, or_full, cause, most_changes, clashes}
+use Rattle.tp_graph.specs.Fit.{defect, defect_behind, or_clash, or_full, cause, most_changes, clashes}
 use Rattle.tp_graph.specs.Sound.{Sound, Fits}
 use Rattle.tp_list.proofs.Tests.{truth}
 use Rattle.tp_graph.proofs.NamedLaws.{has-left, has_all-more}
@@ -28,7 +28,7 @@ IsSome-lacks (Some e) h = refl
 
 -- what is there is known
 pub cause-known : (C : List ChangeParts) (c : ChangeParts) → has C (hash_of c) ≡ true → cause C c ≡ Some Known
-unfolding cause misfit
+unfolding cause defect
 cause-known C c h = rw h refl
 
 clashes-left : (C D : List ChangeParts) (c : ChangeParts) → clashes C c ≡ true → clashes (C ++ D) c ≡ true
@@ -51,9 +51,9 @@ full_less : (o : Option GraphError) → is_refusal (or_full o false) ≡ true �
 full_less None h = h
 full_less (Some e) h = h
 
-misfit-more : (C : List ChangeParts) (x c : ChangeParts) → Fits C x → is_refusal (misfit C c) ≡ true → is_refusal (misfit (C ++ x ∷ []) c) ≡ true
-unfolding misfit
-misfit-more C x c f h =
+defect-more : (C : List ChangeParts) (x c : ChangeParts) → Fits C x → is_refusal (defect C c) ≡ true → is_refusal (defect (C ++ x ∷ []) c) ≡ true
+unfolding defect
+defect-more C x c f h =
     elim (truth (has C (hash_of c))) [
       | inl t ↦ rw (has-left C (x ∷ []) (hash_of c) t) refl
       | inr new ↦ elim (truth (has (C ++ x ∷ []) (hash_of c))) [
@@ -63,7 +63,7 @@ misfit-more C x c f h =
               let more : AllIn C (C ++ x ∷ []) = λ d i. In-left d C (x ∷ []) i in
               let g = rw (new, all) at h in
               rw (still, has_all-more C (C ++ x ∷ []) c.deps more all, past-push_other C c.deps x (not_among C c.deps x all f.new))
-              (clash_more (misfit_behind (past C c.deps) c) (clashes C c) (clashes (C ++ x ∷ []) c) (clashes-left C (x ∷ []) c) g)
+              (clash_more (defect_behind (past C c.deps) c) (clashes C c) (clashes (C ++ x ∷ []) c) (clashes-left C (x ∷ []) c) g)
           | inr lacks ↦ let g = rw (new, lacks) at h in cc
         ]
       ]
@@ -74,7 +74,7 @@ pub refused-push : (C : List ChangeParts) (x c : ChangeParts) → cause C x ≡ 
 unfolding cause
 refused-push C x c none h =
     let g = rw ((enters C x none).1) at h in
-    full_more (misfit (C ++ x ∷ []) c) (length (C ++ x ∷ []) == most_changes) (misfit-more C x c (Fits-from_cause C x none) (full_less (misfit C c) g))
+    full_more (defect (C ++ x ∷ []) c) (length (C ++ x ∷ []) == most_changes) (defect-more C x c (Fits-from_cause C x none) (full_less (defect C c) g))
 
 -- a change that is refused stays refused where others enter
 pub refused-stays : (C new : List ChangeParts) (c : ChangeParts) → EntersAfter C new → is_refusal (cause C c) ≡ true → is_refusal (cause (C ++ new) c) ≡ true

@@ -13,8 +13,9 @@ use Rattle.tp_graph.specs.GraphState.{most_waiting}
 use Rattle.tp_graph.specs.Sound.{Sound}
 use Rattle.tp_receive.specs.declared.error.ReceiveError.{ReceiveError}
 use Rattle.tp_receive.specs.declared.keeper.KeepError.{KeepError}
-use Rattle.tp_receive.specs.Receiving.{Between, HashesApart, is_refusal}
-use Rattle.tp_receive.specs.Delivery.{delivery, placing, places, is_full}
+use Rattle.tp_graph.specs.Named.{HashesApart}
+use Rattle.tp_receive.specs.Receiving.{Between, is_refusal}
+use Rattle.tp_receive.specs.Delivery.{delivery, with_slots, slots, is_full}
 use Rattle.tp_receive.specs.Intake.{Intake, Turn, Run, Ends, Stopped, begin}
 use Rattle.tp_receive.specs.Replies.{Results}
 use Rattle.tp_receive.proofs.RefusalLaws.{IsSome-refusal, IsSome-lacks}
@@ -22,7 +23,7 @@ use Rattle.tp_receive.proofs.CausesLaws.{Barred-cause, lacks_cause}
 use Rattle.tp_receive.proofs.GrowsLaws.{Sound-grows, Between-grown}
 use Rattle.tp_receive.proofs.TurnLaws.{Run-keeps, changes_of}
 use Rattle.tp_receive.proofs.RunLaws.{Grew, Grew-turn, Grew-first, Grew-run, few_at_end, HasRoom, HasRoom-turn, here_first, placing_of}
-use Rattle.tp_receive.proofs.PlacedLaws.{HadTurn, HadTurn-turn, IsSomewhere-turn, AreCauses, AreCauses-turn}
+use Rattle.tp_receive.proofs.AccountedLaws.{HadTurn, HadTurn-turn, IsSomewhere-turn, AreCauses, AreCauses-turn}
 use Rattle.tp_receive.proofs.DroppedLaws.{Delivering, Delivering-first, Delivering-turn}
 
 -- What holds behind each turn, where two changes with one hash are one.
@@ -55,7 +56,7 @@ holds keeps k C W K t sound apart space r =
     Run-keeps keeps (Holds keeps k C W K) (Holds-turn keeps k C W K sound apart) (begin k C W K) t r
     (record {
       grew = Grew-first keeps (begin k C W K) (W ++ K) refl (here_first C W K);
-      room = not_full (length W + places (placing W (delivery C K))) space;
+      room = not_full (length W + slots (with_slots W (delivery C K))) space;
       somewhere = λ d i. elim (In-append d W K i) [ inl j ↦ inr (inl j) | inr j ↦ inl (subst (In d) (sym (placing_of C W K)) j) ];
       causes = λ h e i. absurd i;
       delivering = Delivering-first C W K (begin k C W K) refl refl refl;
@@ -99,9 +100,9 @@ results {S} keeps k C W K t sound apart space r ends =
           | inr rest ↦ elim rest [ inl d ↦ absurd (no_refusal c m d.final) | inr x ↦ inr x ]
         ];
         waiting = λ c j. lacks_cause (cause t.applied c) (ends.settled c j);
-        told = λ c i. elim (had c i) [
+        reported = λ c i. elim (had c i) [
           | inl j ↦ inr (inl j)
-          | inr rest ↦ elim rest [ inl d ↦ elim d.told [ inl n ↦ inl n | inr w ↦ inr (inr w) ] | inr x ↦ inr (inr (MissingDeps, x)) ]
+          | inr rest ↦ elim rest [ inl d ↦ elim d.reported [ inl n ↦ inl n | inr w ↦ inr (inr w) ] | inr x ↦ inr (inr (MissingDeps, x)) ]
         ];
       };
       deliverable = h.delivering.apart;
@@ -113,7 +114,7 @@ results {S} keeps k C W K t sound apart space r ends =
       pair g h e f a b = rw (a, b) refl
 
 pub few_wait : {S : Type 0} (keeps : S → ChangeParts → S → Type 0) (k : S) (C W K : List ChangeParts) (t : Intake S) → is_full C W K ≡ false → Run keeps (begin k C W K) t → length t.waiting ≤ most_waiting
-few_wait keeps k C W K t space r = few_at_end keeps (begin k C W K) t r (not_full (length W + places (placing W (delivery C K))) space)
+few_wait keeps k C W K t space r = few_at_end keeps (begin k C W K) t r (not_full (length W + slots (with_slots W (delivery C K))) space)
 
 -- Where a run stopped, the list is between.
 pub between : {S : Type 0} (keeps : S → ChangeParts → S → Type 0) (refuses : S → ChangeParts → KeepError → S → Type 0) (k : S) (C W K : List ChangeParts) (e : ReceiveError) (k' : S) (C' W' : List ChangeParts)

@@ -11,7 +11,7 @@ use Rattle.tp_graph.specs.declared.error.GraphError.TheVariants.{MissingDeps}
 use Rattle.tp_graph.specs.Fit.{cause}
 use Rattle.tp_graph.specs.GraphState.{most_waiting}
 use Rattle.tp_receive.specs.Receiving.{Grows, is_refusal, hashes}
-use Rattle.tp_receive.specs.Delivery.{delivery, placing, takes_place, places}
+use Rattle.tp_receive.specs.Delivery.{delivery, with_slots, takes_slot, slots}
 use Rattle.tp_receive.specs.Intake.{Intake, Turn, Run, begin, refuse}
 use Rattle.tp_receive.specs.Replies.{KeepsAll, KeepsNew, Progress, WasRefused, LosesNone, NoneDropped}
 use Rattle.tp_receive.proofs.RefusalLaws.{refused-push}
@@ -33,22 +33,22 @@ pub record Grew {S : Type 0} (keeps : S → ChangeParts → S → Type 0) (s : I
   pub new : List ChangeParts
   pub grows : Grows s.applied F t.applied new
   pub kept : KeepsAll keeps s.keeper new t.keeper
-  pub told : t.entered ≡ s.entered ++ hashes new
+  pub reported : t.entered ≡ s.entered ++ hashes new
   pub refused : (h : Hash) (e : GraphError) → In (h, e) t.refused → WasRefused s.applied F t.applied h e
   pub here : (d : ChangeParts) → IsHere t.waiting t.coming d → In d F
 
 Grew-on : {S : Type 0} (keeps : S → ChangeParts → S → Type 0) (s0 : Intake S) (F : List ChangeParts) (s : Intake S) (V : List ChangeParts) (Q : List (ChangeParts × Bool))
     → Grew keeps s0 F s → ((d : ChangeParts) → IsHere V Q d → In d F) → Grew keeps s0 F (with_rest s V Q)
-Grew-on keeps s0 F s V Q g here = record { new = g.new; grows = g.grows; kept = g.kept; told = g.told; refused = g.refused; here = here }
+Grew-on keeps s0 F s V Q g here = record { new = g.new; grows = g.grows; kept = g.kept; reported = g.reported; refused = g.refused; here = here }
 
--- The change of F was told as refused.
-Grew-told : {S : Type 0} (keeps : S → ChangeParts → S → Type 0) (s0 : Intake S) (F : List ChangeParts) (s : Intake S) (c : ChangeParts) (e : GraphError) → cause s.applied c ≡ Some e → In c F
+-- The change of F was reported as refused.
+Grew-reported : {S : Type 0} (keeps : S → ChangeParts → S → Type 0) (s0 : Intake S) (F : List ChangeParts) (s : Intake S) (c : ChangeParts) (e : GraphError) → cause s.applied c ≡ Some e → In c F
     → Grew keeps s0 F s → Grew keeps s0 F (refuse s c e)
-Grew-told keeps s0 F s c e caused came g = record {
+Grew-reported keeps s0 F s c e caused came g = record {
   new = g.new;
   grows = g.grows;
   kept = g.kept;
-  told = g.told;
+  reported = g.reported;
   refused = λ h f i. elim (In-pushed s.refused (hash_of c, e) (h, f) i) [
     | inl p ↦ record {
       change = c;
@@ -72,7 +72,7 @@ Grew-turn {S} keeps s0 F s t u g =
         new = g.new ++ c ∷ [];
         grows = Grows-then s0.applied s.applied (s.applied ++ c ∷ []) F F F g.new (c ∷ []) g.grows (Grows-one s.applied F c none (g.here c out.here)) (λ d i. i) (λ d i. i);
         kept = KeepsAll-push keeps s0.keeper s.keeper k g.new c g.kept keep;
-        told = ap (λ l. l ++ hash_of c ∷ []) g.told ∙ append_assoc s0.entered (hashes g.new) (hash_of c ∷ []) ∙ ap (λ l. s0.entered ++ l) (sym (hashes-append g.new (c ∷ [])));
+        reported = ap (λ l. l ++ hash_of c ∷ []) g.reported ∙ append_assoc s0.entered (hashes g.new) (hash_of c ∷ []) ∙ ap (λ l. s0.entered ++ l) (sym (hashes-append g.new (c ∷ [])));
         refused = λ h e i.
             let w = g.refused h e i in
             record {
@@ -86,14 +86,14 @@ Grew-turn {S} keeps s0 F s t u g =
             };
         here = λ d h. g.here d (out.less d h);
       };
-      refused = λ c V Q e out caused final. Grew-told keeps s0 F (with_rest s V Q) c e caused (g.here c out.here) (Grew-on keeps s0 F s V Q g (λ d h. g.here d (out.less d h)));
-      again = λ c Q place out is lacks there. Grew-on keeps s0 F s s.waiting Q g (λ d h. g.here d (out.less d h));
-      held = λ c Q place out is lacks new space. Grew-on keeps s0 F s (s.waiting ++ c ∷ []) Q g
+      refused = λ c V Q e out caused final. Grew-reported keeps s0 F (with_rest s V Q) c e caused (g.here c out.here) (Grew-on keeps s0 F s V Q g (λ d h. g.here d (out.less d h)));
+      again = λ c Q slot out is lacks there. Grew-on keeps s0 F s s.waiting Q g (λ d h. g.here d (out.less d h));
+      held = λ c Q slot out is lacks new space. Grew-on keeps s0 F s (s.waiting ++ c ∷ []) Q g
           (λ d h. elim h [
             | inl i ↦ elim (In-pushed s.waiting c d i) [ inl e ↦ rw e (g.here c out.here) | inr j ↦ g.here d (inl j) ]
             | inr i ↦ g.here d (out.less d (inr i))
           ]);
-      dropped = λ c Q place out is lacks new full. Grew-told keeps s0 F (with_rest s s.waiting Q) c MissingDeps lacks (g.here c out.here) (Grew-on keeps s0 F s s.waiting Q g (λ d h. g.here d (out.less d h)));
+      dropped = λ c Q slot out is lacks new full. Grew-reported keeps s0 F (with_rest s s.waiting Q) c MissingDeps lacks (g.here c out.here) (Grew-on keeps s0 F s s.waiting Q g (λ d h. g.here d (out.less d h)));
     })
     u
 
@@ -102,18 +102,18 @@ Grew-first keeps s F none here = record {
   new = [];
   grows = Grows-none s.applied F;
   kept = refl;
-  told = sym (append-nil s.entered);
+  reported = sym (append-nil s.entered);
   refused = λ h e i. absurd (subst (λ (l : List (Hash × GraphError)). In (h, e) l) none i);
   here = here;
 }
 
 -- the changes of a list are those that come
-pub placing_of : (C V K : List ChangeParts) → changes_of (placing V (delivery C K)) ≡ K
+pub placing_of : (C V K : List ChangeParts) → changes_of (with_slots V (delivery C K)) ≡ K
 placing_of C V [] = refl
 placing_of C V (c ∷ K) =
-    ap (λ l. c ∷ l) (placing_of (cond (has_all C c.deps) (C ++ c ∷ []) C) (cond (takes_place V (c, has_all C c.deps)) (V ++ c ∷ []) V) K)
+    ap (λ l. c ∷ l) (placing_of (cond (has_all C c.deps) (C ++ c ∷ []) C) (cond (takes_slot V (c, has_all C c.deps)) (V ++ c ∷ []) V) K)
 
-pub here_first : (C W K : List ChangeParts) (d : ChangeParts) → IsHere W (placing W (delivery C K)) d → In d (W ++ K)
+pub here_first : (C W K : List ChangeParts) (d : ChangeParts) → IsHere W (with_slots W (delivery C K)) d → In d (W ++ K)
 here_first C W K d (inl i) = In-left d W K i
 here_first C W K d (inr i) = In-right d W K (subst (In d) (placing_of C W K) i)
 
@@ -125,7 +125,7 @@ Grew-run keeps k C W K t r =
 pub progress : {S : Type 0} (keeps : S → ChangeParts → S → Type 0) (k : S) (C W K : List ChangeParts) (t : Intake S) → Run keeps (begin k C W K) t → Progress keeps k C (W ++ K) t
 progress keeps k C W K t r =
     let g = Grew-run keeps k C W K t r in
-    record { new = g.new; grows = g.grows; kept = g.kept; told = g.told; refused = g.refused; waits = λ d i. g.here d (inl i) }
+    record { new = g.new; grows = g.grows; kept = g.kept; reported = g.reported; refused = g.refused; waits = λ d i. g.here d (inl i) }
 
 pub kept_new : {S : Type 0} (keeps : S → ChangeParts → S → Type 0) (k : S) (C W K : List ChangeParts) (t : Intake S) → Run keeps (begin k C W K) t → KeepsNew keeps k t.keeper C t.applied
 kept_new keeps k C W K t r = let g = Grew-run keeps k C W K t r in record { new = g.new; entered = g.grows.begins; kept = g.kept }
@@ -159,9 +159,9 @@ LosesNone-turn {S} keeps s t u =
         final = λ d h. h;
         stays = λ d i. elim (out.waits d i) [ inl same ↦ inr (inr (rw same (ap is_refusal caused ∙ final))) | inr j ↦ inl j ];
       };
-      again = λ c Q place out is lacks there. LosesNone-held s.applied s.waiting s.waiting (λ d i. i);
-      held = λ c Q place out is lacks new space. LosesNone-held s.applied s.waiting (s.waiting ++ c ∷ []) (λ d i. In-left d s.waiting (c ∷ []) i);
-      dropped = λ c Q place out is lacks new full. LosesNone-held s.applied s.waiting s.waiting (λ d i. i);
+      again = λ c Q slot out is lacks there. LosesNone-held s.applied s.waiting s.waiting (λ d i. i);
+      held = λ c Q slot out is lacks new space. LosesNone-held s.applied s.waiting (s.waiting ++ c ∷ []) (λ d i. In-left d s.waiting (c ∷ []) i);
+      dropped = λ c Q slot out is lacks new full. LosesNone-held s.applied s.waiting s.waiting (λ d i. i);
     })
     u
 
@@ -173,9 +173,9 @@ nothing_lost {S} keeps s t r =
 
 -- ---- how many wait
 
--- what waits and the reserved places are no more than may wait
+-- what waits and the reserved slots are no more than may wait
 abbrev pub HasRoom : {S : Type 0} → Intake S → Type 0
-HasRoom s = length s.waiting + places s.coming ≤ most_waiting
+HasRoom s = length s.waiting + slots s.coming ≤ most_waiting
 
 pub HasRoom-turn : {S : Type 0} (keeps : S → ChangeParts → S → Type 0) (s t : Intake S) → Turn keeps s t → HasRoom s → HasRoom t
 HasRoom-turn {S} keeps s t u room =
@@ -183,9 +183,9 @@ HasRoom-turn {S} keeps s t u room =
     (record {
       entered = λ c V Q k out none keep. omega (arith, out.few);
       refused = λ c V Q e out caused final. omega (arith, out.few);
-      again = λ c Q place out is lacks there. omega (arith, out.few);
-      held = λ c Q place out is lacks new space. omega (arith, length-append s.waiting (c ∷ []));
-      dropped = λ c Q place out is lacks new full. omega (arith, out.few);
+      again = λ c Q slot out is lacks there. omega (arith, out.few);
+      held = λ c Q slot out is lacks new space. omega (arith, length-append s.waiting (c ∷ []));
+      dropped = λ c Q slot out is lacks new full. omega (arith, out.few);
     })
     u
 
@@ -197,10 +197,10 @@ record Fewest {S : Type 0} (s : Intake S) : Type 0 where
   few : length s.waiting + length s.coming ≤ most_waiting
   none : NoneDropped s.refused
 
-pub places-most : (P : List (ChangeParts × Bool)) → places P ≤ length P
-places-most [] = omega arith
-places-most (p ∷ P) = step p.1 (places-most P) where
-  step : (b : Bool) → places P ≤ length P → cond b (places P + 1) (places P) ≤ length (p ∷ P)
+pub slots-most : (P : List (ChangeParts × Bool)) → slots P ≤ length P
+slots-most [] = omega arith
+slots-most (p ∷ P) = step p.1 (slots-most P) where
+  step : (b : Bool) → slots P ≤ length P → cond b (slots P + 1) (slots P) ≤ length (p ∷ P)
   step true h = omega arith
   step false h = omega arith
 
@@ -220,9 +220,9 @@ Fewest-turn {S} keeps s t u f =
     (record {
       entered = λ c V Q k out none keep. record { few = omega (arith, out.fewer, f.few); none = f.none };
       refused = λ c V Q e out caused final. record { few = omega (arith, out.fewer, f.few); none = λ h i. f.none h (refusal_drops s.refused (hash_of c) h e final i) };
-      again = λ c Q place out is lacks there. record { few = omega (arith, out.fewer, f.few); none = f.none };
-      held = λ c Q place out is lacks new space. record { few = omega (arith, out.fewer, f.few, length-append s.waiting (c ∷ [])); none = f.none };
-      dropped = λ c Q place out is lacks new full. absurd (omega (arith, out.fewer, f.few, places-most Q));
+      again = λ c Q slot out is lacks there. record { few = omega (arith, out.fewer, f.few); none = f.none };
+      held = λ c Q slot out is lacks new space. record { few = omega (arith, out.fewer, f.few, length-append s.waiting (c ∷ [])); none = f.none };
+      dropped = λ c Q slot out is lacks new full. absurd (omega (arith, out.fewer, f.few, slots-most Q));
     })
     u
 
@@ -230,7 +230,7 @@ Fewest-turn {S} keeps s t u f =
 pub none_dropped : {S : Type 0} (keeps : S → ChangeParts → S → Type 0) (k : S) (C W K : List ChangeParts) (t : Intake S) → length W + length K ≤ most_waiting → Run keeps (begin k C W K) t → NoneDropped t.refused
 none_dropped {S} keeps k C W K t few r =
     (Run-keeps keeps Fewest (Fewest-turn keeps) (begin k C W K) t r
-    (record { few = subst (λ (n : ℕ). length W + n ≤ most_waiting) (sym (as_many (placing W (delivery C K)) ∙ ap length (placing_of C W K))) few; none = λ h i. i })).none where
+    (record { few = subst (λ (n : ℕ). length W + n ≤ most_waiting) (sym (as_many (with_slots W (delivery C K)) ∙ ap length (placing_of C W K))) few; none = λ h i. i })).none where
       as_many : (P : List (ChangeParts × Bool)) → length P ≡ length (changes_of P)
       as_many [] = refl
       as_many (p ∷ P) = ap suc (as_many P)

@@ -14,7 +14,7 @@ use Rattle.tp_receive.specs.declared.error.ReceiveError.{ReceiveError}
 use Rattle.tp_receive.specs.declared.error.ReceiveError.TheVariants.{PendingFull, NotKept, OutOfMemory}
 use Rattle.tp_receive.specs.declared.keeper.KeepError.{KeepError}
 use Rattle.tp_receive.specs.declared.admit.Outcome.TheVariants as outcome
-use Rattle.tp_receive.specs.Delivery.{delivery, placing, places}
+use Rattle.tp_receive.specs.Delivery.{delivery, with_slots, slots}
 use Rattle.tp_receive.specs.Receiving.{AllWait, lacks_deps, is_refusal}
 use Rattle.tp_receive.specs.Intake.{Fails, Intake, Meets, Next, NextComes, Run, Stopped, Turn, begin, hold, intake}
 use Rattle.tp_receive.specs.Trying.{Tried, TryFails, IsEarliest, IsHeld}
@@ -51,17 +51,17 @@ past : (n : ℕ) → most_waiting ≤ n → nat_lt n most_waiting ≡ false
 past n h = grind (arith, nat_tests)
 
 held_is : {S : Type 0} (k : S) (C V : List ChangeParts) (P : List (ChangeParts × Bool)) (t : List Hash) (r : List (Hash × GraphError)) (c : ChangeParts) (W : List ChangeParts) (r' : List (Hash × GraphError))
-    → IsHeld V c (places P) W r r' → intake k C W P t r' ≡ hold (intake k C V P t r) c
+    → IsHeld V c (slots P) W r r' → intake k C W P t r' ≡ hold (intake k C V P t r) c
 held_is k C V P t r c W r' (inl h) = rw (h.0, h.1, h.2) refl
-held_is k C V P t r c W r' (inr (inl h)) = rw (h.0, within (length V + places P) h.1, h.2, h.3) refl
-held_is k C V P t r c W r' (inr (inr h)) = rw (h.0, past (length V + places P) h.1, h.2, h.3) refl
+held_is k C V P t r c W r' (inr (inl h)) = rw (h.0, within (length V + slots P) h.1, h.2, h.3) refl
+held_is k C V P t r c W r' (inr (inr h)) = rw (h.0, past (length V + slots P) h.1, h.2, h.3) refl
 
 pub meets_held : {S : Type 0} (keeps : S → ChangeParts → S → Type 0) (k k1 : S) (c d : ChangeParts) (n : ℕ) (C C1 C2 V V1 W : List ChangeParts) (P : List (ChangeParts × Bool)) (t t1 t2 : List Hash) (r r1 r2 : List (Hash × GraphError))
-    → V1 ≡ V → Tried keeps k k1 c C C1 t t1 r r1 (outcome.Waits d) → C2 ≡ C1 → t2 ≡ t1 → n ≡ places P → IsHeld V1 d n W r1 r2
+    → V1 ≡ V → Tried keeps k k1 c C C1 t t1 r r1 (outcome.Waits d) → C2 ≡ C1 → t2 ≡ t1 → n ≡ slots P → IsHeld V1 d n W r1 r2
     → Meets keeps (intake k C V P t r) c (intake k1 C2 W P t2 r2)
 meets_held {S} keeps k k1 c d n C C1 C2 V V1 W P t t1 t2 r r1 r2 v a cs ts few h =
-    let h2 : IsHeld V c (places P) W r r2 = subst (λ (x : List (Hash × GraphError)). IsHeld V c (places P) W x r2) a.2
-    (subst (λ (x : ChangeParts). IsHeld V x (places P) W r1 r2) a.1 (subst (λ (x : List ChangeParts). IsHeld x d (places P) W r1 r2) v (subst (λ (x : ℕ). IsHeld V1 d x W r1 r2) few h))) in
+    let h2 : IsHeld V c (slots P) W r r2 = subst (λ (x : List (Hash × GraphError)). IsHeld V c (slots P) W x r2) a.2
+    (subst (λ (x : ChangeParts). IsHeld V x (slots P) W r1 r2) a.1 (subst (λ (x : List ChangeParts). IsHeld x d (slots P) W r1 r2) v (subst (λ (x : ℕ). IsHeld V1 d x W r1 r2) few h))) in
     inr (inl (a.0, rw (a.3, cs, a.4, ts, a.5) (held_is k C V P t r c W r2 h2)))
 
 -- ---- where a run stopped
@@ -118,7 +118,7 @@ pub turn_refused : {S T : Type 0} (keeps : S → ChangeParts → S → Type 0) (
     → IsEarliest C W i → ((c : ChangeParts) → slice_get W i ≡ Some c → (cause C c ≡ Some f) × (is_refusal (Some f) ≡ true))
     → ((c : ChangeParts) → slice_get W i ≡ Some c → OnOk res (r' ≡ r ++ (hash_of c, f) ∷ [])) → t' ≡ t → C' ≡ C → OnOk res (W' ≡ remove W i)
     → OnOk res (Turn keeps (intake k C W P t r) (intake k C' W' P t' r'))
-turn_refused keeps k C C' W W' i f P t t' r r' res first judged ok told same out =
+turn_refused keeps k C C' W W' i f P t t' r r' res first judged ok reported same out =
     let there = slice_get_there W i first.within in
     let j = judged there.0 there.1 in
     OnOk-both res
@@ -126,7 +126,7 @@ turn_refused keeps k C C' W W' i f P t t' r r' res first judged ok told same out
       change = there.0;
       rest = intake k C (remove W i) P t r;
       next = inl (next_waits k C W P t r i there.0 first there.1);
-      meets = meets_refused keeps k k there.0 C C' (remove W i) W' P t t' r r' o (f, j.0, j.1, a, refl, same, told);
+      meets = meets_refused keeps k k there.0 C C' (remove W i) W' P t t' r r' o (f, j.0, j.1, a, refl, same, reported);
     })
     (ok there.0 there.1) out
 
@@ -139,23 +139,23 @@ turn_stopped keeps refuses k k' C C' W W' i P t r (Err e) first err applied wait
     Stopped-trying keeps refuses (intake k C W P t r) there.0 (intake k C (remove W i) P t r) e k' C' W'
     (inl (next_waits k C W P t r i there.0 first there.1)) applied waiting (err there.0 there.1)
 
--- Memory was refused before the change was told.
-pub turn_untold : {S T : Type 0} (keeps : S → ChangeParts → S → Type 0) (refuses : S → ChangeParts → KeepError → S → Type 0) (s : Intake S) (k : S) (C W : List ChangeParts) (res : Result T ReceiveError)
+-- Memory was refused before the change was reported.
+pub turn_unreported : {S T : Type 0} (keeps : S → ChangeParts → S → Type 0) (refuses : S → ChangeParts → KeepError → S → Type 0) (s : Intake S) (k : S) (C W : List ChangeParts) (res : Result T ReceiveError)
     → IfErr res (λ e. e ≡ OutOfMemory) → k ≡ s.keeper → C ≡ s.applied → OnErr res (W ≡ s.waiting) → IfErr res (λ e. Stopped keeps refuses s e k C W)
-turn_untold keeps refuses s k C W (Ok x) err still applied waiting = tt
-turn_untold keeps refuses s k C W (Err e) err still applied waiting =
+turn_unreported keeps refuses s k C W (Ok x) err still applied waiting = tt
+turn_unreported keeps refuses s k C W (Err e) err still applied waiting =
     subst (λ (x : ReceiveError). Stopped keeps refuses s x k C W) (sym err) (Stopped-still keeps refuses s k C W still applied waiting)
 
 -- ---- a change that came and had its turn
 
 -- Where all that waits lacks something, the next that came has its turn.
-pub next_comes : {S : Type 0} (k : S) (C W : List ChangeParts) (P : List (ChangeParts × Bool)) (t : List Hash) (r : List (Hash × GraphError)) (c : ChangeParts) (place : Bool)
-    → AllWait C W → NextComes (intake k C W ((c, place) ∷ P) t r) c (intake k C W P t r)
-next_comes k C W P t r c place settled = record { place = place; behind = P; comes = refl; settled = settled; without = refl }
+pub next_comes : {S : Type 0} (k : S) (C W : List ChangeParts) (P : List (ChangeParts × Bool)) (t : List Hash) (r : List (Hash × GraphError)) (c : ChangeParts) (slot : Bool)
+    → AllWait C W → NextComes (intake k C W ((c, slot) ∷ P) t r) c (intake k C W P t r)
+next_comes k C W P t r c slot settled = record { slot = slot; behind = P; comes = refl; settled = settled; without = refl }
 
-pub came : {S : Type 0} (keeps : S → ChangeParts → S → Type 0) (k k' : S) (c : ChangeParts) (place : Bool) (C C' W W' : List ChangeParts) (P : List (ChangeParts × Bool)) (t t' : List Hash) (r r' : List (Hash × GraphError))
-    → AllWait C W → Meets keeps (intake k C W P t r) c (intake k' C' W' P t' r') → Turn keeps (intake k C W ((c, place) ∷ P) t r) (intake k' C' W' P t' r')
-came keeps k k' c place C C' W W' P t t' r r' settled meets = record { change = c; rest = intake k C W P t r; next = inr (next_comes k C W P t r c place settled); meets = meets }
+pub came : {S : Type 0} (keeps : S → ChangeParts → S → Type 0) (k k' : S) (c : ChangeParts) (slot : Bool) (C C' W W' : List ChangeParts) (P : List (ChangeParts × Bool)) (t t' : List Hash) (r r' : List (Hash × GraphError))
+    → AllWait C W → Meets keeps (intake k C W P t r) c (intake k' C' W' P t' r') → Turn keeps (intake k C W ((c, slot) ∷ P) t r) (intake k' C' W' P t' r')
+came keeps k k' c slot C C' W W' P t t' r r' settled meets = record { change = c; rest = intake k C W P t r; next = inr (next_comes k C W P t r c slot settled); meets = meets }
 
 -- Those that wait still do, with the one that was held.
 pub wait_held : (C C' V W : List ChangeParts) (c : ChangeParts) (n : ℕ) (r r' : List (Hash × GraphError)) → C' ≡ C → AllWait C V → cause C c ≡ Some MissingDeps → IsHeld V c n W r r' → AllWait C' W
@@ -166,9 +166,9 @@ wait_held C C' V W c n r r' same all lacks (inr (inr h)) = rw (same, h.2) all
 -- ---- a call
 
 pub Run-begun : {S : Type 0} (keeps : S → ChangeParts → S → Type 0) (k : S) (C W K : List ChangeParts) (P : List (ChangeParts × Bool)) (a : List Hash) (r : List (Hash × GraphError)) (t : Intake S)
-    → P ≡ placing W (delivery C K) → a ≡ [] → r ≡ [] → Run keeps (intake k C W P a r) t → Run keeps (begin k C W K) t
+    → P ≡ with_slots W (delivery C K) → a ≡ [] → r ≡ [] → Run keeps (intake k C W P a r) t → Run keeps (begin k C W K) t
 Run-begun {S} keeps k C W K P a r t p entered refused run = subst (λ (s : Intake S). Run keeps s t) (same p entered refused) run where
-  same : P ≡ placing W (delivery C K) → a ≡ [] → r ≡ [] → intake k C W P a r ≡ begin k C W K
+  same : P ≡ with_slots W (delivery C K) → a ≡ [] → r ≡ [] → intake k C W P a r ≡ begin k C W K
   same p entered refused = rw (p, entered, refused) refl
 
 -- Memory was refused where a run had come.

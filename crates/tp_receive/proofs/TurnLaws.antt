@@ -14,7 +14,7 @@ use Rattle.tp_graph.specs.GraphState.{most_waiting}
 use Rattle.tp_receive.specs.declared.error.ReceiveError.{ReceiveError}
 use Rattle.tp_receive.specs.declared.keeper.KeepError.{KeepError}
 use Rattle.tp_receive.specs.Receiving.{lacks_deps, is_refusal}
-use Rattle.tp_receive.specs.Delivery.{places}
+use Rattle.tp_receive.specs.Delivery.{slots}
 use Rattle.tp_receive.specs.Intake.{Intake, enter, refuse, hold, Meets, Next, Turn, Turns, Run, Stopped}
 
 -- ---- runs add up
@@ -66,9 +66,9 @@ pub record TakesOut (W : List ChangeParts) (P : List (ChangeParts × Bool)) (c :
   pub less : (d : ChangeParts) → IsHere V Q d → IsHere W P d
   pub cover : (d : ChangeParts) → IsHere W P d → (d ≡ c) ⊎ IsHere V Q d
   pub waits : (d : ChangeParts) → In d W → (d ≡ c) ⊎ In d V
-  pub few : length V + places Q ≤ length W + places P
+  pub few : length V + slots Q ≤ length W + slots P
   pub fewer : length V + length Q < length W + length P
-  pub comes : (Q ≡ P) ⊎ ((place : Bool) × (P ≡ (c, place) ∷ Q))
+  pub comes : (Q ≡ P) ⊎ ((slot : Bool) × (P ≡ (c, slot) ∷ Q))
 
 In-without : (A B : List ChangeParts) (c d : ChangeParts) → In d (A ++ c ∷ B) → (d ≡ c) ⊎ In d (A ++ B)
 In-without A B c d i =
@@ -88,23 +88,23 @@ takes_waiting A B P c = record {
   comes = inl refl;
 }
 
-takes_coming : (W : List ChangeParts) (Q : List (ChangeParts × Bool)) (c : ChangeParts) (place : Bool) → TakesOut W ((c, place) ∷ Q) c W Q
-takes_coming W Q c place = record {
+takes_coming : (W : List ChangeParts) (Q : List (ChangeParts × Bool)) (c : ChangeParts) (slot : Bool) → TakesOut W ((c, slot) ∷ Q) c W Q
+takes_coming W Q c slot = record {
   here = inr (inl refl);
   less = λ d h. elim h [ inl i ↦ inl i | inr i ↦ inr (inr i) ];
   cover = λ d h. elim h [ inl i ↦ inr (inl i) | inr i ↦ elim i [ inl e ↦ inl e | inr j ↦ inr (inr j) ] ];
   waits = λ d i. inr i;
-  few = few place;
+  few = few slot;
   fewer = omega arith;
-  comes = inr (place, refl);
+  comes = inr (slot, refl);
 } where
-  few : (b : Bool) → length W + places Q ≤ length W + cond b (places Q + 1) (places Q)
+  few : (b : Bool) → length W + slots Q ≤ length W + cond b (slots Q + 1) (slots Q)
   few true = omega arith
   few false = omega arith
 
 -- ---- what a turn leaves
 
--- what it sees and has told, but V waits and Q is to come
+-- what it sees and has reported, but V waits and Q is to come
 abbrev pub with_rest : {S : Type 0} → Intake S → List ChangeParts → List (ChangeParts × Bool) → Intake S
 with_rest s V Q = record s { waiting = V; coming = Q }
 
@@ -115,13 +115,13 @@ pub record Cases {S : Type 0} (keeps : S → ChangeParts → S → Type 0) (P : 
       → cause s.applied c ≡ None → keeps s.keeper c k → P (enter (with_rest s V Q) c k)
   pub refused : (c : ChangeParts) (V : List ChangeParts) (Q : List (ChangeParts × Bool)) (e : GraphError) → TakesOut s.waiting s.coming c V Q
       → cause s.applied c ≡ Some e → is_refusal (Some e) ≡ true → P (refuse (with_rest s V Q) c e)
-  pub again : (c : ChangeParts) (Q : List (ChangeParts × Bool)) (place : Bool) → TakesOut s.waiting s.coming c s.waiting Q → s.coming ≡ (c, place) ∷ Q
+  pub again : (c : ChangeParts) (Q : List (ChangeParts × Bool)) (slot : Bool) → TakesOut s.waiting s.coming c s.waiting Q → s.coming ≡ (c, slot) ∷ Q
       → cause s.applied c ≡ Some MissingDeps → has s.waiting (hash_of c) ≡ true → P (with_rest s s.waiting Q)
-  pub held : (c : ChangeParts) (Q : List (ChangeParts × Bool)) (place : Bool) → TakesOut s.waiting s.coming c s.waiting Q → s.coming ≡ (c, place) ∷ Q
-      → cause s.applied c ≡ Some MissingDeps → has s.waiting (hash_of c) ≡ false → length s.waiting + places Q < most_waiting
+  pub held : (c : ChangeParts) (Q : List (ChangeParts × Bool)) (slot : Bool) → TakesOut s.waiting s.coming c s.waiting Q → s.coming ≡ (c, slot) ∷ Q
+      → cause s.applied c ≡ Some MissingDeps → has s.waiting (hash_of c) ≡ false → length s.waiting + slots Q < most_waiting
       → P (with_rest s (s.waiting ++ c ∷ []) Q)
-  pub dropped : (c : ChangeParts) (Q : List (ChangeParts × Bool)) (place : Bool) → TakesOut s.waiting s.coming c s.waiting Q → s.coming ≡ (c, place) ∷ Q
-      → cause s.applied c ≡ Some MissingDeps → has s.waiting (hash_of c) ≡ false → most_waiting ≤ length s.waiting + places Q
+  pub dropped : (c : ChangeParts) (Q : List (ChangeParts × Bool)) (slot : Bool) → TakesOut s.waiting s.coming c s.waiting Q → s.coming ≡ (c, slot) ∷ Q
+      → cause s.applied c ≡ Some MissingDeps → has s.waiting (hash_of c) ≡ false → most_waiting ≤ length s.waiting + slots Q
       → P (refuse (with_rest s s.waiting Q) c MissingDeps)
 
 below : (n : ℕ) → nat_lt n most_waiting ≡ true → n < most_waiting
@@ -130,15 +130,15 @@ below n e = grind (arith, nat_tests)
 above : (n : ℕ) → nat_lt n most_waiting ≡ false → most_waiting ≤ n
 above n e = grind (arith, nat_tests)
 
-hold_cases : {S : Type 0} (keeps : S → ChangeParts → S → Type 0) (P : Intake S → Type 0) (s : Intake S) (c : ChangeParts) (Q : List (ChangeParts × Bool)) (place : Bool)
-    → Cases keeps P s → TakesOut s.waiting s.coming c s.waiting Q → s.coming ≡ (c, place) ∷ Q → cause s.applied c ≡ Some MissingDeps → P (hold (with_rest s s.waiting Q) c)
-hold_cases {S} keeps P s c Q place h out is lacks =
+hold_cases : {S : Type 0} (keeps : S → ChangeParts → S → Type 0) (P : Intake S → Type 0) (s : Intake S) (c : ChangeParts) (Q : List (ChangeParts × Bool)) (slot : Bool)
+    → Cases keeps P s → TakesOut s.waiting s.coming c s.waiting Q → s.coming ≡ (c, slot) ∷ Q → cause s.applied c ≡ Some MissingDeps → P (hold (with_rest s s.waiting Q) c)
+hold_cases {S} keeps P s c Q slot h out is lacks =
     elim (truth (has s.waiting (hash_of c))) [
-      | inl t ↦ subst (λ b. P (cond b (with_rest s s.waiting Q) (cond (nat_lt (length s.waiting + places Q) most_waiting) (with_rest s (s.waiting ++ c ∷ []) Q) (refuse (with_rest s s.waiting Q) c MissingDeps)))) (sym t) (h.again c Q place out is lacks t)
-      | inr f ↦ subst (λ b. P (cond b (with_rest s s.waiting Q) (cond (nat_lt (length s.waiting + places Q) most_waiting) (with_rest s (s.waiting ++ c ∷ []) Q) (refuse (with_rest s s.waiting Q) c MissingDeps)))) (sym f)
-          (elim (truth (nat_lt (length s.waiting + places Q) most_waiting)) [
-            | inl l ↦ subst (λ b. P (cond b (with_rest s (s.waiting ++ c ∷ []) Q) (refuse (with_rest s s.waiting Q) c MissingDeps))) (sym l) (h.held c Q place out is lacks f (below (length s.waiting + places Q) l))
-            | inr l ↦ subst (λ b. P (cond b (with_rest s (s.waiting ++ c ∷ []) Q) (refuse (with_rest s s.waiting Q) c MissingDeps))) (sym l) (h.dropped c Q place out is lacks f (above (length s.waiting + places Q) l))
+      | inl t ↦ subst (λ b. P (cond b (with_rest s s.waiting Q) (cond (nat_lt (length s.waiting + slots Q) most_waiting) (with_rest s (s.waiting ++ c ∷ []) Q) (refuse (with_rest s s.waiting Q) c MissingDeps)))) (sym t) (h.again c Q slot out is lacks t)
+      | inr f ↦ subst (λ b. P (cond b (with_rest s s.waiting Q) (cond (nat_lt (length s.waiting + slots Q) most_waiting) (with_rest s (s.waiting ++ c ∷ []) Q) (refuse (with_rest s s.waiting Q) c MissingDeps)))) (sym f)
+          (elim (truth (nat_lt (length s.waiting + slots Q) most_waiting)) [
+            | inl l ↦ subst (λ b. P (cond b (with_rest s (s.waiting ++ c ∷ []) Q) (refuse (with_rest s s.waiting Q) c MissingDeps))) (sym l) (h.held c Q slot out is lacks f (below (length s.waiting + slots Q) l))
+            | inr l ↦ subst (λ b. P (cond b (with_rest s (s.waiting ++ c ∷ []) Q) (refuse (with_rest s s.waiting Q) c MissingDeps))) (sym l) (h.dropped c Q slot out is lacks f (above (length s.waiting + slots Q) l))
           ])
     ]
 
@@ -156,9 +156,9 @@ next_cases {S} keeps P s t rest c h (inl n) m =
     (λ lacks. let no : false ≡ true = sym n.ready ∙ ap lacks_deps lacks in cc)
     (subst (λ (r : Intake S). Meets keeps r c t) n.without m)
 next_cases {S} keeps P s t rest c h (inr n) m =
-    let out : TakesOut s.waiting s.coming c s.waiting n.behind = subst (λ Q. TakesOut s.waiting Q c s.waiting n.behind) (sym n.comes) (takes_coming s.waiting n.behind c n.place) in
+    let out : TakesOut s.waiting s.coming c s.waiting n.behind = subst (λ Q. TakesOut s.waiting Q c s.waiting n.behind) (sym n.comes) (takes_coming s.waiting n.behind c n.slot) in
     meets_cases keeps P s t c s.waiting n.behind h out
-    (hold_cases keeps P s c n.behind n.place h out n.comes)
+    (hold_cases keeps P s c n.behind n.slot h out n.comes)
     (subst (λ (r : Intake S). Meets keeps r c t) n.without m)
 
 -- By the five cases.

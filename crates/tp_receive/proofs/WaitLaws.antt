@@ -21,16 +21,16 @@ slice_get_there (x ∷ xs) (suc i) h = slice_get_there xs i (omega arith)
 pub record IsSplit {X : Type 0} (xs : List X) (i : ℕ) (x : X) : Type 0 where
   pub before : List X
   pub behind : List X
-  pub front : take i xs ≡ before
+  pub prefix : take i xs ≡ before
   pub whole : xs ≡ before ++ x ∷ behind
   pub rest : remove xs i ≡ before ++ behind
 
 pub split_at : {X : Type 0} (xs : List X) (i : ℕ) (x : X) → slice_get xs i ≡ Some x → IsSplit xs i x
 split_at [] i x e = cc
-split_at (y ∷ xs) zero x e = let same : y ≡ x = cc in record { before = []; behind = xs; front = refl; whole = ap (λ z. z ∷ xs) same; rest = refl }
+split_at (y ∷ xs) zero x e = let same : y ≡ x = cc in record { before = []; behind = xs; prefix = refl; whole = ap (λ z. z ∷ xs) same; rest = refl }
 split_at (y ∷ xs) (suc i) x e =
     let w = split_at xs i x e in
-    record { before = y ∷ w.before; behind = w.behind; front = ap (λ l. y ∷ l) w.front; whole = ap (λ l. y ∷ l) w.whole; rest = ap (λ l. y ∷ l) w.rest }
+    record { before = y ∷ w.before; behind = w.behind; prefix = ap (λ l. y ∷ l) w.prefix; whole = ap (λ l. y ∷ l) w.whole; rest = ap (λ l. y ∷ l) w.rest }
 
 -- The earliest waiting change that lacks nothing has its turn.
 pub next_waits : {S : Type 0} (k : S) (C W : List ChangeParts) (P : List (ChangeParts × Bool)) (t : List Hash) (r : List (Hash × GraphError)) (i : ℕ) (c : ChangeParts)
@@ -41,7 +41,7 @@ next_waits k C W P t r i c e get =
       before = w.before;
       behind = w.behind;
       waits = w.whole;
-      earliest = subst (AllWait C) w.front e.before;
+      earliest = subst (AllWait C) w.prefix e.before;
       ready = e.ready c get;
       without = ap (λ (l : List ChangeParts). intake k C l P t r) w.rest;
     }

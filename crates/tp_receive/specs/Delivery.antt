@@ -1,4 +1,4 @@
--- Which changes of a list are deliverable, and how many places the others take.
+-- Which changes of a list are deliverable, and how many slots the others take.
 use Rattle.std.specs.Prelude.{◌≡◌, ℕ, ◌+◌, List, [], ◌∷◌, ◌++◌, length, Bool, true, false, ◌||◌, not, cond, Result, Ok, Err, nat_lt}
 use Rattle.tp_change.specs.declared.parts.ChangeParts.{ChangeParts}
 use Rattle.tp_change.specs.ChangeHash.{hash_of}
@@ -18,23 +18,23 @@ abbrev pub undeliverable : List (ChangeParts × Bool) → List ChangeParts
 undeliverable [] = []
 undeliverable (d ∷ D) = cond d.1 (undeliverable D) (d.0 ∷ undeliverable D)
 
--- A change takes a place of its own where it is undeliverable and none of V has its hash.
-abbrev pub takes_place : List ChangeParts → ChangeParts × Bool → Bool
-takes_place V d = not (d.1 || has V (hash_of d.0))
+-- A change takes a slot of its own where it is undeliverable and none of V has its hash.
+abbrev pub takes_slot : List ChangeParts → ChangeParts × Bool → Bool
+takes_slot V d = not (d.1 || has V (hash_of d.0))
 
--- The changes, each with whether it takes a place of its own beside V and those before it.
-abbrev pub placing : List ChangeParts → List (ChangeParts × Bool) → List (ChangeParts × Bool)
-placing V [] = []
-placing V (d ∷ D) = (d.0, takes_place V d) ∷ placing (cond (takes_place V d) (V ++ d.0 ∷ []) V) D
+-- The changes, each with whether it takes a slot of its own beside V and those before it.
+abbrev pub with_slots : List ChangeParts → List (ChangeParts × Bool) → List (ChangeParts × Bool)
+with_slots V [] = []
+with_slots V (d ∷ D) = (d.0, takes_slot V d) ∷ with_slots (cond (takes_slot V d) (V ++ d.0 ∷ []) V) D
 
--- how many of the changes take a place of their own
-abbrev pub places : List (ChangeParts × Bool) → ℕ
-places [] = 0
-places (p ∷ P) = cond p.1 (places P + 1) (places P)
+-- how many of the changes take a slot of their own
+abbrev pub slots : List (ChangeParts × Bool) → ℕ
+slots [] = 0
+slots (p ∷ P) = cond p.1 (slots P + 1) (slots P)
 
--- what waits behind C and the places that the changes K take are more than may wait
+-- what waits behind C and the slots that the changes K take are more than may wait
 abbrev pub is_full : List ChangeParts → List ChangeParts → List ChangeParts → Bool
-is_full C W K = nat_lt most_waiting (length W + places (placing W (delivery C K)))
+is_full C W K = nat_lt most_waiting (length W + slots (with_slots W (delivery C K)))
 
 -- PendingFull is answered exactly where the test holds, memory aside.
 abbrev pub IsFullOnly : {T : Type 0} → Result T ReceiveError → Bool → Type 0

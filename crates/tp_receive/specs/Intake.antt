@@ -1,4 +1,4 @@
--- Receiving, by three rules over what it sees and has told.
+-- Receiving, by three rules over what it sees and has reported.
 use Rattle.std.specs.Prelude.{◌≡◌, ◌⊎◌, ℕ, zero, suc, ◌+◌, List, [], ◌∷◌, ◌++◌, length, Bool, true, false, cond, Some, None, nat_lt}
 use Rattle.tp_opid.specs.declared.hash.Hash.{Hash}
 use Rattle.tp_change.specs.declared.parts.ChangeParts.{ChangeParts}
@@ -13,10 +13,10 @@ use Rattle.tp_receive.specs.declared.error.ReceiveError.TheVariants.{PendingFull
 use Rattle.tp_receive.specs.declared.keeper.KeepError.{KeepError}
 use Rattle.tp_receive.specs.declared.keeper.KeepError.TheVariants as keep
 use Rattle.tp_receive.specs.Receiving.{AllWait, EachOnce, lacks_deps, is_refusal, hashes, held_of}
-use Rattle.tp_receive.specs.Delivery.{delivery, placing, places}
+use Rattle.tp_receive.specs.Delivery.{delivery, with_slots, slots}
 
 -- What receiving sees: the keeper, the applied changes, those that wait, and those of the list that are still to
--- come, each with whether a place is reserved for it. And what it has told: the hashes of those that entered, and of
+-- come, each with whether a slot is reserved for it. And what it has reported: the hashes of those that entered, and of
 -- those that were refused, each with why.
 pub record Intake (S : Type 0) : Type 0 where
   pub keeper : S
@@ -32,20 +32,20 @@ intake k C W P t r = record { keeper = k; applied = C; waiting = W; coming = P; 
 
 -- ---- what becomes of a change whose turn it is
 
--- it enters, and is told
+-- it enters, and is reported
 abbrev pub enter : {S : Type 0} → Intake S → ChangeParts → S → Intake S
 enter s c k = record s { keeper = k; applied = s.applied ++ c ∷ []; entered = s.entered ++ hash_of c ∷ [] }
 
--- it is dropped, and told with why
+-- it is dropped, and reported with why
 abbrev pub refuse : {S : Type 0} → Intake S → ChangeParts → GraphError → Intake S
 refuse s c e = record s { refused = s.refused ++ (hash_of c, e) ∷ [] }
 
--- It waits as the last. Where its hash waits already nothing changes, and where no place is left beside the reserved
--- ones it is dropped, and told as lacking a dependency.
+-- It waits as the last. Where its hash waits already nothing changes, and where no slot is left beside the reserved
+-- ones it is dropped, and reported as lacking a dependency.
 abbrev pub hold : {S : Type 0} → Intake S → ChangeParts → Intake S
 hold s c =
     cond (has s.waiting (hash_of c)) s
-    (cond (nat_lt (length s.waiting + places s.coming) most_waiting) (record s { waiting = s.waiting ++ c ∷ [] }) (refuse s c MissingDeps))
+    (cond (nat_lt (length s.waiting + slots s.coming) most_waiting) (record s { waiting = s.waiting ++ c ∷ [] }) (refuse s c MissingDeps))
 
 -- The change c, whose turn it was, took s to t: it entered, and the keeper kept it first; it lacks a dependency; or it
 -- was refused for good.
@@ -68,9 +68,9 @@ pub record NextWaits {S : Type 0} (s : Intake S) (c : ChangeParts) (rest : Intak
 
 -- Where there is none, the next that came has its turn.
 pub record NextComes {S : Type 0} (s : Intake S) (c : ChangeParts) (rest : Intake S) : Type 0 where
-  pub place : Bool
+  pub slot : Bool
   pub behind : List (ChangeParts × Bool)
-  pub comes : s.coming ≡ (c, place) ∷ behind
+  pub comes : s.coming ≡ (c, slot) ∷ behind
   pub settled : AllWait s.applied s.waiting
   pub without : rest ≡ record s { coming = behind }
 
@@ -104,7 +104,7 @@ pub record Run {S : Type 0} (keeps : S → ChangeParts → S → Type 0) (s t : 
 
 -- The changes K come where C is applied and W waits.
 abbrev pub begin : {S : Type 0} → S → List ChangeParts → List ChangeParts → List ChangeParts → Intake S
-begin k C W K = intake k C W (placing W (delivery C K)) [] []
+begin k C W K = intake k C W (with_slots W (delivery C K)) [] []
 
 -- What is answered where the changes K were received from s on, and what is left: a run to its end. Held are those
 -- of K that wait now, each hash once.

@@ -2,5 +2,5 @@ pub mod Receiving
 pub mod Delivery
 pub mod Intake
 pub mod Replies
-pub mod Judges
+pub mod GivesVerdict
 pub mod Trying

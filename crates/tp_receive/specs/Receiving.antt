@@ -19,10 +19,6 @@ EntersAfter before (c ∷ new) = (cause before c ≡ None) × EntersAfter (befor
 abbrev pub Begins : List ChangeParts → List ChangeParts → Type 0
 Begins C long = (new : List ChangeParts) × (long ≡ C ++ new)
 
--- Two changes of K with one hash are one.
-abbrev pub HashesApart : List ChangeParts → Type 0
-HashesApart K = (c d : ChangeParts) → In c K → In d K → hash_of c ≡ hash_of d → c ≡ d
-
 -- Two changes of K with one actor and sequence number are one.
 abbrev pub SeqsApart : List ChangeParts → Type 0
 SeqsApart K = (c d : ChangeParts) → In c K → In d K → c.actor ≡ d.actor → c.seq ≡ d.seq → c ≡ d

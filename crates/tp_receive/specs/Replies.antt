@@ -35,12 +35,12 @@ pub record WasRefused (C F long : List ChangeParts) (h : Hash) (e : GraphError) 
   pub caused : cause at change ≡ Some e
 
 -- How far receiving F behind C came: what entered is of F, each had no cause at its turn and was kept first, and it
--- is told in its order; each that was refused had the cause that is told at its turn; what waits is of F.
+-- is reported in its order; each that was refused had the cause that is reported at its turn; what waits is of F.
 pub record Progress {S : Type 0} (keeps : S → ChangeParts → S → Type 0) (k : S) (C F : List ChangeParts) (t : Intake S) : Type 0 where
   pub new : List ChangeParts
   pub grows : Grows C F t.applied new
   pub kept : KeepsAll keeps k new t.keeper
-  pub told : t.entered ≡ hashes new
+  pub reported : t.entered ≡ hashes new
   pub refused : (h : Hash) (e : GraphError) → In (h, e) t.refused → WasRefused C F t.applied h e
   pub waits : AllIn t.waiting F
 
@@ -55,32 +55,32 @@ pub record LosesNone (C C' W W' : List ChangeParts) : Type 0 where
 abbrev pub NoneDropped : List (Hash × GraphError) → Type 0
 NoneDropped refused = (h : Hash) → In (h, MissingDeps) refused → ⊥
 
--- What is told as refused is each time a change of F, which waited or came, with the cause that it has behind the
+-- What is reported as refused is each time a change of F, which waited or came, with the cause that it has behind the
 -- final list C'.
 abbrev pub AreRefused : List ChangeParts → List ChangeParts → List (Hash × GraphError) → Type 0
 AreRefused F C' refused = (h : Hash) (e : GraphError) → In (h, e) refused → (c : ChangeParts) × In c F × (hash_of c ≡ h) × (cause C' c ≡ Some e)
 
--- Where each change of F is in the end: one that lacks a dependency waits or was told as dropped, one that waits
--- lacks a dependency, and one that neither entered nor waits was told.
-pub record AllPlaced (F C' W' : List ChangeParts) (applied : List Hash) (refused : List (Hash × GraphError)) : Type 0 where
+-- Where each change of F is in the end: one that lacks a dependency waits or was reported as dropped, one that waits
+-- lacks a dependency, and one that neither entered nor waits was reported.
+pub record AllAccounted (F C' W' : List ChangeParts) (applied : List Hash) (refused : List (Hash × GraphError)) : Type 0 where
   pub lacking : (c : ChangeParts) → In c F → cause C' c ≡ Some MissingDeps → In c W' ⊎ In (hash_of c, MissingDeps) refused
   pub waiting : (c : ChangeParts) → In c W' → cause C' c ≡ Some MissingDeps
-  pub told : (c : ChangeParts) → In c F → In (hash_of c) applied ⊎ (In c W' ⊎ ((e : GraphError) × In (hash_of c, e) refused))
+  pub reported : (c : ChangeParts) → In c F → In (hash_of c) applied ⊎ (In c W' ⊎ ((e : GraphError) × In (hash_of c, e) refused))
 
 -- No change that was dropped is one of these.
 abbrev pub DropsNoneOf : List ChangeParts → List (Hash × GraphError) → Type 0
 DropsNoneOf K refused = (h : Hash) → In (h, MissingDeps) refused → has K h ≡ false
 
 -- What a whole run promises where no two different changes of what waited and came have one hash, where W waited
--- behind C and K came: the result is complete, each told cause is the cause now, each change is somewhere, and what
+-- behind C and K came: the result is complete, each reported cause is the cause now, each change is somewhere, and what
 -- was dropped is none of the undeliverable ones.
 pub record Results {S : Type 0} (C W K : List ChangeParts) (t : Intake S) : Type 0 where
   pub receives : Receives C (W ++ K) t.applied
   pub causes : AreRefused (W ++ K) t.applied t.refused
-  pub placed : AllPlaced (W ++ K) t.applied t.waiting t.entered t.refused
+  pub placed : AllAccounted (W ++ K) t.applied t.waiting t.entered t.refused
   pub deliverable : DropsNoneOf (undeliverable (delivery C K)) t.refused
 
--- The two see and have told one thing, the keepers aside.
+-- The two see and have reported one thing, the keepers aside.
 pub record Alike {S R : Type 0} (s : Intake S) (t : Intake R) : Type 0 where
   pub applied : s.applied ≡ t.applied
   pub waiting : s.waiting ≡ t.waiting

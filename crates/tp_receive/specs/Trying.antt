@@ -18,13 +18,13 @@ use Rattle.tp_receive.specs.declared.keeper.KeepError.TheVariants as keep
 use Rattle.tp_receive.specs.declared.report.Report.{Report}
 use Rattle.tp_receive.specs.Intake.{Intake, intake}
 use Rattle.tp_receive.specs.Receiving.{AllWait, lacks_deps, is_refusal, hashes}
-use Rattle.tp_receive.specs.Delivery.{takes_place}
+use Rattle.tp_receive.specs.Delivery.{takes_slot}
 
--- What is seen and told so far, where P is still to come.
+-- What is seen and reported so far, where P is still to come.
 abbrev pub so_far : {S : Type 0} → S → List ChangeParts → List ChangeParts → List (ChangeParts × Bool) → Report → Intake S
-so_far k C W P told = intake k C W P told.applied.items told.refused.items
+so_far k C W P reported = intake k C W P reported.applied.items reported.refused.items
 
--- The change entered, after it was kept, or it was refused and told, or it is given back since it must wait.
+-- The change entered, after it was kept, or it was refused and reported, or it is given back since it must wait.
 abbrev pub Tried : {S : Type 0} → (S → ChangeParts → S → Type 0) → S → S → ChangeParts → List ChangeParts → List ChangeParts
     → List Hash → List Hash → List (Hash × GraphError) → List (Hash × GraphError) → Outcome → Type 0
 Tried keeps k k' c C C' t t' r r' Entered =
@@ -43,7 +43,7 @@ TryFails refuses C NotKept c m k = (cause C c ≡ None) × refuses m c keep.NotK
 TryFails refuses C OutOfMemory c m k = (k ≡ m) ⊎ ((cause C c ≡ None) × refuses m c keep.OutOfMemory k)
 
 -- What a change that must wait meets: it is the last that waits, or one with its hash waits already, or there is
--- no space beside the reserved places, and it is dropped and told.
+-- no space beside the reserved slots, and it is dropped and reported.
 abbrev pub IsHeld : List ChangeParts → ChangeParts → ℕ → List ChangeParts → List (Hash × GraphError) → List (Hash × GraphError) → Type 0
 IsHeld W c reserved W' r r' =
     ((has W (hash_of c) ≡ true) × (W' ≡ W) × (r' ≡ r))
@@ -56,9 +56,9 @@ pub record IsEarliest (C W : List ChangeParts) (i : ℕ) : Type 0 where
   pub before : AllWait C (take i W)
   pub ready : (c : ChangeParts) → slice_get W i ≡ Some c → lacks_deps (cause C c) ≡ false
 
--- The next change c was noted, where D are the deliverable ones and V have places: with the hashes of those now, and
--- whether c takes a place of its own.
-pub record IsNoted (C D V : List ChangeParts) (c : ChangeParts) (delivered placed : List Hash) (place : Bool) : Type 0 where
+-- The next change c was noted, where D are the deliverable ones and V have slots: with the hashes of those now, and
+-- whether c takes a slot of its own.
+pub record IsNoted (C D V : List ChangeParts) (c : ChangeParts) (delivered placed : List Hash) (slot : Bool) : Type 0 where
   pub delivers : delivered ≡ hashes (cond (has_all (C ++ D) c.deps) (D ++ c ∷ []) D)
-  pub takes : place ≡ takes_place V (c, has_all (C ++ D) c.deps)
-  pub places : placed ≡ hashes (cond (takes_place V (c, has_all (C ++ D) c.deps)) (V ++ c ∷ []) V)
+  pub takes : slot ≡ takes_slot V (c, has_all (C ++ D) c.deps)
+  pub slots : placed ≡ hashes (cond (takes_slot V (c, has_all (C ++ D) c.deps)) (V ++ c ∷ []) V)

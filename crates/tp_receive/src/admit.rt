@@ -18,7 +18,7 @@ use tp_change::Change;
 pub(crate) enum Outcome {
     /// It entered.
     Entered,
-    /// It was refused and told.
+    /// It was refused and reported.
     Refused,
     /// A dependency isn't there: it is given back.
     Waits(Change),
@@ -42,7 +42,7 @@ fn enter_kept<R: Replica, K: Keeper>(
     replica: &mut R,
     keeper: &mut K,
     change: Change,
-    told: &mut Report,
+    reported: &mut Report,
 ) -> Result<(), ReceiveError>
     requires enters { cause (R.applied replica.old) change ≡ None }
     requires room { R.has_room replica.old change }
@@ -50,45 +50,45 @@ fn enter_kept<R: Replica, K: Keeper>(
     ensures waiting { R.waiting replica.new ≡ R.waiting replica.old }
     ensures kept { OnOk result (K.keeps keeper.old change keeper.new) }
     ensures applied { OnOk result (R.applied replica.new ≡ R.applied replica.old ++ change ∷ []) }
-    ensures told { OnOk result
-        (told.new.applied.items ≡ told.old.applied.items ++ hash_of change ∷ []) }
-    ensures refused { OnOk result (told.new.refused.items ≡ told.old.refused.items) }
+    ensures reported { OnOk result
+        (reported.new.applied.items ≡ reported.old.applied.items ++ hash_of change ∷ []) }
+    ensures refused { OnOk result (reported.new.refused.items ≡ reported.old.refused.items) }
     ensures err { IfErr result
         (λ e. TryFails K.refuses (R.applied replica.old) e change keeper.old keeper.new) }
     ensures stays { OnErr result (R.applied replica.new ≡ R.applied replica.old) }
 {
-    told.applied.push(change.hash())?;
+    reported.applied.push(change.hash())?;
     keep(keeper, &change)?;
     replica.enter(change);
     Ok(())
 }
 
-/// Tries a change: where it can enter it is kept and enters, where it can't it is told, where it must wait it is
+/// Tries a change: where it can enter it is kept and enters, where it can't it is reported, where it must wait it is
 /// given back. An error leaves what is applied and what waits as they were; the change is let go.
 pub(crate) fn admit<R: Replica, K: Keeper>(
     replica: &mut R,
     keeper: &mut K,
     change: Change,
-    told: &mut Report,
+    reported: &mut Report,
 ) -> Result<Outcome, ReceiveError>
     ensures id { R.id replica.new ≡ R.id replica.old }
     ensures waiting { R.waiting replica.new ≡ R.waiting replica.old }
     ensures ok { IfOk result
         (λ o. Tried K.keeps keeper.old keeper.new change
-        (R.applied replica.old) (R.applied replica.new) told.old.applied.items
-        told.new.applied.items told.old.refused.items told.new.refused.items o) }
+        (R.applied replica.old) (R.applied replica.new) reported.old.applied.items
+        reported.new.applied.items reported.old.refused.items reported.new.refused.items o) }
     ensures err { IfErr result
         (λ e. TryFails K.refuses (R.applied replica.old) e change keeper.old keeper.new) }
     ensures stays { OnErr result (R.applied replica.new ≡ R.applied replica.old) }
 {
     match judge(replica.ready(&change))? {
         Verdict::Enters => {
-            enter_kept(replica, keeper, change, told)?;
+            enter_kept(replica, keeper, change, reported)?;
             Ok(Outcome::Entered)
         }
         Verdict::Waits => Ok(Outcome::Waits(change)),
         Verdict::Refused(error) => {
-            told.refused.push((change.hash(), error))?;
+            reported.refused.push((change.hash(), error))?;
             Ok(Outcome::Refused)
         }
     }

@@ -1,14 +1,14 @@
-//! The changes of a list that are still to come, and the places that are reserved for them.
+//! The changes of a list that are still to come, and the slots that are reserved for them.
 
 ghost use Rattle.std.specs.Prelude.{◌≡◌, ◌++◌, List, IfOk};
 ghost use Rattle.tp_change.specs.declared.parts.ChangeParts.{ChangeParts};
 ghost use Rattle.tp_graph.specs.Named as named;
 ghost use Rattle.tp_receive.specs.Receiving as receiving;
-ghost use Rattle.tp_receive.specs.Delivery.{delivery, placing};
+ghost use Rattle.tp_receive.specs.Delivery.{delivery, with_slots};
 ghost use Rattle.tp_receive.specs.Trying.{IsNoted};
 ghost use Rattle.tp_receive.specs.Delivery as delivery_of;
 
-use crate::hashes::{among, hashes_of};
+use crate::hashes::hashes_of;
 use crate::replica::Replica;
 use std::alloc::{AllocError, Global};
 use tp_change::Change;
@@ -22,7 +22,7 @@ fn is_there<R: Replica>(replica: &R, delivered: &[Hash], hash: &Hash) -> bool
     if replica.contains(hash) {
         return true;
     }
-    among(delivered, hash)
+    hash.is_among(delivered)
 }
 
 // Whether each of the hashes is there.
@@ -38,40 +38,40 @@ fn all_there<R: Replica>(replica: &R, delivered: &[Hash], hashes: &[Hash]) -> bo
     true
 }
 
-// Whether the next change takes a place of its own. It is noted as deliverable, or as one that has a place.
+// Whether the next change takes a slot of its own. It is noted as deliverable, or as one that has a slot.
 fn note<R: Replica>(
     replica: &R,
     delivered: &mut Vec<Hash>,
-    placed: &mut Vec<Hash>,
+    slotted: &mut Vec<Hash>,
     change: &Change,
 ) -> Result<bool, AllocError>
     ensures { (D V : List ChangeParts) → delivered.old.items ≡ receiving.hashes D
-        → placed.old.items ≡ receiving.hashes V
-        → IfOk result (λ place. IsNoted (R.applied replica.now) D V change.now
-        delivered.new.items placed.new.items place) }
+        → slotted.old.items ≡ receiving.hashes V
+        → IfOk result (λ slot. IsNoted (R.applied replica.now) D V change.now
+        delivered.new.items slotted.new.items slot) }
 {
     let hash = change.hash();
     if all_there(replica, delivered, change.deps()) {
         delivered.push(hash)?;
         return Ok(false);
     }
-    if among(placed, &hash) {
+    if hash.is_among(slotted) {
         return Ok(false);
     }
-    placed.push(hash)?;
+    slotted.push(hash)?;
     Ok(true)
 }
 
-/// The changes that are still to come, each with whether a place is reserved for it.
+/// The changes that are still to come, each with whether a slot is reserved for it.
 #[derive(Drop)]
 pub(crate) struct Coming {
     /// The changes, in their order.
     pub(crate) changes: Vec<(Change, bool)>,
-    /// How many places are reserved.
+    /// How many slots are reserved.
     pub(crate) reserved: usize,
 }
 
-/// The changes of a list, each with whether a place is reserved for it: it is undeliverable, and neither a pending
+/// The changes of a list, each with whether a slot is reserved for it: it is undeliverable, and neither a pending
 /// change nor an earlier undeliverable one has its hash. It compares each dependency with the earlier hashes of the list.
 pub(crate) fn reserve<R: Replica>(
     alloc: Global,
@@ -79,20 +79,20 @@ pub(crate) fn reserve<R: Replica>(
     changes: Vec<Change>,
 ) -> Result<Coming, AllocError>
     ensures changes { IfOk result (λ coming. coming.changes.items
-        ≡ placing (R.waiting replica.now) (delivery (R.applied replica.now) changes.items)) }
+        ≡ with_slots (R.waiting replica.now) (delivery (R.applied replica.now) changes.items)) }
     ensures reserved { IfOk result
-        (λ coming. coming.reserved ≡ delivery_of.places coming.changes.items) }
+        (λ coming. coming.reserved ≡ delivery_of.slots coming.changes.items) }
 {
     let mut delivered = Vec::new(alloc);
-    let mut placed = hashes_of(alloc, replica.pending())?;
+    let mut slotted = hashes_of(alloc, replica.pending())?;
     let mut coming = Vec::new(alloc);
     let mut reserved = 0;
     for change in changes {
-        let place = note(replica, &mut delivered, &mut placed, &change)?;
-        if place {
+        let slot = note(replica, &mut delivered, &mut slotted, &change)?;
+        if slot {
             reserved += 1;
         }
-        coming.push((change, place))?;
+        coming.push((change, slot))?;
     }
     Ok(Coming {
         changes: coming,

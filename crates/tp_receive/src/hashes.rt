@@ -1,24 +1,11 @@
 //! Hashes of changes.
 
 ghost use Rattle.std.specs.Prelude.{◌≡◌, ◌++◌, ◌∷◌, [], IfOk};
-ghost use Rattle.tp_graph.specs.Named as named;
 ghost use Rattle.tp_receive.specs.Receiving as receiving;
 
 use std::alloc::{AllocError, Global};
 use tp_change::Change;
 use tp_opid::Hash;
-
-/// Whether the hash is one of the hashes.
-pub(crate) fn among(hashes: &[Hash], hash: &Hash) -> bool
-    ensures { result ≡ named.among hashes.now hash.now }
-{
-    for h in hashes {
-        if h.is(hash) {
-            return true;
-        }
-    }
-    false
-}
 
 /// The hashes of the changes, in their order.
 pub(crate) fn hashes_of(alloc: Global, changes: &[Change]) -> Result<Vec<Hash>, AllocError>
@@ -33,10 +20,11 @@ pub(crate) fn hashes_of(alloc: Global, changes: &[Change]) -> Result<Vec<Hash>, 
 
 // Notes the hash of the change where it is one of those that came.
 fn note_held(held: &mut Vec<Hash>, came: &[Hash], change: &Change) -> Result<(), AllocError>
-    ensures { IfOk result (λ _. held.new.items ≡ held.old.items ++ receiving.held_of came.now (change.now ∷ [])) }
+    ensures { IfOk result (λ _. held.new.items
+        ≡ held.old.items ++ receiving.held_of came.now (change.now ∷ [])) }
 {
     let hash = change.hash();
-    if among(came, &hash) {
+    if hash.is_among(came) {
         held.push(hash)?;
     }
     Ok(())

@@ -15,39 +15,39 @@ use crate::keeper::Keeper;
 use crate::replica::Replica;
 use crate::report::Report;
 use crate::settle::settle;
-use crate::take::{MOST_WAITING, take};
+use crate::take::take;
 use std::alloc::Global;
 use tp_change::Change;
-use tp_graph::GraphError;
+use tp_graph::{GraphError, MOST_WAITING};
 use tp_opid::Hash;
 
-// Gives the pending changes and then those that come their turns, until none is left. At each turn the places behind it
+// Gives the pending changes and then those that come their turns, until none is left. At each turn the slots behind it
 // stay reserved.
 fn take_all<R: Replica, K: Keeper>(
     replica: &mut R,
     keeper: &mut K,
     coming: Coming,
-    told: &mut Report,
+    reported: &mut Report,
 ) -> Result<(), ReceiveError>
-    requires { coming.reserved ≡ delivery.places coming.changes.items }
+    requires { coming.reserved ≡ delivery.slots coming.changes.items }
     ensures id { R.id replica.new ≡ R.id replica.old }
     ensures ok { OnOk result (Run K.keeps
         (so_far keeper.old (R.applied replica.old) (R.waiting replica.old)
-        coming.changes.items told.old)
-        (so_far keeper.new (R.applied replica.new) (R.waiting replica.new) [] told.new)) }
+        coming.changes.items reported.old)
+        (so_far keeper.new (R.applied replica.new) (R.waiting replica.new) [] reported.new)) }
     ensures settled { OnOk result (AllWait (R.applied replica.new) (R.waiting replica.new)) }
     ensures err { IfErr result (λ e. Stopped K.keeps K.refuses
         (so_far keeper.old (R.applied replica.old) (R.waiting replica.old)
-        coming.changes.items told.old)
+        coming.changes.items reported.old)
         e keeper.new (R.applied replica.new) (R.waiting replica.new)) }
 {
-    settle(replica, keeper, told)?;
+    settle(replica, keeper, reported)?;
     let mut reserved = coming.reserved;
-    for (change, place) in coming.changes {
-        if place {
+    for (change, slot) in coming.changes {
+        if slot {
             reserved -= 1;
         }
-        take(replica, keeper, change, reserved, told)?;
+        take(replica, keeper, change, reserved, reported)?;
     }
     Ok(())
 }
@@ -66,21 +66,21 @@ pub struct Applied {
 
 /// Receives changes, one turn after another, by three rules:
 /// - The earliest pending change that lacks no dependency has its turn. It enters after the keeper kept it, or is
-///   dropped and told with its cause.
-/// - Where there is none, the next of the list has its turn. It enters after the keeper kept it, is refused and told,
+///   dropped and reported with its cause.
+/// - Where there is none, the next of the list has its turn. It enters after the keeper kept it, is refused and reported,
 ///   or, where it lacks a dependency, waits as the last. One whose hash waits already doesn't wait twice.
 /// - It ends where none is left.
 ///
 /// So a change that enters twice in the list is refused as `Known` at its second turn.
 ///
 /// A change of the list is deliverable where each of its dependencies is applied, as the list begins, or an earlier
-/// deliverable change of the list. Each hash of the undeliverable ones that isn't pending has a place reserved until
-/// its first turn. `PendingFull` comes exactly where the pending changes and these places are more than 1,024, and
-/// changes nothing. A change that must wait is dropped and told as `MissingDeps` where the pending changes and the
-/// places still reserved are 1,024: only a deliverable one is, since an earlier one was refused, and it could never
+/// deliverable change of the list. Each hash of the undeliverable ones that isn't pending has a slot reserved until
+/// its first turn. `PendingFull` comes exactly where the pending changes and these slots are more than 1,024, and
+/// changes nothing. A change that must wait is dropped and reported as `MissingDeps` where the pending changes and the
+/// slots still reserved are 1,024: only a deliverable one is, since an earlier one was refused, and it could never
 /// have entered with the others.
 ///
-/// Where two changes of what waits and came with one hash are one, each refusal that is told is the change's cause
+/// Where two changes of what waits and came with one hash are one, each refusal that is reported is the change's cause
 /// against the final list, and the result is complete: every change has entered or has a cause. See
 /// [`laws`](crate::laws) for this and for more that follows.
 ///
@@ -115,12 +115,12 @@ pub fn receive<R: Replica, K: Keeper>(
     if MOST_WAITING - replica.pending().len() < coming.reserved {
         return Err(ReceiveError::PendingFull);
     }
-    let mut told = Report::new(alloc);
-    take_all(replica, keeper, coming, &mut told)?;
+    let mut reported = Report::new(alloc);
+    take_all(replica, keeper, coming, &mut reported)?;
     let held = held_of(alloc, &came, replica.pending())?;
     Ok(Applied {
-        applied: told.applied,
+        applied: reported.applied,
         held,
-        refused: told.refused,
+        refused: reported.refused,
     })
 }

@@ -10,7 +10,7 @@ use tp_change::Change;
 /// Why a change wasn't kept.
 #[derive(Clone, Copy, Debug, PartialEq, Eq, Error)]
 pub enum KeepError {
-    /// The place where it is kept failed.
+    /// The slot where it is kept failed.
     #[error("NotKept")]
     NotKept,
     /// A growth was refused.

@@ -7,7 +7,8 @@ ghost use Rattle.tp_graph.specs.declared.error.GraphError.{GraphError};
 ghost use Rattle.tp_graph.specs.Fit.{cause, most_changes};
 ghost use Rattle.tp_graph.specs.Sound.{Sound};
 ghost use Rattle.tp_graph.specs.GraphState.{most_waiting};
-ghost use Rattle.tp_receive.specs.Receiving.{Receives, Between, Grows, EntersAfter, HashesApart, SeqsApart, is_refusal};
+ghost use Rattle.tp_graph.specs.Named.{HashesApart};
+ghost use Rattle.tp_receive.specs.Receiving.{Receives, Between, Grows, EntersAfter, SeqsApart, is_refusal};
 ghost use Rattle.tp_receive.specs.Delivery.{is_full};
 ghost use Rattle.tp_receive.specs.Intake.{Ends, Intake, Run, Stopped, begin};
 ghost use Rattle.tp_receive.specs.Replies.{Alike, LosesNone, NoneDropped, Progress, Results};
@@ -48,7 +49,7 @@ pub fn one_set()
 {}
 
 /// Wherever a run stops: what entered is of what waited and came, each change could enter at its turn and was kept
-/// first, and it is told in its order; each that was refused had the cause that is told at its turn. What waits is of
+/// first, and it is reported in its order; each that was refused had the cause that is reported at its turn. What waits is of
 /// what waited and came.
 pub fn progress<K: Keeper>()
     ensures { (k : K) (C W L : List ChangeParts) (t : Intake K) → Run K.keeps (begin k C W L) t
@@ -74,7 +75,7 @@ pub fn none_is_dropped<K: Keeper>()
 {}
 
 /// Where no two different changes of what waited and came have one hash, a whole run is a result of receiving: every
-/// change entered or has a cause, each told cause is the cause now, each change is somewhere, and what was dropped is
+/// change entered or has a cause, each reported cause is the cause now, each change is somewhere, and what was dropped is
 /// none of the undeliverable ones.
 pub fn a_whole_run_is_a_result<K: Keeper>()
     ensures { (k : K) (C W L : List ChangeParts) (t : Intake K) → Sound C → HashesApart (W ++ L)
@@ -88,7 +89,7 @@ pub fn a_stop_is_between<K: Keeper>()
         → Stopped K.keeps K.refuses (begin k C W L) e k' C' W' → Between C (W ++ L) C' }
 {}
 
-/// Two whole runs from one beginning end alike, whatever keeps: in what is applied, in what waits and in what is told.
+/// Two whole runs from one beginning end alike, whatever keeps: in what is applied, in what waits and in what is reported.
 pub fn one_outcome<K: Keeper, J: Keeper>()
     ensures { (k : K) (j : J) (C W L : List ChangeParts) (t : Intake K) (u : Intake J)
         → Run K.keeps (begin k C W L) t → Ends t

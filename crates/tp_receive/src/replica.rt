@@ -61,11 +61,13 @@ pub trait Replica: Drop {
     /// on waiting.
     fn ready_waiting(&mut self, i: usize) -> Result<(), GraphError>
         requires { i < length (waiting self.old) }
-        ensures answers { (c : ChangeParts) → slice_get (waiting self.old) i ≡ Some c → Answers result (cause (applied self.old) c) }
+        ensures answers { (c : ChangeParts) → slice_get (waiting self.old) i ≡ Some c
+            → Answers result (cause (applied self.old) c) }
         ensures id { id self.new ≡ id self.old }
         ensures applied { applied self.new ≡ applied self.old }
         ensures waiting { waiting self.new ≡ waiting self.old }
-        ensures room { (c : ChangeParts) → slice_get (waiting self.old) i ≡ Some c → OnOk result (has_room self.new c) };
+        ensures room { (c : ChangeParts) → slice_get (waiting self.old) i ≡ Some c
+            → OnOk result (has_room self.new c) };
 
     /// Enters a change that can enter and that was made ready for, as the last applied one. No memory.
     fn enter(&mut self, change: Change)
@@ -80,8 +82,10 @@ pub trait Replica: Drop {
     fn hold(&mut self, change: Change) -> Result<(), Rejected>
         requires few { length (waiting self.old) < most_waiting }
         requires apart { named.has (waiting self.old) (hash_of change) ≡ false }
-        ensures waiting { waiting self.new ≡ (if is_ok result then waiting self.old ++ change ∷ [] else waiting self.old) }
-        ensures err { IfErr result (λ rejected. (rejected.change ≡ change) × (rejected.error ≡ GraphError.OutOfMemory)) }
+        ensures waiting { waiting self.new
+            ≡ (if is_ok result then waiting self.old ++ change ∷ [] else waiting self.old) }
+        ensures err { IfErr result
+            (λ rejected. (rejected.change ≡ change) × (rejected.error ≡ GraphError.OutOfMemory)) }
         ensures id { id self.new ≡ id self.old }
         ensures applied { applied self.new ≡ applied self.old };
 

@@ -4,7 +4,7 @@ use std::alloc::Global;
 use tp_graph::GraphError;
 use tp_opid::Hash;
 
-/// What is told of the changes while they are received.
+/// What is reported of the changes while they are received.
 #[derive(Drop)]
 pub(crate) struct Report {
     /// The hashes of the changes that entered, in order.
@@ -16,7 +16,7 @@ pub(crate) struct Report {
 impl Report {
     ghost use Rattle.std.specs.Prelude.{◌≡◌, []};
 
-    /// Nothing is told yet.
+    /// Nothing is reported yet.
     pub(crate) fn new(alloc: Global) -> Report
         ensures applied { result.applied.items ≡ [] }
         ensures refused { result.refused.items ≡ [] }

@@ -51,7 +51,7 @@ fn enter_waiting<R: Replica, K: Keeper>(
     replica: &mut R,
     keeper: &mut K,
     i: usize,
-    told: &mut Report,
+    reported: &mut Report,
 ) -> Result<(), ReceiveError>
     requires within { i < length (R.waiting replica.old) }
     requires enters { (c : ChangeParts) → slice_get (R.waiting replica.old) i ≡ Some c
@@ -61,8 +61,8 @@ fn enter_waiting<R: Replica, K: Keeper>(
     ensures id { R.id replica.new ≡ R.id replica.old }
     ensures ok { (c : ChangeParts) → slice_get (R.waiting replica.old) i ≡ Some c
         → OnOk result (Tried K.keeps keeper.old keeper.new c
-        (R.applied replica.old) (R.applied replica.new) told.old.applied.items
-        told.new.applied.items told.old.refused.items told.new.refused.items Outcome.Entered) }
+        (R.applied replica.old) (R.applied replica.new) reported.old.applied.items
+        reported.new.applied.items reported.old.refused.items reported.new.refused.items Outcome.Entered) }
     ensures out { OnOk result (R.waiting replica.new ≡ remove (R.waiting replica.old) i) }
     ensures err { (c : ChangeParts) → slice_get (R.waiting replica.old) i ≡ Some c
         → IfErr result (λ e. TryFails K.refuses (R.applied replica.old) e c keeper.old keeper.new) }
@@ -70,7 +70,7 @@ fn enter_waiting<R: Replica, K: Keeper>(
     ensures waiting { OnErr result (R.waiting replica.new ≡ R.waiting replica.old) }
 {
     let change = &replica.pending()[i];
-    told.applied.push(change.hash())?;
+    reported.applied.push(change.hash())?;
     keep(keeper, change)?;
     let change = replica.release(i);
     replica.enter(change);
@@ -82,20 +82,21 @@ fn refuse_waiting<R: Replica>(
     replica: &mut R,
     i: usize,
     error: GraphError,
-    told: &mut Report,
+    reported: &mut Report,
 ) -> Result<(), ReceiveError>
     requires within { i < length (R.waiting replica.old) }
     ensures id { R.id replica.new ≡ R.id replica.old }
     ensures ok { (c : ChangeParts) → slice_get (R.waiting replica.old) i ≡ Some c
-        → OnOk result (told.new.refused.items ≡ told.old.refused.items ++ (hash_of c, error) ∷ []) }
-    ensures told { told.new.applied.items ≡ told.old.applied.items }
+        → OnOk result (reported.new.refused.items
+        ≡ reported.old.refused.items ++ (hash_of c, error) ∷ []) }
+    ensures reported { reported.new.applied.items ≡ reported.old.applied.items }
     ensures out { OnOk result (R.waiting replica.new ≡ remove (R.waiting replica.old) i) }
     ensures applied { R.applied replica.new ≡ R.applied replica.old }
     ensures err { IfErr result (λ e. e ≡ ReceiveError.OutOfMemory) }
     ensures waiting { OnErr result (R.waiting replica.new ≡ R.waiting replica.old) }
 {
     let hash = replica.pending()[i].hash();
-    told.refused.push((hash, error))?;
+    reported.refused.push((hash, error))?;
     let _change = replica.release(i);
     Ok(())
 }
@@ -106,23 +107,23 @@ fn settle_one<R: Replica, K: Keeper>(
     replica: &mut R,
     keeper: &mut K,
     i: usize,
-    told: &mut Report,
+    reported: &mut Report,
 ) -> Result<(), ReceiveError>
     requires { IsEarliest (R.applied replica.old) (R.waiting replica.old) i }
     ensures id { R.id replica.new ≡ R.id replica.old }
     ensures ok { (P : List (ChangeParts × Bool)) → OnOk result (Turn K.keeps
-        (so_far keeper.old (R.applied replica.old) (R.waiting replica.old) P told.old)
-        (so_far keeper.new (R.applied replica.new) (R.waiting replica.new) P told.new)) }
+        (so_far keeper.old (R.applied replica.old) (R.waiting replica.old) P reported.old)
+        (so_far keeper.new (R.applied replica.new) (R.waiting replica.new) P reported.new)) }
     ensures err { (P : List (ChangeParts × Bool)) → IfErr result (λ e. Stopped K.keeps K.refuses
-        (so_far keeper.old (R.applied replica.old) (R.waiting replica.old) P told.old)
+        (so_far keeper.old (R.applied replica.old) (R.waiting replica.old) P reported.old)
         e keeper.new (R.applied replica.new) (R.waiting replica.new)) }
     ensures fewer { OnOk result
         (length (R.waiting replica.new) + 1 ≡ length (R.waiting replica.old)) }
 {
     match judge(replica.ready_waiting(i))? {
-        Verdict::Enters => enter_waiting(replica, keeper, i, told),
+        Verdict::Enters => enter_waiting(replica, keeper, i, reported),
         Verdict::Waits => unreachable!(),
-        Verdict::Refused(error) => refuse_waiting(replica, i, error, told),
+        Verdict::Refused(error) => refuse_waiting(replica, i, error, reported),
     }
 }
 
@@ -131,19 +132,19 @@ fn settle_one<R: Replica, K: Keeper>(
 pub(crate) fn settle<R: Replica, K: Keeper>(
     replica: &mut R,
     keeper: &mut K,
-    told: &mut Report,
+    reported: &mut Report,
 ) -> Result<(), ReceiveError>
     ensures id { R.id replica.new ≡ R.id replica.old }
     ensures ok { (P : List (ChangeParts × Bool)) → OnOk result (Run K.keeps
-        (so_far keeper.old (R.applied replica.old) (R.waiting replica.old) P told.old)
-        (so_far keeper.new (R.applied replica.new) (R.waiting replica.new) P told.new)) }
+        (so_far keeper.old (R.applied replica.old) (R.waiting replica.old) P reported.old)
+        (so_far keeper.new (R.applied replica.new) (R.waiting replica.new) P reported.new)) }
     ensures settled { OnOk result (AllWait (R.applied replica.new) (R.waiting replica.new)) }
     ensures err { (P : List (ChangeParts × Bool)) → IfErr result (λ e. Stopped K.keeps K.refuses
-        (so_far keeper.old (R.applied replica.old) (R.waiting replica.old) P told.old)
+        (so_far keeper.old (R.applied replica.old) (R.waiting replica.old) P reported.old)
         e keeper.new (R.applied replica.new) (R.waiting replica.new)) }
 {
     while let Some(i) = first_ready(replica)? {
-        settle_one(replica, keeper, i, told)?;
+        settle_one(replica, keeper, i, reported)?;
     }
     Ok(())
 }

@@ -4,7 +4,7 @@ ghost use Rattle.std.specs.Prelude.{◌≡◌, ◌∷◌, Bool, List, OnOk, OnEr
 ghost use Rattle.tp_change.specs.declared.parts.ChangeParts.{ChangeParts};
 ghost use Rattle.tp_graph.specs.Named as named;
 ghost use Rattle.tp_receive.specs.Receiving.{AllWait};
-ghost use Rattle.tp_receive.specs.Delivery.{places};
+ghost use Rattle.tp_receive.specs.Delivery.{slots};
 ghost use Rattle.tp_receive.specs.Intake.{Run, Stopped};
 ghost use Rattle.tp_receive.specs.Trying.{IsHeld, so_far};
 
@@ -15,11 +15,8 @@ use crate::replica::Replica;
 use crate::report::Report;
 use crate::settle::settle;
 use tp_change::Change;
-use tp_graph::GraphError;
+use tp_graph::{GraphError, MOST_WAITING};
 use tp_opid::Hash;
-
-/// How many changes wait at most.
-pub(crate) const MOST_WAITING: usize = 1024;
 
 /// Whether one of the changes has the hash.
 pub(crate) fn has_hash(changes: &[Change], hash: &Hash) -> bool
@@ -34,19 +31,19 @@ pub(crate) fn has_hash(changes: &[Change], hash: &Hash) -> bool
 }
 
 // Lets a change wait, where one with its hash doesn't wait already. Where there is no space beside the reserved
-// places it is dropped and told.
+// slots it is dropped and reported.
 fn let_wait<R: Replica>(
     replica: &mut R,
     change: Change,
     reserved: usize,
-    told: &mut Report,
+    reported: &mut Report,
 ) -> Result<(), ReceiveError>
     ensures id { R.id replica.new ≡ R.id replica.old }
     ensures applied { R.applied replica.new ≡ R.applied replica.old }
-    ensures told { told.new.applied.items ≡ told.old.applied.items }
+    ensures reported { reported.new.applied.items ≡ reported.old.applied.items }
     ensures ok { OnOk result
         (IsHeld (R.waiting replica.old) change reserved (R.waiting replica.new)
-        told.old.refused.items told.new.refused.items) }
+        reported.old.refused.items reported.new.refused.items) }
     ensures err { IfErr result (λ e. e ≡ ReceiveError.OutOfMemory) }
     ensures stays { OnErr result (R.waiting replica.new ≡ R.waiting replica.old) }
 {
@@ -61,38 +58,38 @@ fn let_wait<R: Replica>(
             Err(_) => Err(ReceiveError::OutOfMemory),
         }
     } else {
-        told.refused.push((hash, GraphError::MissingDeps))?;
+        reported.refused.push((hash, GraphError::MissingDeps))?;
         Ok(())
     }
 }
 
 /// Gives the next change that came its turn: it enters, and what it lets enter of those that wait; or it is refused
-/// and told, or waits, where the waiting changes and the reserved places are fewer than 1,024. An error loses none of
+/// and reported, or waits, where the waiting changes and the reserved slots are fewer than 1,024. An error loses none of
 /// those that waited.
 pub(crate) fn take<R: Replica, K: Keeper>(
     replica: &mut R,
     keeper: &mut K,
     change: Change,
     reserved: usize,
-    told: &mut Report,
+    reported: &mut Report,
 ) -> Result<(), ReceiveError>
     requires settled { AllWait (R.applied replica.old) (R.waiting replica.old) }
     ensures id { R.id replica.new ≡ R.id replica.old }
-    ensures ok { (place : Bool) (P : List (ChangeParts × Bool)) → reserved ≡ places P
+    ensures ok { (slot : Bool) (P : List (ChangeParts × Bool)) → reserved ≡ slots P
         → OnOk result (Run K.keeps
         (so_far keeper.old (R.applied replica.old) (R.waiting replica.old)
-        ((change, place) ∷ P) told.old)
-        (so_far keeper.new (R.applied replica.new) (R.waiting replica.new) P told.new)) }
+        ((change, slot) ∷ P) reported.old)
+        (so_far keeper.new (R.applied replica.new) (R.waiting replica.new) P reported.new)) }
     ensures settled { OnOk result (AllWait (R.applied replica.new) (R.waiting replica.new)) }
-    ensures err { (place : Bool) (P : List (ChangeParts × Bool)) → reserved ≡ places P
+    ensures err { (slot : Bool) (P : List (ChangeParts × Bool)) → reserved ≡ slots P
         → IfErr result (λ e. Stopped K.keeps K.refuses
         (so_far keeper.old (R.applied replica.old) (R.waiting replica.old)
-        ((change, place) ∷ P) told.old)
+        ((change, slot) ∷ P) reported.old)
         e keeper.new (R.applied replica.new) (R.waiting replica.new)) }
 {
-    match admit(replica, keeper, change, told)? {
-        Outcome::Entered => settle(replica, keeper, told),
+    match admit(replica, keeper, change, reported)? {
+        Outcome::Entered => settle(replica, keeper, reported),
         Outcome::Refused => Ok(()),
-        Outcome::Waits(change) => let_wait(replica, change, reserved, told),
+        Outcome::Waits(change) => let_wait(replica, change, reserved, reported),
     }
 }

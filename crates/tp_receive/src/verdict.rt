@@ -3,7 +3,7 @@
 ghost use Rattle.std.specs.Prelude.{◌≡◌, Option, IfOk, IfErr};
 ghost use Rattle.tp_graph.specs.declared.error.GraphError.{GraphError};
 ghost use Rattle.tp_graph.specs.Answers.{Answers};
-ghost use Rattle.tp_receive.specs.Judges.{Judges, IsEntry};
+ghost use Rattle.tp_receive.specs.GivesVerdict.{GivesVerdict, IsEntry};
 
 use crate::error::ReceiveError;
 use tp_graph::GraphError;
@@ -21,7 +21,7 @@ pub(crate) enum Verdict {
 
 /// What an answer says of the change, or that memory was refused.
 pub(crate) fn judge(answer: Result<(), GraphError>) -> Result<Verdict, ReceiveError>
-    ensures ok { (o : Option GraphError) → Answers answer o → IfOk result (λ v. Judges v o) }
+    ensures ok { (o : Option GraphError) → Answers answer o → IfOk result (λ v. GivesVerdict v o) }
     ensures entry { IfOk result (λ v. IsEntry v answer) }
     ensures err { IfErr result (λ e. e ≡ ReceiveError.OutOfMemory) }
 {

@@ -12,13 +12,13 @@ use Rattle.tp_opid.specs.declared.op_id.Place.TheVariants.{Start, After}
 use Rattle.tp_opid.specs.Insert.{Insert}
 use Rattle.tp_opid.specs.Order.{Below}
 use Rattle.tp_opid.specs.Same.{id_eq, place_eq}
-use Rattle.tp_opid.specs.Tree.{Inserts, IsThere, IsNew, HasPlace, IsPlaceBelow, IsTree}
+use Rattle.tp_opid.specs.Tree.{Inserts, IsThere, IsNew, HasReference, IsReferenceBelow, IsTree}
 use Rattle.tp_opid.proofs.Orders.{Below-irreflexive, Below-trans, Below-asym, Below-cases, id_eq-same, id_eq-itself, id_eq-apart, place_eq-same, place_eq-itself}
 use Rattle.tp_opid.proofs.Trees.{IsThere-member}
 use Rattle.tp_rga.specs.Order.{IsChain, Precedes, Before, IsSortedIn}
 use Rattle.tp_rga.specs.Same.{same_insert, agrees, is_only}
 use Rattle.tp_rga.proofs.Trees.{Before-chains, Before-trans, Before-cases}
-use Rattle.tp_rga.proofs.Orderings.{IsSortedIn-front, IsSortedIn-back, IsSortedIn-across, IsSortedIn-join}
+use Rattle.tp_rga.proofs.Orderings.{IsSortedIn-prefix, IsSortedIn-back, IsSortedIn-across, IsSortedIn-join}
 use Rattle.tp_rga.proofs.Lookups.{IsFirst}
 
 -- ---- how many elements stand below a place
@@ -93,7 +93,7 @@ rank-falls S tree x (After r) i =
     omega arith
 
 -- the reference of an element has a place
-pub reference_there : (S : List Insert) → IsTree S → (x : OpId) (p : Place) → Inserts S x p → HasPlace S p
+pub reference_there : (S : List Insert) → IsTree S → (x : OpId) (p : Place) → Inserts S x p → HasReference S p
 reference_there S tree x Start i = tt
 reference_there S tree x (After r) i = (tree.placed _ i.1).0
 
@@ -175,17 +175,17 @@ read_member S L part i x lt at = subst (λ w. In w S) (sym at) (part (get_or L i
 pub read_as : (L : List Insert) (i : ℕ) (x r : Insert) → x ≡ r → r ≡ get_or L i r → x ≡ get_or L i x
 read_as L i x r view at = view ∙ at ∙ ap (get_or L i) (sym view)
 
--- what is of a front is of the whole
+-- what is of a prefix is of the whole
 take_part : (S : List Insert) (i : ℕ) → AllIn (take i S) S
 take_part S i x j = subst (In x) (take-append-drop i S) (In-left x (take i S) (drop i S) j)
 
--- the members of a list that has a front of a set are of the set
+-- the members of a list that has a prefix of a set are of the set
 pub part_members : (S : List Insert) (i : ℕ) (L : List Insert) → SameMembers (take i S) L → AllIn L S
 part_members S i L same x j = take_part S i x (same.back x j)
 
 -- ---- a list with one more element at its place
 
--- what holds below an index holds of the members of that front
+-- what holds below an index holds of the members of that prefix
 past_members : (P : Insert → Type 0) (L : List Insert) (i : ℕ) → AllWithin P L 0 i → (x : Insert) → In x (take i L) → P x
 past_members P L i all x j =
     let r = In-index x (take i L) j in
@@ -206,11 +206,11 @@ put_sorted S tree L part sorted x x_in new i passed stops =
     let B = drop i L in
     let parts : IsSortedIn S (F ++ B) = subst (IsSortedIn S) (sym (take-append-drop i L)) sorted in
     let behind : (e : Insert) → In e B → In e L = (λ e j. subst (In e) (take-append-drop i L) (In-right e F B j)) in
-    let front : (e : Insert) → In e F → Before S e.id x.id = past_members (λ (e : Insert). Before S e.id x.id) L i passed in
-    IsSortedIn-join S F (x ∷ B) (IsSortedIn-front S F B parts)
+    let prefix : (e : Insert) → In e F → Before S e.id x.id = past_members (λ (e : Insert). Before S e.id x.id) L i passed in
+    IsSortedIn-join S F (x ∷ B) (IsSortedIn-prefix S F B parts)
     (before_rest S tree x x_in B (IsSortedIn-back S F B parts) (λ e j. part e (behind e j)) (λ e j. new e (behind e j)) (not_before_first (λ (e : Insert). Before S e.id x.id → ⊥) L i stops), IsSortedIn-back S F B parts)
     (λ a b j k. elim k as (λ _. Before S a.id b.id) [
-      | inl m ↦ subst (λ (w : Insert). Before S a.id w.id) (sym m) (front a j)
+      | inl m ↦ subst (λ (w : Insert). Before S a.id w.id) (sym m) (prefix a j)
       | inr m ↦ IsSortedIn-across S F B parts a b j m
     ])
   where
@@ -312,11 +312,11 @@ list_all-from p [] h = refl
 list_all-from p (y ∷ xs) h = let here = h y (inl refl) in let rest = list_all-from p xs (λ x i. h x (inr i)) in cc
 
 -- where each insert has its place and is the only one of its identifier, the set is a tree
-pub IsTree-from : (S : List Insert) (n : ℕ) → length S ≤ n → AllWithin (λ (e : Insert). IsPlaceBelow S e.id e.after × (is_only S e ≡ true)) S 0 n → IsTree S
+pub IsTree-from : (S : List Insert) (n : ℕ) → length S ≤ n → AllWithin (λ (e : Insert). IsReferenceBelow S e.id e.after × (is_only S e ≡ true)) S 0 n → IsTree S
 IsTree-from S n le all =
-    let each : (e : Insert) → In e S → IsPlaceBelow S e.id e.after × (is_only S e ≡ true) = (λ e i.
+    let each : (e : Insert) → In e S → IsReferenceBelow S e.id e.after × (is_only S e ≡ true) = (λ e i.
     let r = In-index e S i in
-    subst (λ (w : Insert). IsPlaceBelow S w.id w.after × (is_only S w ≡ true)) (r.2 e) (all r.0 e (omega arith) (omega (arith, r.1)))) in
+    subst (λ (w : Insert). IsReferenceBelow S w.id w.after × (is_only S w ≡ true)) (r.2 e) (all r.0 e (omega arith) (omega (arith, r.1)))) in
     record {
       once = λ a b i j e. agrees-same b a (list_all-member (agrees b) S (each b j).1 a i) e;
       placed = λ e i. (each e i).0;
@@ -328,7 +328,7 @@ not_tree-only S e i other tree =
     let yes : is_only S e ≡ true = list_all-from (agrees e) S (λ a j. agrees-is e a (λ same. tree.once a e j i same)) in cc
 
 -- an insert without its place is in no tree
-pub not_tree-place : (S : List Insert) (e : Insert) → In e S → (b : Bool) → b ≡ false → (IsPlaceBelow S e.id e.after → b ≡ true) → IsTree S → ⊥
+pub not_tree-place : (S : List Insert) (e : Insert) → In e S → (b : Bool) → b ≡ false → (IsReferenceBelow S e.id e.after → b ≡ true) → IsTree S → ⊥
 not_tree-place S e i b out test tree = let yes : b ≡ true = test (tree.placed e i) in cc
 
 -- what a look-up says where it finds none

@@ -55,9 +55,9 @@ Precedes-longer (x ∷ c) (y ∷ d) e (inl h) = inl h
 Precedes-longer (x ∷ c) (y ∷ d) e (inr h) = inr (h.0, Precedes-longer c d e h.1)
 
 -- a proper beginning precedes
-pub Precedes-front : (c : List OpId) (b : OpId) (d : List OpId) → Precedes c (c ++ b ∷ d)
-Precedes-front [] b d = tt
-Precedes-front (a ∷ c) b d = inr (refl, Precedes-front c b d)
+pub Precedes-prefix : (c : List OpId) (b : OpId) (d : List OpId) → Precedes c (c ++ b ∷ d)
+Precedes-prefix [] b d = tt
+Precedes-prefix (a ∷ c) b d = inr (refl, Precedes-prefix c b d)
 
 -- a chain precedes none of its beginnings
 pub Precedes-beginning : (c d : List OpId) → Precedes (c ++ d) c → ⊥

@@ -11,7 +11,7 @@ use Rattle.tp_opid.proofs.Orders.{id_eq-same, id_eq-itself, id_eq-flip}
 use Rattle.tp_rga.specs.Order.{insert_after}
 use Rattle.tp_rga.specs.Shown.{is_removed, shown}
 use Rattle.tp_rga.proofs.Flagging.{filter_agree_in}
-use Rattle.tp_rga.proofs.Keeping.{removed-other, removed-itself}
+use Rattle.tp_rga.proofs.PlainStates.{removed-other, removed-itself}
 
 -- what is shown is in the list, and no delete names it
 shown_member : (R : List (OpId × OpId)) (L : List Insert) (k : ℕ) (e : Insert) → slice_get (shown R L) k ≡ Some e → In e L × (is_removed R e.id ≡ false)

@@ -58,7 +58,7 @@ slice_get-past [] i h = refl
 slice_get-past (x ∷ L) zero h = absurd (omega arith)
 slice_get-past (x ∷ L) (suc i) h = slice_get-past L i (omega arith)
 
--- a front of a map
+-- a prefix of a map
 pub take-map_lem : {X Y : Type 0} (f : X → Y) (k : ℕ) (L : List X) → take k (map f L) ≡ map f (take k L)
 take-map_lem f zero L = refl
 take-map_lem f (suc k) [] = refl

@@ -4,7 +4,7 @@ pub mod Orderings
 pub mod Places
 pub mod Lookups
 pub mod Flagging
-pub mod Keeping
+pub mod PlainStates
 pub mod OneOrder
 pub mod ByChains
 pub mod Edits

@@ -12,7 +12,7 @@ use Rattle.tp_opid.specs.declared.op_id.Place.TheVariants.{After}
 use Rattle.tp_opid.specs.Insert.{Insert}
 use Rattle.tp_opid.specs.Order.{Below}
 use Rattle.tp_opid.specs.Same.{id_eq}
-use Rattle.tp_opid.specs.Tree.{IsThere, IsNew, IsPlaceBelow, CanInsert}
+use Rattle.tp_opid.specs.Tree.{IsThere, IsNew, IsReferenceBelow, CanInsert}
 use Rattle.tp_opid.proofs.Orders.{id_eq-same, id_eq-itself}
 use Rattle.tp_opid.proofs.Trees.{CanInsert-same}
 use Rattle.tp_rga.specs.Order.{EndsAt, IsInOrder, IsInserted}
@@ -20,7 +20,7 @@ use Rattle.tp_rga.proofs.Places.{StopsAt, put_in_order}
 
 -- ---- the first that passes
 
--- the first that passes, of a list with one more in front
+-- the first that passes, of a list with one more before it
 position-cons : {X : Type 0} (p : X → Bool) (x : X) (xs : List X) → position p (x ∷ xs) ≡ cond (p x) (Some 0) (option_map (λ i. suc i) (position p xs))
 position-cons p x xs =
     let rest : ℕ = position_or_len p xs in
@@ -41,7 +41,7 @@ abbrev pub IsFirst : {X : Type 0} → (X → Bool) → List X → Option ℕ →
 IsFirst {X} p xs None = (e : X) → In e xs → p e ≡ false
 IsFirst {X} p xs (Some i) = (A : List X) × (e : X) × (B : List X) × (xs ≡ A ++ e ∷ B) × (length A ≡ i) × (p e ≡ true) × ((d : X) → In d A → p d ≡ false)
 
--- where the first that passes stands, of a list with one more in front
+-- where the first that passes stands, of a list with one more before it
 IsFirst-cons : {X : Type 0} (p : X → Bool) (x : X) (xs : List X) (b : Bool) → p x ≡ b → (r : Option ℕ) → IsFirst p xs r → IsFirst p (x ∷ xs) (cond b (Some 0) (option_map (λ i. suc i) r))
 IsFirst-cons p x xs true e r h = ([], x, xs, refl, refl, e, λ d i. absurd i)
 IsFirst-cons p x xs false e None h = λ y i. elim i as (λ _. p y ≡ false) [ inl k ↦ ap p k ∙ e | inr k ↦ h y k ]
@@ -79,7 +79,7 @@ found-position L x = found_or_new L x _ (position-first (λ (e : Insert). id_eq 
 
 -- ---- the place that the code finds
 
--- the front up to an element with the identifier of the place
+-- the prefix up to an element with the identifier of the place
 pub EndsAt-found : (L : List Insert) (i : ℕ) (r : OpId) → i < length L → HoldsAt (λ (e : Insert). id_eq e.id r ≡ true) L i → EndsAt (take (i + 1) L) (After r)
 EndsAt-found [] i r within here = absurd (omega arith)
 EndsAt-found (d ∷ L) i r within here =
@@ -100,12 +100,12 @@ StopsAt-found [] x (suc to) h = tt
 StopsAt-found (e ∷ L) x zero h = h (omega arith) e
 StopsAt-found (e ∷ L) x (suc to) h = StopsAt-found L x to (λ lt d. h (omega arith) d)
 
--- a front of the empty list
+-- a prefix of the empty list
 take-nil : {X : Type 0} (n : ℕ) → take {A = X} n [] ≡ []
 take-nil zero = refl
 take-nil (suc n) = refl
 
--- a front in two parts
+-- a prefix in two parts
 take_parts : {X : Type 0} (xs : List X) (low high : ℕ) → low ≤ high → take high xs ≡ take low xs ++ take (high - low) (drop low xs)
 take_parts xs zero high h = ap (λ n. take n xs) (omega arith)
 take_parts [] (suc low) zero h = absurd (omega arith)
@@ -123,20 +123,20 @@ place_found L x from to can le within ends passed stops =
     let rest : drop (to - from) (drop from L) ≡ B = drop-drop (to - from) from L ∙ ap (λ n. drop n L) (omega arith) in
     let behind : drop from L ≡ G ++ B = sym (take-append-drop (to - from) (drop from L)) ∙ ap (λ z. G ++ z) rest in
     let whole : L ≡ F ++ (G ++ B) = sym (take-append-drop from L) ∙ ap (λ z. F ++ z) behind in
-    let front : take to L ≡ F ++ G = take_parts L from to le in
+    let prefix : take to L ≡ F ++ G = take_parts L from to le in
     record {
       put = (to, within, refl);
       order = λ S tree order.
           let at_place = put_in_order S F G B x tree (subst (IsInOrder S) whole order) (CanInsert-same L S (SameMembers-sym S L order.same) x.id x.after can) ends (λ e i. AllWithin-member (λ (w : Insert). Below x.id w.id) L from to le passed e i) (StopsAt-found L x.id to stops) in
-          subst (IsInOrder (S ++ x ∷ [])) (sym (append_assoc F G (x ∷ B)) ∙ ap (λ z. z ++ x ∷ B) (sym front)) at_place;
+          subst (IsInOrder (S ++ x ∷ [])) (sym (append_assoc F G (x ∷ B)) ∙ ap (λ z. z ++ x ∷ B) (sym prefix)) at_place;
     }
 
 -- ---- the tests of what an insert needs
 
 -- an element that is there and below is a place for an insert, and only that
-pub IsPlaceBelow-test : (L : List Insert) (x r : OpId) (b : Bool) → Below r x → MatchBool b (IsThere L r) (IsNew L r) → (b ≡ true → IsPlaceBelow L x (After r)) × (IsPlaceBelow L x (After r) → b ≡ true)
-IsPlaceBelow-test L x r true below h = (λ e. (h, below), λ p. refl)
-IsPlaceBelow-test L x r false below h = (λ e. cc, λ p. absurd (IsThere-not_new L r p.0 h))
+pub IsReferenceBelow-test : (L : List Insert) (x r : OpId) (b : Bool) → Below r x → MatchBool b (IsThere L r) (IsNew L r) → (b ≡ true → IsReferenceBelow L x (After r)) × (IsReferenceBelow L x (After r) → b ≡ true)
+IsReferenceBelow-test L x r true below h = (λ e. (h, below), λ p. refl)
+IsReferenceBelow-test L x r false below h = (λ e. cc, λ p. absurd (IsThere-not_new L r p.0 h))
 
 -- what is there can't be inserted
 pub CanInsert-there : (L : List Insert) (x : OpId) (p : Place) (b : Bool) → b ≡ true → MatchBool b (IsThere L x) (IsNew L x) → (not b ≡ true → CanInsert L x p) × (CanInsert L x p → not b ≡ true)

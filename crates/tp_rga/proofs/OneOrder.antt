@@ -9,7 +9,7 @@ use Rattle.tp_opid.specs.declared.op_id.Place.{Place}
 use Rattle.tp_opid.specs.declared.op_id.Place.TheVariants.{Start, After}
 use Rattle.tp_opid.specs.Insert.{Insert}
 use Rattle.tp_opid.specs.Same.{id_eq}
-use Rattle.tp_opid.specs.Tree.{IsThere, AreApart, IsAboveAll, HasPlace, IsPlaceBelow, IsTree, CanInsert}
+use Rattle.tp_opid.specs.Tree.{IsThere, AreApart, IsAboveAll, HasReference, IsReferenceBelow, IsTree, CanInsert}
 use Rattle.tp_opid.proofs.Orders.{Below-asym, id_eq-same, id_eq-apart}
 use Rattle.tp_opid.proofs.Trees.{IsThere-member, CanInsert-same, IsTree-push}
 use Rattle.tp_rga.specs.Order.{Before, IsSortedIn, IsInOrder, EndsAt, insert_after, IsInserted}
@@ -159,14 +159,14 @@ order_of_part S L keep tree part order = record {
 -- ---- the greatest identifier
 
 -- a list with an element put in after a place, as its two parts
-insert_after-parts : (p : Place) (x : Insert) (L : List Insert) → HasPlace L p → (F : List Insert) × (B : List Insert) × (L ≡ F ++ B) × EndsAt F p × (insert_after p x L ≡ F ++ x ∷ B)
+insert_after-parts : (p : Place) (x : Insert) (L : List Insert) → HasReference L p → (F : List Insert) × (B : List Insert) × (L ≡ F ++ B) × EndsAt F p × (insert_after p x L ≡ F ++ x ∷ B)
 insert_after-parts Start x L h = ([], L, refl, refl, refl)
 insert_after-parts (After r) x [] h = absurd h.1.1
 insert_after-parts (After r) x (e ∷ L) h =
     elim (id_eq e.id r) as (λ b. id_eq e.id r ≡ b → (F : List Insert) × (B : List Insert) × (e ∷ L ≡ F ++ B) × EndsAt F (After r) × (cond b (e ∷ x ∷ L) (e ∷ insert_after (After r) x L) ≡ F ++ x ∷ B)) [
       | true ↦ λ k. (e ∷ [], L, refl, ([], e, refl, id_eq-same e.id r k), refl)
       | false ↦ λ k.
-          let behind : HasPlace L (After r) = (
+          let behind : HasReference L (After r) = (
             h.0,
             (
               h.1.0,
@@ -181,7 +181,7 @@ insert_after-parts (After r) x (e ∷ L) h =
     ] refl
 
 -- a place that may be inserted after is there
-has_place : (S : List Insert) (x : OpId) (p : Place) → IsPlaceBelow S x p → HasPlace S p
+has_place : (S : List Insert) (x : OpId) (p : Place) → IsReferenceBelow S x p → HasReference S p
 has_place S x Start h = tt
 has_place S x (After r) h = h.0
 

@@ -14,17 +14,17 @@ IsSortedIn-grow S T more (a ∷ L) h = (λ b i. Before-grow S T more a.id b.id (
 
 -- ---- parts
 
--- a front of a sorted list
-pub IsSortedIn-front : (S F B : List Insert) → IsSortedIn S (F ++ B) → IsSortedIn S F
-IsSortedIn-front S [] B h = tt
-IsSortedIn-front S (a ∷ F) B h = (λ b i. h.0 b (In-left b F B i), IsSortedIn-front S F B h.1)
+-- a prefix of a sorted list
+pub IsSortedIn-prefix : (S F B : List Insert) → IsSortedIn S (F ++ B) → IsSortedIn S F
+IsSortedIn-prefix S [] B h = tt
+IsSortedIn-prefix S (a ∷ F) B h = (λ b i. h.0 b (In-left b F B i), IsSortedIn-prefix S F B h.1)
 
 -- the rest of a sorted list
 pub IsSortedIn-back : (S F B : List Insert) → IsSortedIn S (F ++ B) → IsSortedIn S B
 IsSortedIn-back S [] B h = h
 IsSortedIn-back S (a ∷ F) B h = IsSortedIn-back S F B h.1
 
--- what stands in the front is before what stands behind it
+-- what stands in the prefix is before what stands behind it
 pub IsSortedIn-across : (S F B : List Insert) → IsSortedIn S (F ++ B) → (a b : Insert) → In a F → In b B → Before S a.id b.id
 IsSortedIn-across S [] B h a b i j = absurd i
 IsSortedIn-across S (c ∷ F) B h a b (inl i) j = subst (λ (w : Insert). Before S w.id b.id) (sym i) (h.0 b (In-right b F B j))

@@ -8,13 +8,13 @@ use Rattle.tp_opid.specs.declared.op_id.Place.{Place}
 use Rattle.tp_opid.specs.declared.op_id.Place.TheVariants.{Start, After}
 use Rattle.tp_opid.specs.Insert.{Insert}
 use Rattle.tp_opid.specs.Order.{Below}
-use Rattle.tp_opid.specs.Tree.{IsThere, IsNew, IsPlaceBelow, IsTree, CanInsert}
+use Rattle.tp_opid.specs.Tree.{IsThere, IsNew, IsReferenceBelow, IsTree, CanInsert}
 use Rattle.tp_opid.proofs.Orders.{Below-cases, id_eq-apart}
 use Rattle.tp_opid.proofs.Trees.{IsThere-member, IsTree-push}
 use Rattle.tp_rga.specs.Order.{Leads, IsChain, Precedes, Before, IsSortedIn, IsInOrder, EndsAt}
-use Rattle.tp_rga.proofs.Chains.{AllBelow, Precedes-irreflexive, Precedes-asym, Precedes-longer, Precedes-front, Precedes-beginning, stop_last, passed_first}
-use Rattle.tp_rga.proofs.Trees.{Leads-grow, Before-grow, Leads-push, Leads-front, Leads-same, chain_exists, chain_below, Before-trans, Before-chains}
-use Rattle.tp_rga.proofs.Orderings.{IsSortedIn-grow, IsSortedIn-front, IsSortedIn-back, IsSortedIn-across, IsSortedIn-join}
+use Rattle.tp_rga.proofs.Chains.{AllBelow, Precedes-irreflexive, Precedes-asym, Precedes-longer, Precedes-prefix, Precedes-beginning, stop_last, passed_first}
+use Rattle.tp_rga.proofs.Trees.{Leads-grow, Before-grow, Leads-push, Leads-prefix, Leads-same, chain_exists, chain_below, Before-trans, Before-chains}
+use Rattle.tp_rga.proofs.Orderings.{IsSortedIn-grow, IsSortedIn-prefix, IsSortedIn-back, IsSortedIn-across, IsSortedIn-join}
 
 -- x is below each element
 abbrev pub AllAbove : OpId → List Insert → Type 0
@@ -26,7 +26,7 @@ StopsAt x [] = Unit {0}
 StopsAt x (h ∷ B) = Below x h.id → ⊥
 
 -- a chain to the place of an insert, all of it below the insert
-place_chain : (S : List Insert) → IsTree S → (x : OpId) (p : Place) → IsPlaceBelow S x p → (c : List OpId) × Leads S Start c p × AllBelow x c
+place_chain : (S : List Insert) → IsTree S → (x : OpId) (p : Place) → IsReferenceBelow S x p → (c : List OpId) × Leads S Start c p × AllBelow x c
 place_chain S tree x Start h = ([], refl, tt)
 place_chain S tree x (After r) h =
     let c = chain_exists S tree r h.0 in (c.0, c.1, chain_below S tree Start c.0 r x c.1 h.1)
@@ -37,9 +37,9 @@ not_empty S x [] l = let e : Start ≡ After x = l in cc
 not_empty S x (y ∷ d) l = tt
 
 -- up to the reference, each chain is the reference's or precedes it
-front_chains : (S F : List Insert) → IsTree S → IsSortedIn S F → (p : Place) → EndsAt F p → (c : List OpId) → Leads S Start c p → (e : Insert) → In e F → (d : List OpId) → IsChain S e.id d → (d ≡ c) ⊎ Precedes d c
-front_chains S F tree sorted Start ends c l e i d k = absurd (subst (λ w. In e w) ends i)
-front_chains S F tree sorted (After r) (A, f, is, names) c l e i d k =
+prefix_chains : (S F : List Insert) → IsTree S → IsSortedIn S F → (p : Place) → EndsAt F p → (c : List OpId) → Leads S Start c p → (e : Insert) → In e F → (d : List OpId) → IsChain S e.id d → (d ≡ c) ⊎ Precedes d c
+prefix_chains S F tree sorted Start ends c l e i d k = absurd (subst (λ w. In e w) ends i)
+prefix_chains S F tree sorted (After r) (A, f, is, names) c l e i d k =
     let at_f : IsChain S f.id c = subst (λ w. IsChain S w c) (sym names) l in
     elim (In-push e A f (subst (λ w. In e w) is i)) as (λ _. (d ≡ c) ⊎ Precedes d c) [
       | inl j ↦
@@ -62,11 +62,11 @@ passed_before : (S F G B : List Insert) (x : Insert) → IsTree S → IsInOrder 
 passed_before S F G B x tree order ends above c l small e i d k =
     let after_reference : Precedes c d = back_chains S F (G ++ B) tree order.sorted x.after ends c l e (In-left e G B i) d k in
     passed_first c d x.id small after_reference (λ q b t is p.
-    let front = Leads-front S Start q b t (After e.id) (subst (λ w. Leads S Start w (After e.id)) is k) in
-    let o : Insert = record { id = b; after = front.1.0; ch = front.1.1.0 } in
-    elim (In-append o F (G ++ B) (order.same.there o front.1.1.1)) as (λ _. Below x.id b) [
+    let prefix = Leads-prefix S Start q b t (After e.id) (subst (λ w. Leads S Start w (After e.id)) is k) in
+    let o : Insert = record { id = b; after = prefix.1.0; ch = prefix.1.1.0 } in
+    elim (In-append o F (G ++ B) (order.same.there o prefix.1.1.1)) as (λ _. Below x.id b) [
       | inl j ↦ absurd (
-          elim (front_chains S F tree (IsSortedIn-front S F (G ++ B) order.sorted) x.after ends c l o j (q ++ b ∷ []) front.0) as (λ _. ⊥) [
+          elim (prefix_chains S F tree (IsSortedIn-prefix S F (G ++ B) order.sorted) x.after ends c l o j (q ++ b ∷ []) prefix.0) as (λ _. ⊥) [
             | inl same ↦ Precedes-irreflexive c (subst (λ w. Precedes c w) same p)
             | inr h ↦ Precedes-asym c (q ++ b ∷ []) p h
           ])
@@ -74,7 +74,7 @@ passed_before S F G B x tree order ends above c l small e i d k =
         | inl m ↦ above o m
         | inr m ↦ absurd (
             let whole : d ≡ (q ++ b ∷ []) ++ t = is ∙ rw append_assoc refl in
-            let h : Precedes d (q ++ b ∷ []) = Before-chains S tree e.id b (IsSortedIn-across S G B (IsSortedIn-back S F (G ++ B) order.sorted) e o i m) d (q ++ b ∷ []) k front.0 in
+            let h : Precedes d (q ++ b ∷ []) = Before-chains S tree e.id b (IsSortedIn-across S G B (IsSortedIn-back S F (G ++ B) order.sorted) e o i m) d (q ++ b ∷ []) k prefix.0 in
             Precedes-beginning (q ++ b ∷ []) t (subst (λ w. Precedes w (q ++ b ∷ [])) whole h))
       ]
     ])
@@ -155,18 +155,18 @@ put_in_order S F G B x tree order can ends above stops =
     let more : AllIn S T = (λ e j. In-left e S (x ∷ []) j) in
     let up = place_chain S tree x.id x.after can.place in
     let x_chain : IsChain T x.id (up.0 ++ x.id ∷ []) = Leads-push T x.after up.0 x.id (Leads-grow S T more Start up.0 x.after up.1) (x.ch, In-last x S) in
-    let sorted_f = IsSortedIn-front S F (G ++ B) order.sorted in
+    let sorted_f = IsSortedIn-prefix S F (G ++ B) order.sorted in
     let sorted_gb = IsSortedIn-back S F (G ++ B) order.sorted in
     let is_there : (e : Insert) → In e (F ++ (G ++ B)) → IsThere S e.id = (λ e i. IsThere-member S e (order.same.back e i)) in
     let f_before : (e : Insert) → In e F → Before T e.id x.id = (λ e i.
     let d = chain_exists S tree e.id (is_there e (In-left e F (G ++ B) i)) in
-    let at_front = front_chains S F tree sorted_f x.after ends up.0 up.1 e i d.0 d.1 in (
+    let at_prefix = prefix_chains S F tree sorted_f x.after ends up.0 up.1 e i d.0 d.1 in (
       d.0,
       up.0 ++ x.id ∷ [],
       Leads-grow S T more Start d.0 (After e.id) d.1,
       x_chain,
-      elim at_front as (λ _. Precedes d.0 (up.0 ++ x.id ∷ [])) [
-        | inl same ↦ subst (λ w. Precedes w (up.0 ++ x.id ∷ [])) (sym same) (Precedes-front up.0 x.id [])
+      elim at_prefix as (λ _. Precedes d.0 (up.0 ++ x.id ∷ [])) [
+        | inl same ↦ subst (λ w. Precedes w (up.0 ++ x.id ∷ [])) (sym same) (Precedes-prefix up.0 x.id [])
         | inr p ↦ Precedes-longer d.0 up.0 (x.id ∷ []) p
       ],
     )) in
@@ -176,7 +176,7 @@ put_in_order S F G B x tree order can ends above stops =
     let b_after = new_before S F G B x tree order can.new ends stops up.0 up.1 tree' in
     let sorted_xb : IsSortedIn T (x ∷ B) = (b_after, IsSortedIn-grow S T more B (IsSortedIn-back S G B sorted_gb)) in
     let sorted_gxb : IsSortedIn T (G ++ x ∷ B) =
-    IsSortedIn-join T G (x ∷ B) (IsSortedIn-grow S T more G (IsSortedIn-front S G B sorted_gb)) sorted_xb (λ a b i j.
+    IsSortedIn-join T G (x ∷ B) (IsSortedIn-grow S T more G (IsSortedIn-prefix S G B sorted_gb)) sorted_xb (λ a b i j.
     elim j as (λ _. Before T a.id b.id) [
       | inl e ↦ subst (λ (w : Insert). Before T a.id w.id) (sym e) (g_before a i)
       | inr m ↦ Before-grow S T more a.id b.id (IsSortedIn-across S G B sorted_gb a b i m)

@@ -36,9 +36,9 @@ pub Leads-push : (S : List Insert) (p : Place) (c : List OpId) (x : OpId) → Le
 Leads-push S p c x l i = Leads-join S Start c p (x ∷ []) (After x) l (i, refl)
 
 -- a beginning of a chain is the chain of its last identifier
-pub Leads-front : (S : List Insert) (p : Place) (q : List OpId) (b : OpId) (t : List OpId) (r : Place) → Leads S p (q ++ b ∷ t) r → Leads S p (q ++ b ∷ []) (After b) × IsThere S b
-Leads-front S p [] b t r l = ((l.0, refl), (p, l.0))
-Leads-front S p (x ∷ q) b t r l = let k = Leads-front S (After x) q b t r l.1 in ((l.0, k.0), k.1)
+pub Leads-prefix : (S : List Insert) (p : Place) (q : List OpId) (b : OpId) (t : List OpId) (r : Place) → Leads S p (q ++ b ∷ t) r → Leads S p (q ++ b ∷ []) (After b) × IsThere S b
+Leads-prefix S p [] b t r l = ((l.0, refl), (p, l.0))
+Leads-prefix S p (x ∷ q) b t r l = let k = Leads-prefix S (After x) q b t r l.1 in ((l.0, k.0), k.1)
 
 -- a chain ends at one element
 pub Leads-ends : (S : List Insert) (p : Place) (c : List OpId) (x y : OpId) → Leads S p c (After x) → Leads S p c (After y) → x ≡ y

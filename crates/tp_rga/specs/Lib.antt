@@ -1,5 +1,5 @@
 pub mod Order
 pub mod Shown
 pub mod State
-pub mod Kept
+pub mod PlainState
 pub mod Same

@@ -11,7 +11,7 @@ use Rattle.tp_opid.specs.Order.{Below}
 use Rattle.tp_opid.specs.Same.{id_eq}
 use Rattle.tp_opid.specs.Tree.{Inserts, IsTree}
 
--- The identifiers lead from the place p to the place q: S inserts each after the one before it, and the first after p.
+-- The identifiers lead from the reference p to the reference q: S inserts each after the one before it, and the first after p.
 abbrev pub Leads : List Insert → Place → List OpId → Place → Type 0
 Leads S p [] q = p ≡ q
 Leads S p (x ∷ xs) q = Inserts S x p × Leads S (After x) xs q
@@ -35,7 +35,7 @@ abbrev pub IsSortedIn : List Insert → List Insert → Type 0
 IsSortedIn S [] = Unit {0}
 IsSortedIn S (a ∷ L) = ((b : Insert) → In b L → Before S a.id b.id) × IsSortedIn S L
 
--- F is a front of a list up to the element that the place p names; up to the start it is empty.
+-- F is a prefix of a list up to the element that the reference p names; up to the start it is empty.
 abbrev pub EndsAt : List Insert → Place → Type 0
 EndsAt F Start = F ≡ []
 EndsAt F (After r) = (A : List Insert) × (f : Insert) × (F ≡ A ++ f ∷ []) × (f.id ≡ r)
@@ -45,7 +45,7 @@ pub record IsInOrder (S L : List Insert) : Type 0 where
   pub same : SameMembers S L
   pub sorted : IsSortedIn S L
 
--- L with x put in directly after the place p.
+-- L with x put in directly after the reference p.
 abbrev pub insert_after : Place → Insert → List Insert → List Insert
 insert_after Start x L = x ∷ L
 insert_after (After r) x [] = x ∷ []

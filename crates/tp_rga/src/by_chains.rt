@@ -9,7 +9,7 @@ ghost use Rattle.tp_rga.specs.Same.{same_insert, agrees, is_only};
 ghost use Rattle.tp_rga.specs.Order.{IsChain, Precedes, Before, IsInOrder};
 
 use crate::insertion::Insertion;
-use crate::placed::{contains, is_place_below, place_of};
+use crate::placed::{contains, is_reference_below, index_of};
 use std::alloc::{AllocError, Global};
 use tp_opid::{OpId, Place};
 
@@ -44,12 +44,12 @@ fn chain_of(alloc: Global, inserts: &[Insertion], id: &OpId) -> Result<Vec<OpId>
     Ok(chain)
 }
 
-/// The place after which an element was inserted.
+/// The reference of an element.
 fn reference_of(inserts: &[Insertion], id: &OpId) -> Place
     requires { IsThere inserts.now id.now }
     ensures { Inserts inserts.now id.now result }
 {
-    match place_of(inserts, id) {
+    match index_of(inserts, id) {
         Some(i) => {
             let e = &inserts[i];
             e.after
@@ -70,8 +70,8 @@ fn is_before(alloc: Global, inserts: &[Insertion], x: &OpId, y: &OpId) -> Result
     Ok(precedes(&c, &d))
 }
 
-/// The place in a list in order where a new element stands: past those that are before it.
-fn place_in(
+/// The index in a list in order where a new element stands: past those that are before it.
+fn index_in(
     alloc: Global,
     inserts: &[Insertion],
     list: &[Insertion],
@@ -81,7 +81,8 @@ fn place_in(
     requires there { IsThere inserts.now x.now }
     requires part { AllIn list.now inserts.now }
     ensures within { IfOk result (λ i. i ≤ length list.now) }
-    ensures passed { IfOk result (λ i. AllWithin (λ e. Before inserts.now e.id x.now) list.now 0 i) }
+    ensures passed { IfOk result
+        (λ i. AllWithin (λ e. Before inserts.now e.id x.now) list.now 0 i) }
     ensures stops { IfOk result
         (λ i. i < length list.now → HoldsAt (λ e. ¬ Before inserts.now e.id x.now) list.now i) }
 {
@@ -94,7 +95,7 @@ fn place_in(
     Ok(list.len())
 }
 
-/// The elements of a set of inserts in the order of the text, straight from the definition: each once, at its place by
+/// The elements of a set of inserts in the order of the text, straight from the definition: each once, where it stands by
 /// the order of chains. The inserts may stand in any order.
 ///
 /// The caller sees to it that they are a tree, by `is_tree`. The only refusal is for want of memory. The cost grows
@@ -107,7 +108,7 @@ pub fn in_order(alloc: Global, inserts: &[Insertion]) -> Result<Vec<Insertion>, 
     for i in 0..inserts.len() {
         let e = &inserts[i];
         if !contains(&list, &e.id) {
-            let at = place_in(alloc, inserts, &list, &e.id)?;
+            let at = index_in(alloc, inserts, &list, &e.id)?;
             list.insert(at, *e)?;
         }
     }
@@ -121,7 +122,7 @@ pub fn is_tree(inserts: &[Insertion]) -> bool
 {
     for i in 0..inserts.len() {
         let e = &inserts[i];
-        if !is_place_below(inserts, &e.id, &e.after) {
+        if !is_reference_below(inserts, &e.id, &e.after) {
             return false;
         }
         if !is_only(inserts, e) {

@@ -7,7 +7,7 @@ use tp_opid::{OpId, Place};
 pub struct Element {
     /// Its identifier, which no other element of the text has.
     pub id: OpId,
-    /// The place after which it was inserted.
+    /// The reference: what it was inserted after.
     pub after: Place,
     /// Its character.
     pub ch: char,

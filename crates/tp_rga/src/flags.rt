@@ -9,12 +9,13 @@ pub fn count_left(deleted: &[bool]) -> usize
     deleted.iter().filter(|gone| !**gone).count()
 }
 
-/// The place of the element before which `i` elements are left, or `None` where no more are left. The cost is a pass
+/// The index of the element before which `i` elements are left, or `None` where no more are left. The cost is a pass
 /// over the flags before it.
 pub fn nth_left(deleted: &[bool], i: usize) -> Option<usize>
     ensures { MatchOption result
         (length (filter not deleted.now) ≤ i)
-        (λ k. (slice_get deleted.now k ≡ Some false) × (length (filter not (take k deleted.now)) ≡ i)) }
+        (λ k. (slice_get deleted.now k ≡ Some false)
+        × (length (filter not (take k deleted.now)) ≡ i)) }
 {
     let mut left = i;
     for (k, gone) in deleted.iter().enumerate() {

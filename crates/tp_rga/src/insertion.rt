@@ -3,7 +3,7 @@
 use std::marker::Model;
 use tp_opid::{OpId, Place};
 
-/// An insert: it makes the element `id` with the character `ch`, and puts it after the place `after`.
+/// An insert: it makes the element `id` with the character `ch`, and puts it after the reference `after`.
 #[derive(Clone, Copy)]
 pub struct Insertion {
     /// The identifier of the new element.

@@ -78,7 +78,8 @@ pub fn greatest_next()
 /// So an insert whose identifier is above all others puts its element directly after its reference.
 pub fn greatest_inserted()
     ensures { (S old new : List Insert) (x : Insert) → IsTree S → IsInOrder S old
-        → CanInsert S x.id x.after → IsAboveAll S x.id → IsInserted old new x → new ≡ insert_after x.after x old }
+        → CanInsert S x.id x.after → IsAboveAll S x.id → IsInserted old new x
+        → new ≡ insert_after x.after x old }
 {}
 
 /// After an insert the list has what it had and the new element.

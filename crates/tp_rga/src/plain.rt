@@ -8,7 +8,7 @@ ghost use Rattle.std.specs.Vec.{vec_len, vec_capacity};
 use crate::element::Element;
 use crate::flags::{count_left, nth_left};
 use crate::insertion::Insertion;
-use crate::placed::{can_insert, contains, place_for, place_of};
+use crate::placed::{can_insert, contains, index_for, index_of};
 use crate::sequence::Sequence;
 use std::alloc::{AllocError, Global};
 use std::marker::Model;
@@ -17,7 +17,7 @@ use tp_opid::{OpId, Place};
 /// A sequence whose elements stand in one vector, in order.
 ///
 /// An insert searches its reference from the end and moves what stands behind the new element; a delete searches its
-/// target from the start. A read by place passes over a byte for each element before it, `len` and `all` over none.
+/// target from the start. A read by position passes over a byte for each element before it, `len` and `all` over none.
 #[derive(Drop)]
 pub struct PlainSequence {
     elements: Vec<Insertion>,
@@ -30,7 +30,7 @@ impl Model for PlainSequence {
     ghost use Rattle.std.specs.Prelude.{◌-◌, min};
     ghost use Rattle.std.specs.Vec.{vec_len, vec_capacity};
     ghost use Rattle.tp_rga.specs.State.{State};
-    ghost use Rattle.tp_rga.specs.Kept.{IsKept};
+    ghost use Rattle.tp_rga.specs.PlainState.{IsPlainState};
 
     ghost Value = { State };
 
@@ -42,7 +42,7 @@ impl Model for PlainSequence {
           (vec_capacity s.deletes - vec_len s.deletes);
     } };
 
-    ghost invariant = { λ s. IsKept s.elements.items s.deleted.items s.deletes.items s.left };
+    ghost invariant = { λ s. IsPlainState s.elements.items s.deleted.items s.deletes.items s.left };
 }
 
 impl Sequence for PlainSequence {
@@ -68,7 +68,7 @@ impl Sequence for PlainSequence {
     }
 
     fn insert(&mut self, id: OpId, after: Place, ch: char) -> Result<(), AllocError> {
-        let at = place_for(&self.elements, &id, &after);
+        let at = index_for(&self.elements, &id, &after);
         put_in(
             &mut self.elements,
             &mut self.deleted,
@@ -81,7 +81,7 @@ impl Sequence for PlainSequence {
 
     fn delete(&mut self, target: OpId, by: OpId) -> Result<(), AllocError> {
         self.deletes.push((target, by))?;
-        if let Some(i) = place_of(&self.elements, &target) {
+        if let Some(i) = index_of(&self.elements, &target) {
             if !self.deleted[i] {
                 self.deleted[i] = true;
                 self.left -= 1;
@@ -123,7 +123,7 @@ impl Sequence for PlainSequence {
     }
 
     fn position(&self, id: &OpId) -> Option<usize> {
-        match place_of(&self.elements, id) {
+        match index_of(&self.elements, id) {
             Some(k) => Some(count_left(&self.deleted[..k])),
             None => None,
         }
@@ -152,7 +152,7 @@ impl Sequence for PlainSequence {
     }
 }
 
-/// Puts an element in at a place, with its flag.
+/// Puts an element in at an index, with its flag.
 fn put_in(
     elements: &mut Vec<Insertion>,
     deleted: &mut Vec<bool>,

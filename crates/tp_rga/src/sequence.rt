@@ -16,7 +16,7 @@ use tp_opid::{OpId, Place};
 ///
 /// Contracts see three things: the elements in order with tombstones among them (`placed`), the deletes in the order
 /// of the calls (`removals`), and how many inserts or deletes take no further memory (`room`). The text is what
-/// `removals` leaves of `placed`. Places in the text count its characters from 0.
+/// `removals` leaves of `placed`. Positions in the text count its characters from 0.
 pub trait Sequence: Drop {
     ghost placed: { Self → List Insert };
 
@@ -65,8 +65,8 @@ pub trait Sequence: Drop {
         ensures succeeds { 0 < room self.old → IsOk result }
         ensures room { room self.old ≤ room self.new + 1 };
 
-    /// Whether an insert with this identifier after this place may come: the identifier is new, and the place is the
-    /// start or an element that is there and has a smaller identifier.
+    /// Whether an insert with this identifier after this reference may come: the identifier is new, and the reference
+    /// is the start or an element that is there and has a smaller identifier.
     fn can_insert(&self, id: &OpId, after: &Place) -> bool
         ensures { IsTrue result ↔ CanInsert (placed self.now) id.now after.now };
 
@@ -78,12 +78,12 @@ pub trait Sequence: Drop {
     fn len(&self) -> usize
         ensures { result ≡ length (shown (removals self.now) (placed self.now)) };
 
-    /// The character at a place of the text, or `None` past its end.
+    /// The character at a position of the text, or `None` past its end.
     fn char_at(&self, i: usize) -> Option<char>
         ensures { result
             ≡ option_map (λ e. e.ch) (slice_get (shown (removals self.now) (placed self.now)) i) };
 
-    /// The identifier of the element at a place of the text, or `None` past its end.
+    /// The identifier of the element at a position of the text, or `None` past its end.
     fn id_at(&self, i: usize) -> Option<OpId>
         ensures { result
             ≡ option_map (λ e. e.id) (slice_get (shown (removals self.now) (placed self.now)) i) };
@@ -97,7 +97,7 @@ pub trait Sequence: Drop {
     fn all(&self) -> usize
         ensures { result ≡ length (placed self.now) };
 
-    /// The element at a place of the list of all elements, or `None` past its end.
+    /// The element at an index of the list of all elements, or `None` past its end.
     fn element(&self, i: usize) -> Option<Element>
         ensures { result
             ≡ option_map (element_of (removals self.now)) (slice_get (placed self.now) i) };

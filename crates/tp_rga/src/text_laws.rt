@@ -15,14 +15,14 @@ pub fn shown_insert_start()
         → shown R (insert_after Start x L) ≡ x ∷ shown R L }
 {}
 
-/// A new element directly after the element at a place of the text stands at the next place.
+/// A new element directly after the element at a position of the text stands at the next position.
 pub fn shown_insert_after()
     ensures { (R : List (Id × Id)) (L : List Insert) (x e : Insert) (k : ℕ)
         → AreApart L → is_removed R x.id ≡ false → slice_get (shown R L) k ≡ Some e
         → shown R (insert_after (After e.id) x L) ≡ insert (shown R L) (suc k) x }
 {}
 
-/// A delete of the element at a place of the text takes that element out of the text, and no other.
+/// A delete of the element at a position of the text takes that element out of the text, and no other.
 pub fn shown_delete()
     ensures { (R : List (Id × Id)) (L : List Insert) (e : Insert) (by : Id) (k : ℕ) → AreApart L
         → slice_get (shown R L) k ≡ Some e → shown (R ++ (e.id, by) ∷ []) L ≡ remove (shown R L) k }

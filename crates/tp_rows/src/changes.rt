@@ -191,7 +191,7 @@ fn alter(world: &World, words: &mut Words) -> Result<String, Fault> {
     decoded(world.alloc, &changed)
 }
 
-// `cuts NAME`: what each front of the bytes is decoded to, the whole the last.
+// `cuts NAME`: what each prefix of the bytes is decoded to, the whole the last.
 fn cuts(world: &World, words: &mut Words) -> Result<String, Fault> {
     let whole = world.bytes.get(words.next()?)?;
     let mut runs = Runs::new(world.alloc, 0);
@@ -202,7 +202,7 @@ fn cuts(world: &World, words: &mut Words) -> Result<String, Fault> {
     runs.end()
 }
 
-// `complements NAME`: what the bytes are decoded to with each of them complemented, by its place.
+// `complements NAME`: what the bytes are decoded to with each of them complemented, by its offset.
 fn complements(world: &World, words: &mut Words) -> Result<String, Fault> {
     let whole = world.bytes.get(words.next()?)?;
     let mut runs = Runs::new(world.alloc, 0);

@@ -28,7 +28,7 @@ fn add(alloc: Global, graph: &mut Graph, change: Change) -> Result<String, Fault
     }
 }
 
-// `hold GRAPH CHANGE`: the change waits, where it doesn't yet and there is a place.
+// `hold GRAPH CHANGE`: the change waits, where it doesn't yet and there is a slot.
 fn hold(alloc: Global, graph: &mut Graph, change: Change) -> Result<String, Fault> {
     if graph.waits(&change.hash()) {
         return Ok(String::from_str(alloc, "waits already")?);

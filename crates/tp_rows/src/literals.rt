@@ -37,7 +37,7 @@ pub fn id(word: &str) -> Result<OpId, Fault> {
     })
 }
 
-/// A place: `start`, or the identifier of the element before it.
+/// A reference: `start`, or the identifier of the element before it.
 pub fn place(word: &str) -> Result<Place, Fault> {
     if word == "start" {
         return Ok(Place::Start);

@@ -103,7 +103,7 @@ fn one(world: &World, words: &mut Words) -> Result<String, Fault> {
     shown(world.alloc, world.bytes.get(words.next()?)?)
 }
 
-// `show_cuts NAME`: what is shown of each front of the log, the whole the last.
+// `show_cuts NAME`: what is shown of each prefix of the log, the whole the last.
 fn cuts(world: &World, words: &mut Words) -> Result<String, Fault> {
     let whole = world.bytes.get(words.next()?)?;
     let mut runs = Runs::new(world.alloc, 0);
@@ -114,7 +114,7 @@ fn cuts(world: &World, words: &mut Words) -> Result<String, Fault> {
     runs.end()
 }
 
-// `show_complements NAME`: what is shown of the log with each of its bytes complemented, by its place.
+// `show_complements NAME`: what is shown of the log with each of its bytes complemented, by its offset.
 fn complements(world: &World, words: &mut Words) -> Result<String, Fault> {
     let whole = world.bytes.get(words.next()?)?;
     let mut runs = Runs::new(world.alloc, 0);

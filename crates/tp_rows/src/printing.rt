@@ -59,7 +59,7 @@ pub fn put_id(out: &mut String, id: &OpId) -> Result<(), Fault> {
     put_actor(out, &id.actor)
 }
 
-/// Adds a place.
+/// Adds a reference.
 pub fn put_place(out: &mut String, place: &Place) -> Result<(), Fault> {
     match place {
         Place::Start => Ok(out.push_str("start")?),

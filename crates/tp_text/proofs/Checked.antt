@@ -9,7 +9,7 @@ use Rattle.tp_opid.proofs.Orders.{Below-trans, Below-counter}
 use Rattle.tp_change.specs.declared.op.Op.{Op}
 use Rattle.tp_change.specs.declared.op.Op.TheVariants as op_of
 use Rattle.tp_change.specs.Operations.{id_of}
-use Rattle.tp_change.specs.Elements.{element, is_inserted, is_place, refers}
+use Rattle.tp_change.specs.Elements.{element, is_inserted, is_reference, refers}
 use Rattle.tp_change.proofs.Numbered.{Numbered}
 use Rattle.tp_change.proofs.ElementLaws.{refers-same, SameIds-members}
 use Rattle.tp_text.specs.Applying.{CanApply, Extends, AllUnder}
@@ -22,7 +22,7 @@ and_true false b h = cc
 -- the first reference is there, and the operation goes in
 pub refers-next : (S T : List Insert) (op : Op) (ops : List Op) → refers S (op ∷ []) ≡ true → Extends S T (op ∷ []) → refers S (op ∷ ops) ≡ refers T ops
 refers-next S T (op_of.Insert id after ch) ops h e =
-    and_true (is_place S after) _ h
+    and_true (is_reference S after) _ h
     ∙ refers-same (element id after ch ∷ S) T ops (SameIds-members (element id after ch ∷ S) T (SameMembers-trans (element id after ch ∷ S) (S ++ element id after ch ∷ []) T (SameMembers-last S (element id after ch)) e.members))
 refers-next S T (op_of.Delete id target) ops h e =
     and_true (is_inserted S target) _ h ∙ refers-same S T ops (SameIds-members S T (subst (λ l. SameMembers l T) (append-nil S) e.members))

@@ -11,13 +11,13 @@ use Rattle.tp_opid.specs.declared.op_id.Place.TheVariants.{Start, After}
 use Rattle.tp_opid.specs.Insert.{Insert}
 use Rattle.tp_opid.specs.Order.{Below}
 use Rattle.tp_opid.specs.Same.{id_eq}
-use Rattle.tp_opid.specs.Tree.{IsThere, IsPlaceBelow}
+use Rattle.tp_opid.specs.Tree.{IsThere, IsReferenceBelow}
 use Rattle.tp_opid.proofs.Orders.{id_eq-same, Below-counter, Below-trans, Below-asym, Below-irreflexive}
 use Rattle.tp_opid.proofs.Trees.{IsThere-member}
 use Rattle.tp_change.specs.declared.op.Op.{Op}
 use Rattle.tp_change.specs.declared.op.Op.TheVariants as op_of
 use Rattle.tp_change.specs.Operations.{id_of}
-use Rattle.tp_change.specs.Elements.{element, inserts_in, is_inserted, is_place, refers}
+use Rattle.tp_change.specs.Elements.{element, inserts_in, is_inserted, is_reference, refers}
 use Rattle.tp_change.proofs.ElementLaws.{is_inserted-In, is_inserted-member}
 use Rattle.tp_change.proofs.Numbered.{Numbered}
 use Rattle.tp_text.specs.Applying.{CanApply, AllUnder}
@@ -63,7 +63,7 @@ and_last false = refl
 there-of : (P S : List Insert) (x : OpId) → AllIn P S → is_inserted P x ≡ true → IsThere S x
 there-of P S x sub h = let found = is_inserted-In P x h in subst (IsThere S) found.2 (IsThere-member S found.0 (sub found.0 found.1))
 
-place_below : (P S : List Insert) (x : OpId) (p : Place) → AllIn P S → AllUnder P x → is_place P p ≡ true → IsPlaceBelow S x p
+place_below : (P S : List Insert) (x : OpId) (p : Place) → AllIn P S → AllUnder P x → is_reference P p ≡ true → IsReferenceBelow S x p
 place_below P S x Start sub under h = tt
 place_below P S x (After r) sub under h =
     let found = is_inserted-In P r h in
@@ -74,12 +74,12 @@ place_below P S x (After r) sub under h =
 pub CanApply-refers : (ops : List Op) (P S : List Insert) (a : Actor) (n : ℕ) → Numbered a n ops → AllIn P S → AllUnder P (id_of a n) → IsFresh S a n → refers P ops ≡ true → CanApply S ops
 CanApply-refers [] P S a n num sub under fresh h = tt
 CanApply-refers (op_of.Insert id after ch ∷ ops) P S a n num sub under fresh h =
-    let parts = and_parts (is_place P after) (refers (element id after ch ∷ P) ops) h in
+    let parts = and_parts (is_reference P after) (refers (element id after ch ∷ P) ops) h in
     let e = element id after ch in
     let own : id ≡ id_of a n = num.0 in (
       record {
         new = λ y there. subst (λ x. id_eq y.id x ≡ false) (sym own) (fresh y there n (omega arith));
-        place = subst (λ x. IsPlaceBelow S x after) (sym own) (place_below P S (id_of a n) after sub under parts.0);
+        place = subst (λ x. IsReferenceBelow S x after) (sym own) (place_below P S (id_of a n) after sub under parts.0);
       },
       CanApply-refers ops (e ∷ P) (S ++ e ∷ []) a (n + 1) num.1
           (λ y there. elim there [ inl same ↦ In-right y S (e ∷ []) (inl same) | inr old ↦ In-left y S (e ∷ []) (sub y old) ])

@@ -1,4 +1,4 @@
--- The characters that a front of the elements shows, and one element more.
+-- The characters that a prefix of the elements shows, and one element more.
 use Rattle.std.proofs.Common.{◌≡◌, ℕ, ◌+◌, ◌<◌, Bool, true, false, not, List, [], ◌∷◌, ◌++◌, length, take, get_or, cond, Some, None, inl, inr, refl, sym, ap, ◌∙◌, append-nil, arith}
 use Rattle.std.specs.Prelude.{encode_utf8, encode_utf8_all, slice_get}
 use Rattle.std.specs.Option.{option_map}

@@ -24,17 +24,17 @@ pub record Extends (old new : List Insert) (ops : List Op) : Type 0 where
   pub order : (T : List Insert) → IsTree T → IsInOrder T old → IsTree (T ++ inserts_in ops) × IsInOrder (T ++ inserts_in ops) new
 
 -- A beginning of the operations is in: those of `done`. `left` are behind them.
-pub record IsBegun (old new : List Insert) (R Q : List (OpId × OpId)) (ops done left : List Op) : Type 0 where
+pub record IsPartlyApplied (old new : List Insert) (R Q : List (OpId × OpId)) (ops done left : List Op) : Type 0 where
   pub whole : done ++ left ≡ ops
   pub elements : Extends old new done
   pub removals : Q ≡ R ++ deletes_in done
 
 -- What is left where operations went in one after another: none where all are in; else those from one on whose
 -- reference isn't there, or for which memory was refused.
-abbrev pub IsLeft : {E : Type 0} → List Insert → Result Bool E → List Op → Type 0
-IsLeft new (Ok true) left = left ≡ []
-IsLeft new (Ok false) left = (op : Op) × (rest : List Op) × (left ≡ op ∷ rest) × (refers new (op ∷ []) ≡ false)
-IsLeft new (Err e) left = (op : Op) × (rest : List Op) × (left ≡ op ∷ rest)
+abbrev pub IsRemainder : {E : Type 0} → List Insert → Result Bool E → List Op → Type 0
+IsRemainder new (Ok true) left = left ≡ []
+IsRemainder new (Ok false) left = (op : Op) × (rest : List Op) × (left ≡ op ∷ rest) × (refers new (op ∷ []) ≡ false)
+IsRemainder new (Err e) left = (op : Op) × (rest : List Op) × (left ≡ op ∷ rest)
 
 -- Each element has an identifier below x.
 abbrev pub AllUnder : List Insert → OpId → Type 0

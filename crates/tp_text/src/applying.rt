@@ -4,7 +4,7 @@ ghost use Rattle.std.specs.Prelude.{◌≡◌, ◌+◌, ◌<◌, ◌≤◌, List
 ghost use Rattle.tp_change.specs.declared.op.Op.{Op as Operation};
 ghost use Rattle.tp_change.specs.Operations.{ops_of, id_of};
 ghost use Rattle.tp_change.specs.Elements.{deletes_in, refers};
-ghost use Rattle.tp_text.specs.Applying.{CanApply, Extends, AllUnder, IsBegun, IsLeft};
+ghost use Rattle.tp_text.specs.Applying.{CanApply, Extends, AllUnder, IsPartlyApplied, IsRemainder};
 
 use std::alloc::AllocError;
 use tp_change::{Change, Op};
@@ -50,12 +50,15 @@ pub fn apply_change<S: Sequence>(sequence: &mut S, change: &Change)
 pub fn apply_checked<S: Sequence>(sequence: &mut S, change: &Change) -> Result<bool, AllocError>
     requires { AllUnder (S.placed sequence.old) (id_of change.now.actor change.now.start) }
     ensures refers { IfOk result (λ all. all ≡ refers (S.placed sequence.old) (ops_of change.now)) }
-    ensures elements { IfOk result (λ all. all ≡ true → Extends (S.placed sequence.old) (S.placed sequence.new) (ops_of change.now)) }
+    ensures elements { IfOk result
+        (λ all. all ≡ true → Extends (S.placed sequence.old) (S.placed sequence.new)
+        (ops_of change.now)) }
     ensures removals { IfOk result (λ all. all ≡ true → S.removals sequence.new
         ≡ S.removals sequence.old ++ deletes_in (ops_of change.now)) }
     ensures begun { (done : List Operation) × (left : List Operation)
-        × IsBegun (S.placed sequence.old) (S.placed sequence.new) (S.removals sequence.old) (S.removals sequence.new) (ops_of change.now) done left
-        × IsLeft (S.placed sequence.new) result left }
+        × IsPartlyApplied (S.placed sequence.old) (S.placed sequence.new) (S.removals sequence.old)
+        (S.removals sequence.new) (ops_of change.now) done left
+        × IsRemainder (S.placed sequence.new) result left }
 {
     for op in change.ops() {
         if !has_reference(sequence, &op) {

@@ -14,8 +14,8 @@ pub fn text<S: Sequence>(alloc: Global, sequence: &S) -> Result<String, AllocErr
         ≡ encode_utf8_all (chars_of (shown (S.removals sequence.now) (S.placed sequence.now)))) }
 {
     let mut text = String::with_capacity(alloc, sequence.len())?;
-    for place in 0..sequence.all() {
-        if let Some(element) = sequence.element(place) {
+    for index in 0..sequence.all() {
+        if let Some(element) = sequence.element(index) {
             if !element.deleted {
                 text.push(element.ch)?;
             }

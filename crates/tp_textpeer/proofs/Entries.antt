@@ -1,4 +1,4 @@
--- What stands at the front of a log, against the pieces that are read of it.
+-- What stands at the start of a log, against the pieces that are read of it.
 use Rattle.std.proofs.Common.{◌≡◌, ℕ, ◌<◌, ◌≤◌, true, false, eqb, ltb, List, ◌++◌, length, Option, Some, None, Ok, Err, refl, sym, ap, ◌∙◌, subst, append_assoc, append-nil, arith}
 use Rattle.std.specs.Prelude.{IfSome}
 use Rattle.std.specs.Int.{w32, from_be_bytes, to_be_bytes}
@@ -15,7 +15,7 @@ use Rattle.tp_change.proofs.WholeChange.{change_again}
 use Rattle.tp_change.proofs.SpellingLaws.{spelling_bounds}
 use Rattle.tp_textpeer.specs.declared.error.ShowFault.{ShowFault}
 use Rattle.tp_textpeer.specs.declared.error.ShowFault.TheVariants.{Change}
-use Rattle.tp_textpeer.specs.Log.{entry, entry_at, sized_entry_at, with_rest, StartsBadly, HasLength}
+use Rattle.tp_textpeer.specs.Log.{entry, entry_at, sized_entry_at, with_rest, StartsBadly, ReadsLength}
 
 below : (m n : ℕ) → m < n → ltb m n ≡ true
 below m n h = grind (arith, nat_tests)
@@ -31,11 +31,11 @@ unfolding entry_at
 entry_short b h = rw (below (length b) 4 h) refl
 
 -- behind a whole length
-entry_sized : (front rest : List ℕ) (n : ℕ) → length front ≡ 4 → n ≡ from_be_bytes w32 front → entry_at (front ++ rest) ≡ sized_entry_at n rest
+entry_sized : (prefix rest : List ℕ) (n : ℕ) → length prefix ≡ 4 → n ≡ from_be_bytes w32 prefix → entry_at (prefix ++ rest) ≡ sized_entry_at n rest
 unfolding entry_at
-entry_sized front rest n four is =
-    let whole : 4 ≤ length (front ++ rest) = let e = length-append front rest in omega arith in
-    rw (not_below (length (front ++ rest)) 4 whole, take_at front rest 4 four, drop_at front rest 4 four, sym is) refl
+entry_sized prefix rest n four is =
+    let whole : 4 ≤ length (prefix ++ rest) = let e = length-append prefix rest in omega arith in
+    rw (not_below (length (prefix ++ rest)) 4 whole, take_at prefix rest 4 four, drop_at prefix rest 4 four, sym is) refl
 
 sized_zero : (rest : List ℕ) → sized_entry_at 0 rest ≡ Err (Change change_error.Short)
 sized_zero rest = refl
@@ -50,21 +50,21 @@ sized_whole n body more some few is =
 
 -- ---- by the known bytes of a reader, before and after what was read
 
-pub bad_short : (before after : Option (List ℕ)) (front : List ℕ) → Consumes before after front → IsAtEnd after → 0 < length front → length front < 4 → StartsBadly before (Change change_error.Short)
-bad_short None after front took end some few = tt
-bad_short (Some b) None front took end some few = absurd took
-bad_short (Some b) (Some x) front took end some few =
-    let all : b ≡ front = took ∙ ap (λ l. front ++ l) end ∙ append-nil front in
-    subst (λ l. (0 < length l) × (entry_at l ≡ Err (Change change_error.Short))) (sym all) (some, entry_short front few)
+pub bad_short : (before after : Option (List ℕ)) (prefix : List ℕ) → Consumes before after prefix → IsAtEnd after → 0 < length prefix → length prefix < 4 → StartsBadly before (Change change_error.Short)
+bad_short None after prefix took end some few = tt
+bad_short (Some b) None prefix took end some few = absurd took
+bad_short (Some b) (Some x) prefix took end some few =
+    let all : b ≡ prefix = took ∙ ap (λ l. prefix ++ l) end ∙ append-nil prefix in
+    subst (λ l. (0 < length l) × (entry_at l ≡ Err (Change change_error.Short))) (sym all) (some, entry_short prefix few)
 
 -- a length was read, and what stands behind it is refused
-pub bad_sized : (before after : Option (List ℕ)) (front : List ℕ) (n : ℕ) (f : ShowFault) → Consumes before after front → length front ≡ 4 → n ≡ from_be_bytes w32 front
+pub bad_sized : (before after : Option (List ℕ)) (prefix : List ℕ) (n : ℕ) (f : ShowFault) → Consumes before after prefix → length prefix ≡ 4 → n ≡ from_be_bytes w32 prefix
     → IfSome after (λ rest. sized_entry_at n rest ≡ Err f) → StartsBadly before f
-bad_sized None after front n f took four is bad = tt
-bad_sized (Some b) None front n f took four is bad = absurd took
-bad_sized (Some b) (Some rest) front n f took four is bad =
-    let some : 0 < length (front ++ rest) = let e = length-append front rest in omega arith in
-    subst (λ l. (0 < length l) × (entry_at l ≡ Err f)) (sym took) (some, entry_sized front rest n four is ∙ bad)
+bad_sized None after prefix n f took four is bad = tt
+bad_sized (Some b) None prefix n f took four is bad = absurd took
+bad_sized (Some b) (Some rest) prefix n f took four is bad =
+    let some : 0 < length (prefix ++ rest) = let e = length-append prefix rest in omega arith in
+    subst (λ l. (0 < length l) × (entry_at l ≡ Err f)) (sym took) (some, entry_sized prefix rest n four is ∙ bad)
 
 every : (known : Option (List ℕ)) (P : List ℕ → Type 0) → ((b : List ℕ) → P b) → IfSome known P
 every None P h = tt
@@ -76,7 +76,7 @@ bad_zero after = every after (λ rest. sized_entry_at 0 rest ≡ Err (Change cha
 pub bad_limit : (after : Option (List ℕ)) (n : ℕ) → 4194304 < n → IfSome after (λ rest. sized_entry_at n rest ≡ Err (Change change_error.Limit))
 bad_limit after n h = every after (λ rest. sized_entry_at n rest ≡ Err (Change change_error.Limit)) (λ rest. sized_limit n rest h)
 
--- a change at the front of the bytes is read, whatever follows
+-- a change at the start of the bytes is read, whatever follows
 pub entry_again : (c : ChangeParts) (more : List ℕ) → IsChange c → entry_at (entry c ++ more) ≡ Ok (c, more)
 entry_again c more is =
     let bounds = spelling_bounds c is in
@@ -91,6 +91,6 @@ pub some_by_test : (m n : ℕ) → false ≡ eqb m 0 → m ≡ n → 0 < n
 some_by_test m n e same = grind (arith, nat_tests)
 
 -- a fault behind the length, where the length was read before it
-pub bad_behind : (before between : Option (List ℕ)) (n : ℕ) (f : ShowFault) → HasLength before between n → IfSome between (λ rest. sized_entry_at n rest ≡ Err f) → StartsBadly before f
+pub bad_behind : (before between : Option (List ℕ)) (n : ℕ) (f : ShowFault) → ReadsLength before between n → IfSome between (λ rest. sized_entry_at n rest ≡ Err f) → StartsBadly before f
 bad_behind before between n f read bad =
     bad_sized before between (to_be_bytes w32 n) n f read.bytes refl (let few = read.few in sym (from_be_bytes-to_be_bytes_4 n (omega arith))) bad

@@ -59,7 +59,7 @@ IsLog-ended (Some b) (Some x) n C stands end = record {
 
 some_bytes : (c : ChangeParts) (more : List ℕ) → IsChange c → 0 < length (entry c ++ more)
 some_bytes c more is =
-    let front = length-append (entry c) more in
+    let prefix = length-append (entry c) more in
     let own = spelling_bounds c is in
     omega (arith, own.0)
 

@@ -87,18 +87,18 @@ sized_entry_at n bytes =
     else if nat_lt (length bytes) n then Err (Change change_error.Short)
     else with_rest (change_at (take n bytes)) (drop n bytes)
 
--- the change at the front of the bytes and the bytes after it, or what is wrong there
+-- the change at the start of the bytes and the bytes after it, or what is wrong there
 unfoldable pub entry_at : List ℕ → Result (ChangeParts × List ℕ) ShowFault
 entry_at bytes =
     if nat_lt (length bytes) 4 then Err (Change change_error.Short)
     else sized_entry_at (from_be_bytes w32 (take 4 bytes)) (drop 4 bytes)
 
--- What stands at the front of the known bytes has the fault.
+-- What stands at the start of the known bytes has the fault.
 abbrev pub StartsBadly : Option (List ℕ) → ShowFault → Type 0
 StartsBadly known f = IfSome known (λ b. (0 < length b) × (entry_at b ≡ Err f))
 
 -- Between the two the length n of a change was read, which is within the limit.
-pub record HasLength (before after : Option (List ℕ)) (n : ℕ) : Type 0 where
+pub record ReadsLength (before after : Option (List ℕ)) (n : ℕ) : Type 0 where
   pub some : 0 < n
   pub few : n ≤ MAX_BYTES
   pub bytes : Consumes before after (to_be_bytes w32 n)

@@ -60,10 +60,14 @@ pub(crate) fn admit<S: Sequence>(
     requires count { count + 1 < 2 ^ 64 }
     ensures below { OnOk result (AllBelowCounter (S.placed chain.new.sequence) chain.new.next) }
     ensures ok { OnOk result ((C : List ChangeParts) → length C ≡ count
-        → Remembers C (S.placed chain.old.sequence) (S.removals chain.old.sequence) chain.old.author chain.old.last chain.old.next
-        → (link_fault C change.now ≡ None) × Remembers (C ++ change.now ∷ []) (S.placed chain.new.sequence) (S.removals chain.new.sequence) chain.new.author chain.new.last chain.new.next) }
+        → Remembers C (S.placed chain.old.sequence)
+        (S.removals chain.old.sequence) chain.old.author chain.old.last chain.old.next
+        → (link_fault C change.now ≡ None)
+        × Remembers (C ++ change.now ∷ []) (S.placed chain.new.sequence)
+        (S.removals chain.new.sequence) chain.new.author chain.new.last chain.new.next) }
     ensures err { IfErr result (λ f. (f ≡ OutOfMemory) ⊎ ((C : List ChangeParts) → length C ≡ count
-        → Remembers C (S.placed chain.old.sequence) (S.removals chain.old.sequence) chain.old.author chain.old.last chain.old.next
+        → Remembers C (S.placed chain.old.sequence)
+        (S.removals chain.old.sequence) chain.old.author chain.old.last chain.old.next
         → link_fault C change.now ≡ Some f)) }
 {
     if !is_chained(chain.author, chain.last, change) {

@@ -30,7 +30,8 @@ pub struct LineError(clap::Error);
 impl LineError {
     /// Whether help or the version was asked for, whose text goes to the standard output.
     pub fn is_request(&self) -> bool
-        ensures { IsTrue result ↔ ((kind_of (parser_fault self.now) ≡ ErrorKind.DisplayHelp) ⊎ (kind_of (parser_fault self.now) ≡ ErrorKind.DisplayVersion)) }
+        ensures { IsTrue result ↔ ((kind_of (parser_fault self.now) ≡ ErrorKind.DisplayHelp)
+            ⊎ (kind_of (parser_fault self.now) ≡ ErrorKind.DisplayVersion)) }
     {
         matches!(
             self.0.kind(),
@@ -75,9 +76,11 @@ impl From<AllocError> for LineError {
 /// is `show LOG`, where a LOG that begins with a hyphen stands after `--`; anything else is a fault, and `--help` and
 /// `--version` are requests.
 pub fn line<'a, S: AsStr>(alloc: Global, words: &'a [S]) -> Result<Command<'a>, LineError>
-    ensures command { IfOk result (IsCommandOf (subcommand_of textpeer_app (map S.text words.entry.now))) }
+    ensures command { IfOk result
+        (IsCommandOf (subcommand_of textpeer_app (map S.text words.entry.now))) }
     ensures fails { FailsAs (fault_of textpeer_app (map S.text words.entry.now)) result }
-    ensures shows { (path : Text) → AskToShow path (map S.text words.entry.now) → MatchResult result (IsShow path) (λ e. kind_of (parser_fault e) ≡ ErrorKind.OutOfMemory) }
+    ensures shows { (path : Text) → AskToShow path (map S.text words.entry.now)
+        → MatchResult result (IsShow path) (λ e. kind_of (parser_fault e) ≡ ErrorKind.OutOfMemory) }
 {
     let matches = textpeer_command(alloc)?.try_get_matches_from(words)?;
     let show = matches.subcommand_matches("show").unwrap();

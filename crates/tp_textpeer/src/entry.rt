@@ -7,7 +7,7 @@ ghost use Rattle.tp_change.specs.declared.limits.TheConstants.{MAX_BYTES};
 ghost use Rattle.tp_change.specs.Limits.{IsChange};
 ghost use Rattle.tp_change.specs.Spelling.{spelling};
 ghost use Rattle.tp_textpeer.specs.ShowFault.{IsOutside};
-ghost use Rattle.tp_textpeer.specs.Log.{entry, sized_entry_at, StartsBadly, HasLength};
+ghost use Rattle.tp_textpeer.specs.Log.{entry, sized_entry_at, StartsBadly, ReadsLength};
 
 use crate::error::ShowFault;
 use crate::input::read_up_to;
@@ -27,7 +27,9 @@ fn number_in(bytes: &[u8]) -> u32
 // The length of the next change, where there is one.
 fn next_len<R: Read>(reader: &mut R, buffer: &mut Vec<u8>) -> Result<Option<usize>, ShowFault>
     ensures end { IfOk result (λ found. IfNone found (IsAtEnd (R.remaining reader.old))) }
-    ensures some { IfOk result (λ found. IfSome found (λ n. HasLength (R.remaining reader.old) (R.remaining reader.new) n)) }
+    ensures some { IfOk result
+        (λ found. IfSome found (λ n. ReadsLength (R.remaining reader.old)
+        (R.remaining reader.new) n)) }
     ensures err { IfErr result (λ f. IsOutside f ⊎ StartsBadly (R.remaining reader.old) f) }
 {
     read_up_to(reader, buffer, 4)?;
@@ -57,8 +59,11 @@ fn sized_change<R: Read>(
     requires some { 0 < len }
     requires few { len ≤ MAX_BYTES }
     ensures change { IfOk result (λ c. IsChange c × (length (spelling c) ≡ len)) }
-    ensures bytes { IfOk result (λ c. Consumes (R.remaining reader.old) (R.remaining reader.new) (spelling c)) }
-    ensures err { IfErr result (λ f. IsOutside f ⊎ IfSome (R.remaining reader.old) (λ rest. sized_entry_at len rest ≡ Err f)) }
+    ensures bytes { IfOk result
+        (λ c. Consumes (R.remaining reader.old) (R.remaining reader.new) (spelling c)) }
+    ensures err { IfErr result
+        (λ f. IsOutside f ⊎ IfSome (R.remaining reader.old)
+        (λ rest. sized_entry_at len rest ≡ Err f)) }
 {
     read_up_to(reader, buffer, len)?;
     if buffer.len() < len {
@@ -78,7 +83,9 @@ pub(crate) fn next_change<R: Read>(
     buffer: &mut Vec<u8>,
 ) -> Result<Option<Change>, ShowFault>
     ensures end { IfOk result (λ found. IfNone found (IsAtEnd (R.remaining reader.old))) }
-    ensures some { IfOk result (λ found. IfSome found (λ c. IsChange c × Consumes (R.remaining reader.old) (R.remaining reader.new) (entry c))) }
+    ensures some { IfOk result
+        (λ found. IfSome found (λ c. IsChange c
+        × Consumes (R.remaining reader.old) (R.remaining reader.new) (entry c))) }
     ensures err { IfErr result (λ f. IsOutside f ⊎ StartsBadly (R.remaining reader.old) f) }
 {
     match next_len(reader, buffer)? {

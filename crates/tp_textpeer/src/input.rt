@@ -16,7 +16,8 @@ pub(crate) fn read_up_to<R: Read>(
     buffer: &mut Vec<u8>,
     len: usize,
 ) -> Result<(), ShowFault>
-    ensures bytes { OnOk result (Consumes (R.remaining reader.old) (R.remaining reader.new) buffer.new.items) }
+    ensures bytes { OnOk result
+        (Consumes (R.remaining reader.old) (R.remaining reader.new) buffer.new.items) }
     ensures within { OnOk result (vec_len buffer.new ≤ len) }
     ensures end { OnOk result (vec_len buffer.new < len → IsAtEnd (R.remaining reader.new)) }
     ensures outside { IfErr result IsOutside }
@@ -38,7 +39,9 @@ fn read_chunk<R: Read>(
     most: usize,
 ) -> Result<usize, ShowFault>
     ensures within { IfOk result (λ n. (n ≤ most) × (vec_len buffer.new ≡ vec_len buffer.old + n)) }
-    ensures bytes { IfOk result (λ n. (front : List ℕ) × (buffer.new.items ≡ buffer.old.items ++ front) × Consumes (R.remaining reader.old) (R.remaining reader.new) front) }
+    ensures bytes { IfOk result
+        (λ n. (prefix : List ℕ) × (buffer.new.items ≡ buffer.old.items ++ prefix)
+        × Consumes (R.remaining reader.old) (R.remaining reader.new) prefix) }
     ensures end { IfOk result (λ n. n ≡ 0 → 0 < most → IsAtEnd (R.remaining reader.new)) }
     ensures outside { IfErr result IsOutside }
 {

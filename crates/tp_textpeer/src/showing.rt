@@ -31,16 +31,22 @@ fn step<S: Sequence, R: Read>(
 ) -> Result<bool, ShowFault>
     requires below { AllBelowCounter (S.placed chain.old.sequence) chain.old.next }
     requires count { count + 1 < 2 ^ 64 }
-    ensures below { IfOk result (λ _. AllBelowCounter (S.placed chain.new.sequence) chain.new.next) }
-    ensures more { IfOk result (λ more. more ≡ true → (whole : Option (List ℕ)) (C : List ChangeParts)
+    ensures below { IfOk result
+        (λ _. AllBelowCounter (S.placed chain.new.sequence) chain.new.next) }
+    ensures more { IfOk result
+        (λ more. more ≡ true → (whole : Option (List ℕ)) (C : List ChangeParts)
         → Stands whole (R.remaining reader.old) count C
-        → Remembers C (S.placed chain.old.sequence) (S.removals chain.old.sequence) chain.old.author chain.old.last chain.old.next
+        → Remembers C (S.placed chain.old.sequence)
+        (S.removals chain.old.sequence) chain.old.author chain.old.last chain.old.next
         → (c : ChangeParts) × Stands whole (R.remaining reader.new) (count + 1) (C ++ c ∷ [])
-        × Remembers (C ++ c ∷ []) (S.placed chain.new.sequence) (S.removals chain.new.sequence) chain.new.author chain.new.last chain.new.next) }
-    ensures ended { IfOk result (λ more. more ≡ false → IsAtEnd (R.remaining reader.old) × (chain.new ≡ chain.old)) }
+        × Remembers (C ++ c ∷ []) (S.placed chain.new.sequence)
+        (S.removals chain.new.sequence) chain.new.author chain.new.last chain.new.next) }
+    ensures ended { IfOk result
+        (λ more. more ≡ false → IsAtEnd (R.remaining reader.old) × (chain.new ≡ chain.old)) }
     ensures err { IfErr result (λ f. IsOutside f ⊎ ((whole : Option (List ℕ)) (C : List ChangeParts)
         → Stands whole (R.remaining reader.old) count C
-        → Remembers C (S.placed chain.old.sequence) (S.removals chain.old.sequence) chain.old.author chain.old.last chain.old.next
+        → Remembers C (S.placed chain.old.sequence)
+        (S.removals chain.old.sequence) chain.old.author chain.old.last chain.old.next
         → IfSome whole (λ bytes. IsFault bytes count f))) }
 {
     match next_change(alloc, reader, buffer) {
@@ -67,8 +73,10 @@ fn at_change(change: u64, fault: ShowFault) -> ShowError
 
 // What is kept of the changes of a whole log.
 fn read_log<S: Sequence, R: Read>(alloc: Global, reader: &mut R) -> Result<Chain<S>, ShowError>
-    ensures ok { IfOk result (λ chain. IfSome (R.remaining reader.old) (λ bytes. (C : List ChangeParts) × IsLog bytes C
-        × Remembers C (S.placed chain.sequence) (S.removals chain.sequence) chain.author chain.last chain.next)) }
+    ensures ok { IfOk result (λ chain. IfSome (R.remaining reader.old)
+        (λ bytes. (C : List ChangeParts) × IsLog bytes C
+        × Remembers C (S.placed chain.sequence)
+        (S.removals chain.sequence) chain.author chain.last chain.next)) }
     ensures err { IfErr result (Refuses (R.remaining reader.old)) }
 {
     let mut chain = Chain {
@@ -100,7 +108,8 @@ fn line_of<S: Sequence>(alloc: Global, sequence: &S) -> Result<String, AllocErro
 
 // The text of a log, and a newline.
 fn text_of_log<S: Sequence, R: Read>(alloc: Global, reader: &mut R) -> Result<String, ShowError>
-    ensures ok { IfOk result (λ text. IfSome (R.remaining reader.old) (λ bytes. (t : List ℕ) × HasText bytes t × (string_bytes text ≡ line t))) }
+    ensures ok { IfOk result (λ text. IfSome (R.remaining reader.old)
+        (λ bytes. (t : List ℕ) × HasText bytes t × (string_bytes text ≡ line t))) }
     ensures err { IfErr result (Refuses (R.remaining reader.old)) }
 {
     match read_log::<S, R>(alloc, reader) {
@@ -137,7 +146,8 @@ pub fn show<R: Read, W: Write>(
     ensures only { IfSome (R.remaining reader.old)
         (λ bytes. (C : List ChangeParts) → IsLog bytes C → IfErr result (λ e. IsOutside e.fault)) }
     // A refusal writes nothing, but where the writer itself failed.
-    ensures nothing { IfErr result (λ e. (e.fault ≡ Io) ⊎ Keeps (W.contents writer.old) (W.contents writer.new)) }
+    ensures nothing { IfErr result
+        (λ e. (e.fault ≡ Io) ⊎ Keeps (W.contents writer.old) (W.contents writer.new)) }
 {
     match text_of_log::<PlainSequence, R>(alloc, reader) {
         Ok(text) => match write_out(writer, text.as_str()) {

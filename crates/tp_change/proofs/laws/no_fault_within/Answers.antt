@@ -1,4 +1,4 @@
-use Rattle.tp_change.proofs.JudgedLaws.{change_of, ok_change}
+use Rattle.tp_change.proofs.ValidatedLaws.{change_of, ok_change}
 use Rattle.tp_change.proofs.laws.no_fault_within.Goals as goal
 
 pub returns : goal.returns

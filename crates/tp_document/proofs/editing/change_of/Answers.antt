@@ -26,8 +26,8 @@ make_change-requires g c =
     let asked = asking c.args.actor c.args.splices.now c.args.time (chars c.args.message.now) in
     let h = c.requires.holds in
     let numbered : c.next_seq-seq.result ≡ count_by c.args.actor C + 1 = c.next_seq-seq.ensures.seq in
-    let is : IsEdit C asked c.in-Ok.parts = edit_made C (S.placed c.args.sequence.now) (S.removals c.args.sequence.now) asked c.next_seq-seq.result c.next_counter-next.result c.heads.result.now c.in-Ok.parts h numbered c.next_counter-next.ensures c.heads.ensures c.in-Ok.ensures in
-    let small : c.in-Ok.parts.seq < 2 ^ 64 = subst (λ n. n < 2 ^ 64) (sym (ap (λ (p : ChangeParts). p.seq) c.in-Ok.ensures)) c.next_seq-seq.ensures.small in
-    λ size. edit_limits C asked c.in-Ok.parts h.sound h.limits is c.requires.within.counters
+    let is : IsEdit C asked c.in_ok-parts.parts = edit_made C (S.placed c.args.sequence.now) (S.removals c.args.sequence.now) asked c.next_seq-seq.result c.next_counter-next.result c.heads-heads.result.now c.in_ok-parts.parts h numbered c.next_counter-next.ensures c.heads-heads.ensures c.in_ok-parts.ensures in
+    let small : c.in_ok-parts.parts.seq < 2 ^ 64 = subst (λ n. n < 2 ^ 64) (sym (ap (λ (p : ChangeParts). p.seq) c.in_ok-parts.ensures)) c.next_seq-seq.ensures.small in
+    λ size. edit_limits C asked c.in_ok-parts.parts h.sound h.limits is c.requires.within.counters
     (record { actor = c.actor_len-actor.ensures; time = c.ranges.time.fits; message = c.requires.within.spelled; texts = c.requires.within.texts })
     small c.requires.within.message size

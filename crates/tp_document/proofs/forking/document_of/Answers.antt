@@ -2,14 +2,14 @@ use Rattle.std.proofs.Common.{List, [], ◌∷◌, ◌++◌, take, ap, sym, ◌�
 use Rattle.std.proofs.lemmas.List.{take_more}
 use Rattle.tp_change.specs.declared.parts.ChangeParts.{ChangeParts}
 use Rattle.tp_graph.specs.Fit.{cause}
-use Rattle.tp_document.proofs.EditFits.{front_enters}
+use Rattle.tp_document.proofs.EditFits.{prefix_enters}
 use Rattle.tp_document.proofs.forking.document_of.Goals as goal
 
 pub enter_copy-requires : goal.enter_copy-requires
 enter_copy-requires g c =
     let x = c.change-item.result in
     ap (λ D. cause D x) c.loop-change.invariant.applied
-    ∙ front_enters c.args.changes.now c.loop-change.change-index x c.requires.sound c.requires.few c.loop-change-test.true c.change-item.is
+    ∙ prefix_enters c.args.changes.now c.loop-change.change-index x c.requires.sound c.requires.few c.loop-change-test.true c.change-item.is
 
 pub loop-change-preserved : goal.loop-change-preserved
 loop-change-preserved g c =

@@ -5,19 +5,19 @@ use Rattle.tp_document.proofs.SnapshotLaws.{no_place, bytes_by-shown, bytes_by-h
 use Rattle.tp_document.proofs.history.text_of.Goals as goal
 use Rattle.tp_document.proofs.history.text_of.Goals.{in-Some+then-shows+in_ok-push, in-Some+else-shows, in_default}
 
-pub loop-place-preserved : goal.loop-place-preserved
-loop-place-preserved g c =
+pub loop-index-preserved : goal.loop-index-preserved
+loop-index-preserved g c =
     let R = g.S.Sequence.removals c.args.sequence.now in
     let L = g.S.Sequence.placed c.args.sequence.now in
     let K = c.args.snapshot.now.clock in
     let T = c.args.snapshot.now.targets in
-    let k = c.loop-place.place in
+    let k = c.loop-index.index in
     elim c.match-element.branch [
       | in-Some+then-shows+in_ok-push w ↦
-          ap string_bytes w.text-is ∙ w.in_ok-push.ensures.bytes ∙ ap (λ bytes. bytes ++ encode_utf8 w.in-Some.element.ch) c.loop-place.invariant
+          ap string_bytes w.text-is ∙ w.in_ok-push.ensures.bytes ∙ ap (λ bytes. bytes ++ encode_utf8 w.in-Some.element.ch) c.loop-index.invariant
           ∙ sym (bytes_by-shown K R T L k w.in-Some.element c.requires w.in-Some.ensures (sym w.shows.ensures ∙ w.if-shows.true))
       | in-Some+else-shows w ↦
-          ap string_bytes w.text-is ∙ c.loop-place.invariant
+          ap string_bytes w.text-is ∙ c.loop-index.invariant
           ∙ sym (bytes_by-hidden K R T L k w.in-Some.element c.requires w.in-Some.ensures (sym w.shows.ensures ∙ w.if-shows.false))
       | in_default w ↦
           let within : k < length L = omega arith in

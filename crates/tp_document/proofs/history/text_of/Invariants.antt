@@ -6,7 +6,7 @@ use Rattle.tp_document.specs.History.{shown_by}
 use Rattle.tp_document.proofs.history.text_of.Given as goal
 
 -- the text so far is that of the elements so far
-abbrev pub invariant-loop-place : goal.invariant-loop-place
-invariant-loop-place g l =
+abbrev pub invariant-loop-index : goal.invariant-loop-index
+invariant-loop-index g l =
     let placed = g.S.Sequence.placed l.sequence in
-    string_bytes l.text ≡ encode_utf8_all (chars_of (shown_by l.snapshot.clock (g.S.Sequence.removals l.sequence) (take l.place placed)))
+    string_bytes l.text ≡ encode_utf8_all (chars_of (shown_by l.snapshot.clock (g.S.Sequence.removals l.sequence) (take l.index placed)))

@@ -4,13 +4,13 @@ use Rattle.tp_edit.specs.EditRecords.{ids_of}
 use Rattle.tp_edit.proofs.Landed.{IsTraced}
 use Rattle.tp_edit.proofs.landing.id_through.Given as goal
 
--- The element stood at `place` before the landings from `left` on; each landing moves it by less than 2^64.
+-- The element stood at `position` before the landings from `left` on; each landing moves it by less than 2^64.
 abbrev pub invariant-loop-left : goal.invariant-loop-left
 invariant-loop-left g l =
     let V = ids_of (shown (g.S.Sequence.removals l.sequence) (g.S.Sequence.placed l.sequence)) in
     record {
-      traced : IsTraced l.actor V l.landings l.fn.place l.left l.place;
-      near : l.place + 2 ^ 64 * l.left ≤ 2 ^ 65 + 2 ^ 64 * length l.landings;
+      traced : IsTraced l.actor V l.landings l.fn.position l.left l.position;
+      near : l.position + 2 ^ 64 * l.left ≤ 2 ^ 65 + 2 ^ 64 * length l.landings;
     }
 
 abbrev pub decreases-loop-left : goal.decreases-loop-left

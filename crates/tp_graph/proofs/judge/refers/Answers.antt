@@ -9,7 +9,7 @@ use Rattle.tp_graph.proofs.judge.refers.Goals as goal
 pub is_there-requires-clause-counters : goal.is_there-requires-clause-counters
 is_there-requires-clause-counters c =
     let limit : c.args.change.now.start + count_of c.args.change.now.records ≤ 2 ^ 48 = c.hash-hash.ensures.limits.counters in
-    let front : count_of (take c.loop-i.i c.records-records.result.now) ≤ count_of c.records-records.result.now = count_of-take c.records-records.result.now c.loop-i.i in
+    let prefix : count_of (take c.loop-i.i c.records-records.result.now) ≤ count_of c.records-records.result.now = count_of-take c.records-records.result.now c.loop-i.i in
     let same : count_of c.records-records.result.now ≡ count_of c.args.change.now.records = ap count_of c.records-records.ensures in
     let first : c.start-first.result ≡ c.args.change.now.start = c.start-first.ensures in
     omega arith

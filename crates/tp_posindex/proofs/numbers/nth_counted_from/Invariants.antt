@@ -2,5 +2,5 @@ use Rattle.std.proofs.Common.{◌≡◌, ◌+◌, take, sum}
 use Rattle.tp_posindex.proofs.numbers.nth_counted_from.Given as goal
 
 -- what was passed is counted off
-abbrev pub invariant-loop-place : goal.invariant-loop-place
-invariant-loop-place l = sum (take l.place l.counts) + l.left ≡ sum (take l.from l.counts) + l.fn.left
+abbrev pub invariant-loop-index : goal.invariant-loop-index
+invariant-loop-index l = sum (take l.index l.counts) + l.left ≡ sum (take l.from l.counts) + l.fn.left

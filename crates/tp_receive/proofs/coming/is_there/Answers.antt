@@ -13,4 +13,4 @@ pub returns : goal.returns
 returns g c D e =
     let C = g.R.Replica.applied c.args.replica.now in
     let h = c.args.hash.now in
-    c.among.ensures ∙ sym (has-both C D c.args.delivered.now h e ∙ ap (λ b. b || among c.args.delivered.now h) (sym c.contains.ensures ∙ c.if-contains.false))
+    c.is_among.ensures ∙ sym (has-both C D c.args.delivered.now h e ∙ ap (λ b. b || among c.args.delivered.now h) (sym c.contains.ensures ∙ c.if-contains.false))

@@ -1,27 +1,27 @@
 use Rattle.std.proofs.Common.{inl, inr, refl, arith}
-use Rattle.tp_receive.proofs.RunLaws.{places-most}
-use Rattle.tp_receive.proofs.ComingLaws.{AreNoted-first, AreNoted-next, places_pushed}
+use Rattle.tp_receive.proofs.RunLaws.{slots-most}
+use Rattle.tp_receive.proofs.ComingLaws.{AreNoted-first, AreNoted-next, slots_pushed}
 use Rattle.tp_receive.proofs.coming.reserve.Goals as goal
-use Rattle.tp_receive.proofs.coming.reserve.Goals.{then-place, else-place}
+use Rattle.tp_receive.proofs.coming.reserve.Goals.{then-slot, else-slot}
 
 pub loop-change-init : goal.loop-change-init
 loop-change-init g c = record {
   noted = AreNoted-first (g.R.Replica.applied c.args.replica.now) c.pending.result.now (g.R.Replica.waiting c.args.replica.now) c.args.changes.items c.into_iter-change-iterator.result.rest.items
-      c.new-delivered.result.items c.in_ok-placed.placed.items c.new-coming.result.items
-      c.new-delivered.ensures.items c.in_ok-placed.ensures c.pending.ensures.pending c.new-coming.ensures.items c.into_iter-change-iterator.ensures.into_iter_gives.0;
+      c.new-delivered.result.items c.in_ok-slotted.slotted.items c.new-coming.result.items
+      c.new-delivered.ensures.items c.in_ok-slotted.ensures c.pending.ensures.pending c.new-coming.ensures.items c.into_iter-change-iterator.ensures.into_iter_gives.0;
   count = rw c.new-coming.ensures.items refl;
 }
 
 pub overflow_add-reserved : goal.overflow_add-reserved
-overflow_add-reserved g c = omega (arith, places-most c.loop-change.coming.items)
+overflow_add-reserved g c = omega (arith, slots-most c.loop-change.coming.items)
 
 pub loop-change-preserved : goal.loop-change-preserved
 loop-change-preserved g c =
     let n = c.loop-change.invariant.noted in
     record {
       noted = AreNoted-next (g.R.Replica.applied c.args.replica.now) (g.R.Replica.waiting c.args.replica.now) c.args.changes.items c.loop-change.change-iterator.rest.items c.next.new.self.rest.items c.in-Some.change
-          c.loop-change.delivered.items c.loop-change.placed.items c.note.new.delivered.items c.note.new.placed.items c.loop-change.coming.items c.push.new.self.items c.in_ok-place.place
-          n c.in-Some.ensures.steps.0 (c.in_ok-place.ensures n.D n.V n.delivers n.places) c.in_ok-push.ensures.items;
-      count = places_pushed c.loop-change.coming.items c.push.new.self.items c.in-Some.change c.in_ok-place.place c.loop-change.reserved c.if-place.reserved c.loop-change.invariant.count c.in_ok-push.ensures.items
-          (elim c.if-place.branch [ then-place w ↦ inl (w.if-place.true, w.reserved-is) | else-place w ↦ inr (w.if-place.false, w.reserved-is) ]);
+          c.loop-change.delivered.items c.loop-change.slotted.items c.note.new.delivered.items c.note.new.slotted.items c.loop-change.coming.items c.push.new.self.items c.in_ok-slot.slot
+          n c.in-Some.ensures.steps.0 (c.in_ok-slot.ensures n.D n.V n.delivers n.slots) c.in_ok-push.ensures.items;
+      count = slots_pushed c.loop-change.coming.items c.push.new.self.items c.in-Some.change c.in_ok-slot.slot c.loop-change.reserved c.if-slot.reserved c.loop-change.invariant.count c.in_ok-push.ensures.items
+          (elim c.if-slot.branch [ then-slot w ↦ inl (w.if-slot.true, w.reserved-is) | else-slot w ↦ inr (w.if-slot.false, w.reserved-is) ]);
     }

@@ -1,10 +1,10 @@
 use Rattle.std.proofs.Common.{◌≡◌}
-use Rattle.tp_receive.specs.Delivery.{places}
+use Rattle.tp_receive.specs.Delivery.{slots}
 use Rattle.tp_receive.proofs.ComingLaws.{AreNoted}
 use Rattle.tp_receive.proofs.coming.reserve.Given as goal
 
 abbrev pub invariant-loop-change : goal.invariant-loop-change
 invariant-loop-change g l = record {
-  noted : AreNoted (g.R.Replica.applied l.replica) (g.R.Replica.waiting l.replica) l.fn.changes.items l.change-iterator.rest.items l.delivered.items l.placed.items l.coming.items;
-  count : l.reserved ≡ places l.coming.items;
+  noted : AreNoted (g.R.Replica.applied l.replica) (g.R.Replica.waiting l.replica) l.fn.changes.items l.change-iterator.rest.items l.delivered.items l.slotted.items l.coming.items;
+  count : l.reserved ≡ slots l.coming.items;
 }

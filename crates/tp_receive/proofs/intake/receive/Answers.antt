@@ -21,18 +21,18 @@ pub returns-in_err-held-clause-err : goal.returns-in_err-held-clause-err
 returns-in_err-held-clause-err g c =
     let R = g.R.Replica in
     fails_at g.K.Keeper.keeps g.K.Keeper.refuses (begin c.args.keeper.now (R.applied c.args.replica.now) (R.waiting c.args.replica.now) c.args.changes.items)
-    (intake c.take_all.new.keeper (R.applied c.take_all.new.replica) (R.waiting c.take_all.new.replica) _ c.take_all.new.told.applied.items c.take_all.new.told.refused.items)
+    (intake c.take_all.new.keeper (R.applied c.take_all.new.replica) (R.waiting c.take_all.new.replica) _ c.take_all.new.reported.applied.items c.take_all.new.reported.refused.items)
     c.from_residual-in_err-held.result
-    (Run-begun g.K.Keeper.keeps c.args.keeper.now (R.applied c.args.replica.now) (R.waiting c.args.replica.now) c.args.changes.items c.in_ok-coming.coming.changes.items c.new-told.result.applied.items c.new-told.result.refused.items _
-    c.in_ok-coming.ensures.changes c.new-told.ensures.applied c.new-told.ensures.refused c.in_ok-take_all.ensures.ok)
+    (Run-begun g.K.Keeper.keeps c.args.keeper.now (R.applied c.args.replica.now) (R.waiting c.args.replica.now) c.args.changes.items c.in_ok-coming.coming.changes.items c.new-reported.result.applied.items c.new-reported.result.refused.items _
+    c.in_ok-coming.ensures.changes c.new-reported.ensures.applied c.new-reported.ensures.refused c.in_ok-take_all.ensures.ok)
     c.from_residual-in_err-held.ensures.1
 
 pub returns-clause-ok : goal.returns-clause-ok
 returns-clause-ok g c =
     let R = g.R.Replica in
     record {
-      run = Run-begun g.K.Keeper.keeps c.args.keeper.now (R.applied c.args.replica.now) (R.waiting c.args.replica.now) c.args.changes.items c.in_ok-coming.coming.changes.items c.new-told.result.applied.items c.new-told.result.refused.items _
-          c.in_ok-coming.ensures.changes c.new-told.ensures.applied c.new-told.ensures.refused c.in_ok-take_all.ensures.ok;
+      run = Run-begun g.K.Keeper.keeps c.args.keeper.now (R.applied c.args.replica.now) (R.waiting c.args.replica.now) c.args.changes.items c.in_ok-coming.coming.changes.items c.new-reported.result.applied.items c.new-reported.result.refused.items _
+          c.in_ok-coming.ensures.changes c.new-reported.ensures.applied c.new-reported.ensures.refused c.in_ok-take_all.ensures.ok;
       ends = record { settled = c.in_ok-take_all.ensures.settled; came = refl };
       held_are = rw (c.deref-2.ensures.value, c.in_ok-came.ensures, c.deref.ensures.value, c.pending-2.ensures.pending) at c.in_ok-held.ensures;
       once = held_each _ c.pending-2.result.now (R.waiting c.take_all.new.replica) c.in_ok-held.held.items c.in_ok-held.ensures c.pending-2.ensures.pending c.pending-2.ensures.once;
@@ -42,5 +42,5 @@ pub returns-clause-kept : goal.returns-clause-kept
 returns-clause-kept g c =
     let R = g.R.Replica in
     kept_new g.K.Keeper.keeps c.args.keeper.now (R.applied c.args.replica.now) (R.waiting c.args.replica.now) c.args.changes.items _
-    (Run-begun g.K.Keeper.keeps c.args.keeper.now (R.applied c.args.replica.now) (R.waiting c.args.replica.now) c.args.changes.items c.in_ok-coming.coming.changes.items c.new-told.result.applied.items c.new-told.result.refused.items _
-    c.in_ok-coming.ensures.changes c.new-told.ensures.applied c.new-told.ensures.refused c.in_ok-take_all.ensures.ok)
+    (Run-begun g.K.Keeper.keeps c.args.keeper.now (R.applied c.args.replica.now) (R.waiting c.args.replica.now) c.args.changes.items c.in_ok-coming.coming.changes.items c.new-reported.result.applied.items c.new-reported.result.refused.items _
+    c.in_ok-coming.ensures.changes c.new-reported.ensures.applied c.new-reported.ensures.refused c.in_ok-take_all.ensures.ok)

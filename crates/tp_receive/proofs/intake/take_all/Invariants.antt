@@ -1,5 +1,5 @@
 use Rattle.std.proofs.Common.{◌≡◌}
-use Rattle.tp_receive.specs.Delivery.{places}
+use Rattle.tp_receive.specs.Delivery.{slots}
 use Rattle.tp_receive.specs.Receiving.{AllWait}
 use Rattle.tp_receive.specs.Intake.{Run, intake}
 use Rattle.tp_receive.proofs.intake.take_all.Given as goal
@@ -8,8 +8,8 @@ abbrev pub invariant-loop-change : goal.invariant-loop-change
 invariant-loop-change g l = record {
   id : g.R.Replica.id l.replica ≡ g.R.Replica.id l.fn.replica;
   run : Run g.K.Keeper.keeps
-      (intake l.fn.keeper (g.R.Replica.applied l.fn.replica) (g.R.Replica.waiting l.fn.replica) l.fn.coming.changes.items l.fn.told.applied.items l.fn.told.refused.items)
-      (intake l.keeper (g.R.Replica.applied l.replica) (g.R.Replica.waiting l.replica) l.change-iterator.rest.items l.told.applied.items l.told.refused.items);
+      (intake l.fn.keeper (g.R.Replica.applied l.fn.replica) (g.R.Replica.waiting l.fn.replica) l.fn.coming.changes.items l.fn.reported.applied.items l.fn.reported.refused.items)
+      (intake l.keeper (g.R.Replica.applied l.replica) (g.R.Replica.waiting l.replica) l.change-iterator.rest.items l.reported.applied.items l.reported.refused.items);
   settled : AllWait (g.R.Replica.applied l.replica) (g.R.Replica.waiting l.replica);
-  count : l.reserved ≡ places l.change-iterator.rest.items;
+  count : l.reserved ≡ slots l.change-iterator.rest.items;
 }

@@ -7,7 +7,7 @@ use Rattle.tp_receive.proofs.settle.settle.Goals as goal
 pub returns-in_err-i-clause-err : goal.returns-in_err-i-clause-err
 returns-in_err-i-clause-err g c P =
     let R = g.R.Replica in
-    let here = intake c.loop-i.keeper (R.applied c.loop-i.replica) (R.waiting c.loop-i.replica) P c.loop-i.told.applied.items c.loop-i.told.refused.items in
+    let here = intake c.loop-i.keeper (R.applied c.loop-i.replica) (R.waiting c.loop-i.replica) P c.loop-i.reported.applied.items c.loop-i.reported.refused.items in
     stops_later g.K.Keeper.keeps g.K.Keeper.refuses _ here c.loop-i.keeper (R.applied c.loop-i.replica) (R.waiting c.loop-i.replica) c.from_residual.result (c.loop-i.invariant.run P)
     (stops_for_memory g.K.Keeper.keeps g.K.Keeper.refuses here c.loop-i.keeper (R.applied c.loop-i.replica) (R.waiting c.loop-i.replica) c.from_residual.result c.in_err-i.field-0.0
     c.in_err-i.ensures.err refl refl refl c.from_residual.ensures.1)

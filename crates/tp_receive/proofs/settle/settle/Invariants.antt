@@ -7,8 +7,8 @@ abbrev pub invariant-loop-i : goal.invariant-loop-i
 invariant-loop-i g l = record {
   id : g.R.Replica.id l.replica ≡ g.R.Replica.id l.initial.replica;
   run : (P : List (ChangeParts × Bool)) → Run g.K.Keeper.keeps
-      (intake l.initial.keeper (g.R.Replica.applied l.initial.replica) (g.R.Replica.waiting l.initial.replica) P l.initial.told.applied.items l.initial.told.refused.items)
-      (intake l.keeper (g.R.Replica.applied l.replica) (g.R.Replica.waiting l.replica) P l.told.applied.items l.told.refused.items);
+      (intake l.initial.keeper (g.R.Replica.applied l.initial.replica) (g.R.Replica.waiting l.initial.replica) P l.initial.reported.applied.items l.initial.reported.refused.items)
+      (intake l.keeper (g.R.Replica.applied l.replica) (g.R.Replica.waiting l.replica) P l.reported.applied.items l.reported.refused.items);
 }
 
 abbrev pub decreases-loop-i : goal.decreases-loop-i

@@ -4,7 +4,7 @@ use Rattle.tp_graph.specs.Fit.{cause}
 use Rattle.tp_receive.specs.Receiving.{lacks_deps}
 use Rattle.tp_receive.specs.Intake.{intake}
 use Rattle.tp_receive.proofs.WaitLaws.{slice_get_there}
-use Rattle.tp_receive.proofs.TakingLaws.{stops_for_memory, turn_entered, turn_refused, turn_stopped, turn_untold}
+use Rattle.tp_receive.proofs.TakingLaws.{stops_for_memory, turn_entered, turn_refused, turn_stopped, turn_unreported}
 use Rattle.tp_receive.proofs.settle.settle_one.Goals as goal
 
 from_ok : (P : Type 0) (r : Result (Unit {0}) GraphError) → OnOk r P → IsOk r → P
@@ -27,7 +27,7 @@ pub returns-in_err-judge-clause-err : goal.returns-in_err-judge-clause-err
 returns-in_err-judge-clause-err g c P =
     let R = g.R.Replica in
     stops_for_memory g.K.Keeper.keeps g.K.Keeper.refuses
-    (intake c.args.keeper.now (R.applied c.args.replica.now) (R.waiting c.args.replica.now) P c.args.told.now.applied.items c.args.told.now.refused.items)
+    (intake c.args.keeper.now (R.applied c.args.replica.now) (R.waiting c.args.replica.now) P c.args.reported.now.applied.items c.args.reported.now.refused.items)
     c.args.keeper.now (R.applied c.ready_waiting.new.self) (R.waiting c.ready_waiting.new.self) c.from_residual.result c.in_err-judge.field-0.0
     c.in_err-judge.ensures.err refl c.ready_waiting.ensures.applied c.ready_waiting.ensures.waiting c.from_residual.ensures.1
 
@@ -36,7 +36,7 @@ returns-in-Enters-clause-ok g c P =
     let R = g.R.Replica in
     turn_entered g.K.Keeper.keeps c.args.keeper.now c.enter_waiting.new.keeper (R.applied c.args.replica.now) (R.applied c.enter_waiting.new.replica)
     (R.waiting c.args.replica.now) (R.waiting c.enter_waiting.new.replica) c.args.i P
-    c.args.told.now.applied.items c.enter_waiting.new.told.applied.items c.args.told.now.refused.items c.enter_waiting.new.told.refused.items c.enter_waiting.result
+    c.args.reported.now.applied.items c.enter_waiting.new.reported.applied.items c.args.reported.now.refused.items c.enter_waiting.new.reported.refused.items c.enter_waiting.result
     c.requires (rw (c.ready_waiting.ensures.waiting, c.ready_waiting.ensures.applied) at c.enter_waiting.ensures.ok)
     (rw c.ready_waiting.ensures.waiting at c.enter_waiting.ensures.out)
 
@@ -44,7 +44,7 @@ pub returns-in-Enters-clause-err : goal.returns-in-Enters-clause-err
 returns-in-Enters-clause-err g c P =
     let R = g.R.Replica in
     turn_stopped g.K.Keeper.keeps g.K.Keeper.refuses c.args.keeper.now c.enter_waiting.new.keeper (R.applied c.args.replica.now) (R.applied c.enter_waiting.new.replica)
-    (R.waiting c.args.replica.now) (R.waiting c.enter_waiting.new.replica) c.args.i P c.args.told.now.applied.items c.args.told.now.refused.items c.enter_waiting.result
+    (R.waiting c.args.replica.now) (R.waiting c.enter_waiting.new.replica) c.args.i P c.args.reported.now.applied.items c.args.reported.now.refused.items c.enter_waiting.result
     c.requires (rw (c.ready_waiting.ensures.waiting, c.ready_waiting.ensures.applied) at c.enter_waiting.ensures.err)
     (rw c.ready_waiting.ensures.applied at c.enter_waiting.ensures.applied) (rw c.ready_waiting.ensures.waiting at c.enter_waiting.ensures.waiting)
 
@@ -53,15 +53,15 @@ returns-in-Refused-clause-ok g c P =
     let R = g.R.Replica in
     turn_refused g.K.Keeper.keeps c.args.keeper.now (R.applied c.args.replica.now) (R.applied c.refuse_waiting.new.replica)
     (R.waiting c.args.replica.now) (R.waiting c.refuse_waiting.new.replica) c.args.i c.in-Refused.error P
-    c.args.told.now.applied.items c.refuse_waiting.new.told.applied.items c.args.told.now.refused.items c.refuse_waiting.new.told.refused.items c.refuse_waiting.result
+    c.args.reported.now.applied.items c.refuse_waiting.new.reported.applied.items c.args.reported.now.refused.items c.refuse_waiting.new.reported.refused.items c.refuse_waiting.result
     c.requires (λ x get. rw c.in-Refused.is at (c.in_ok-judge.ensures.ok (cause (R.applied c.args.replica.now) x) (c.ready_waiting.ensures.answers x get)))
-    (rw c.ready_waiting.ensures.waiting at c.refuse_waiting.ensures.ok) c.refuse_waiting.ensures.told
+    (rw c.ready_waiting.ensures.waiting at c.refuse_waiting.ensures.ok) c.refuse_waiting.ensures.reported
     (c.refuse_waiting.ensures.applied ∙ c.ready_waiting.ensures.applied) (rw c.ready_waiting.ensures.waiting at c.refuse_waiting.ensures.out)
 
 pub returns-in-Refused-clause-err : goal.returns-in-Refused-clause-err
 returns-in-Refused-clause-err g c P =
     let R = g.R.Replica in
-    turn_untold g.K.Keeper.keeps g.K.Keeper.refuses
-    (intake c.args.keeper.now (R.applied c.args.replica.now) (R.waiting c.args.replica.now) P c.args.told.now.applied.items c.args.told.now.refused.items)
+    turn_unreported g.K.Keeper.keeps g.K.Keeper.refuses
+    (intake c.args.keeper.now (R.applied c.args.replica.now) (R.waiting c.args.replica.now) P c.args.reported.now.applied.items c.args.reported.now.refused.items)
     c.args.keeper.now (R.applied c.refuse_waiting.new.replica) (R.waiting c.refuse_waiting.new.replica) c.refuse_waiting.result
     c.refuse_waiting.ensures.err refl (c.refuse_waiting.ensures.applied ∙ c.ready_waiting.ensures.applied) (rw c.ready_waiting.ensures.waiting at c.refuse_waiting.ensures.waiting)

@@ -1,5 +1,5 @@
 use Rattle.tp_opid.specs.declared.op_id.Place.TheVariants.{After}
-use Rattle.tp_opid.specs.Tree.{HasPlace}
+use Rattle.tp_opid.specs.Tree.{HasReference}
 use Rattle.tp_rga.specs.Order.{Leads}
 use Rattle.tp_rga.proofs.ByChains.{rank}
 use Rattle.tp_rga.proofs.by_chains.chain_of.Given as goal
@@ -7,7 +7,7 @@ use Rattle.tp_rga.proofs.by_chains.chain_of.Given as goal
 -- the chain leads from the place that was reached to the element
 abbrev pub invariant-loop-place : goal.invariant-loop-place
 invariant-loop-place l = record {
-  there : HasPlace l.inserts l.place;
+  there : HasReference l.inserts l.place;
   leads : Leads l.inserts l.place l.chain.items (After l.id);
 }
 

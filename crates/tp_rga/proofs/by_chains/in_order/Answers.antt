@@ -4,15 +4,15 @@ use Rattle.tp_rga.proofs.ByChains.{read_as, read_member, part_members, put_sorte
 use Rattle.tp_rga.proofs.by_chains.in_order.Goals.{then-not-contains+in_ok-at+in_ok-insert, else-not-contains}
 use Rattle.tp_rga.proofs.by_chains.in_order.Goals as goal
 
-pub place_in-requires-clause-there : goal.place_in-requires-clause-there
-place_in-requires-clause-there c =
+pub index_in-requires-clause-there : goal.index_in-requires-clause-there
+index_in-requires-clause-there c =
     let S = c.args.inserts.now in
     let x : Insert = record { id = c.e.inside.id; after = c.e.inside.after; ch = c.e.inside.ch } in
     let at = read_as S c.loop-i.i x c.index-inserts-i.result c.e.view_is c.index-inserts-i.is in
     IsThere-member S x (read_member S S (λ w i. i) c.loop-i.i x c.loop-i-test.true at)
 
-pub place_in-requires-clause-part : goal.place_in-requires-clause-part
-place_in-requires-clause-part c = rw c.deref-then-not-contains.ensures.value (part_members c.args.inserts.now c.loop-i.i c.loop-i.list.items c.loop-i.invariant.same)
+pub index_in-requires-clause-part : goal.index_in-requires-clause-part
+index_in-requires-clause-part c = rw c.deref-then-not-contains.ensures.value (part_members c.args.inserts.now c.loop-i.i c.loop-i.list.items c.loop-i.invariant.same)
 
 pub loop-i-preserved : goal.loop-i-preserved
 loop-i-preserved c =

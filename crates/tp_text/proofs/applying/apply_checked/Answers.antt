@@ -7,7 +7,7 @@ use Rattle.tp_change.specs.Operations.{ops_of, id_of}
 use Rattle.tp_change.specs.Elements.{deletes_in, refers}
 use Rattle.tp_change.proofs.ElementLaws.{deletes_in-append}
 use Rattle.tp_change.proofs.Numbered.{Numbered-ops_of, Numbered}
-use Rattle.tp_text.specs.Applying.{CanApply, Extends, AllUnder, IsBegun, IsLeft}
+use Rattle.tp_text.specs.Applying.{CanApply, Extends, AllUnder, IsPartlyApplied, IsRemainder}
 use Rattle.tp_text.proofs.Applied.{Extends-join, Extends-none}
 use Rattle.tp_text.proofs.Checked.{CanApply-next, Numbered-rest, AllUnder-next, refers-next}
 use Rattle.tp_text.proofs.applying.apply_checked.Goals as goal
@@ -65,7 +65,7 @@ loop-op-preserved g c =
           ∙ ap (λ l. removals c.args.sequence.now ++ l) (sym (deletes_in-append done (op ∷ [])));
     }
 
-left_err : {E : Type 0} (new : List Insert) (r : Result Bool E) (op : Op) (rest : List Op) → IsErr r → IsLeft new r (op ∷ rest)
+left_err : {E : Type 0} (new : List Insert) (r : Result Bool E) (op : Op) (rest : List Op) → IsErr r → IsRemainder new r (op ∷ rest)
 left_err new (Ok all) op rest h = cc
 left_err new (Err e) op rest h = (op, rest, refl)
 
@@ -75,7 +75,7 @@ returns-in_err-reserve-clause-begun g c =
     let done = c.loop-op.yielded in
     let left = c.in-Some.op ∷ c.next.new.self in
     let held = c.loop-op.invariant in
-    let begun : IsBegun start (g.S.Sequence.placed c.reserve.new.self) (g.S.Sequence.removals c.args.sequence.now) (g.S.Sequence.removals c.reserve.new.self) (ops_of c.args.change.now) done left =
+    let begun : IsPartlyApplied start (g.S.Sequence.placed c.reserve.new.self) (g.S.Sequence.removals c.args.sequence.now) (g.S.Sequence.removals c.reserve.new.self) (ops_of c.args.change.now) done left =
     record {
       whole = ap (λ l. done ++ l) (sym c.in-Some.ensures.steps) ∙ held.split;
       elements = subst (λ l. Extends start l done) (sym c.reserve.ensures.placed) held.elements;

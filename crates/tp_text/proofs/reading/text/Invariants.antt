@@ -6,7 +6,7 @@ use Rattle.tp_text.specs.Text.{chars_of}
 use Rattle.tp_text.proofs.reading.text.Given as goal
 
 -- the text so far is that of the elements so far
-abbrev pub invariant-loop-place : goal.invariant-loop-place
-invariant-loop-place g l =
+abbrev pub invariant-loop-index : goal.invariant-loop-index
+invariant-loop-index g l =
     let placed = g.S.Sequence.placed l.sequence in
-    string_bytes l.text ≡ encode_utf8_all (chars_of (shown (g.S.Sequence.removals l.sequence) (take l.place placed)))
+    string_bytes l.text ≡ encode_utf8_all (chars_of (shown (g.S.Sequence.removals l.sequence) (take l.index placed)))

@@ -3,7 +3,7 @@ use Rattle.std.proofs.lemmas.Result.{err_from_is_err_and}
 use Rattle.tp_change.specs.declared.parts.ChangeParts.{ChangeParts}
 use Rattle.tp_change.specs.declared.error.ChangeError.{ChangeError}
 use Rattle.tp_change.specs.ChangeHash.{hash_of}
-use Rattle.tp_change.specs.Gives.{Fails}
+use Rattle.tp_change.specs.Gives.{FailsWith}
 use Rattle.tp_change.specs.Reading.{change_at}
 use Rattle.tp_change.proofs.WholeChange.{change_takes, change_again}
 use Rattle.tp_change.proofs.change.Change.decode.Goals as goal
@@ -11,7 +11,7 @@ use Rattle.tp_change.proofs.change.Change.decode.Goals as goal
 pub returns-in_err-parts-clause-only : goal.returns-in_err-parts-clause-only
 returns-in_err-parts-clause-only c = λ d is e.
     let p = err_from_is_err_and c.from_residual.result c.from_residual.ensures.1 in
-    rw (p.1, p.2) (subst (λ (r : Result ChangeParts ChangeError). Fails c.in_err-parts.field-0.0 r) (ap change_at e ∙ change_again d is) c.in_err-parts.ensures)
+    rw (p.1, p.2) (subst (λ (r : Result ChangeParts ChangeError). FailsWith c.in_err-parts.field-0.0 r) (ap change_at e ∙ change_again d is) c.in_err-parts.ensures)
 
 pub invariant_of-result : goal.invariant_of-result
 unfolding hash_of

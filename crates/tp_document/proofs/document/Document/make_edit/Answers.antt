@@ -21,19 +21,19 @@ pub change_of-requires-clause-within : goal.change_of-requires-clause-within
 change_of-requires-clause-within g c =
     (subst (λ b. IsAllowed c.self.inside.graph.applied c.args.splices.now (chars c.args.message.now) (Ok b)) c.in-Ok-true.field-0-test c.in-Ok-true.ensures) c.args.actor c.args.time
 
-pub returns-in-Ok-judge_change : goal.returns-in-Ok-judge_change
-returns-in-Ok-judge_change g c =
+pub returns-in-Ok-unless_shut : goal.returns-in-Ok-unless_shut
+returns-in-Ok-unless_shut g c =
     let C = c.self.inside.graph.applied in
     let asked = asking c.args.actor c.args.splices.now c.args.time (chars c.args.message.now) in
     let w : IsWithinSize C asked c.in-Ok.change = c.in-Ok.ensures in
     let range : AreInRange C c.args.splices.now = w.size.before.before.asks.range in
     let h = c.self.invariant in
-    subst (λ (d : DocState). Edited d.applied asked c.in-Ok-judge_change.change) c.self.view_is
-    (subst (λ (y : ChangeParts). Edited C asked y) (sym c.in-Ok-judge_change.ensures.0)
+    subst (λ (d : DocState). Edited d.applied asked c.in-Ok-unless_shut.change) c.self.view_is
+    (subst (λ (y : ChangeParts). Edited C asked y) (sym c.in-Ok-unless_shut.ensures.0)
     (record {
       edit = w.edit;
       range = range;
       some = w.size.before.before.asks.some;
       limits = w.limits;
-      enters = edit_enters C asked c.in-Ok.change h.sound w.edit range c.in-Ok-judge_change.ensures.2 c.in-Ok-judge_change.ensures.1;
+      enters = edit_enters C asked c.in-Ok.change h.sound w.edit range c.in-Ok-unless_shut.ensures.2 c.in-Ok-unless_shut.ensures.1;
     }))

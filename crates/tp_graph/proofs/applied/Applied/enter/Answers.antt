@@ -5,7 +5,7 @@ use Rattle.tp_change.specs.ChangeHash.{hash_of}
 use Rattle.tp_graph.specs.Fit.{cause, most_changes}
 use Rattle.tp_graph.specs.Sound.{Fits}
 use Rattle.tp_graph.specs.AppliedState.{AppliedState, HasRoom}
-use Rattle.tp_graph.proofs.KeptLaws.{IsKept-entered, Fits-from_cause, room_for_one}
+use Rattle.tp_graph.proofs.KeptLaws.{IsGraphIndex-entered, Fits-from_cause, room_for_one}
 use Rattle.tp_graph.proofs.applied.Applied.enter.Goals as goal
 
 pub put_in_order-requires-clause-few : goal.put_in_order-requires-clause-few
@@ -28,7 +28,7 @@ invariant_of-self c =
     subst (λ (o : Option Hash). HasRoom o (vec_len g.changes) g.index (vec_capacity g.changes) (vec_len g.heads) (vec_capacity g.heads) (vec_len g.ends) (vec_capacity g.ends) (vec_len g.order) (vec_capacity g.order)) room_is c.self.invariant.1 in
     let whole : vec_len g.changes ≡ length g.changes.items = omega (arith, g.changes.ok.0) in
     let none : cause g.changes.items c.args.change ≡ None = ap (λ (s : AppliedState). cause s.changes c.args.change) c.self.view_is ∙ c.requires.enters in (
-      IsKept-entered g.changes.items c.args.change g.heads.items g.index g.ends.items g.next g.order.items
+      IsGraphIndex-entered g.changes.items c.args.change g.heads.items g.index g.ends.items g.next g.order.items
           c.push_within-2.new.items.items c.move_on.new.heads.items c.push_within.new.items.items c.later-self-inside.result c.put_in_order.new.order.items c.hash.result c.deps.result.now c.next_start-end.result
           c.self.invariant.0 none (room.0 ∙ ap Some whole) c.hash.ensures.hash c.deps.ensures c.next_start-end.ensures
           c.push_within-2.ensures c.move_on.ensures c.push_within.ensures c.later-self-inside.ensures (rw c.as_slice.ensures.value at c.put_in_order.ensures),

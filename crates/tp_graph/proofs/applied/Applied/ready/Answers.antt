@@ -2,7 +2,7 @@ use Rattle.std.proofs.Common.{◌≡◌, ◌∙◌, ap, sym, Some, None, false}
 use Rattle.tp_graph.specs.Fit.{cause}
 use Rattle.tp_graph.specs.Named.{has}
 use Rattle.tp_graph.specs.AppliedState.{AppliedState}
-use Rattle.tp_graph.proofs.KeptLaws.{IsKept-noted, noted_itself, Fits-from_cause}
+use Rattle.tp_graph.proofs.KeptLaws.{IsGraphIndex-noted, noted_itself, Fits-from_cause}
 use Rattle.tp_graph.proofs.applied.Applied.ready.Goals as goal
 
 pub invariant_of-self-2 : goal.invariant_of-self-2
@@ -10,7 +10,7 @@ invariant_of-self-2 c =
     let g = c.self.inside in
     let none : cause g.changes.items c.args.change.now ≡ None = ap (λ (s : AppliedState). cause s.changes c.args.change.now) c.self.view_is ∙ c.in_ok-check.ensures.answers in
     let lacks : has g.changes.items c.hash-hash.result ≡ false = ap (has g.changes.items) c.hash-hash.ensures.hash ∙ (Fits-from_cause g.changes.items c.args.change.now none).new in
-    let kept = IsKept-noted g.changes.items g.heads.items g.index c.note.new.self g.ends.items g.next g.order.items c.hash-hash.result c.len-place.result c.self.invariant.0 lacks c.in_ok-note.ensures.ok in
+    let kept = IsGraphIndex-noted g.changes.items g.heads.items g.index c.note.new.self g.ends.items g.next g.order.items c.hash-hash.result c.len-place.result c.self.invariant.0 lacks c.in_ok-note.ensures.ok in
     let grown = c.grow.ensures in
     let room = c.in_ok-grow.ensures.room in (
       rw (grown.changes, grown.heads, grown.ends, grown.order) kept,

@@ -3,7 +3,7 @@ use Rattle.std.proofs.Common.{◌<◌, ℕ, List, subst, sym, ◌∙◌, ap, ari
 use Rattle.tp_list.specs.Members.{In}
 use Rattle.tp_posindex.specs.Laid.{Layout, IsNumbered}
 use Rattle.tp_posindex.specs.Layout.{joined, block_at}
-use Rattle.tp_posindex.proofs.Joining.{In-joined, In-block, place_at-within}
+use Rattle.tp_posindex.proofs.Joining.{In-joined, In-block, index_at-within}
 use Rattle.tp_posindex.proofs.Laying.{order_within, block_read, length-laid}
 use Rattle.tp_posindex.proofs.blocks.Blocks.block.Goals as goal
 
@@ -34,5 +34,5 @@ returns-clause-fits c =
     let bs = c.args.self.now.blocks in
     let numbered : IsNumbered (length s.deleted.items) (joined bs) = subst (λ (v : Layout). IsNumbered (length s.deleted.items) (joined v.blocks)) c.self.view_is c.self.invariant.numbered in
     let is = ap length (returns-clause-value c) in
-    let within = place_at-within bs c.args.block (length c.numbers.result.now) c.requires (omega (arith, is)) in
+    let within = index_at-within bs c.args.block (length c.numbers.result.now) c.requires (omega (arith, is)) in
     omega (arith, within, numbered.many)

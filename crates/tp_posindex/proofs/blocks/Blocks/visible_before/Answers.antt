@@ -1,6 +1,6 @@
 use Rattle.std.proofs.Common.{◌≡◌, ◌<◌, ◌+◌, ◌^◌, ℕ, List, Bool, map, sum, take, ◌∙◌, ap, subst, arith, length, length-take}
 use Rattle.tp_posindex.specs.Laid.{Layout, count_of}
-use Rattle.tp_posindex.specs.Layout.{joined, block_at, place_at}
+use Rattle.tp_posindex.specs.Layout.{joined, block_at, index_at}
 use Rattle.tp_posindex.proofs.Laying.{counts_before, count_before, count-le}
 use Rattle.tp_posindex.proofs.blocks.Blocks.visible_before.Goals as goal
 
@@ -10,10 +10,10 @@ total-requires c =
     let bs = c.args.self.now.blocks in
     let f = c.args.self.now.flags in
     let counted = subst (λ (v : Layout). s.visible.items ≡ map (count_of v.flags) v.blocks) c.self.view_is c.self.invariant.counted in
-    let front = joined (take c.args.spot.block bs) in
-    let is : sum (take c.args.spot.block c.deref.result.now) ≡ count_of f front = ap (λ (z : List ℕ). sum (take c.args.spot.block z)) (c.deref.ensures.value ∙ counted) ∙ counts_before f bs c.args.spot.block in
-    let le = count-le f front in
-    let fits : place_at bs c.args.spot.block (length c.block-numbers.result.now) < 2 ^ 64 = c.block-numbers.ensures.fits in
+    let prefix = joined (take c.args.spot.block bs) in
+    let is : sum (take c.args.spot.block c.deref.result.now) ≡ count_of f prefix = ap (λ (z : List ℕ). sum (take c.args.spot.block z)) (c.deref.ensures.value ∙ counted) ∙ counts_before f bs c.args.spot.block in
+    let le = count-le f prefix in
+    let fits : index_at bs c.args.spot.block (length c.block-numbers.result.now) < 2 ^ 64 = c.block-numbers.ensures.fits in
     omega (arith, is, le, fits)
 
 pub overflow_add-result : goal.overflow_add-result
@@ -22,12 +22,12 @@ overflow_add-result c =
     let bs = c.args.self.now.blocks in
     let f = c.args.self.now.flags in
     let counted = subst (λ (v : Layout). s.visible.items ≡ map (count_of v.flags) v.blocks) c.self.view_is c.self.invariant.counted in
-    let front = joined (take c.args.spot.block bs) in
-    let is : sum (take c.args.spot.block c.deref.result.now) ≡ count_of f front = ap (λ (z : List ℕ). sum (take c.args.spot.block z)) (c.deref.ensures.value ∙ counted) ∙ counts_before f bs c.args.spot.block in
-    let le = count-le f front in
+    let prefix = joined (take c.args.spot.block bs) in
+    let is : sum (take c.args.spot.block c.deref.result.now) ≡ count_of f prefix = ap (λ (z : List ℕ). sum (take c.args.spot.block z)) (c.deref.ensures.value ∙ counted) ∙ counts_before f bs c.args.spot.block in
+    let le = count-le f prefix in
     let part = count-le c.deref-2.result.now (take c.args.spot.offset c.block-numbers.result.now) in
     let short = length-take c.args.spot.offset c.block-numbers.result.now in
-    let fits : place_at bs c.args.spot.block (length c.block-numbers.result.now) < 2 ^ 64 = c.block-numbers.ensures.fits in
+    let fits : index_at bs c.args.spot.block (length c.block-numbers.result.now) < 2 ^ 64 = c.block-numbers.ensures.fits in
     omega (arith, is, le, fits, part, short, c.total.ensures, c.count_down.ensures)
 
 pub returns : goal.returns

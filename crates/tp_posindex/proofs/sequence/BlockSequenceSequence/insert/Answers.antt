@@ -3,8 +3,8 @@ use Rattle.std.proofs.Common.{◌+◌, ◌≡◌, ℕ, List, Bool, [], ◌∷◌
 use Rattle.std.proofs.lemmas.List.{length-map}
 use Rattle.tp_opid.specs.Insert.{Insert}
 use Rattle.tp_rga.specs.Order.{IsInserted}
-use Rattle.tp_rga.proofs.Keeping.{IsKept-left}
-use Rattle.tp_posindex.specs.Layout.{joined, place_at}
+use Rattle.tp_rga.proofs.PlainStates.{IsPlainState-left}
+use Rattle.tp_posindex.specs.Layout.{joined, index_at}
 use Rattle.tp_posindex.specs.Laid.{flags_of}
 use Rattle.tp_posindex.specs.BlockState.{BlockState}
 use Rattle.tp_posindex.specs.Blocked.{element_at, pieces}
@@ -27,7 +27,7 @@ overflow_add-self c =
     let bs = s.blocks.blocks in
     let placed : List Insert = map (element_at E) (joined bs) in
     let seen : joined c.args.self.now.blocks ≡ placed = sym (ap (λ (v : BlockState). joined v.blocks) c.self.view_is) ∙ placed_is E bs in
-    let le = IsKept-left placed (flags_of s.blocks.flags (joined bs)) s.deletes.items s.left c.self.invariant.kept in
+    let le = IsPlainState-left placed (flags_of s.blocks.flags (joined bs)) s.deletes.items s.left c.self.invariant.kept in
     let size = length-map (joined bs) (element_at E) in
     let many = c.self.invariant.numbered.many in
     let x : Insert = record { id = c.args.id; after = c.args.after; ch = c.args.ch } in
@@ -42,7 +42,7 @@ invariant_of-self-2 c =
     let placed : List Insert = map (element_at E) (joined bs) in
     let seen : joined c.args.self.now.blocks ≡ placed = sym (ap (λ (v : BlockState). joined v.blocks) c.self.view_is) ∙ placed_is E bs in
     let x : Insert = record { id = c.args.id; after = c.args.after; ch = c.args.ch } in
-    let G = place_at c.reserve-2.new.self.blocks c.spot_for-spot.result.block c.spot_for-spot.result.offset in
+    let G = index_at c.reserve-2.new.self.blocks c.spot_for-spot.result.block c.spot_for-spot.result.offset in
     let items_is : c.push.new.self.items ≡ E ++ x ∷ [] = c.push.ensures.items ∙ ap (λ (z : List Insert). z ++ x ∷ []) c.reserve.ensures.items in
     let whole : joined c.put.new.self.blocks ≡ insert (joined bs) G (length s.blocks.flags) =
     c.put.ensures.joined ∙ ap (λ (z : List (List ℕ)). insert (joined z) G (length c.reserve-2.new.self.flags)) c.reserve-2.ensures.blocks ∙ ap (λ (z : List Bool). insert (joined bs) G (length z)) c.reserve-2.ensures.flags in
@@ -58,7 +58,7 @@ returns-clause-ok c =
     let placed : List Insert = map (element_at E) (joined bs) in
     let seen : joined c.args.self.now.blocks ≡ placed = sym (ap (λ (v : BlockState). joined v.blocks) c.self.view_is) ∙ placed_is E bs in
     let x : Insert = record { id = c.args.id; after = c.args.after; ch = c.args.ch } in
-    let G = place_at c.reserve-2.new.self.blocks c.spot_for-spot.result.block c.spot_for-spot.result.offset in
+    let G = index_at c.reserve-2.new.self.blocks c.spot_for-spot.result.block c.spot_for-spot.result.offset in
     let items_is : c.push.new.self.items ≡ E ++ x ∷ [] = c.push.ensures.items ∙ ap (λ (z : List Insert). z ++ x ∷ []) c.reserve.ensures.items in
     let whole : joined c.put.new.self.blocks ≡ insert (joined bs) G (length s.blocks.flags) =
     c.put.ensures.joined ∙ ap (λ (z : List (List ℕ)). insert (joined z) G (length c.reserve-2.new.self.flags)) c.reserve-2.ensures.blocks ∙ ap (λ (z : List Bool). insert (joined bs) G (length z)) c.reserve-2.ensures.flags in

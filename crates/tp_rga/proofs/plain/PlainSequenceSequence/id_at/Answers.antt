@@ -3,7 +3,7 @@ use Rattle.std.specs.Option.{option_map}
 use Rattle.tp_opid.specs.Insert.{Insert}
 use Rattle.tp_rga.specs.State.{State}
 use Rattle.tp_rga.specs.Shown.{shown}
-use Rattle.tp_rga.proofs.Keeping.{shown-found, shown-past}
+use Rattle.tp_rga.proofs.PlainStates.{shown-found, shown-past}
 use Rattle.tp_rga.proofs.plain.PlainSequenceSequence.id_at.Goals as goal
 
 pub returns-in-Some : goal.returns-in-Some

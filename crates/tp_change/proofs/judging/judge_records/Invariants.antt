@@ -1,9 +1,0 @@
-use Rattle.std.proofs.Common.{◌≡◌, take, drop}
-use Rattle.std.specs.List.{All}
-use Rattle.tp_change.specs.Judged.{judged_records}
-use Rattle.tp_change.specs.Limits.{IsTypedRecord}
-use Rattle.tp_change.proofs.judging.judge_records.Given as goal
-
-abbrev pub invariant-loop-entry : goal.invariant-loop-entry
-invariant-loop-entry l =
-    (judged_records l.room (drop l.entry-index l.records) ≡ judged_records l.initial.room l.records) × All IsTypedRecord (take l.entry-index l.records)

@@ -1,0 +1,152 @@
+//! What is wrong with the parts of a change.
+
+ghost use Rattle.std.specs.Prelude.{◌≡◌, ◌↔◌, ◌<◌, ◌^◌, ◌≤◌, IsTrue, OnOk, IfOk, IfErr, MatchResult, Ok, Err, List, length, true, nat_le, encode_utf8_all};
+ghost use Rattle.std.specs.Str.{all_scalars};
+ghost use Rattle.tp_change.specs.declared.limits.TheConstants.{MAX_MESSAGE_BYTES, COUNTERS_END};
+ghost use Rattle.tp_change.specs.declared.error.ChangeError.TheVariants.{Limit, OutOfMemory};
+ghost use Rattle.std.specs.List.{All};
+ghost use Rattle.std.specs.declared.cmp.Ordering.TheVariants.{Less};
+ghost use Rattle.tp_opid.specs.Order.{hash_cmp};
+ghost use Rattle.tp_change.specs.Validated.{unless, is_above, validated_numbers, validated_list, validated_deps, validated_record, validated_records, validated, rises_after};
+ghost use Rattle.tp_change.specs.Limits.{IsHash, IsChange, IsTypedRecord, IsTyped};
+ghost use Rattle.tp_change.specs.Operations.{count_in};
+
+use crate::error::ChangeError;
+use crate::facts::{of_16, of_32, ops_in};
+use crate::limits::{COUNTERS_END, MAX_BYTES, MAX_DEPS, MAX_MESSAGE_BYTES, MAX_OPS};
+use crate::parts::ChangeParts;
+use crate::record::Record;
+use crate::size::parts_len;
+use tp_list::{Items, Text};
+use tp_opid::Hash;
+
+/// The fault, unless the test holds.
+fn ensure(fine: bool, fault: ChangeError) -> Result<(), ChangeError>
+    ensures { result ≡ unless fine fault }
+{
+    if fine { Ok(()) } else { Err(fault) }
+}
+
+/// Whether a hash stands above the one before it, if there is one.
+fn is_next(before: Option<Hash>, hash: &Hash) -> bool
+    ensures { result ≡ is_above before hash.now }
+{
+    match before {
+        None => true,
+        Some(last) => last.order(hash).is_lt(),
+    }
+}
+
+/// Whether each hash stands above the one before it.
+fn do_rise(hashes: &[Hash]) -> bool
+    ensures value { result ≡ rises_after None hashes.now }
+    ensures bytes { IsTrue result → All IsHash hashes.now }
+{
+    let mut before = None;
+    for hash in hashes {
+        if !is_next(before, hash) {
+            return false;
+        }
+        let _bytes = of_32(hash.0);
+        before = Some(*hash);
+    }
+    true
+}
+
+/// At most so many dependencies, rising.
+fn validate_deps(deps: &Items<Hash>) -> Result<(), ChangeError>
+    ensures value { result ≡ validated_deps deps.now }
+    ensures bytes { OnOk result (All IsHash deps.now) }
+{
+    ensure(deps.len() <= MAX_DEPS, ChangeError::Limit)?;
+    ensure(do_rise(deps.as_slice()), ChangeError::DepsOrder)
+}
+
+/// How many operations the record is, of those that still have room.
+fn validate_record(room: usize, entry: &Record) -> Result<usize, ChangeError>
+    ensures value { MatchResult result (λ count. validated_record room entry.now ≡ Ok tt)
+        (λ e. validated_record room entry.now ≡ Err e) }
+    ensures count { IfOk result (λ count. (count ≡ count_in entry.now) × (count ≤ room)) }
+    ensures typed { OnOk result (IsTypedRecord entry.now) }
+{
+    let count = ops_in(entry);
+    ensure(0 < count, ChangeError::EmptyRun)?;
+    ensure(count <= room, ChangeError::Limit)?;
+    Ok(count)
+}
+
+/// Each record in turn, where room is how many operations may come.
+fn validate_records(room: usize, records: &[Record]) -> Result<(), ChangeError>
+    ensures value { result ≡ validated_records room records.now }
+    ensures typed { OnOk result (All IsTypedRecord records.now) }
+{
+    let mut room = room;
+    for entry in records {
+        room -= validate_record(room, entry)?;
+    }
+    Ok(())
+}
+
+/// The sequence number and the start.
+fn validate_numbers(seq: u64, start: u64) -> Result<(), ChangeError>
+    ensures { result ≡ validated_numbers seq start }
+{
+    ensure(0 < seq, ChangeError::ZeroSeqOrStart)?;
+    ensure(0 < start, ChangeError::ZeroSeqOrStart)?;
+    ensure(start < COUNTERS_END, ChangeError::Limit)
+}
+
+/// The length of the message.
+fn validate_message(message: &Text) -> Result<(), ChangeError>
+    ensures value { result ≡ unless
+        (nat_le (length (encode_utf8_all message.now)) MAX_MESSAGE_BYTES) Limit }
+    ensures typed { all_scalars message.now ≡ true }
+{
+    ensure(
+        message.as_str().len() <= MAX_MESSAGE_BYTES,
+        ChangeError::Limit,
+    )
+}
+
+/// The record count, and the records.
+fn validate_list(start: u64, records: &Items<Record>) -> Result<(), ChangeError>
+    requires { start < COUNTERS_END }
+    ensures value { result ≡ validated_list start records.now }
+    ensures typed { OnOk result (All IsTypedRecord records.now) }
+{
+    ensure(0 < records.len(), ChangeError::NoRecords)?;
+    ensure(records.len() <= MAX_OPS, ChangeError::Limit)?;
+    let left = COUNTERS_END - start;
+    let room = if left < MAX_OPS as u64 {
+        left as usize
+    } else {
+        MAX_OPS
+    };
+    validate_records(room, records.as_slice())
+}
+
+/// The whole size and then each field, with what the types say of them.
+#[tactic(auto, unfolding(crate::specs::Validated::validated))]
+fn validate_fields(parts: &ChangeParts) -> Result<(), ChangeError>
+    ensures value { result ≡ validated parts.now }
+    ensures typed { OnOk result (IsTyped parts.now) }
+{
+    ensure(parts_len(parts) <= MAX_BYTES, ChangeError::Limit)?;
+    validate_numbers(parts.seq, parts.start)?;
+    validate_message(&parts.message)?;
+    validate_deps(&parts.deps)?;
+    let _time = parts.time;
+    let _actor = of_16(parts.actor.0);
+    validate_list(parts.start, &parts.records)
+}
+
+/// The first fault of the parts: the whole size first, then each field in turn. No memory; the cost is that of
+/// going over the parts once.
+pub(crate) fn validate(parts: &ChangeParts) -> Result<(), ChangeError>
+    ensures value { result ≡ validated parts.now }
+    ensures within { OnOk result (IsChange parts.now) }
+    ensures only { IsChange parts.now → result ≡ Ok tt }
+    ensures memory { IfErr result (λ e. e ≡ OutOfMemory → ⊥) }
+{
+    validate_fields(parts)
+}
