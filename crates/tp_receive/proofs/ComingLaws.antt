@@ -1,17 +1,20 @@
 -- The loop that reserves slots.
-use Rattle.std.proofs.Common.{◌≡◌, ℕ, ◌+◌, ◌-◌, ◌⊎◌, inl, inr, List, [], ◌∷◌, ◌++◌, Bool, true, false, ◌||◌, cond, refl, sym, ap, ◌∙◌, arith, append_assoc, append-nil}
+use Rattle.std.proofs.Common.{◌≡◌, ℕ, ◌+◌, ◌-◌, ◌⊎◌, inl, inr, List, [], ◌∷◌, ◌++◌, Bool, true, false, ◌||◌, cond, refl, sym, ap, ◌∙◌, arith, subst, get_or, take, length, ◌<◌, append_assoc, append-nil}
+use Rattle.std.proofs.lemmas.List.{take_more}
 use Rattle.tp_opid.specs.declared.hash.Hash.{Hash}
 use Rattle.tp_change.specs.declared.parts.ChangeParts.{ChangeParts}
 use Rattle.tp_change.specs.ChangeHash.{hash_of}
+use Rattle.tp_opid.specs.Same.{same_hash}
 use Rattle.tp_graph.specs.Named.{among, has, has_all}
 use Rattle.tp_graph.proofs.NamedLaws.{has-append}
-use Rattle.tp_receive.specs.Receiving.{hashes}
 use Rattle.tp_receive.specs.Delivery.{delivery, with_slots, slots, takes_slot}
+use Rattle.tp_receive.specs.Receiving.{hashes, held_of}
+use Rattle.tp_receive.specs.HashSets.{has_hash, IsHashSetOf}
+use Rattle.tp_receive.proofs.HashLaws.{among-hashes}
 use Rattle.tp_receive.specs.Trying.{IsNoted}
-use Rattle.tp_receive.proofs.HashLaws.{among-hashes, hashes-append}
 
-pub has-both : (C D : List ChangeParts) (H : List Hash) (h : Hash) → H ≡ hashes D → has (C ++ D) h ≡ (has C h || among H h)
-has-both C D H h e = has-append C D h ∙ ap (λ b. has C h || b) (sym (among-hashes D h) ∙ ap (λ l. among l h) (sym e))
+pub has-both : (C D : List ChangeParts) (H : List Hash) (h : Hash) → IsHashSetOf H D → has (C ++ D) h ≡ (has C h || has_hash H h)
+has-both C D H h e = has-append C D h ∙ ap (λ b. has C h || b) (sym (e h))
 
 pub slots-append : (P Q : List (ChangeParts × Bool)) → slots (P ++ Q) ≡ slots P + slots Q
 slots-append [] Q = omega arith
@@ -35,19 +38,19 @@ slots_behind P Q c slot n m count is (inr h) = h.1 ∙ count ∙ ap slots is ∙
 
 -- D are the deliverable changes so far and V those with a slot, whose hashes are kept; what is noted so far and what is
 -- still to be noted are all.
-pub record AreNoted (C W K zs : List ChangeParts) (delivered placed : List Hash) (noted : List (ChangeParts × Bool)) : Type 0 where
+pub record AreNoted (C W K zs : List ChangeParts) (delivered slotted : List Hash) (noted : List (ChangeParts × Bool)) : Type 0 where
   pub D : List ChangeParts
   pub V : List ChangeParts
-  pub delivers : delivered ≡ hashes D
-  pub slots : placed ≡ hashes V
+  pub delivers : IsHashSetOf delivered D
+  pub slots : IsHashSetOf slotted V
   pub whole : noted ++ with_slots V (delivery (C ++ D) zs) ≡ with_slots W (delivery C K)
 
-pub AreNoted-first : (C V W K zs : List ChangeParts) (H G : List Hash) (P : List (ChangeParts × Bool)) → H ≡ [] → G ≡ hashes V → V ≡ W → P ≡ [] → zs ≡ K → AreNoted C W K zs H G P
-AreNoted-first C V W K zs H G P none placed waits new all = record {
+pub AreNoted-first : (C V W K zs : List ChangeParts) (H G : List Hash) (P : List (ChangeParts × Bool)) → H ≡ [] → IsHashSetOf G V → V ≡ W → P ≡ [] → zs ≡ K → AreNoted C W K zs H G P
+AreNoted-first C V W K zs H G P none slotted waits new all = record {
   D = [];
   V = W;
-  delivers = none;
-  slots = placed ∙ ap hashes waits;
+  delivers = subst (λ (l : List Hash). IsHashSetOf l []) (sym none) (λ h. refl);
+  slots = subst (IsHashSetOf G) waits slotted;
   whole = rw (new, all, append-nil C) refl;
 }
 
@@ -73,19 +76,61 @@ AreNoted-next C W K xs zs c H G H' G' P Q slot n is noted pushed =
 
 -- ---- what is noted of one change
 
-push_hash : (D : List ChangeParts) (c : ChangeParts) (H H' : List Hash) (h : Hash) → H ≡ hashes D → h ≡ hash_of c → H' ≡ H ++ h ∷ [] → H' ≡ hashes (D ++ c ∷ [])
-push_hash D c H H' h e is pushed = pushed ∙ ap (λ l. l ++ h ∷ []) e ∙ ap (λ (x : Hash). hashes D ++ x ∷ []) is ∙ sym (hashes-append D (c ∷ []))
+-- the set with the hash of one change more
+pub IsHashSetOf-push : (C : List ChangeParts) (c : ChangeParts) (H H' : List Hash) (h : Hash) → IsHashSetOf H C → h ≡ hash_of c
+    → ((x : Hash) → has_hash H' x ≡ (same_hash h x || has_hash H x)) → IsHashSetOf H' (C ++ c ∷ [])
+IsHashSetOf-push C c H H' h e is added x =
+    added x ∙ ap (λ (g : Hash). same_hash g x || has_hash H x) is ∙ ap (λ b. same_hash (hash_of c) x || b) (e x)
+    ∙ turned (same_hash (hash_of c) x) (has C x) ∙ sym (has-append C (c ∷ []) x) where
+      turned : (a b : Bool) → (a || b) ≡ (b || (a || false))
+      turned true true = refl
+      turned true false = refl
+      turned false true = refl
+      turned false false = refl
 
-pub noted_delivers : (C D V : List ChangeParts) (c : ChangeParts) (H G H' : List Hash) (h : Hash) → H ≡ hashes D → G ≡ hashes V → h ≡ hash_of c → has_all (C ++ D) c.deps ≡ true → H' ≡ H ++ h ∷ [] → IsNoted C D V c H' G false
-noted_delivers C D V c H G H' h e f is all pushed = record { delivers = rw all (push_hash D c H H' h e is pushed); takes = rw all refl; slots = rw all f }
+pub noted_delivers : (C D V : List ChangeParts) (c : ChangeParts) (H G H' : List Hash) (h : Hash) → IsHashSetOf H D → IsHashSetOf G V → h ≡ hash_of c → has_all (C ++ D) c.deps ≡ true
+    → ((x : Hash) → has_hash H' x ≡ (same_hash h x || has_hash H x)) → IsNoted C D V c H' G false
+noted_delivers C D V c H G H' h e f is all added = record {
+  delivers = subst (λ b. IsHashSetOf H' (cond b (D ++ c ∷ []) D)) (sym all) (IsHashSetOf-push D c H H' h e is added);
+  takes = rw all refl;
+  slots = subst (λ b. IsHashSetOf G (cond (takes_slot V (c, b)) (V ++ c ∷ []) V)) (sym all) f;
+}
 
-pub noted_again : (C D V : List ChangeParts) (c : ChangeParts) (H G : List Hash) → H ≡ hashes D → G ≡ hashes V → has_all (C ++ D) c.deps ≡ false → among G (hash_of c) ≡ true → IsNoted C D V c H G false
+pub noted_again : (C D V : List ChangeParts) (c : ChangeParts) (H G : List Hash) → IsHashSetOf H D → IsHashSetOf G V → has_all (C ++ D) c.deps ≡ false → has_hash G (hash_of c) ≡ true → IsNoted C D V c H G false
 noted_again C D V c H G e f lacks there =
-    let placed : has V (hash_of c) ≡ true = sym (among-hashes V (hash_of c)) ∙ ap (λ l. among l (hash_of c)) (sym f) ∙ there in
-    record { delivers = rw lacks e; takes = rw (lacks, placed) refl; slots = rw (lacks, placed) f }
+    let held : has V (hash_of c) ≡ true = sym (f (hash_of c)) ∙ there in
+    let takes : takes_slot V (c, has_all (C ++ D) c.deps) ≡ false = rw (lacks, held) refl in
+    record {
+      delivers = subst (λ b. IsHashSetOf H (cond b (D ++ c ∷ []) D)) (sym lacks) e;
+      takes = sym takes;
+      slots = subst (λ b. IsHashSetOf G (cond b (V ++ c ∷ []) V)) (sym takes) f;
+    }
 
-pub noted_slots : (C D V : List ChangeParts) (c : ChangeParts) (H G G' : List Hash) (h : Hash) → H ≡ hashes D → G ≡ hashes V → h ≡ hash_of c → has_all (C ++ D) c.deps ≡ false → among G (hash_of c) ≡ false → G' ≡ G ++ h ∷ []
-    → IsNoted C D V c H G' true
-noted_slots C D V c H G G' h e f is lacks new pushed =
-    let placed : has V (hash_of c) ≡ false = sym (among-hashes V (hash_of c)) ∙ ap (λ l. among l (hash_of c)) (sym f) ∙ new in
-    record { delivers = rw lacks e; takes = rw (lacks, placed) refl; slots = rw (lacks, placed) (push_hash V c G G' h f is pushed) }
+pub noted_slots : (C D V : List ChangeParts) (c : ChangeParts) (H G G' : List Hash) (h : Hash) → IsHashSetOf H D → IsHashSetOf G V → h ≡ hash_of c → has_all (C ++ D) c.deps ≡ false → has_hash G (hash_of c) ≡ false
+    → ((x : Hash) → has_hash G' x ≡ (same_hash h x || has_hash G x)) → IsNoted C D V c H G' true
+noted_slots C D V c H G G' h e f is lacks new added =
+    let held : has V (hash_of c) ≡ false = sym (f (hash_of c)) ∙ new in
+    let takes : takes_slot V (c, has_all (C ++ D) c.deps) ≡ true = rw (lacks, held) refl in
+    record {
+      delivers = subst (λ b. IsHashSetOf H (cond b (D ++ c ∷ []) D)) (sym lacks) e;
+      takes = sym takes;
+      slots = subst (λ b. IsHashSetOf G' (cond b (V ++ c ∷ []) V)) (sym takes) (IsHashSetOf-push V c G G' h f is added);
+    }
+
+-- ---- the hashes of a list, one after another
+
+pub IsHashSetOf-more : (C : List ChangeParts) (i : ℕ) (d : ChangeParts) (H H' : List Hash) (h : Hash) → i < length C → IsHashSetOf H (take i C) → h ≡ hash_of (get_or C i d)
+    → ((x : Hash) → has_hash H' x ≡ (same_hash h x || has_hash H x)) → IsHashSetOf H' (take (i + 1) C)
+IsHashSetOf-more C i d H H' h small e is added =
+    subst (IsHashSetOf H') (sym (take_more C i d small)) (IsHashSetOf-push (take i C) (get_or C i d) H H' h e is added)
+
+-- of those that came, by a set of their hashes
+pub held_of-here : (K : List ChangeParts) (H : List Hash) (c : ChangeParts) (h : Hash) → IsHashSetOf H K → h ≡ hash_of c → has_hash H h ≡ true → held_of (hashes K) (c ∷ []) ≡ h ∷ []
+held_of-here K H c h e is there =
+    let came : among (hashes K) (hash_of c) ≡ true = among-hashes K (hash_of c) ∙ sym (e (hash_of c)) ∙ ap (has_hash H) (sym is) ∙ there in
+    ap (λ b. cond b (hash_of c ∷ []) []) came ∙ ap (λ (x : Hash). x ∷ []) (sym is)
+
+pub held_of-none : (K : List ChangeParts) (H : List Hash) (c : ChangeParts) (h : Hash) → IsHashSetOf H K → h ≡ hash_of c → has_hash H h ≡ false → held_of (hashes K) (c ∷ []) ≡ []
+held_of-none K H c h e is new =
+    let came : among (hashes K) (hash_of c) ≡ false = among-hashes K (hash_of c) ∙ sym (e (hash_of c)) ∙ ap (has_hash H) (sym is) ∙ new in
+    ap (λ b. cond b (hash_of c ∷ []) []) came

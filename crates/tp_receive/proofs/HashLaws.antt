@@ -47,11 +47,6 @@ held_of-append H (c ∷ C) D =
       | false ↦ held_of-append H C D
     ]
 
-pub hashes-more : (C : List ChangeParts) (i : ℕ) (d : ChangeParts) (v v' : List Hash) (h : Hash) → i < length C → v ≡ hashes (take i C) → h ≡ hash_of (get_or C i d) → v' ≡ v ++ h ∷ [] → v' ≡ hashes (take (i + 1) C)
-hashes-more C i d v v' h small e f g =
-    g ∙ ap (λ x. v ++ x ∷ []) f ∙ ap (λ l. l ++ hash_of (get_or C i d) ∷ []) e
-    ∙ sym (ap hashes (take_more C i d small) ∙ hashes-append (take i C) (get_or C i d ∷ []))
-
 pub held_of-more : (H : List Hash) (C : List ChangeParts) (i : ℕ) (d : ChangeParts) (v v' : List Hash) → i < length C → v ≡ held_of H (take i C) → v' ≡ v ++ held_of H (get_or C i d ∷ []) → v' ≡ held_of H (take (i + 1) C)
 held_of-more H C i d v v' small e g =
     g ∙ ap (λ l. l ++ held_of H (get_or C i d ∷ [])) e

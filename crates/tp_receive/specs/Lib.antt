@@ -1,5 +1,6 @@
 pub mod Receiving
 pub mod Delivery
+pub mod HashSets
 pub mod Intake
 pub mod Replies
 pub mod GivesVerdict

@@ -17,8 +17,9 @@ use Rattle.tp_receive.specs.declared.keeper.KeepError.{KeepError}
 use Rattle.tp_receive.specs.declared.keeper.KeepError.TheVariants as keep
 use Rattle.tp_receive.specs.declared.report.Report.{Report}
 use Rattle.tp_receive.specs.Intake.{Intake, intake}
-use Rattle.tp_receive.specs.Receiving.{AllWait, lacks_deps, is_refusal, hashes}
+use Rattle.tp_receive.specs.Receiving.{AllWait, lacks_deps, is_refusal}
 use Rattle.tp_receive.specs.Delivery.{takes_slot}
+use Rattle.tp_receive.specs.HashSets.{IsHashSetOf}
 
 -- What is seen and reported so far, where P is still to come.
 abbrev pub so_far : {S : Type 0} → S → List ChangeParts → List ChangeParts → List (ChangeParts × Bool) → Report → Intake S
@@ -56,9 +57,9 @@ pub record IsEarliest (C W : List ChangeParts) (i : ℕ) : Type 0 where
   pub before : AllWait C (take i W)
   pub ready : (c : ChangeParts) → slice_get W i ≡ Some c → lacks_deps (cause C c) ≡ false
 
--- The next change c was noted, where D are the deliverable ones and V have slots: with the hashes of those now, and
--- whether c takes a slot of its own.
-pub record IsNoted (C D V : List ChangeParts) (c : ChangeParts) (delivered placed : List Hash) (slot : Bool) : Type 0 where
-  pub delivers : delivered ≡ hashes (cond (has_all (C ++ D) c.deps) (D ++ c ∷ []) D)
+-- The next change c was noted, where D are the deliverable ones and V have slots: with their hashes now, and whether c
+-- takes a slot of its own.
+pub record IsNoted (C D V : List ChangeParts) (c : ChangeParts) (delivered slotted : List Hash) (slot : Bool) : Type 0 where
+  pub delivers : IsHashSetOf delivered (cond (has_all (C ++ D) c.deps) (D ++ c ∷ []) D)
   pub takes : slot ≡ takes_slot V (c, has_all (C ++ D) c.deps)
-  pub slots : placed ≡ hashes (cond (takes_slot V (c, has_all (C ++ D) c.deps)) (V ++ c ∷ []) V)
+  pub slots : IsHashSetOf slotted (cond (takes_slot V (c, has_all (C ++ D) c.deps)) (V ++ c ∷ []) V)

@@ -3,31 +3,31 @@
 ghost use Rattle.std.specs.Prelude.{◌≡◌, ◌++◌, List, IfOk};
 ghost use Rattle.tp_change.specs.declared.parts.ChangeParts.{ChangeParts};
 ghost use Rattle.tp_graph.specs.Named as named;
-ghost use Rattle.tp_receive.specs.Receiving as receiving;
+ghost use Rattle.tp_receive.specs.HashSets.{IsHashSetOf};
 ghost use Rattle.tp_receive.specs.Delivery.{delivery, with_slots};
 ghost use Rattle.tp_receive.specs.Trying.{IsNoted};
 ghost use Rattle.tp_receive.specs.Delivery as delivery_of;
 
-use crate::hashes::hashes_of;
+use crate::hashes::{HashSet, hashes_of};
 use crate::replica::Replica;
 use std::alloc::{AllocError, Global};
 use tp_change::Change;
 use tp_opid::Hash;
 
 // Whether the hash is that of an applied change, or one of the hashes of the deliverable ones.
-fn is_there<R: Replica>(replica: &R, delivered: &[Hash], hash: &Hash) -> bool
-    ensures { (D : List ChangeParts) → delivered.now ≡ receiving.hashes D
+fn is_there<R: Replica>(replica: &R, delivered: &HashSet, hash: &Hash) -> bool
+    ensures { (D : List ChangeParts) → IsHashSetOf delivered.now D
         → result ≡ named.has (R.applied replica.now ++ D) hash.now }
 {
     if replica.contains(hash) {
         return true;
     }
-    hash.is_among(delivered)
+    delivered.contains(hash)
 }
 
 // Whether each of the hashes is there.
-fn all_there<R: Replica>(replica: &R, delivered: &[Hash], hashes: &[Hash]) -> bool
-    ensures { (D : List ChangeParts) → delivered.now ≡ receiving.hashes D
+fn all_there<R: Replica>(replica: &R, delivered: &HashSet, hashes: &[Hash]) -> bool
+    ensures { (D : List ChangeParts) → IsHashSetOf delivered.now D
         → result ≡ named.has_all (R.applied replica.now ++ D) hashes.now }
 {
     for hash in hashes {
@@ -41,24 +41,23 @@ fn all_there<R: Replica>(replica: &R, delivered: &[Hash], hashes: &[Hash]) -> bo
 // Whether the next change takes a slot of its own. It is noted as deliverable, or as one that has a slot.
 fn note<R: Replica>(
     replica: &R,
-    delivered: &mut Vec<Hash>,
-    slotted: &mut Vec<Hash>,
+    delivered: &mut HashSet,
+    slotted: &mut HashSet,
     change: &Change,
 ) -> Result<bool, AllocError>
-    ensures { (D V : List ChangeParts) → delivered.old.items ≡ receiving.hashes D
-        → slotted.old.items ≡ receiving.hashes V
+    ensures { (D V : List ChangeParts) → IsHashSetOf delivered.old D → IsHashSetOf slotted.old V
         → IfOk result (λ slot. IsNoted (R.applied replica.now) D V change.now
-        delivered.new.items slotted.new.items slot) }
+        delivered.new slotted.new slot) }
 {
     let hash = change.hash();
     if all_there(replica, delivered, change.deps()) {
-        delivered.push(hash)?;
+        delivered.add(hash)?;
         return Ok(false);
     }
-    if hash.is_among(slotted) {
+    if slotted.contains(&hash) {
         return Ok(false);
     }
-    slotted.push(hash)?;
+    slotted.add(hash)?;
     Ok(true)
 }
 
@@ -72,7 +71,7 @@ pub(crate) struct Coming {
 }
 
 /// The changes of a list, each with whether a slot is reserved for it: it is undeliverable, and neither a pending
-/// change nor an earlier undeliverable one has its hash. It compares each dependency with the earlier hashes of the list.
+/// change nor an earlier undeliverable one has its hash. A few look-ups for each change and each dependency.
 pub(crate) fn reserve<R: Replica>(
     alloc: Global,
     replica: &R,
@@ -83,7 +82,7 @@ pub(crate) fn reserve<R: Replica>(
     ensures reserved { IfOk result
         (λ coming. coming.reserved ≡ delivery_of.slots coming.changes.items) }
 {
-    let mut delivered = Vec::new(alloc);
+    let mut delivered = HashSet::new(alloc);
     let mut slotted = hashes_of(alloc, replica.pending())?;
     let mut coming = Vec::new(alloc);
     let mut reserved = 0;

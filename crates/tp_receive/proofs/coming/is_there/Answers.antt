@@ -1,5 +1,5 @@
 use Rattle.std.proofs.Common.{◌||◌, ap, sym, ◌∙◌}
-use Rattle.tp_graph.specs.Named.{among}
+use Rattle.tp_receive.specs.HashSets.{has_hash}
 use Rattle.tp_receive.proofs.ComingLaws.{has-both}
 use Rattle.tp_receive.proofs.coming.is_there.Goals as goal
 
@@ -7,10 +7,10 @@ pub returns-then-contains : goal.returns-then-contains
 returns-then-contains g c D e =
     let C = g.R.Replica.applied c.args.replica.now in
     let h = c.args.hash.now in
-    sym (has-both C D c.args.delivered.now h e ∙ ap (λ b. b || among c.args.delivered.now h) (sym c.contains.ensures ∙ c.if-contains.true))
+    sym (has-both C D c.args.delivered.now h e ∙ ap (λ b. b || has_hash c.args.delivered.now h) (sym c.contains.ensures ∙ c.if-contains.true))
 
 pub returns : goal.returns
 returns g c D e =
     let C = g.R.Replica.applied c.args.replica.now in
     let h = c.args.hash.now in
-    c.is_among.ensures ∙ sym (has-both C D c.args.delivered.now h e ∙ ap (λ b. b || among c.args.delivered.now h) (sym c.contains.ensures ∙ c.if-contains.false))
+    c.contains-2.ensures ∙ sym (has-both C D c.args.delivered.now h e ∙ ap (λ b. b || has_hash c.args.delivered.now h) (sym c.contains.ensures ∙ c.if-contains.false))

@@ -1,6 +1,6 @@
-use Rattle.std.proofs.Common.{◌≡◌, take}
-use Rattle.tp_receive.specs.Receiving as receiving
+use Rattle.std.proofs.Common.{take}
+use Rattle.tp_receive.specs.HashSets.{IsHashSetOf}
 use Rattle.tp_receive.proofs.hashes.hashes_of.Given as goal
 
 abbrev pub invariant-loop-change : goal.invariant-loop-change
-invariant-loop-change l = l.hashes.items ≡ receiving.hashes (take l.change-index l.changes)
+invariant-loop-change l = IsHashSetOf l.hashes (take l.change-index l.changes)

@@ -1,6 +1,8 @@
-use Rattle.std.proofs.Common.{◌≡◌, take}
+use Rattle.std.proofs.Common.{◌≡◌, List, take}
+use Rattle.tp_change.specs.declared.parts.ChangeParts.{ChangeParts}
+use Rattle.tp_receive.specs.HashSets.{IsHashSetOf}
 use Rattle.tp_receive.specs.Receiving as receiving
 use Rattle.tp_receive.proofs.hashes.held_of.Given as goal
 
 abbrev pub invariant-loop-change : goal.invariant-loop-change
-invariant-loop-change l = l.held.items ≡ receiving.held_of l.fn.came (take l.change-index l.changes)
+invariant-loop-change l = (K : List ChangeParts) → IsHashSetOf l.came K → l.held.items ≡ receiving.held_of (receiving.hashes K) (take l.change-index l.changes)

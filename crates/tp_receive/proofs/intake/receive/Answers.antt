@@ -1,4 +1,5 @@
-use Rattle.std.proofs.Common.{refl}
+use Rattle.std.proofs.Common.{refl, subst}
+use Rattle.tp_receive.specs.HashSets.{IsHashSetOf}
 use Rattle.tp_receive.specs.Intake.{begin, intake}
 use Rattle.tp_receive.proofs.HashLaws.{held_each}
 use Rattle.tp_receive.proofs.RunLaws.{kept_new}
@@ -30,12 +31,13 @@ returns-in_err-held-clause-err g c =
 pub returns-clause-ok : goal.returns-clause-ok
 returns-clause-ok g c =
     let R = g.R.Replica in
+    let came : IsHashSetOf c.in_ok-came.came c.args.changes.items = subst (IsHashSetOf c.in_ok-came.came) c.deref.ensures.value c.in_ok-came.ensures in
     record {
       run = Run-begun g.K.Keeper.keeps c.args.keeper.now (R.applied c.args.replica.now) (R.waiting c.args.replica.now) c.args.changes.items c.in_ok-coming.coming.changes.items c.new-reported.result.applied.items c.new-reported.result.refused.items _
           c.in_ok-coming.ensures.changes c.new-reported.ensures.applied c.new-reported.ensures.refused c.in_ok-take_all.ensures.ok;
       ends = record { settled = c.in_ok-take_all.ensures.settled; came = refl };
-      held_are = rw (c.deref-2.ensures.value, c.in_ok-came.ensures, c.deref.ensures.value, c.pending-2.ensures.pending) at c.in_ok-held.ensures;
-      once = held_each _ c.pending-2.result.now (R.waiting c.take_all.new.replica) c.in_ok-held.held.items c.in_ok-held.ensures c.pending-2.ensures.pending c.pending-2.ensures.once;
+      held_are = rw c.pending-2.ensures.pending at (c.in_ok-held.ensures c.args.changes.items came);
+      once = held_each _ c.pending-2.result.now (R.waiting c.take_all.new.replica) c.in_ok-held.held.items (c.in_ok-held.ensures c.args.changes.items came) c.pending-2.ensures.pending c.pending-2.ensures.once;
     }
 
 pub returns-clause-kept : goal.returns-clause-kept
