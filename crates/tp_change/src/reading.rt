@@ -33,6 +33,12 @@ use tp_codec::Reader;
 use tp_list::{Items, Text, char_count};
 use tp_opid::{Actor, Hash, OpId, Place};
 
+// The bytes of a hash.
+const HASH_LEN: usize = 32;
+
+// The fewest bytes that a record has: one character at the start. So a count that the bytes can't hold takes no room.
+const SMALLEST_RECORD: usize = 7;
+
 fn byte_of(reader: &mut Reader<'_>) -> Result<u8, ChangeError>
     ensures { Gives (λ b. (b, reader.new)) result (or_fail Short byte_at reader.old) }
 {
@@ -198,7 +204,8 @@ fn counted_deps_of(
     ensures { Gives (λ v. (v.items, reader.new)) result
         (repeat_at dep_at next_before count None reader.old) }
 {
-    let mut deps = Vec::new(alloc);
+    let room = (count as usize).min(reader.len() / HASH_LEN);
+    let mut deps = Vec::with_capacity(alloc, room)?;
     let mut before = None;
     for _ in 0..count {
         let hash = dep_of(reader, before)?;
@@ -304,7 +311,8 @@ fn counted_records_of(
     ensures { Gives (λ v. (v.items, reader.new)) result
         (repeat_at record_at room_after count room reader.old) }
 {
-    let mut records = Vec::new(alloc);
+    let most = (count as usize).min(reader.len() / SMALLEST_RECORD);
+    let mut records = Vec::with_capacity(alloc, most)?;
     let mut left = room;
     for _ in 0..count {
         let (record, after) = record_of(alloc, reader, left)?;

@@ -59,6 +59,16 @@ fn append_splice<S: Sequence>(
     Ok(())
 }
 
+// How many records splices have.
+fn record_count(splices: &[Splice]) -> usize {
+    let mut count = 0usize;
+    for splice in splices {
+        let runs = usize::from(!splice.text.is_empty());
+        count = count.saturating_add(splice.del).saturating_add(runs);
+    }
+    count
+}
+
 /// The records of an edit by `actor` of the text that a sequence shows, where `start` is the counter of the first
 /// operation: splice by splice, each on the text that the ones before it leave, a delete of each element in its order
 /// and then the inserted text as one run after the visible element before it. Operations take successive counters.
@@ -86,8 +96,8 @@ pub fn records<S: Sequence>(
 {
     // So its length is known to fit a `usize`.
     let _len = sequence.len();
-    let mut records = Vec::new(alloc);
-    let mut landings: Vec<Landing> = Vec::new(alloc);
+    let mut records = Vec::with_capacity(alloc, record_count(splices))?;
+    let mut landings: Vec<Landing> = Vec::with_capacity(alloc, splices.len())?;
     let mut next = start;
     for splice in splices {
         let count = splice.inserted_count();

@@ -7,11 +7,11 @@ use Rattle.tp_change.proofs.Refusals.{fails_on}
 use Rattle.tp_change.proofs.reading.counted_deps_of.Goals as goal
 
 pub loop-init : goal.loop-init
-loop-init c = rw c.new-deps.ensures.items (begins dep_at next_before c.args.count None c.args.reader.now)
+loop-init c = rw c.in_ok-deps.ensures.items (begins dep_at next_before c.args.count None c.args.reader.now)
 
 pub returns-in_err-hash : goal.returns-in_err-hash
 returns-in_err-hash c =
-    let p = err_from_is_err_and c.from_residual.result c.from_residual.ensures.1 in
+    let p = err_from_is_err_and c.from_residual-in_err-hash.result c.from_residual-in_err-hash.ensures.1 in
     rw (p.1, p.2)
     (fails_on c.in_err-hash.field-0.0 (dep_at c.loop.before c.loop.reader) (repeat_at dep_at next_before c.args.count None c.args.reader.now)
     (λ e. ends dep_at next_before c.loop.deps.items c.args.count c.loop.counter c.loop.before c.loop.reader c.in_err-hash.field-0.0 (repeat_at dep_at next_before c.args.count None c.args.reader.now) c.loop-test.true e c.loop.invariant) c.in_err-hash.ensures)

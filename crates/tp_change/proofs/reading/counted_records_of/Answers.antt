@@ -6,11 +6,11 @@ use Rattle.tp_change.proofs.Refusals.{fails_on}
 use Rattle.tp_change.proofs.reading.counted_records_of.Goals as goal
 
 pub loop-init : goal.loop-init
-loop-init c = rw c.new-records.ensures.items (begins record_at room_after c.args.count c.args.room c.args.reader.now)
+loop-init c = rw c.in_ok-records.ensures.items (begins record_at room_after c.args.count c.args.room c.args.reader.now)
 
 pub returns-in_err-record : goal.returns-in_err-record
 returns-in_err-record c =
-    let p = err_from_is_err_and c.from_residual.result c.from_residual.ensures.1 in
+    let p = err_from_is_err_and c.from_residual-in_err-record.result c.from_residual-in_err-record.ensures.1 in
     rw (p.1, p.2)
     (fails_on c.in_err-record.field-0.0 (record_at c.loop.left c.loop.reader) (repeat_at record_at room_after c.args.count c.args.room c.args.reader.now)
     (λ e. ends record_at room_after c.loop.records.items c.args.count c.loop.counter c.loop.left c.loop.reader c.in_err-record.field-0.0 (repeat_at record_at room_after c.args.count c.args.room c.args.reader.now) c.loop-test.true e c.loop.invariant) c.in_err-record.ensures.record)
