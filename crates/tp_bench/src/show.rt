@@ -6,7 +6,8 @@ use anyhow::anyhow;
 use std::alloc::Global;
 use std::rt::{Clock, Files};
 use std::time::Instant;
-use tp_opid::{OpId, Place};
+use tp_change::Change;
+use tp_opid::{Hash, OpId, Place};
 
 const TYPED: &str = "0123456789";
 
@@ -26,41 +27,79 @@ pub fn run_random<R: Files + Clock + Print + AllocGlobal>(rt: &R) -> anyhow::Res
     measure(rt, "show-random", log.as_slice())
 }
 
-// A log of changes that insert after the element with the counter that is picked; 0 stands for the start.
+/// A log, and what the next change of it stands on.
+#[derive(Drop)]
+struct Log {
+    alloc: Global,
+    bytes: Vec<u8>,
+    changes: u64,
+    head: Option<Hash>,
+}
+
+impl Log {
+    fn new(alloc: Global) -> Log {
+        Log {
+            alloc,
+            bytes: Vec::new(alloc),
+            changes: 0,
+            head: None,
+        }
+    }
+
+    // The next change, which inserts after the element with the counter; 0 stands for the start.
+    fn next(&self, counter: u64) -> anyhow::Result<Change> {
+        let mut deps = Vec::new(self.alloc);
+        if let Some(hash) = self.head {
+            deps.push(hash)?;
+        }
+        change(
+            self.alloc,
+            self.changes.saturating_add(1),
+            self.changes.saturating_mul(10).saturating_add(1),
+            deps,
+            run_after(self.alloc, place_of(counter), TYPED)?,
+        )
+    }
+
+    // Writes the change as the last.
+    fn add(&mut self, change: &Change) -> anyhow::Result<()> {
+        let bytes = change.encode().map_err(refused)?;
+        let len = u32::try_from(bytes.len()).unwrap_or(u32::MAX);
+        self.bytes.extend_from_slice(&len.to_be_bytes())?;
+        self.bytes.extend_from_slice(bytes.as_slice())?;
+        self.changes = self.changes.saturating_add(1);
+        self.head = Some(change.hash());
+        Ok(())
+    }
+}
+
+fn place_of(counter: u64) -> Place {
+    if counter == 0 {
+        Place::Start
+    } else {
+        Place::After(OpId {
+            counter,
+            actor: AUTHOR,
+        })
+    }
+}
+
+// A log of changes that insert after the element with the counter that is picked, by how many elements there are and by
+// chance.
 fn log_of<F: Fn(u64, u64) -> u64>(alloc: Global, count: u64, pick: F) -> anyhow::Result<Vec<u8>>
     requires { F.IsAlwaysCallable pick }
 {
-    let mut log = Vec::new(alloc);
-    let mut deps = Vec::new(alloc);
+    let mut log = Log::new(alloc);
     let mut chance = 1u64;
     for number in 0..count {
-        let made = number.saturating_mul(10);
         chance = chance
             .wrapping_mul(6_364_136_223_846_793_005)
             .wrapping_add(1_442_695_040_888_963_407);
-        let counter = pick(made, chance >> 33);
-        let after = if counter == 0 {
-            Place::Start
-        } else {
-            Place::After(OpId {
-                counter,
-                actor: AUTHOR,
-            })
-        };
-        let next = change(
-            alloc,
-            number.saturating_add(1),
-            made.saturating_add(1),
-            deps,
-            run_after(alloc, after, TYPED)?,
-        )?;
-        let bytes = next.encode().map_err(refused)?;
-        log.extend_from_slice(&(bytes.len() as u32).to_be_bytes())?;
-        log.extend_from_slice(bytes.as_slice())?;
-        deps = Vec::new(alloc);
-        deps.push(next.hash())?;
+        let counter = pick(number.saturating_mul(10), chance >> 33);
+        let change = log.next(counter)?;
+        log.add(&change)?;
     }
-    Ok(log)
+    Ok(log.bytes)
 }
 
 fn measure<R: Files + Clock + Print + AllocGlobal>(

@@ -10,7 +10,6 @@ mod copying;
 mod counting;
 mod error;
 mod facts;
-mod validating;
 pub mod laws;
 pub mod layout;
 mod limits;
@@ -22,6 +21,7 @@ mod reading;
 mod record;
 mod sink;
 mod size;
+mod validating;
 mod writing;
 
 pub use change::Change;

@@ -8,8 +8,8 @@ ghost use Rattle.tp_change.specs.declared.error.ChangeError.TheVariants.{OutOfMe
 
 use crate::change::Change;
 use crate::error::ChangeError;
-use crate::validating::validate;
 use crate::parts::ChangeParts;
+use crate::validating::validate;
 use crate::writing::put_change;
 use sha2::{Digest, Sha256};
 use std::alloc::Global;

@@ -17,7 +17,7 @@ ghost use Rattle.tp_change.specs.ChangeHash.{hash_of};
 
 use crate::document::Document;
 use crate::error::DocError;
-use crate::making::{actor_len, validate_splices, make_change, next_seq};
+use crate::making::{actor_len, make_change, next_seq, validate_splices};
 use std::alloc::{AllocError, Global};
 use tp_change::{COUNTERS_END, Change, ChangeParts, MAX_DEPS, MAX_MESSAGE_BYTES};
 use tp_edit::{Splice, records};

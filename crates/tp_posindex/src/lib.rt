@@ -12,8 +12,8 @@ mod elements;
 mod links;
 mod lookup;
 mod numbers;
-mod spots;
 mod sequence;
+mod spots;
 
 pub use block_info::BlockInfo;
 pub use sequence::BlockSequence;

@@ -9,7 +9,7 @@ ghost use Rattle.tp_rga.specs.Same.{same_insert, agrees, is_only};
 ghost use Rattle.tp_rga.specs.Order.{IsChain, Precedes, Before, IsInOrder};
 
 use crate::insertion::Insertion;
-use crate::placed::{contains, is_reference_below, index_of};
+use crate::placed::{contains, index_of, is_reference_below};
 use std::alloc::{AllocError, Global};
 use tp_opid::{OpId, Place};
 
