@@ -90,7 +90,8 @@ fn put_record<S: Sink>(out: &mut S, entry: &Record) -> Result<(), AllocError>
 
 /// The hashes, one after another.
 fn put_hashes<S: Sink>(out: &mut S, hashes: &[Hash]) -> Result<(), AllocError>
-    ensures puts { OnOk result (Puts S.holds out.old out.new (flat_map (λ (h : Hash). h.0) hashes.now)) }
+    ensures puts { OnOk result
+        (Puts S.holds out.old out.new (flat_map (λ (h : Hash). h.0) hashes.now)) }
     ensures taken { S.takes_all → IsOk result }
 {
     for hash in hashes {
@@ -102,7 +103,8 @@ fn put_hashes<S: Sink>(out: &mut S, hashes: &[Hash]) -> Result<(), AllocError>
 /// The records, one after another.
 fn put_records<S: Sink>(out: &mut S, records: &[Record]) -> Result<(), AllocError>
     requires { AllByRecursion IsRecord records.now }
-    ensures puts { OnOk result (Puts S.holds out.old out.new (flat_map spelling_of_record records.now)) }
+    ensures puts { OnOk result
+        (Puts S.holds out.old out.new (flat_map spelling_of_record records.now)) }
     ensures taken { S.takes_all → IsOk result }
 {
     for entry in records {
@@ -125,7 +127,8 @@ fn put_deps<S: Sink>(out: &mut S, deps: &Items<Hash>) -> Result<(), AllocError>
 #[tactic(auto, using(crate::proofs::Counts::few_records))]
 fn put_counted<S: Sink>(out: &mut S, parts: &ChangeParts) -> Result<(), AllocError>
     requires { IsChange parts.now }
-    ensures puts { OnOk result (Puts S.holds out.old out.new (spelling_of_records parts.now.records)) }
+    ensures puts { OnOk result
+        (Puts S.holds out.old out.new (spelling_of_records parts.now.records)) }
     ensures taken { S.takes_all → IsOk result }
 {
     out.put(&(parts.records.len() as u32).to_be_bytes())?;
@@ -149,7 +152,7 @@ pub(crate) fn put_change<S: Sink>(out: &mut S, parts: &ChangeParts) -> Result<()
 }
 
 impl Change {
-    ghost use Rattle.std.specs.Prelude.{◌≡◌, IfOk, IsOkUnless};
+    ghost use Rattle.std.specs.Prelude.{◌≡◌, ◌++◌, IfOk, IsOkUnless};
     ghost use Rattle.tp_change.specs.declared.error.ChangeError.TheVariants.{OutOfMemory};
 
     /// How many bytes [`encode`](Change::encode) gives, at most 4,194,304. No memory; the cost is that of going
@@ -166,7 +169,16 @@ impl Change {
         ensures bytes { IfOk result (λ bytes. bytes.items ≡ spelling self.now) }
         ensures err { IsOkUnless result OutOfMemory }
     {
-        let mut out = Vec::with_capacity(self.alloc, self.encoded_len())?;
+        self.encode_behind(Vec::with_capacity(self.alloc, self.encoded_len())?)
+    }
+
+    /// The bytes that are given, and behind them those of the change, as [`encode`](Change::encode) gives them. Room is
+    /// made for them at once. The only refusal is `OutOfMemory`; it lets the bytes go.
+    pub fn encode_behind(&self, mut out: Vec<u8>) -> Result<Vec<u8>, ChangeError>
+        ensures bytes { IfOk result (λ bytes. bytes.items ≡ out.items ++ spelling self.now) }
+        ensures err { IsOkUnless result OutOfMemory }
+    {
+        out.reserve(self.encoded_len())?;
         put_change(&mut out, &self.parts)?;
         Ok(out)
     }

@@ -1,5 +1,5 @@
 -- How a cause comes of its parts.
-use Rattle.std.proofs.Common.{◌≡◌, List, true, false, Some, Result, Ok, Err, refl, sym, subst}
+use Rattle.std.proofs.Common.{Option, ◌≡◌, List, true, false, Some, Result, Ok, Err, refl, sym, subst}
 use Rattle.std.specs.Result.{IsErrAnd}
 use Rattle.tp_change.specs.declared.parts.ChangeParts.{ChangeParts}
 use Rattle.tp_change.specs.ChangeHash.{hash_of}
@@ -26,7 +26,12 @@ IsCause-behind C c UnknownHead new there h = cause_behind C c UnknownHead new th
 IsCause-behind C c Full new there h = cause_behind C c Full new there h
 IsCause-behind C c OutOfMemory new there h = tt
 
-pub Answers-behind : (C : List ChangeParts) (c : ChangeParts) (e : GraphError) (r : Result (Unit {0}) GraphError)
+pub Answers-behind : {T : Type 0} (C : List ChangeParts) (c : ChangeParts) (e : GraphError) (r : Result T GraphError)
     → has C (hash_of c) ≡ false → has_all C c.deps ≡ true → IsCause e (defect_behind (past C c.deps) c) → IsErrAnd r (λ x. x ≡ e) → Answers r (cause C c)
 Answers-behind C c e (Ok x) new there h k = absurd k
 Answers-behind C c e (Err x) new there h k = subst (λ y. IsCause y (cause C c)) (sym k) (IsCause-behind C c e new there h)
+
+-- a refusal that is passed on
+pub Answers-passed : {T : Type 0} (o : Option GraphError) (e : GraphError) (r : Result T GraphError) → IsCause e o → IsErrAnd r (λ x. x ≡ e) → Answers r o
+Answers-passed o e (Ok x) h k = absurd k
+Answers-passed o e (Err x) h k = subst (λ y. IsCause y o) (sym k) h

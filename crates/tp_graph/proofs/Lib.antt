@@ -20,6 +20,8 @@ pub mod LatestLaws
 pub mod WaitingLaws
 pub mod ByActorLaws
 pub mod OwnLaws
+pub mod HeldLaws
+pub mod ExtentLaws
 pub mod PartLaws
 pub mod EndLaws
 pub mod ClashLaws

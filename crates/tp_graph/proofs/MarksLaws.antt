@@ -18,12 +18,10 @@ use Rattle.tp_graph.specs.Places.{place_from}
 use Rattle.tp_graph.specs.Marks.{marks, pick, marked_more, marks_for, walked}
 use Rattle.tp_graph.specs.Sound.{Sound}
 use Rattle.tp_graph.specs.GraphState.{HashesOnce}
-use Rattle.tp_graph.specs.Heads.{heads}
 use Rattle.tp_graph.proofs.NamedLaws.{In-has, has-In, names-append, names-In}
-use Rattle.tp_graph.proofs.PastLaws.{kept, left_out, length-past}
+use Rattle.tp_graph.proofs.PastLaws.{kept, left_out}
 use Rattle.tp_graph.proofs.PlacesLaws.{place_from-low}
-use Rattle.tp_graph.proofs.HeadsLaws.{past-heads}
-use Rattle.tp_graph.proofs.SoundLaws.{sound-induct, DepsFirst, deps_first}
+use Rattle.tp_graph.proofs.SoundLaws.{sound-induct, DepsFirst}
 
 pub length-marks : (C : List ChangeParts) (H : List Hash) → length (marks C H) ≡ length C
 length-marks [] H = refl
@@ -292,24 +290,3 @@ walk_starts C H xs ys n e f g =
     let back : take n (xs ++ drop (length xs) ys) ≡ xs = written_back xs ys n (whole ∙ sym long) e in
     let none : length C ≡ length C - 0 = omega arith in
     (back ∙ walked-start C H xs (g ∙ ap (marked_more H C) f) ∙ ap (walked C H) none, ap length back ∙ whole)
-
--- ---- the past of the heads
-
--- where the past is the whole, every change is marked
-all_marked : (C : List ChangeParts) (H : List Hash) → past C H ≡ C → marks C H ≡ replicate (length C) true
-all_marked [] H e = refl
-all_marked (c ∷ C) H e =
-    elim (truth (names H c || is_needed (past C H) c)) [
-      | inl t ↦
-          let rest : past C H ≡ C = tail_of (past C H) C (sym (kept H c (past C H) t) ∙ e) in
-          ap (λ b. b ∷ marks C H) t ∙ ap (λ l. true ∷ l) (all_marked C H rest)
-      | inr f ↦
-          let longer : length (past C H) ≡ suc (length C) = ap length (sym (left_out H c (past C H) f) ∙ e) in
-          let fewer : length (past C H) ≤ length C = length-past C H in
-          absurd (omega arith)
-    ] where
-      tail_of : (xs ys : List ChangeParts) → (c ∷ xs) ≡ (c ∷ ys) → xs ≡ ys
-      tail_of xs ys h = cc
-
-pub marks-heads : (C : List ChangeParts) → Sound C → marks C (heads C) ≡ replicate (length C) true
-marks-heads C s = all_marked C (heads C) (past-heads C (deps_first C s))

@@ -19,8 +19,7 @@ use Rattle.tp_graph.specs.Fit.{count_by}
 use Rattle.tp_graph.specs.Past.{past}
 use Rattle.tp_graph.specs.Sound.{Sound, Fits}
 use Rattle.tp_graph.proofs.SoundLaws.{sound-induct}
-use Rattle.tp_graph.proofs.CountLaws.{count_by-le, seqs_run, next_seq, own_past}
-use Rattle.tp_graph.proofs.MarksLaws.{hashes_once}
+use Rattle.tp_graph.proofs.CountLaws.{seqs_run, next_seq, own_past}
 use Rattle.tp_graph.proofs.InsertLaws.{inserts_id-is, inserts_id-low, inserts_id-high}
 
 -- an actor's changes come before one that fits
@@ -66,6 +65,11 @@ own_apart : (C : List ChangeParts) → Sound C → OwnApart C
 unfolding OwnApart
 own_apart = sound-induct OwnApart (λ c d i j e. absurd i) own_step
 
+-- two changes of one actor with one number are one
+pub own_one : (C : List ChangeParts) (c d : ChangeParts) → Sound C → In c C → In d C → same_actor c.actor d.actor ≡ true → c.seq ≡ d.seq → c ≡ d
+unfolding OwnApart
+own_one C c d s i j same number = (own_apart C s c d i j same).1 number
+
 -- ---- how many
 
 le_cases : (m n : ℕ) → m ≤ n → (m ≡ n) ⊎ (m < n)
@@ -99,17 +103,6 @@ count-none C a s w =
           let itself : count_by a C ≤ count_by a C = omega arith in
           let d = (seqs_run C s).there a (count_by a C) some itself in absurd (w d.0 d.1 (record { actor = d.2; start = refl }))
     ]
-
--- of a past that has the actor's latest change
-pub count-within : (C P : List ChangeParts) (a : Actor) (p : ℕ) (c : ChangeParts) → Sound C → Sound P → AllIn P C → IsLatest C a None (Some p) → slice_get C p ≡ Some c → In c P → c.seq ≡ count_by a P
-count-within C P a p c s t more w at i =
-    let all : c.seq ≡ count_by a C = count-latest C a p c s w at in
-    let fewer : count_by a P ≤ count_by a C = count_by-le a P C (hashes_once P t) more in
-    let h : Some w.0 ≡ Some c = sym w.1 ∙ at in
-    let one : w.0 ≡ c = cc in
-    let who : c.actor ≡ a = same_actor-same c.actor a (subst (λ (x : ChangeParts). same_actor x.actor a ≡ true) one w.2.actor) in
-    let bound : c.seq ≤ count_by a P = subst (λ b. c.seq ≤ count_by b P) who ((seqs_run P t).bounded c i) in
-    omega arith
 
 -- ---- who inserted what
 

@@ -1,16 +1,13 @@
--- Laws of the changes that a past has, by place.
-use Rattle.std.proofs.Common.{◌≡◌, ℕ, suc, zero, ◌<◌, inl, inr, List, [], ◌∷◌, length, get_or, Bool, true, false, Some, refl, sym, ap, arith}
+-- Laws of the changes that are marked, by place.
+use Rattle.std.proofs.Common.{◌≡◌, ℕ, suc, zero, inl, inr, List, [], ◌∷◌, get_or, Bool, true, false, Some, refl, sym, ap}
 use Rattle.std.specs.List.{slice_get}
-use Rattle.tp_list.specs.Members.{In, AllIn}
+use Rattle.tp_list.specs.Members.{In}
 use Rattle.tp_list.proofs.Tests.{never}
 use Rattle.tp_list.proofs.Members.{In-slice_get}
 use Rattle.tp_change.specs.declared.parts.ChangeParts.{ChangeParts}
 use Rattle.tp_change.specs.ChangeHash.{hash_of}
-use Rattle.tp_graph.specs.declared.part.Part.{Part}
-use Rattle.tp_graph.specs.declared.part.Part.TheVariants.{Whole, Marked}
 use Rattle.tp_graph.specs.GraphState.{HashesOnce}
 use Rattle.tp_graph.specs.Marks.{pick}
-use Rattle.tp_graph.specs.Parts.{picked, IsPartOf, IsPlaceOf, holds}
 use Rattle.tp_graph.proofs.NamedLaws.{In-has}
 
 pub pick-In : (bs : List Bool) (C : List ChangeParts) (c : ChangeParts) → In c (pick bs C) → In c C
@@ -29,7 +26,7 @@ pick-marked (false ∷ bs) (d ∷ C) zero c e t = cc
 pick-marked (true ∷ bs) (d ∷ C) (suc p) c e t = inr (pick-marked bs C p c e t)
 pick-marked (false ∷ bs) (d ∷ C) (suc p) c e t = pick-marked bs C p c e t
 
-marked-pick : (bs : List Bool) (C : List ChangeParts) (p : ℕ) (c : ChangeParts) → HashesOnce C → slice_get C p ≡ Some c → In c (pick bs C) → get_or bs p false ≡ true
+pub marked-pick : (bs : List Bool) (C : List ChangeParts) (p : ℕ) (c : ChangeParts) → HashesOnce C → slice_get C p ≡ Some c → In c (pick bs C) → get_or bs p false ≡ true
 marked-pick [] C p c o e i = absurd i
 marked-pick (b ∷ bs) [] p c o e i = absurd i
 marked-pick (true ∷ bs) (d ∷ C) zero c o e i = refl
@@ -38,19 +35,3 @@ marked-pick (false ∷ bs) (d ∷ C) zero c o e i =
 marked-pick (true ∷ bs) (d ∷ C) (suc p) c o e (inl s) = never (In-has C c (hash_of d) (In-slice_get C p c e) (ap hash_of s)) o.0
 marked-pick (true ∷ bs) (d ∷ C) (suc p) c o e (inr i) = marked-pick bs C p c o.1 e i
 marked-pick (false ∷ bs) (d ∷ C) (suc p) c o e i = marked-pick bs C p c o.1 e i
-
-pub picked-In : (part : Part) (C : List ChangeParts) → AllIn (picked part C) C
-picked-In Whole C c i = i
-picked-In (Marked v) C c i = pick-In v.items C c i
-
-pub place_of_part : (part : Part) (C : List ChangeParts) (p : ℕ) → IsPartOf part C → p < length C → IsPlaceOf part p
-place_of_part Whole C p h less = tt
-place_of_part (Marked v) C p h less = omega arith
-
-pub holds-In : (part : Part) (C : List ChangeParts) (p : ℕ) (c : ChangeParts) → slice_get C p ≡ Some c → holds part p ≡ true → In c (picked part C)
-holds-In Whole C p c e t = In-slice_get C p c e
-holds-In (Marked v) C p c e t = pick-marked v.items C p c e t
-
-pub In-holds : (part : Part) (C : List ChangeParts) (p : ℕ) (c : ChangeParts) → HashesOnce C → slice_get C p ≡ Some c → In c (picked part C) → holds part p ≡ true
-In-holds Whole C p c o e i = refl
-In-holds (Marked v) C p c o e i = marked-pick v.items C p c o e i

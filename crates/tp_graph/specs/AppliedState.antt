@@ -26,7 +26,7 @@ pub record IsGraphIndex (changes : List ChangeParts) (heads : List Hash) (entrie
   pub by_actor : IsByActor changes order
 
 -- There is room for a change with the hash: its place is noted, and each list takes one more.
-abbrev pub HasRoom : Option Hash → ℕ → List (Hash × ℕ) → ℕ → ℕ → ℕ → ℕ → ℕ → ℕ → ℕ → Type 0
-HasRoom None count entries changes heads heads_room ends ends_room order order_room = Unit {0}
-HasRoom (Some h) count entries changes heads heads_room ends ends_room order order_room =
-    (noted entries h ≡ Some count) × (count < changes) × (heads < heads_room) × (ends < ends_room) × (order < order_room)
+abbrev pub HasRoom : Option Hash → ℕ → List (Hash × ℕ) → ℕ → ℕ → ℕ → ℕ → ℕ → ℕ → ℕ → ℕ → ℕ → Type 0
+HasRoom None count entries changes heads heads_room ends ends_room order order_room pasts pasts_room = Unit {0}
+HasRoom (Some h) count entries changes heads heads_room ends ends_room order order_room pasts pasts_room =
+    (noted entries h ≡ Some count) × (count < changes) × (heads < heads_room) × (ends < ends_room) × (order < order_room) × (pasts < pasts_room)

@@ -1,5 +1,5 @@
 -- Places of changes in the order of their actors, and the latest change of an actor.
-use Rattle.std.specs.Prelude.{◌≡◌, ℕ, ◌<◌, ◌≤◌, List, length, get_or, Bool, true, false, nat_lt, Option, Some, None}
+use Rattle.std.specs.Prelude.{◌≡◌, ℕ, ◌<◌, ◌≤◌, List, length, get_or, Bool, true, false, not, nat_lt, Option, Some, None}
 use Rattle.std.specs.List.{slice_get}
 use Rattle.std.specs.declared.cmp.Ordering.{Ordering}
 use Rattle.std.specs.declared.cmp.Ordering.TheVariants.{Less, Equal, Greater}
@@ -53,3 +53,19 @@ abbrev pub IsLatest : List ChangeParts → Actor → Option ℕ → Option ℕ �
 IsLatest C a limit None = (d : ChangeParts) → In d C → StartsWithin a limit d → ⊥
 IsLatest C a limit (Some p) =
     (c : ChangeParts) × (slice_get C p ≡ Some c) × StartsWithin a limit c × ((d : ChangeParts) → In d C → StartsWithin a limit d → d.seq ≤ c.seq)
+
+-- by an order of actors, then by whether the past has the change
+abbrev pub outside_by : Ordering → Bool → Bool
+outside_by Less held = false
+outside_by Equal held = not held
+outside_by Greater held = true
+
+-- c's actor stands after a, or c is a's and isn't held
+abbrev pub is_outside : Actor → Bool → ChangeParts → Bool
+is_outside a held c = outside_by (actor_cmp c.actor a) held
+
+-- The places before the low-th are of changes that aren't outside what is held by the actor, those from the high-th on of
+-- changes that are.
+pub record IsCutIn (C : List ChangeParts) (held : ℕ → Bool) (order : List ℕ) (a : Actor) (low high : ℕ) : Type 0 where
+  pub before : (k : ℕ) → k < low → (c : ChangeParts) → slice_get C (get_or order k 0) ≡ Some c → is_outside a (held (get_or order k 0)) c ≡ false
+  pub behind : (k : ℕ) → high ≤ k → k < length order → (c : ChangeParts) → slice_get C (get_or order k 0) ≡ Some c → is_outside a (held (get_or order k 0)) c ≡ true

@@ -9,6 +9,7 @@ pub mod Places
 pub mod Marks
 pub mod Covers
 pub mod GraphState
+pub mod Extents
 pub mod Parts
 pub mod Ends
 pub mod ByActor

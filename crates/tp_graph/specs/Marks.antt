@@ -35,7 +35,3 @@ marks_for (c ∷ C) K H = (names H c || is_needed K c) ∷ marks_for C K H
 -- where the walk stands at the place m: what it passed has its marks, what is before has those by what it passed
 abbrev pub walked : List ChangeParts → List Hash → ℕ → List Bool
 walked C H m = marks_for (take m C) (past (drop m C) H) H ++ marks (drop m C) H
-
--- the changes that are marked from the place i on
-abbrev pub rest_of : List Bool → List ChangeParts → ℕ → List ChangeParts
-rest_of bs C i = pick (drop i bs) (drop i C)

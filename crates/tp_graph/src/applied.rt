@@ -1,17 +1,20 @@
 //! The applied changes, with what is kept beside them.
 
-ghost use Rattle.std.specs.Prelude.{◌≡◌, ◌↔◌, ◌+◌, ◌<◌, ◌≤◌, [], ◌∷◌, ◌++◌, false, length, Some, None, Err, vec_len, vec_capacity, MatchOption, IfOk, OnOk, OnErr};
+ghost use Rattle.std.specs.Prelude.{◌≡◌, ◌↔◌, ◌+◌, ◌<◌, ◌≤◌, List, [], ◌∷◌, ◌++◌, false, length, Some, None, Err, vec_len, vec_capacity, MatchOption, IfOk, OnOk, OnErr};
 ghost use Rattle.tp_list.specs.Members.{In};
 ghost use Rattle.tp_list.specs.Rising.{IsRising};
 ghost use Rattle.tp_opid.specs.Order.{hash_cmp};
 ghost use Rattle.tp_opid.specs.declared.hash.Hash.{Hash};
+ghost use Rattle.tp_change.specs.declared.parts.ChangeParts.{ChangeParts};
 ghost use Rattle.tp_change.specs.ChangeHash.{hash_of};
 ghost use Rattle.tp_change.specs.Elements as made;
 ghost use Rattle.tp_graph.specs.Named as named;
 ghost use Rattle.tp_graph.specs.Heads as head;
 ghost use Rattle.tp_graph.specs.Fit as fit;
 ghost use Rattle.tp_graph.specs.Fit.{cause, most_changes};
+ghost use Rattle.tp_graph.specs.Extents.{IsRoom, IsKnown};
 ghost use Rattle.tp_graph.specs.Marks.{marks};
+ghost use Rattle.tp_graph.specs.Parts.{bits, IsPartOf, IsPartFor};
 ghost use Rattle.tp_graph.specs.Places.{place_from};
 ghost use Rattle.tp_graph.specs.ByActor.{IsByActor};
 ghost use Rattle.tp_graph.specs.Sound.{Sound, Fits};
@@ -20,16 +23,19 @@ ghost use Rattle.tp_graph.specs.Since.{since, skip, IsMissing};
 
 use crate::by_actor::cut;
 use crate::error::GraphError;
+use crate::extent::{Extent, Room};
 use crate::index::Index;
 use crate::judge::{count_all, later};
+use crate::part::{Part, extent_in, part_of};
+use crate::walk::same_hashes;
 use crate::{check, heads, since, walk};
 use std::alloc::{AllocError, Global};
 use std::marker::Model;
 use tp_change::Change;
 use tp_opid::{Actor, Hash};
 
-/// The applied changes in the order in which they entered. Heads, places, counters and the order by actors are kept
-/// beside them.
+/// The applied changes in the order in which they entered. Heads, places, counters, the order by actors and the extents
+/// of pasts are kept beside them.
 #[derive(Drop)]
 pub(crate) struct Applied {
     alloc: Global,
@@ -39,20 +45,26 @@ pub(crate) struct Applied {
     next: u64,
     index: Index,
     order: Vec<u32>,
-    room: Option<Hash>,
+    pasts: Vec<Option<Extent>>,
+    room: Option<Room>,
 }
 
 impl Model for Applied {
     ghost use Rattle.std.specs.Prelude.{vec_len, vec_capacity};
     ghost use Rattle.tp_graph.specs.AppliedState.{AppliedState, IsGraphIndex, HasRoom};
+    ghost use Rattle.tp_graph.specs.Extents.{AreExtents, IsRoom, room_hash};
 
     ghost Value = { AppliedState };
 
-    ghost view = { λ a. record { changes = a.changes.items; room = a.room } };
+    ghost view = { λ a. record { changes = a.changes.items; room = room_hash a.room } };
 
     ghost invariant = { λ a.
         IsGraphIndex a.changes.items a.heads.items a.index a.ends.items a.next a.order.items
-        × HasRoom a.room (vec_len a.changes) a.index (vec_capacity a.changes) (vec_len a.heads) (vec_capacity a.heads) (vec_len a.ends) (vec_capacity a.ends) (vec_len a.order) (vec_capacity a.order) };
+        × AreExtents a.changes.items a.pasts.items
+        × IsRoom a.changes.items a.room
+        × HasRoom (room_hash a.room) (vec_len a.changes) a.index (vec_capacity a.changes)
+        (vec_len a.heads) (vec_capacity a.heads) (vec_len a.ends) (vec_capacity a.ends)
+        (vec_len a.order) (vec_capacity a.order) (vec_len a.pasts) (vec_capacity a.pasts) };
 }
 
 // Makes room for one more of each.
@@ -61,20 +73,33 @@ fn grow(
     heads: &mut Vec<Hash>,
     ends: &mut Vec<u64>,
     order: &mut Vec<u32>,
+    pasts: &mut Vec<Option<Extent>>,
 ) -> Result<(), AllocError>
     ensures changes { changes.new.items ≡ changes.old.items }
     ensures heads { heads.new.items ≡ heads.old.items }
     ensures ends { ends.new.items ≡ ends.old.items }
     ensures order { order.new.items ≡ order.old.items }
-    ensures lens { (vec_len changes.new ≡ vec_len changes.old) × (vec_len heads.new ≡ vec_len heads.old) × (vec_len ends.new ≡ vec_len ends.old) × (vec_len order.new ≡ vec_len order.old) }
+    ensures pasts { pasts.new.items ≡ pasts.old.items }
+    ensures lens { (vec_len changes.new ≡ vec_len changes.old)
+        × (vec_len heads.new ≡ vec_len heads.old) × (vec_len ends.new ≡ vec_len ends.old)
+        × (vec_len order.new ≡ vec_len order.old) × (vec_len pasts.new ≡ vec_len pasts.old) }
     ensures room { OnOk result
-        ((vec_len changes.new < vec_capacity changes.new) × (vec_len heads.new < vec_capacity heads.new) × (vec_len ends.new < vec_capacity ends.new) × (vec_len order.new < vec_capacity order.new)) }
-    ensures stays { (vec_capacity changes.old ≤ vec_capacity changes.new) × (vec_capacity heads.old ≤ vec_capacity heads.new) × (vec_capacity ends.old ≤ vec_capacity ends.new) × (vec_capacity order.old ≤ vec_capacity order.new) }
+        ((vec_len changes.new < vec_capacity changes.new)
+        × (vec_len heads.new < vec_capacity heads.new)
+        × (vec_len ends.new < vec_capacity ends.new)
+        × (vec_len order.new < vec_capacity order.new)
+        × (vec_len pasts.new < vec_capacity pasts.new)) }
+    ensures stays { (vec_capacity changes.old ≤ vec_capacity changes.new)
+        × (vec_capacity heads.old ≤ vec_capacity heads.new)
+        × (vec_capacity ends.old ≤ vec_capacity ends.new)
+        × (vec_capacity order.old ≤ vec_capacity order.new)
+        × (vec_capacity pasts.old ≤ vec_capacity pasts.new) }
 {
     changes.reserve(1)?;
     heads.reserve(1)?;
     ends.reserve(1)?;
     order.reserve(1)?;
+    pasts.reserve(1)?;
     Ok(())
 }
 
@@ -97,6 +122,23 @@ fn put_in_order(order: &mut Vec<u32>, changes: &[Change], change: &Change)
     match order.insert(i, place) {
         Ok(()) => {}
         Err(_) => unreachable!(),
+    }
+}
+
+// The extent of the past of the dependencies that was made ready, where it was made for these. Else a change enters whose
+// hash is that of another, which was made ready for, and its extent isn't known: there is no memory to make it.
+fn extent_for(room: Option<Room>, deps: &[Hash]) -> Option<Extent>
+    ensures { (C : List ChangeParts) → IsRoom C room → IsKnown C deps.now result }
+{
+    match room {
+        Some(room) => {
+            if same_hashes(deps, room.deps.as_slice()) {
+                room.past
+            } else {
+                None
+            }
+        }
+        None => None,
     }
 }
 
@@ -125,6 +167,7 @@ impl Applied {
             next: 1,
             index: Index::new(alloc),
             order: Vec::new(alloc),
+            pasts: Vec::new(alloc),
             room: None,
         }
     }
@@ -188,10 +231,12 @@ impl Applied {
         walk::change_of(self.changes.as_slice(), &self.index, hash)
     }
 
-    /// Whether the change can enter.
-    pub(crate) fn check(&self, change: &Change) -> Result<(), GraphError>
+    // Whether the change can enter: the past of its dependencies, or why not.
+    fn judge(&self, change: &Change) -> Result<Part, GraphError>
         ensures answers { Answers result (cause self.now.changes change.now) }
-        ensures memory { result ≡ Err GraphError.OutOfMemory → TakesMemory self.now.changes change.now }
+        ensures part { IfOk result (λ part. IsPartFor part self.now.changes change.now.deps) }
+        ensures memory { result ≡ Err GraphError.OutOfMemory
+            → TakesMemory self.now.changes change.now }
     {
         check::check(
             self.alloc,
@@ -200,8 +245,19 @@ impl Applied {
             self.heads.as_slice(),
             &self.index,
             self.order.as_slice(),
+            self.pasts.as_slice(),
             change,
         )
+    }
+
+    /// Whether the change can enter.
+    pub(crate) fn check(&self, change: &Change) -> Result<(), GraphError>
+        ensures answers { Answers result (cause self.now.changes change.now) }
+        ensures memory { result ≡ Err GraphError.OutOfMemory
+            → TakesMemory self.now.changes change.now }
+    {
+        self.judge(change)?;
+        Ok(())
     }
 
     /// Checks, and makes every growth that the entry of the change takes.
@@ -211,7 +267,8 @@ impl Applied {
         ensures room { OnOk result (self.new.room ≡ Some (hash_of change.now)) }
         ensures err { OnErr result (self.new.room ≡ self.old.room) }
     {
-        self.check(change)?;
+        let past = extent_in(self.judge(change)?);
+        let deps = Vec::from_slice(self.alloc, change.deps())?;
         let hash = change.hash();
         let place = self.changes.len() as u32;
         grow(
@@ -219,9 +276,10 @@ impl Applied {
             &mut self.heads,
             &mut self.ends,
             &mut self.order,
+            &mut self.pasts,
         )?;
         self.index.note(hash, place)?;
-        self.room = Some(hash);
+        self.room = Some(Room { hash, deps, past });
         Ok(())
     }
 
@@ -232,26 +290,30 @@ impl Applied {
         ensures changes { self.new.changes ≡ self.old.changes ++ change ∷ [] }
         ensures room { self.new.room ≡ None }
     {
+        let past = extent_for(self.room.take(), change.deps());
         let end = change.next_start();
         self.next = later(self.next, end);
         heads::move_on(&mut self.heads, change.deps(), change.hash());
         put_in_order(&mut self.order, self.changes.as_slice(), &change);
         push_within(&mut self.ends, end);
+        push_within(&mut self.pasts, past);
         push_within(&mut self.changes, change);
-        self.room = None;
     }
 
-    /// Marks for the past of those of the hashes that are known.
-    pub(crate) fn marks(&self, hashes: &[Hash]) -> Result<Vec<bool>, AllocError>
-        ensures marks { IfOk result (λ v. v.items ≡ marks self.now.changes hashes.now) }
-        ensures len { IfOk result (λ v. length v.items ≡ length self.now.changes) }
-        ensures few { length self.now.changes ≤ most_changes }
-        ensures since { IfOk result (λ v. skip v.items self.now.changes ≡ since self.now.changes hashes.now) }
+    /// Which of the changes the past of those of the hashes that are known has.
+    pub(crate) fn part(&self, hashes: &[Hash]) -> Result<Part, AllocError>
+        ensures bits { IfOk result
+            (λ part. bits part self.now.changes ≡ marks self.now.changes hashes.now) }
+        ensures part { IfOk result (λ part. IsPartOf part self.now.changes) }
+        ensures since { IfOk result
+            (λ part. skip (bits part self.now.changes) self.now.changes
+            ≡ since self.now.changes hashes.now) }
     {
-        walk::marks_of(
+        part_of(
             self.alloc,
             self.changes.as_slice(),
             &self.index,
+            self.pasts.as_slice(),
             self.heads.as_slice(),
             hashes,
         )
@@ -260,7 +322,8 @@ impl Applied {
     /// The dependencies of the waiting changes that are neither applied nor waiting, rising.
     pub(crate) fn missing(&self, waiting: &[Change]) -> Result<Vec<Hash>, AllocError>
         ensures rising { IfOk result (λ v. IsRising hash_cmp v.items) }
-        ensures there { IfOk result (λ v. (h : Hash) → In h v.items ↔ IsMissing self.now.changes waiting.now h) }
+        ensures there { IfOk result
+            (λ v. (h : Hash) → In h v.items ↔ IsMissing self.now.changes waiting.now h) }
     {
         since::missing(self.alloc, self.changes.as_slice(), &self.index, waiting)
     }

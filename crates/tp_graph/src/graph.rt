@@ -22,7 +22,7 @@ ghost use Rattle.tp_opid.specs.declared.hash.Hash.{Hash};
 use crate::applied::Applied;
 use crate::error::GraphError;
 use crate::past::{Past, places_of};
-use crate::since::{has, unmarked};
+use crate::since::{has, outside};
 use std::alloc::Global;
 use std::marker::Model;
 use tp_change::Change;
@@ -148,10 +148,13 @@ impl Graph {
     ///
     /// Where the dependencies are the heads: a number of comparisons that grows with the logarithm of the number of
     /// applied changes, for each dependency and each reference, and the records of the changes that are referred to.
-    /// Elsewhere one walk back over the applied changes as well, with a byte for each.
+    /// Elsewhere the pasts of the dependencies are joined as well, by what is kept beside their changes: a comparison for
+    /// each actor with changes in them behind the prefix that they share, for each dependency and each reference. Only
+    /// where there are more than 4,096 such actors are the applied changes walked back over, with a byte for each.
     pub fn check(&self, change: &Change) -> Result<(), GraphError>
         ensures answers { Answers result (cause self.now.applied change.now) }
-        ensures memory { result ≡ Err GraphError.OutOfMemory → TakesMemory self.now.applied change.now }
+        ensures memory { result ≡ Err GraphError.OutOfMemory
+            → TakesMemory self.now.applied change.now }
     {
         self.applied.check(change)
     }
@@ -172,10 +175,12 @@ impl Graph {
     /// came. So it can be made ready for before it is taken out, and isn't lost where memory is refused.
     pub fn ready_waiting(&mut self, i: usize) -> Result<(), GraphError>
         requires { i < length self.old.waiting }
-        ensures answers { (c : ChangeParts) → slice_get self.old.waiting i ≡ Some c → Answers result (cause self.old.applied c) }
+        ensures answers { (c : ChangeParts) → slice_get self.old.waiting i ≡ Some c
+            → Answers result (cause self.old.applied c) }
         ensures applied { self.new.applied ≡ self.old.applied }
         ensures waiting { self.new.waiting ≡ self.old.waiting }
-        ensures room { (c : ChangeParts) → slice_get self.old.waiting i ≡ Some c → OnOk result (self.new.room ≡ Some (hash_of c)) }
+        ensures room { (c : ChangeParts) → slice_get self.old.waiting i ≡ Some c
+            → OnOk result (self.new.room ≡ Some (hash_of c)) }
         ensures err { OnErr result (self.new.room ≡ self.old.room) }
     {
         self.applied.ready(&self.waiting[i])
@@ -196,9 +201,12 @@ impl Graph {
     /// Enters a change that can enter, and answers its place in applied order, from 0. A change that is refused
     /// is given back, and what a caller sees stays as it was, the room that was made among it.
     pub fn add(&mut self, change: Change) -> Result<u32, Rejected>
-        ensures answers { MatchResult result (λ place. (cause self.old.applied change ≡ None) × (place ≡ length self.old.applied))
-            (λ rejected. IsCause rejected.error (cause self.old.applied change) × (rejected.change ≡ change)) }
-        ensures applied { self.new.applied ≡ (if is_ok result then self.old.applied ++ change ∷ [] else self.old.applied) }
+        ensures answers { MatchResult result
+            (λ place. (cause self.old.applied change ≡ None) × (place ≡ length self.old.applied))
+            (λ rejected. IsCause rejected.error (cause self.old.applied change)
+            × (rejected.change ≡ change)) }
+        ensures applied { self.new.applied
+            ≡ (if is_ok result then self.old.applied ++ change ∷ [] else self.old.applied) }
         ensures waiting { self.new.waiting ≡ self.old.waiting }
         ensures room { self.new.room ≡ (if is_ok result then None else self.old.room) }
     {
@@ -217,8 +225,10 @@ impl Graph {
     pub fn hold(&mut self, change: Change) -> Result<(), Rejected>
         requires few { length self.old.waiting < most_waiting }
         requires apart { named.has self.old.waiting (hash_of change) ≡ false }
-        ensures waiting { self.new.waiting ≡ (if is_ok result then self.old.waiting ++ change ∷ [] else self.old.waiting) }
-        ensures err { IfErr result (λ rejected. (rejected.change ≡ change) × (rejected.error ≡ GraphError.OutOfMemory)) }
+        ensures waiting { self.new.waiting
+            ≡ (if is_ok result then self.old.waiting ++ change ∷ [] else self.old.waiting) }
+        ensures err { IfErr result
+            (λ rejected. (rejected.change ≡ change) × (rejected.error ≡ GraphError.OutOfMemory)) }
         ensures applied { self.new.applied ≡ self.old.applied }
         ensures room { self.new.room ≡ self.old.room }
     {
@@ -246,29 +256,34 @@ impl Graph {
     /// The past of the hashes: the changes that have them and all that these depend on, as places. A hash that no
     /// applied change has is refused as `UnknownHead`, and the only other refusal is `OutOfMemory`.
     ///
-    /// One walk back over the applied changes, with a byte for each; none where the hashes are the heads.
+    /// The pasts of the hashes are joined as [`check`](Graph::check) does; then each place is asked for, with a
+    /// comparison before the prefix.
     pub fn past(&self, hashes: &[Hash]) -> Result<Past, GraphError>
         ensures places { IfOk result (λ places. places ≡ past_places self.now.applied hashes.now) }
-        ensures unknown { (result ≡ Err GraphError.UnknownHead) ↔ (named.has_all self.now.applied hashes.now ≡ false) }
-        ensures err { IfErr result (λ error. (error ≡ GraphError.UnknownHead) ⊎ (error ≡ GraphError.OutOfMemory)) }
+        ensures unknown { (result ≡ Err GraphError.UnknownHead)
+            ↔ (named.has_all self.now.applied hashes.now ≡ false) }
+        ensures err { IfErr result
+            (λ error. (error ≡ GraphError.UnknownHead) ⊎ (error ≡ GraphError.OutOfMemory)) }
     {
         if !self.applied.has_all(hashes) {
             return Err(GraphError::UnknownHead);
         }
-        let marks = self.applied.marks(hashes)?;
-        Ok(Past::new(places_of(self.alloc, &marks)?))
+        let part = self.applied.part(hashes)?;
+        let places = places_of(self.alloc, self.applied.changes(), &part)?;
+        Ok(Past::new(places))
     }
 
     /// Copies of the applied changes outside the past of those hashes that are known, in applied order. The only
     /// refusal is `OutOfMemory`.
     ///
-    /// One walk back over the applied changes, with a byte for each; none where the hashes are the heads.
+    /// The pasts of the hashes are joined as [`check`](Graph::check) does; then each place behind the prefix is asked
+    /// for.
     pub fn since(&self, hashes: &[Hash]) -> Result<Vec<Change>, GraphError>
         ensures changes { IfOk result (λ v. v.items ≡ since self.now.applied hashes.now) }
         ensures err { IsOkUnless result GraphError.OutOfMemory }
     {
-        let marks = self.applied.marks(hashes)?;
-        unmarked(self.alloc, self.applied.changes(), &marks)
+        let part = self.applied.part(hashes)?;
+        outside(self.alloc, self.applied.changes(), &part)
     }
 
     /// The dependencies of waiting changes that are neither applied nor waiting, rising, each once. The only
@@ -277,7 +292,8 @@ impl Graph {
     /// A look-up for each dependency, and a pass over the waiting changes for each that isn't applied.
     pub fn missing(&self) -> Result<Vec<Hash>, GraphError>
         ensures rising { IfOk result (λ v. IsRising hash_cmp v.items) }
-        ensures there { IfOk result (λ v. (h : Hash) → In h v.items ↔ IsMissing self.now.applied self.now.waiting h) }
+        ensures there { IfOk result
+            (λ v. (h : Hash) → In h v.items ↔ IsMissing self.now.applied self.now.waiting h) }
         ensures err { IsOkUnless result GraphError.OutOfMemory }
     {
         Ok(self.applied.missing(self.waiting.as_slice())?)

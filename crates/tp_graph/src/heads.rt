@@ -21,7 +21,8 @@ fn take_out(heads: &mut Vec<Hash>, others: &[Hash])
 // The place at which the hash belongs, or None where it is there.
 fn place_for(heads: &[Hash], hash: &Hash) -> Option<usize>
     ensures { MatchOption result (list.put hash_cmp hash.now heads.now ≡ heads.now)
-        (λ i. (i ≤ length heads.now) × (list.put hash_cmp hash.now heads.now ≡ insert heads.now i hash.now)) }
+        (λ i. (i ≤ length heads.now)
+        × (list.put hash_cmp hash.now heads.now ≡ insert heads.now i hash.now)) }
 {
     for i in 0..heads.len() {
         match hash.order(&heads[i]) {

@@ -51,7 +51,8 @@ impl Index {
     /// Notes the place for a hash, in the stead of what was noted for it.
     pub(crate) fn note(&mut self, hash: Hash, place: u32) -> Result<(), AllocError>
         ensures ok { OnOk result
-            ((other : Hash) → noted self.new other ≡ cond (same_hash hash other) (Some place) (noted self.old other)) }
+            ((other : Hash) → noted self.new other
+            ≡ cond (same_hash hash other) (Some place) (noted self.old other)) }
         ensures err { OnErr result (self.new ≡ self.old) }
     {
         self.map.insert(hash, place)?;

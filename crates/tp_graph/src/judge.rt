@@ -6,7 +6,6 @@ ghost use Rattle.tp_graph.specs.Fit as fit;
 ghost use Rattle.tp_change.specs.Elements as made;
 ghost use Rattle.tp_graph.specs.Covers as cover;
 ghost use Rattle.tp_graph.specs.ByActor.{IsByActor};
-ghost use Rattle.tp_graph.specs.Marks.{pick, rest_of};
 ghost use Rattle.tp_graph.specs.Parts.{picked, IsPartOf};
 ghost use Rattle.tp_graph.specs.Ends.{end_named};
 ghost use Rattle.tp_graph.specs.Past.{past};
@@ -76,37 +75,6 @@ fn inserts_id(change: &Change, end: u64, id: &OpId) -> bool
     covers(change.records(), change.start(), id.counter)
 }
 
-// 1 where the change at the place is marked and the actor's, else 0.
-fn count_at(applied: &[Change], marks: &[bool], place: usize, actor: &Actor) -> usize
-    requires marks { length marks.now ≡ length applied.now }
-    requires place { place < length applied.now }
-    ensures counted { result + fit.count_by actor.now (rest_of marks.now applied.now (place + 1))
-        ≡ fit.count_by actor.now (rest_of marks.now applied.now place) }
-    ensures one { result ≤ 1 }
-{
-    if !marks[place] {
-        return 0;
-    }
-    if applied[place].actor().is(actor) {
-        1
-    } else {
-        0
-    }
-}
-
-// How many of the marked changes the actor made.
-fn count_by(applied: &[Change], marks: &[bool], actor: &Actor) -> usize
-    requires { length marks.now ≡ length applied.now }
-    ensures count { result ≡ fit.count_by actor.now (pick marks.now applied.now) }
-    ensures few { result ≤ length applied.now }
-{
-    let mut count = 0;
-    for place in 0..applied.len() {
-        count += count_at(applied, marks, place, actor);
-    }
-    count
-}
-
 /// The greater of the two.
 pub(crate) fn later(a: u64, b: u64) -> u64
     ensures { result ≡ made.later a b }
@@ -155,39 +123,6 @@ pub(crate) fn count_all(applied: &[Change], order: &[u32], actor: &Actor) -> u64
     }
 }
 
-// How many of the marked changes, which are a past, the actor made. Where its latest change is marked, they all are;
-// elsewhere, where no change of the actor's can enter, one pass.
-fn count_marked(applied: &[Change], order: &[u32], marks: &[bool], actor: &Actor) -> u64
-    requires sound { Sound applied.now }
-    requires past { Sound (pick marks.now applied.now) }
-    requires order { IsByActor applied.now order.now }
-    requires marks { length marks.now ≡ length applied.now }
-    ensures count { result ≡ fit.count_by actor.now (pick marks.now applied.now) }
-    ensures few { result ≤ length applied.now }
-{
-    if let Some(place) = latest(applied, order, actor, None) {
-        if marks[place] {
-            return applied[place].seq();
-        }
-    }
-    count_by(applied, marks, actor) as u64
-}
-
-/// How many changes of the past the actor made.
-pub(crate) fn count_in(applied: &[Change], order: &[u32], part: &Part, actor: &Actor) -> u64
-    requires sound { Sound applied.now }
-    requires past { Sound (picked part.now applied.now) }
-    requires order { IsByActor applied.now order.now }
-    requires part { IsPartOf part.now applied.now }
-    ensures count { result ≡ fit.count_by actor.now (picked part.now applied.now) }
-    ensures few { result ≤ length applied.now }
-{
-    match part {
-        Part::Whole => count_all(applied, order, actor),
-        Part::Marked(marks) => count_marked(applied, order, marks.as_slice(), actor),
-    }
-}
-
 // Whether a change of the past inserts the element with the identifier: its actor's latest change that starts within the
 // counter is the only one that may. A number of comparisons that grows with the logarithm of the number of changes,
 // and the records of that one.
@@ -200,7 +135,7 @@ fn is_inserted(applied: &[Change], ends: &[u64], order: &[u32], part: &Part, id:
 {
     match latest(applied, order, &id.actor, Some(id.counter)) {
         Some(place) => {
-            if !part.holds(place) {
+            if !part.holds(applied, place) {
                 return false;
             }
             inserts_id(&applied[place], ends[place], id)
@@ -227,7 +162,8 @@ fn is_known(
     requires part { IsPartOf part.now applied.now }
     requires counters { first + count_of before.now < 2 ^ 64 }
     ensures { result
-        ≡ made.is_inserted (made.inserts_in (ops_from actor.now first before.now) ++ made.inserts (picked part.now applied.now)) id.now }
+        ≡ made.is_inserted (made.inserts_in (ops_from actor.now first before.now) ++ made.inserts
+        (picked part.now applied.now)) id.now }
 {
     if !actor.is(&id.actor) {
         return is_inserted(applied, ends, order, part, id);
@@ -259,7 +195,8 @@ fn is_there(
     requires part { IsPartOf part.now applied.now }
     requires counters { first + count_of before.now < 2 ^ 64 }
     ensures { result
-        ≡ cover.is_there (made.inserts_in (ops_from actor.now first before.now) ++ made.inserts (picked part.now applied.now)) entry.now }
+        ≡ cover.is_there (made.inserts_in (ops_from actor.now first before.now) ++ made.inserts
+        (picked part.now applied.now)) entry.now }
 {
     match entry {
         Record::Insert { after, .. } => match after {
@@ -285,7 +222,8 @@ pub(crate) fn refers(
     requires ends { ends.now ≡ ends_of applied.now }
     requires order { IsByActor applied.now order.now }
     requires part { IsPartOf part.now applied.now }
-    ensures { result ≡ made.refers (made.inserts (picked part.now applied.now)) (ops_of change.now) }
+    ensures { result ≡ made.refers (made.inserts (picked part.now applied.now))
+        (ops_of change.now) }
 {
     let _hash = change.hash();
     let actor = change.actor();

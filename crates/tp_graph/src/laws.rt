@@ -40,12 +40,14 @@ pub fn prefix_and_rest_are_sound()
 
 /// A change is known exactly where one of the list has its hash.
 pub fn known_where_there()
-    ensures { (C : List ChangeParts) (c : ChangeParts) → (defect C c ≡ Some Known) ↔ (has C (hash_of c) ≡ true) }
+    ensures { (C : List ChangeParts) (c : ChangeParts) → (defect C c ≡ Some Known)
+        ↔ (has C (hash_of c) ≡ true) }
 {}
 
 /// A change lacks dependencies exactly where it is new and one of them isn't there.
 pub fn waits_where_a_dependency_lacks()
-    ensures { (C : List ChangeParts) (c : ChangeParts) → (defect C c ≡ Some MissingDeps) ↔ ((has C (hash_of c) ≡ false) × (has_all C c.deps ≡ false)) }
+    ensures { (C : List ChangeParts) (c : ChangeParts) → (defect C c ≡ Some MissingDeps)
+        ↔ ((has C (hash_of c) ≡ false) × (has_all C c.deps ≡ false)) }
 {}
 
 /// Inserts depend on the changes as a set.
@@ -55,7 +57,8 @@ pub fn inserts_of_a_set()
 
 /// Each insert of a list has a counter below the next one.
 pub fn inserts_stand_below_the_next_counter()
-    ensures { (C : List ChangeParts) (x : element_of.Insert) → In x (inserts C) → x.id.counter < next_counter C }
+    ensures { (C : List ChangeParts) (x : element_of.Insert) → In x (inserts C)
+        → x.id.counter < next_counter C }
 {}
 
 /// A prefix of a sound list is sound.
@@ -65,12 +68,14 @@ pub fn prefix_is_sound()
 
 /// A sound list stays sound where a change enters that fits.
 pub fn push_is_sound()
-    ensures { (C : List ChangeParts) (c : ChangeParts) → Sound C → defect C c ≡ None → Sound (C ++ c ∷ []) }
+    ensures { (C : List ChangeParts) (c : ChangeParts) → Sound C → defect C c ≡ None
+        → Sound (C ++ c ∷ []) }
 {}
 
 /// Each change of a sound list fits behind those before it.
 pub fn each_fits()
-    ensures { (A : List ChangeParts) (c : ChangeParts) (B : List ChangeParts) → Sound (A ++ c ∷ B) → defect A c ≡ None }
+    ensures { (A : List ChangeParts) (c : ChangeParts) (B : List ChangeParts) → Sound (A ++ c ∷ B)
+        → defect A c ≡ None }
 {}
 
 /// A change has no defect exactly where it is new, its dependencies are there, its numbers and references are right behind its past, and it clashes with none.
@@ -80,27 +85,32 @@ pub fn fits_part_by_part()
 
 /// A change can enter exactly where it fits and the list isn't full.
 pub fn cause_is_defect_or_full()
-    ensures { (C : List ChangeParts) (c : ChangeParts) → length C < most_changes → (cause C c ≡ None) ↔ (defect C c ≡ None) }
+    ensures { (C : List ChangeParts) (c : ChangeParts) → length C < most_changes
+        → (cause C c ≡ None) ↔ (defect C c ≡ None) }
 {}
 
 /// The dependencies of each change of a sound list stand before it.
 pub fn dependencies_stand_before()
-    ensures { (A : List ChangeParts) (c : ChangeParts) (B : List ChangeParts) → Sound (A ++ c ∷ B) → has_all A c.deps ≡ true }
+    ensures { (A : List ChangeParts) (c : ChangeParts) (B : List ChangeParts) → Sound (A ++ c ∷ B)
+        → has_all A c.deps ≡ true }
 {}
 
 /// A sound list has the dependencies of each of its changes.
 pub fn dependencies_are_there()
-    ensures { (C : List ChangeParts) → Sound C → (c : ChangeParts) → In c C → has_all C c.deps ≡ true }
+    ensures { (C : List ChangeParts) → Sound C → (c : ChangeParts) → In c C
+        → has_all C c.deps ≡ true }
 {}
 
 /// Two changes of a sound list with one hash are one.
 pub fn hashes_are_apart()
-    ensures { (C : List ChangeParts) → Sound C → (c d : ChangeParts) → In c C → In d C → hash_of c ≡ hash_of d → c ≡ d }
+    ensures { (C : List ChangeParts) → Sound C → (c d : ChangeParts) → In c C → In d C
+        → hash_of c ≡ hash_of d → c ≡ d }
 {}
 
 /// The past in a sound list is what the dependencies lead to from the hashes.
 pub fn past_is_what_is_reached()
-    ensures { (C : List ChangeParts) (H : List Hash) (c : ChangeParts) → Sound C → In c (past C H) ↔ InPast C H c }
+    ensures { (C : List ChangeParts) (H : List Hash) (c : ChangeParts) → Sound C → In c (past C H)
+        ↔ InPast C H c }
 {}
 
 /// The past of any hashes of a sound list, in its order, is sound.
@@ -115,7 +125,8 @@ pub fn past_of_heads_is_all()
 
 /// Changes that enter later are not in the past of hashes that are there.
 pub fn later_changes_stay_out()
-    ensures { (C D : List ChangeParts) (H : List Hash) → has_all C H ≡ true → Sound (C ++ D) → past (C ++ D) H ≡ past C H }
+    ensures { (C D : List ChangeParts) (H : List Hash) → has_all C H ≡ true → Sound (C ++ D)
+        → past (C ++ D) H ≡ past C H }
 {}
 
 /// A past of fewer hashes is the same within a past of more.
@@ -125,7 +136,8 @@ pub fn past_within_a_past()
 
 /// A past is the same set in every sound list that holds it.
 pub fn past_in_any_list()
-    ensures { (C D : List ChangeParts) (H : List Hash) → Sound C → Sound D → has_all C H ≡ true → AllIn (past C H) D → SameMembers (past C H) (past D H) }
+    ensures { (C D : List ChangeParts) (H : List Hash) → Sound C → Sound D → has_all C H ≡ true
+        → AllIn (past C H) D → SameMembers (past C H) (past D H) }
 {}
 
 /// Heads depend on the changes as a set.
@@ -135,52 +147,67 @@ pub fn heads_of_a_set()
 
 /// A defect depends on the changes as a set.
 pub fn defect_of_a_set()
-    ensures { (C D : List ChangeParts) (c : ChangeParts) → Sound C → Sound D → AllIn C D → AllIn D C → defect C c ≡ defect D c }
+    ensures { (C D : List ChangeParts) (c : ChangeParts) → Sound C → Sound D → AllIn C D → AllIn D C
+        → defect C c ≡ defect D c }
 {}
 
 /// The heads where a change entered: its own hash, and those heads that it doesn't depend on.
 pub fn heads_where_one_enters()
-    ensures { (C : List ChangeParts) (c : ChangeParts) → Sound C → defect C c ≡ None → heads (C ++ c ∷ []) ≡ put hash_cmp (hash_of c) (without c.deps (heads C)) }
+    ensures { (C : List ChangeParts) (c : ChangeParts) → Sound C → defect C c ≡ None
+        → heads (C ++ c ∷ []) ≡ put hash_cmp (hash_of c) (without c.deps (heads C)) }
 {}
 
 /// Two sound lists with equal heads have the same changes, where equal hashes mean equal changes.
 pub fn heads_decide_the_set()
-    ensures { (C D : List ChangeParts) → Sound C → Sound D → ((c d : ChangeParts) → In c C → In d D → hash_of c ≡ hash_of d → c ≡ d) → heads C ≡ heads D → AllIn C D }
+    ensures { (C D : List ChangeParts) → Sound C → Sound D
+        → ((c d : ChangeParts) → In c C → In d D → hash_of c ≡ hash_of d → c ≡ d)
+        → heads C ≡ heads D → AllIn C D }
 {}
 
 /// A change that fits goes on fitting, unless its hash or a clash enters.
 pub fn fitting_stays()
-    ensures { (C D : List ChangeParts) (c : ChangeParts) → Sound (C ++ D) → defect C c ≡ None → has D (hash_of c) ≡ false → clashes D c ≡ false → defect (C ++ D) c ≡ None }
+    ensures { (C D : List ChangeParts) (c : ChangeParts) → Sound (C ++ D) → defect C c ≡ None
+        → has D (hash_of c) ≡ false → clashes D c ≡ false → defect (C ++ D) c ≡ None }
 {}
 
 /// A defect of a change whose dependencies are there stays the same, unless its hash enters.
 pub fn defect_stays()
-    ensures { (C D : List ChangeParts) (c : ChangeParts) (e : GraphError) → Sound (C ++ D) → has_all C c.deps ≡ true → has D (hash_of c) ≡ false → defect C c ≡ Some e → defect (C ++ D) c ≡ Some e }
+    ensures { (C D : List ChangeParts) (c : ChangeParts) (e : GraphError) → Sound (C ++ D)
+        → has_all C c.deps ≡ true → has D (hash_of c) ≡ false → defect C c ≡ Some e
+        → defect (C ++ D) c ≡ Some e }
 {}
 
 /// A change that is refused once its dependencies are there enters at no later time.
 pub fn refused_stays_out()
-    ensures { (C D : List ChangeParts) (c : ChangeParts) (e : GraphError) → Sound (C ++ D) → has_all C c.deps ≡ true → defect C c ≡ Some e → In c D → ⊥ }
+    ensures { (C D : List ChangeParts) (c : ChangeParts) (e : GraphError) → Sound (C ++ D)
+        → has_all C c.deps ≡ true → defect C c ≡ Some e → In c D → ⊥ }
 {}
 
 /// A change on the heads, with its actor's next sequence number, the next counter and references that are there, fits, where its hash is new.
 pub fn edit_fits()
-    ensures { (C : List ChangeParts) (c : ChangeParts) → Sound C → c.deps ≡ heads C → c.seq ≡ count_by c.actor C + 1 → c.start ≡ next_counter C → refers (inserts C) (ops_of c) ≡ true → has C (hash_of c) ≡ false → defect C c ≡ None }
+    ensures { (C : List ChangeParts) (c : ChangeParts) → Sound C → c.deps ≡ heads C
+        → c.seq ≡ count_by c.actor C + 1 → c.start ≡ next_counter C
+        → refers (inserts C) (ops_of c) ≡ true → has C (hash_of c) ≡ false → defect C c ≡ None }
 {}
 
 /// What fits a sound part fits the whole, unless its hash or a clash is there.
 pub fn fits_a_part_fits_the_whole()
-    ensures { (P C : List ChangeParts) (c : ChangeParts) → Sound P → Sound C → AllIn P C → defect P c ≡ None → has C (hash_of c) ≡ false → clashes C c ≡ false → defect C c ≡ None }
+    ensures { (P C : List ChangeParts) (c : ChangeParts) → Sound P → Sound C → AllIn P C
+        → defect P c ≡ None → has C (hash_of c) ≡ false → clashes C c ≡ false → defect C c ≡ None }
 {}
 
 /// What fits a sound part that has all of its actor's changes fits the whole, unless its hash is there.
 pub fn fits_own_part_fits_the_whole()
-    ensures { (P C : List ChangeParts) (c : ChangeParts) → Sound P → Sound C → AllIn P C → ((d : ChangeParts) → In d C → same_actor d.actor c.actor ≡ true → In d P) → defect P c ≡ None → has C (hash_of c) ≡ false → defect C c ≡ None }
+    ensures { (P C : List ChangeParts) (c : ChangeParts) → Sound P → Sound C → AllIn P C
+        → ((d : ChangeParts) → In d C → same_actor d.actor c.actor ≡ true → In d P)
+        → defect P c ≡ None → has C (hash_of c) ≡ false → defect C c ≡ None }
 {}
 
 /// A change that fits has its actor's next sequence number in the whole list, and has all of its actor's changes in its past.
 pub fn next_sequence_number()
-    ensures { (C : List ChangeParts) (c : ChangeParts) → Sound C → defect C c ≡ None → (c.seq ≡ count_by c.actor C + 1) × ((d : ChangeParts) → In d C → same_actor d.actor c.actor ≡ true → In d (past C c.deps)) }
+    ensures { (C : List ChangeParts) (c : ChangeParts) → Sound C → defect C c ≡ None
+        → (c.seq ≡ count_by c.actor C + 1)
+        × ((d : ChangeParts) → In d C → same_actor d.actor c.actor ≡ true → In d (past C c.deps)) }
 {}
 
 /// The inserts of a sound list are a tree: no identifier is that of two, and each reference is there and smaller.
@@ -190,25 +217,36 @@ pub fn inserts_are_a_tree()
 
 /// Each insert of a change that fits can be made behind the inserts of the list and those that stand before it in the change.
 pub fn each_insert_can_be_made()
-    ensures { (C : List ChangeParts) (c : ChangeParts) → Sound C → defect C c ≡ None → (xs : List Op) (id : OpId) (after : Place) (ch : ℕ) (ys : List Op) → ops_of c ≡ xs ++ op_of.Insert id after ch ∷ ys → CanInsert (inserts C ++ inserts_in xs) id after }
+    ensures { (C : List ChangeParts) (c : ChangeParts) → Sound C → defect C c ≡ None
+        → (xs : List Op) (id : OpId) (after : Place) (ch : ℕ) (ys : List Op)
+        → ops_of c ≡ xs ++ op_of.Insert id after ch ∷ ys
+        → CanInsert (inserts C ++ inserts_in xs) id after }
 {}
 
 /// The target of each delete of a change that fits is among the inserts of the list and those that stand before it in the change.
 pub fn each_target_is_there()
-    ensures { (C : List ChangeParts) (c : ChangeParts) → defect C c ≡ None → (xs : List Op) (id target : OpId) (ys : List Op) → ops_of c ≡ xs ++ op_of.Delete id target ∷ ys → IsThere (inserts C ++ inserts_in xs) target }
+    ensures { (C : List ChangeParts) (c : ChangeParts) → defect C c ≡ None
+        → (xs : List Op) (id target : OpId) (ys : List Op)
+        → ops_of c ≡ xs ++ op_of.Delete id target ∷ ys
+        → IsThere (inserts C ++ inserts_in xs) target }
 {}
 
 /// An insert of the list by the actor of a change that fits has a counter below the change's.
 pub fn own_inserts_stand_below()
-    ensures { (C : List ChangeParts) (c : ChangeParts) → Sound C → defect C c ≡ None → (x : element_of.Insert) → In x (inserts C) → x.id.actor ≡ c.actor → x.id.counter < c.start }
+    ensures { (C : List ChangeParts) (c : ChangeParts) → Sound C → defect C c ≡ None
+        → (x : element_of.Insert) → In x (inserts C) → x.id.actor ≡ c.actor
+        → x.id.counter < c.start }
 {}
 
 /// A place is among those of a past exactly where the change at it is in the past, and the places rise.
 pub fn places_are_the_past()
-    ensures { (C : List ChangeParts) (H : List Hash) → Sound C → IsRising nat_cmp (past_places C H) × ((i : ℕ) (c : ChangeParts) → slice_get C i ≡ Some c → In i (past_places C H) ↔ In c (past C H)) }
+    ensures { (C : List ChangeParts) (H : List Hash) → Sound C → IsRising nat_cmp (past_places C H)
+        × ((i : ℕ) (c : ChangeParts) → slice_get C i ≡ Some c → In i (past_places C H)
+        ↔ In c (past C H)) }
 {}
 
 /// A change stands outside the past of hashes exactly where it is in the list and not in the past.
 pub fn since_is_the_rest()
-    ensures { (C : List ChangeParts) (H : List Hash) (c : ChangeParts) → Sound C → In c C → (In c (past C H) ⊎ In c (since C H)) × (In c (past C H) → In c (since C H) → ⊥) }
+    ensures { (C : List ChangeParts) (H : List Hash) (c : ChangeParts) → Sound C → In c C
+        → (In c (past C H) ⊎ In c (since C H)) × (In c (past C H) → In c (since C H) → ⊥) }
 {}

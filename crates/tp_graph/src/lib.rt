@@ -9,6 +9,7 @@ mod applied;
 mod by_actor;
 mod check;
 mod error;
+mod extent;
 mod graph;
 mod heads;
 mod index;

@@ -1,12 +1,13 @@
 //! Changes outside a past, and hashes that waiting changes want.
 
-ghost use Rattle.std.specs.Prelude.{◌≡◌, ◌↔◌, ◌||◌, ◌≤◌, cond, length, IfOk, IsOkUnless, OnOk};
+ghost use Rattle.std.specs.Prelude.{◌≡◌, ◌↔◌, ◌||◌, cond, IfOk, IsOkUnless, OnOk};
 ghost use Rattle.tp_list.specs.Members.{In};
 ghost use Rattle.tp_list.specs.Rising as list;
 ghost use Rattle.tp_list.specs.Rising.{IsRising};
 ghost use Rattle.tp_opid.specs.declared.hash.Hash.{Hash};
 ghost use Rattle.tp_opid.specs.Order.{hash_cmp};
 ghost use Rattle.tp_graph.specs.Named as named;
+ghost use Rattle.tp_graph.specs.Parts.{bits, IsPartOf};
 ghost use Rattle.tp_graph.specs.Places.{NotesFrom};
 ghost use Rattle.tp_graph.specs.Since.{skip, gather, IsMissing};
 ghost use Rattle.tp_graph.specs.declared.error.GraphError.TheVariants.{OutOfMemory};
@@ -14,6 +15,7 @@ ghost use Rattle.tp_graph.specs.declared.error.GraphError.TheVariants.{OutOfMemo
 use crate::error::GraphError;
 use crate::heads::put;
 use crate::index::Index;
+use crate::part::Part;
 use crate::walk::contains;
 use std::alloc::{AllocError, Global};
 use tp_change::Change;
@@ -29,19 +31,19 @@ fn copy_of(change: &Change) -> Result<Change, GraphError>
     }
 }
 
-/// Copies of the changes that aren't marked.
-pub(crate) fn unmarked(
+/// Copies of the changes that a past hasn't. Those before its prefix aren't looked at.
+pub(crate) fn outside(
     alloc: Global,
     applied: &[Change],
-    marks: &[bool],
+    part: &Part,
 ) -> Result<Vec<Change>, GraphError>
-    requires { length marks.now ≡ length applied.now }
-    ensures copied { IfOk result (λ v. v.items ≡ skip marks.now applied.now) }
+    requires { IsPartOf part.now applied.now }
+    ensures copied { IfOk result (λ v. v.items ≡ skip (bits part.now applied.now) applied.now) }
     ensures err { IsOkUnless result OutOfMemory }
 {
     let mut found = Vec::new(alloc);
-    for i in 0..applied.len() {
-        if !marks[i] {
+    for i in part.prefix()..applied.len() {
+        if !part.holds(applied, i) {
             found.push(copy_of(&applied[i])?)?;
         }
     }
@@ -69,7 +71,9 @@ fn gather_one(
     hash: &Hash,
 ) -> Result<(), AllocError>
     requires { NotesFrom 0 applied.now index.now }
-    ensures { OnOk result (found.new.items ≡ cond (named.has applied.now hash.now || named.has waiting.now hash.now) found.old.items (list.put hash_cmp hash.now found.old.items)) }
+    ensures { OnOk result (found.new.items
+        ≡ cond (named.has applied.now hash.now || named.has waiting.now hash.now) found.old.items
+        (list.put hash_cmp hash.now found.old.items)) }
 {
     if contains(applied, index, hash) {
         return Ok(());
@@ -91,7 +95,8 @@ fn gather_deps(
     deps: &[Hash],
 ) -> Result<(), AllocError>
     requires { NotesFrom 0 applied.now index.now }
-    ensures { OnOk result (found.new.items ≡ gather applied.now waiting.now deps.now found.old.items) }
+    ensures { OnOk result (found.new.items
+        ≡ gather applied.now waiting.now deps.now found.old.items) }
 {
     for hash in deps {
         gather_one(found, applied, index, waiting, hash)?;
@@ -108,7 +113,8 @@ pub(crate) fn missing(
 ) -> Result<Vec<Hash>, AllocError>
     requires { NotesFrom 0 applied.now index.now }
     ensures rising { IfOk result (λ v. IsRising hash_cmp v.items) }
-    ensures there { IfOk result (λ v. (h : Hash) → In h v.items ↔ IsMissing applied.now waiting.now h) }
+    ensures there { IfOk result
+        (λ v. (h : Hash) → In h v.items ↔ IsMissing applied.now waiting.now h) }
 {
     let mut found = Vec::new(alloc);
     for change in waiting {

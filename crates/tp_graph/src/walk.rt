@@ -4,11 +4,8 @@ ghost use Rattle.std.specs.Prelude.{◌≡◌, ◌↔◌, ◌+◌, ◌<◌, [], 
 ghost use Rattle.tp_list.specs.Members.{In};
 ghost use Rattle.tp_change.specs.ChangeHash.{hash_of};
 ghost use Rattle.tp_graph.specs.Named as named;
-ghost use Rattle.tp_graph.specs.Heads as head;
 ghost use Rattle.tp_graph.specs.Places.{place_from, NotesFrom, HasAt};
-ghost use Rattle.tp_graph.specs.Marks.{marks, marked_more, pick, walked};
-ghost use Rattle.tp_graph.specs.Past.{past};
-ghost use Rattle.tp_graph.specs.Since.{since, skip};
+ghost use Rattle.tp_graph.specs.Marks.{marks, marked_more, walked};
 ghost use Rattle.tp_graph.specs.Sound.{Sound};
 
 use crate::index::Index;
@@ -128,8 +125,6 @@ pub(crate) fn walk_back(
     requires notes { NotesFrom 0 applied.now index.now }
     ensures marks { IfOk result (λ v. v.items ≡ marks applied.now hashes.now) }
     ensures len { IfOk result (λ v. length v.items ≡ length applied.now) }
-    ensures past { IfOk result (λ v. pick v.items applied.now ≡ past applied.now hashes.now) }
-    ensures since { IfOk result (λ v. skip v.items applied.now ≡ since applied.now hashes.now) }
 {
     let count = applied.len();
     let mut marks = vec![in alloc; false; count]?;
@@ -153,28 +148,4 @@ pub(crate) fn same_hashes(xs: &[Hash], ys: &[Hash]) -> bool
         }
     }
     true
-}
-
-/// Marks for the past of the hashes. Where they are the heads, every change is marked, with no walk.
-pub(crate) fn marks_of(
-    alloc: Global,
-    applied: &[Change],
-    index: &Index,
-    heads: &[Hash],
-    hashes: &[Hash],
-) -> Result<Vec<bool>, AllocError>
-    requires sound { Sound applied.now }
-    requires notes { NotesFrom 0 applied.now index.now }
-    requires heads { heads.now ≡ head.heads applied.now }
-    ensures marks { IfOk result (λ v. v.items ≡ marks applied.now hashes.now) }
-    ensures len { IfOk result (λ v. length v.items ≡ length applied.now) }
-    ensures past { IfOk result (λ v. pick v.items applied.now ≡ past applied.now hashes.now) }
-    ensures since { IfOk result (λ v. skip v.items applied.now ≡ since applied.now hashes.now) }
-{
-    if same_hashes(hashes, heads) {
-        let count = applied.len();
-        let marks = vec![in alloc; true; count]?;
-        return Ok(marks);
-    }
-    walk_back(alloc, applied, index, hashes)
 }

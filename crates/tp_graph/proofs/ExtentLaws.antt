@@ -1,0 +1,566 @@
+-- Laws of extents: how they are joined, tidied and kept while changes enter.
+use Rattle.std.proofs.Common.{◌≡◌, ◌↔◌, ◌⊎◌, ℕ, suc, zero, ◌+◌, ◌<◌, ◌≤◌, inl, inr, List, [], ◌∷◌, ◌++◌, length, get_or, take, drop, filter, Bool, true, false, ◌||◌, ◌&&◌, cond, nat_lt, nat_le, Option, Some, None, refl, sym, ap, ◌∙◌, subst, arith, add-one, drop-cons, length-append, ext_get_or}
+use Rattle.std.specs.List.{slice_get}
+use Rattle.std.proofs.lemmas.Bool.Decides.{nat_tests}
+use Rattle.std.proofs.lemmas.Option.{slice_get_within}
+use Rattle.std.proofs.lemmas.List.{take_more}
+use Rattle.tp_list.specs.Members.{In, AllIn}
+use Rattle.tp_list.proofs.Tests.{truth, never, same_test, or_cases, or_left, or_right, both, both_left, both_right}
+use Rattle.tp_list.proofs.Members.{In-left, In-right, In-append, In-slice_get, In-index, slice_get-there}
+use Rattle.tp_opid.specs.declared.hash.Hash.{Hash}
+use Rattle.tp_opid.specs.Same.{same_actor}
+use Rattle.tp_opid.proofs.Orders.{same_actor-same, same_actor-itself, same_actor-flip}
+use Rattle.tp_change.specs.declared.parts.ChangeParts.{ChangeParts}
+use Rattle.tp_change.specs.ChangeHash.{hash_of}
+use Rattle.tp_change.specs.Elements.{later}
+use Rattle.tp_graph.specs.declared.extent.Extent.{Extent}
+use Rattle.tp_graph.specs.declared.part.Part.{Part}
+use Rattle.tp_graph.specs.declared.part.Part.TheVariants.{Within, Marked}
+use Rattle.tp_graph.specs.Parts.{bits, picked, holds, prefix_of, IsPartOf}
+use Rattle.tp_graph.specs.Named.{has, has_all}
+use Rattle.tp_graph.specs.Past.{past}
+use Rattle.tp_graph.specs.Reach.{Chain}
+use Rattle.tp_graph.specs.Marks.{marks, pick}
+use Rattle.tp_graph.specs.Extents.{same_author_of, same_author, reaches, is_reached, taken, is_held, held_from, ArePlaces, IsPlaced, IsExtent, IsKnown, AreExtents}
+use Rattle.tp_graph.specs.Places.{place_from}
+use Rattle.tp_graph.specs.GraphState.{HashesOnce}
+use Rattle.tp_graph.specs.Sound.{Sound, Fits}
+use Rattle.tp_graph.proofs.NamedLaws.{In-has}
+use Rattle.tp_graph.proofs.PastLaws.{past-In, past-named, past-more, past-push_other}
+use Rattle.tp_graph.proofs.PlacesLaws.{place_from-some, has-from_place}
+use Rattle.tp_graph.proofs.SoundLaws.{sound-induct, hashes_apart, deps_first, deps_there, not_among}
+use Rattle.tp_graph.proofs.ReachLaws.{InPast-from_past, past-from_InPast}
+use Rattle.tp_graph.proofs.MarksLaws.{hashes_once, length-marks, pick-marks}
+use Rattle.tp_graph.proofs.CountLaws.{own_past}
+use Rattle.tp_graph.proofs.HeldLaws.{Tells}
+use Rattle.tp_graph.proofs.PartLaws.{pick-marked, marked-pick}
+
+-- ---- bits
+
+left_taken : (r a d e : Bool) → ((r || a) || (d || e)) ≡ (a || ((r || d) || e))
+left_taken true true d e = refl
+left_taken true false d e = refl
+left_taken false true d e = refl
+left_taken false false d e = refl
+
+right_taken : (r a d e : Bool) → ((r || a) || (d || e)) ≡ (a || (d || (r || e)))
+right_taken true true d e = refl
+right_taken true false true e = refl
+right_taken true false false e = refl
+right_taken false true d e = refl
+right_taken false false d e = refl
+
+both_taken : (q r a d e : Bool) → (((q || r) || a) || (d || e)) ≡ (a || ((q || d) || (r || e)))
+both_taken true r true d e = refl
+both_taken true r false d e = refl
+both_taken false true true d e = refl
+both_taken false true false true e = refl
+both_taken false true false false e = refl
+both_taken false false true d e = refl
+both_taken false false false d e = refl
+
+turn : (a b c : Bool) → (a || (b || c)) ≡ (b || (a || c))
+turn true true c = refl
+turn true false c = refl
+turn false true c = refl
+turn false false c = refl
+
+-- ---- authors
+
+author-joined : (o p q : Option ChangeParts) → same_author_of o p ≡ true → same_author_of o q ≡ true → same_author_of p q ≡ true
+author-joined None p q e f = cc
+author-joined (Some a) None q e f = cc
+author-joined (Some a) (Some b) None e f = cc
+author-joined (Some a) (Some b) (Some c) e f = subst (λ x. same_actor x c.actor ≡ true) (same_actor-same a.actor b.actor e) f
+
+author-flip : (o p : Option ChangeParts) → same_author_of o p ≡ true → same_author_of p o ≡ true
+author-flip None p e = cc
+author-flip (Some a) None e = cc
+author-flip (Some a) (Some b) e = same_actor-flip a.actor b.actor e
+
+pub author-read : (C : List ChangeParts) (i j : ℕ) (c d : ChangeParts) → slice_get C i ≡ Some c → slice_get C j ≡ Some d → same_actor c.actor d.actor ≡ true → same_author C i j ≡ true
+author-read C i j c d at there e = rw (at, there) e
+
+-- a later tip of the same actor reaches whatever an earlier one does
+reaches-later : (C : List ChangeParts) (s t i : ℕ) → same_author C s t ≡ true → s ≤ t → reaches C s i ≡ true → reaches C t i ≡ true
+reaches-later C s t i same le r =
+    let low : nat_le i s ≡ true = both_left (nat_le i s) (same_author C s i) r in
+    let up : nat_le i t ≡ true = grind (arith, nat_tests) in
+    both (nat_le i t) (same_author C t i) up (author-joined (slice_get C s) (slice_get C t) (slice_get C i) same (both_right (nat_le i s) (same_author C s i) r))
+
+-- ---- tips
+
+pub reached-drop : (C : List ChangeParts) (T : List ℕ) (k i : ℕ) → k < length T → is_reached C (drop k T) i ≡ (reaches C (get_or T k 0) i || is_reached C (drop (k + 1) T) i)
+reached-drop C T k i small =
+    ap (λ l. is_reached C l i) (drop-cons T k 0 small) ∙ ap (λ m. reaches C (get_or T k 0) i || is_reached C (drop m T) i) (sym (add-one k))
+
+pub reached-stop : (C : List ChangeParts) (T : List ℕ) (k i : ℕ) → k < length T → is_reached C (drop k T) i ≡ is_reached C T i → reaches C (get_or T k 0) i ≡ true → true ≡ is_reached C T i
+reached-stop C T k i small e t =
+    sym (sym e ∙ reached-drop C T k i small ∙ ap (λ b. b || is_reached C (drop (k + 1) T) i) t)
+
+pub reached-on : (C : List ChangeParts) (T : List ℕ) (k i : ℕ) → k < length T → is_reached C (drop k T) i ≡ is_reached C T i → reaches C (get_or T k 0) i ≡ false → is_reached C (drop (k + 1) T) i ≡ is_reached C T i
+reached-on C T k i small e f =
+    sym (sym e ∙ reached-drop C T k i small ∙ ap (λ b. b || is_reached C (drop (k + 1) T) i) f)
+
+pub reached-push : (C : List ChangeParts) (T : List ℕ) (t i : ℕ) → is_reached C (T ++ t ∷ []) i ≡ (reaches C t i || is_reached C T i)
+reached-push C [] t i = refl
+reached-push C (s ∷ T) t i = ap (λ b. reaches C s i || b) (reached-push C T t i) ∙ turn (reaches C s i) (reaches C t i) (is_reached C T i)
+
+-- the later of two tips of one actor reaches what either does
+reaches-both : (C : List ChangeParts) (x y p : ℕ) → same_author C x y ≡ true → reaches C (later x y) p ≡ (reaches C x p || reaches C y p)
+reaches-both C x y p same =
+    elim (truth (nat_lt x y)) [
+      | inl t ↦
+          let le : x ≤ y = grind (arith, nat_tests) in
+          ap (λ b. reaches C (cond b y x) p) t
+          ∙ same_test (reaches C y p) (reaches C x p || reaches C y p)
+          (λ r. or_right (reaches C x p) (reaches C y p) r)
+          (λ r. elim (or_cases (reaches C x p) (reaches C y p) r) [ inl u ↦ reaches-later C x y p same le u | inr u ↦ u ])
+      | inr f ↦
+          let le : y ≤ x = grind (arith, nat_tests) in
+          ap (λ b. reaches C (cond b y x) p) f
+          ∙ same_test (reaches C x p) (reaches C x p || reaches C y p)
+          (λ r. or_left (reaches C x p) (reaches C y p) r)
+          (λ r. elim (or_cases (reaches C x p) (reaches C y p) r) [ inl u ↦ u | inr u ↦ reaches-later C y x p (author-flip (slice_get C x) (slice_get C y) same) le u ])
+    ]
+
+-- ---- the steps of a merge
+
+pub taken-left : (C : List ChangeParts) (xs ys all new : List ℕ) (i j p : ℕ) → i < length xs → new ≡ all ++ get_or xs i 0 ∷ [] → taken C xs ys new (i + 1) j p ≡ taken C xs ys all i j p
+taken-left C xs ys all new i j p small e =
+    ap (λ l. taken C xs ys l (i + 1) j p) e
+    ∙ ap (λ b. b || (is_reached C (drop (i + 1) xs) p || is_reached C (drop j ys) p)) (reached-push C all (get_or xs i 0) p)
+    ∙ left_taken (reaches C (get_or xs i 0) p) (is_reached C all p) (is_reached C (drop (i + 1) xs) p) (is_reached C (drop j ys) p)
+    ∙ ap (λ b. is_reached C all p || (b || is_reached C (drop j ys) p)) (sym (reached-drop C xs i p small))
+
+pub taken-right : (C : List ChangeParts) (xs ys all new : List ℕ) (i j p : ℕ) → j < length ys → new ≡ all ++ get_or ys j 0 ∷ [] → taken C xs ys new i (j + 1) p ≡ taken C xs ys all i j p
+taken-right C xs ys all new i j p small e =
+    ap (λ l. taken C xs ys l i (j + 1) p) e
+    ∙ ap (λ b. b || (is_reached C (drop i xs) p || is_reached C (drop (j + 1) ys) p)) (reached-push C all (get_or ys j 0) p)
+    ∙ right_taken (reaches C (get_or ys j 0) p) (is_reached C all p) (is_reached C (drop i xs) p) (is_reached C (drop (j + 1) ys) p)
+    ∙ ap (λ b. is_reached C all p || (is_reached C (drop i xs) p || b)) (sym (reached-drop C ys j p small))
+
+pub taken-both : (C : List ChangeParts) (xs ys all new : List ℕ) (i j p : ℕ) → i < length xs → j < length ys → same_author C (get_or xs i 0) (get_or ys j 0) ≡ true
+    → new ≡ all ++ later (get_or xs i 0) (get_or ys j 0) ∷ [] → taken C xs ys new (i + 1) (j + 1) p ≡ taken C xs ys all i j p
+taken-both C xs ys all new i j p small near same e =
+    ap (λ l. taken C xs ys l (i + 1) (j + 1) p) e
+    ∙ ap (λ b. b || (is_reached C (drop (i + 1) xs) p || is_reached C (drop (j + 1) ys) p)) (reached-push C all (later (get_or xs i 0) (get_or ys j 0)) p)
+    ∙ ap (λ b. (b || is_reached C all p) || (is_reached C (drop (i + 1) xs) p || is_reached C (drop (j + 1) ys) p)) (reaches-both C (get_or xs i 0) (get_or ys j 0) p same)
+    ∙ both_taken (reaches C (get_or xs i 0) p) (reaches C (get_or ys j 0) p) (is_reached C all p) (is_reached C (drop (i + 1) xs) p) (is_reached C (drop (j + 1) ys) p)
+    ∙ ap (λ b. is_reached C all p || (b || (reaches C (get_or ys j 0) p || is_reached C (drop (j + 1) ys) p))) (sym (reached-drop C xs i p small))
+    ∙ ap (λ b. is_reached C all p || (is_reached C (drop i xs) p || b)) (sym (reached-drop C ys j p near))
+
+-- ---- places
+
+places-In : (C : List ChangeParts) (T : List ℕ) (t : ℕ) → ArePlaces C T → In t T → t < length C
+places-In C T t p i =
+    let w = In-index t T i in
+    let e : get_or T w.0 0 ≡ t = w.2 0 in
+    let small : get_or T w.0 0 < length C = p w.0 w.1 in
+    omega arith
+
+-- ---- the prefix
+
+-- tips before the prefix hold nothing else
+pub held-kept : (C : List ChangeParts) (T : List ℕ) (f i : ℕ) → is_held C f (filter (λ t. nat_le f t) T) i ≡ is_held C f T i
+held-kept C T f i = by (truth (nat_lt i f)) where
+  fewer : (T : List ℕ) → is_reached C (filter (λ t. nat_le f t) T) i ≡ true → is_reached C T i ≡ true
+  fewer [] r = r
+  fewer (t ∷ T) r =
+      elim (nat_le f t) as (λ b. is_reached C (cond b (t ∷ filter (λ s. nat_le f s) T) (filter (λ s. nat_le f s) T)) i ≡ true → is_reached C (t ∷ T) i ≡ true) [
+        | true ↦ λ h. elim (or_cases (reaches C t i) (is_reached C (filter (λ s. nat_le f s) T) i) h) [
+          | inl u ↦ or_left (reaches C t i) (is_reached C T i) u
+          | inr u ↦ or_right (reaches C t i) (is_reached C T i) (fewer T u)
+        ]
+        | false ↦ λ h. or_right (reaches C t i) (is_reached C T i) (fewer T h)
+      ] r
+
+  kept : nat_lt i f ≡ false → (T : List ℕ) → is_reached C T i ≡ true → is_reached C (filter (λ t. nat_le f t) T) i ≡ true
+  kept g [] r = r
+  kept g (t ∷ T) r =
+      elim (truth (nat_le f t)) [
+        | inl e ↦
+            subst (λ b. is_reached C (cond b (t ∷ filter (λ s. nat_le f s) T) (filter (λ s. nat_le f s) T)) i ≡ true) (sym e)
+            (elim (or_cases (reaches C t i) (is_reached C T i) r) [
+              | inl u ↦ or_left (reaches C t i) (is_reached C (filter (λ s. nat_le f s) T) i) u
+              | inr u ↦ or_right (reaches C t i) (is_reached C (filter (λ s. nat_le f s) T) i) (kept g T u)
+            ])
+        | inr e ↦
+            subst (λ b. is_reached C (cond b (t ∷ filter (λ s. nat_le f s) T) (filter (λ s. nat_le f s) T)) i ≡ true) (sym e)
+            (elim (or_cases (reaches C t i) (is_reached C T i) r) [
+              | inl u ↦ let low : nat_le i t ≡ true = both_left (nat_le i t) (same_author C t i) u in absurd (grind (arith, nat_tests))
+              | inr u ↦ kept g T u
+            ])
+      ]
+
+  by : ((nat_lt i f ≡ true) ⊎ (nat_lt i f ≡ false)) → is_held C f (filter (λ t. nat_le f t) T) i ≡ is_held C f T i
+  by (inl t) = or_left (nat_lt i f) (is_reached C (filter (λ t. nat_le f t) T) i) t ∙ sym (or_left (nat_lt i f) (is_reached C T i) t)
+  by (inr g) = ap (λ b. nat_lt i f || b) (same_test (is_reached C (filter (λ t. nat_le f t) T) i) (is_reached C T i) (fewer T) (kept g T))
+
+-- ---- pasts
+
+-- a past of two lists of hashes is that of one or of the other
+past-either : (C : List ChangeParts) (H K : List Hash) (c : ChangeParts) → Sound C → In c (past C (H ++ K)) → In c (past C H) ⊎ In c (past C K)
+past-either C H K c s i =
+    let p = InPast-from_past C (H ++ K) c i in
+    elim (In-append p.1 H K p.2) [
+      | inl j ↦ inl (past-from_InPast C H (deps_first C s) c (p.0, p.1, j, p.3))
+      | inr j ↦ inr (past-from_InPast C K (deps_first C s) c (p.0, p.1, j, p.3))
+    ]
+
+-- the past of a change is the change and the past of its dependencies
+past-own : (C : List ChangeParts) (d c : ChangeParts) → Sound C → In d C → In c (past C (hash_of d ∷ [])) → (c ≡ d) ⊎ In c (past C d.deps)
+past-own C d c s there i =
+    let p = InPast-from_past C (hash_of d ∷ []) c i in
+    elim p.2 [
+      | inl e ↦ by p.3.0 (subst (λ h. Chain C p.3.0 h (hash_of c)) e p.3.1) p.0
+      | inr n ↦ absurd n
+    ] where
+      by : (n : ℕ) → Chain C n (hash_of d) (hash_of c) → In c C → (c ≡ d) ⊎ In c (past C d.deps)
+      by zero k j = inl (hashes_apart C s c d j there (sym k))
+      by (suc n) k j =
+          let one : k.0 ≡ d = hashes_apart C s k.0 d k.1 there k.2 in
+          inr (past-from_InPast C d.deps (deps_first C s) c (j, k.3, subst (λ (x : ChangeParts). In k.3 x.deps) one k.4, (n, k.5)))
+
+past-deps : (C : List ChangeParts) (d c : ChangeParts) → Sound C → In d C → In c (past C d.deps) → In c (past C (hash_of d ∷ []))
+past-deps C d c s there i =
+    let p = InPast-from_past C d.deps c i in
+    past-from_InPast C (hash_of d ∷ []) (deps_first C s) c (p.0, hash_of d, inl refl, (suc p.3.0, (d, there, refl, p.1, p.2, p.3.1)))
+
+-- ---- one more change
+
+-- what stands at a place of a longer list stood there, or is the last
+at_push : (C : List ChangeParts) (x : ChangeParts) (i : ℕ) (c : ChangeParts) → slice_get (C ++ x ∷ []) i ≡ Some c → (slice_get C i ≡ Some c) ⊎ ((i ≡ length C) × (c ≡ x))
+at_push [] x zero c e = let s : x ≡ c = cc in inr (refl, sym s)
+at_push [] x (suc i) c e = cc
+at_push (y ∷ C) x zero c e = inl e
+at_push (y ∷ C) x (suc i) c e = elim (at_push C x i c e) [ inl f ↦ inl f | inr w ↦ inr (ap suc w.0, w.1) ]
+
+at_left : (C : List ChangeParts) (x : ChangeParts) (i : ℕ) → i < length C → slice_get (C ++ x ∷ []) i ≡ slice_get C i
+at_left [] x i h = absurd (omega arith)
+at_left (c ∷ C) x zero h = refl
+at_left (c ∷ C) x (suc i) h = at_left C x i (omega arith)
+
+reached-longer : (C : List ChangeParts) (x : ChangeParts) (T : List ℕ) (i : ℕ) → ((t : ℕ) → In t T → t < length C) → i < length C → is_reached (C ++ x ∷ []) T i ≡ is_reached C T i
+reached-longer C x [] i p small = refl
+reached-longer C x (t ∷ T) i p small =
+    ap (λ o. (nat_le i t && same_author_of o (slice_get (C ++ x ∷ []) i)) || is_reached (C ++ x ∷ []) T i) (at_left C x t (p t (inl refl)))
+    ∙ ap (λ o. (nat_le i t && same_author_of (slice_get C t) o) || is_reached (C ++ x ∷ []) T i) (at_left C x i small)
+    ∙ ap (λ b. reaches C t i || b) (reached-longer C x T i (λ s j. p s (inr j)) small)
+
+-- no tip reaches past the end
+reached-end : (C D : List ChangeParts) (T : List ℕ) → ((t : ℕ) → In t T → t < length C) → is_reached D T (length C) ≡ true → ⊥
+reached-end C D [] p r = cc
+reached-end C D (t ∷ T) p r =
+    elim (or_cases (reaches D t (length C)) (is_reached D T (length C)) r) [
+      | inl u ↦
+          let low : nat_le (length C) t ≡ true = both_left (nat_le (length C) t) (same_author D t (length C)) u in
+          let small : t < length C = p t (inl refl) in
+          absurd (grind (arith, nat_tests))
+      | inr u ↦ reached-end C D T (λ s j. p s (inr j)) u
+    ]
+
+-- an extent stays that of its past where a change enters
+pub IsExtent-push : (C : List ChangeParts) (x : ChangeParts) (H : List Hash) (e : Extent) → Sound C → Fits C x → has_all C H ≡ true → IsExtent C H e → IsExtent (C ++ x ∷ []) H e
+IsExtent-push C x H e s f all w =
+    let more : length (C ++ x ∷ []) ≡ length C + 1 = length-append C (x ∷ []) in
+    let prefix : e.prefix ≤ length C = w.placed.prefix in
+    record {
+      placed = record { prefix = omega arith; tips = λ k small. let low = w.placed.tips k small in omega arith };
+      held = λ i c at. by i c (at_push C x i c at);
+    } where
+      inside : (t : ℕ) → In t e.tips.items → t < length C
+      inside t j = places-In C e.tips.items t w.placed.tips j
+
+      same : past (C ++ x ∷ []) H ≡ past C H
+      same = past-push_other C H x (not_among C H x all f.new)
+
+      by : (i : ℕ) (c : ChangeParts) → ((slice_get C i ≡ Some c) ⊎ ((i ≡ length C) × (c ≡ x))) → (is_held (C ++ x ∷ []) e.prefix e.tips.items i ≡ true) ↔ In c (past (C ++ x ∷ []) H)
+      by i c (inl at) =
+          let small : i < length C = slice_get_within C i c at in
+          let held : is_held (C ++ x ∷ []) e.prefix e.tips.items i ≡ is_held C e.prefix e.tips.items i = ap (λ b. nat_lt i e.prefix || b) (reached-longer C x e.tips.items i inside small) in (
+            λ h. subst (λ (l : List ChangeParts). In c l) (sym same) ((w.held i c at).0 (sym held ∙ h)),
+            λ j. held ∙ (w.held i c at).1 (subst (λ (l : List ChangeParts). In c l) same j),
+          )
+      by i c (inr z) = (
+        λ h. elim (or_cases (nat_lt i e.prefix) (is_reached (C ++ x ∷ []) e.tips.items i) h) [
+          | inl u ↦ let prefix : e.prefix ≤ length C = w.placed.prefix in let at : i ≡ length C = z.0 in absurd (grind (arith, nat_tests))
+          | inr u ↦ absurd (reached-end C (C ++ x ∷ []) e.tips.items inside (subst (λ (m : ℕ). is_reached (C ++ x ∷ []) e.tips.items m ≡ true) z.0 u))
+        ],
+        λ j. never (In-has C c (hash_of x) (past-In C H c (subst (λ (l : List ChangeParts). In c l) same j)) (ap hash_of z.1)) f.new,
+      )
+
+IsKnown-push : (C : List ChangeParts) (x : ChangeParts) (H : List Hash) (o : Option Extent) → Sound C → Fits C x → has_all C H ≡ true → IsKnown C H o → IsKnown (C ++ x ∷ []) H o
+IsKnown-push C x H None s f all k = tt
+IsKnown-push C x H (Some e) s f all k = IsExtent-push C x H e s f all k
+
+option_at : (es : List (Option Extent)) (o : Option Extent) (i : ℕ) (p : Option Extent) → slice_get (es ++ o ∷ []) i ≡ Some p → (slice_get es i ≡ Some p) ⊎ ((i ≡ length es) × (p ≡ o))
+option_at [] o zero p e = let s : o ≡ p = cc in inr (refl, sym s)
+option_at [] o (suc i) p e = cc
+option_at (y ∷ es) o zero p e = inl e
+option_at (y ∷ es) o (suc i) p e = elim (option_at es o i p e) [ inl f ↦ inl f | inr w ↦ inr (ap suc w.0, w.1) ]
+
+pub AreExtents-push : (C : List ChangeParts) (x : ChangeParts) (es : List (Option Extent)) (o : Option Extent) → Sound C → Fits C x → AreExtents C es → IsKnown C x.deps o → AreExtents (C ++ x ∷ []) (es ++ o ∷ [])
+AreExtents-push C x es o s f w k =
+    let same : length es ≡ length C = w.each in
+    let one : length (es ++ o ∷ []) ≡ length es + 1 = length-append es (o ∷ []) in
+    let two : length (C ++ x ∷ []) ≡ length C + 1 = length-append C (x ∷ []) in
+    record {
+      each = omega arith;
+      known = λ i c p at here. by i c p (at_push C x i c at) (option_at es o i p here);
+    } where
+      by : (i : ℕ) (c : ChangeParts) (p : Option Extent)
+          → ((slice_get C i ≡ Some c) ⊎ ((i ≡ length C) × (c ≡ x))) → ((slice_get es i ≡ Some p) ⊎ ((i ≡ length es) × (p ≡ o))) → IsKnown (C ++ x ∷ []) c.deps p
+      by i c p (inl at) (inl here) = IsKnown-push C x c.deps p s f (deps_there C s c (In-slice_get C i c at)) (w.known i c p at here)
+      by i c p (inl at) (inr z) =
+          let small : i < length C = slice_get_within C i c at in
+          let same : length es ≡ length C = w.each in
+          let end : i ≡ length es = z.0 in
+          absurd (omega arith)
+      by i c p (inr z) (inl here) =
+          let small : i < length es = slice_get_within es i p here in
+          let same : length es ≡ length C = w.each in
+          let end : i ≡ length C = z.0 in
+          absurd (omega arith)
+      by i c p (inr z) (inr y) =
+          subst (λ (d : ChangeParts). IsKnown (C ++ x ∷ []) d.deps p) (sym z.1)
+          (subst (λ (q : Option Extent). IsKnown (C ++ x ∷ []) x.deps q) (sym y.1) (IsKnown-push C x x.deps o s f f.deps k))
+
+-- ---- an actor's changes
+
+-- each change of an actor is in the past of its later ones
+HasOwn : List ChangeParts → Type 0
+HasOwn C = (i q : ℕ) (c d : ChangeParts) → slice_get C i ≡ Some c → slice_get C q ≡ Some d → i < q → same_actor c.actor d.actor ≡ true → In c (past C d.deps)
+
+own_step : (C : List ChangeParts) (x : ChangeParts) → Sound C → HasOwn C → Fits C x → HasOwn (C ++ x ∷ [])
+unfolding HasOwn
+own_step C x s own f i q c d at there less same = by (at_push C x i c at) (at_push C x q d there) where
+  out : (H : List Hash) → has_all C H ≡ true → In c (past C H) → In c (past (C ++ x ∷ []) H)
+  out H all j = subst (λ (l : List ChangeParts). In c l) (sym (past-push_other C H x (not_among C H x all f.new))) j
+
+  by : ((slice_get C i ≡ Some c) ⊎ ((i ≡ length C) × (c ≡ x))) → ((slice_get C q ≡ Some d) ⊎ ((q ≡ length C) × (d ≡ x))) → In c (past (C ++ x ∷ []) d.deps)
+  by (inl a) (inl b) = out d.deps (deps_there C s d (In-slice_get C q d b)) (own i q c d a b less same)
+  by (inl a) (inr z) =
+      subst (λ (y : ChangeParts). In c (past (C ++ x ∷ []) y.deps)) (sym z.1)
+      (out x.deps f.deps (own_past C x c s f (In-slice_get C i c a) (subst (λ (y : ChangeParts). same_actor c.actor y.actor ≡ true) z.1 same)))
+  by (inr z) (inl b) =
+      let small : q < length C = slice_get_within C q d b in
+      let end : i ≡ length C = z.0 in
+      absurd (omega arith)
+  by (inr z) (inr y) =
+      let one : i ≡ length C = z.0 in
+      let two : q ≡ length C = y.0 in
+      absurd (omega arith)
+
+has_own : (C : List ChangeParts) → Sound C → HasOwn C
+unfolding HasOwn
+has_own = sound-induct HasOwn (λ i q c d at there less same. cc) own_step
+
+-- ---- joining
+
+-- a change stands at one place
+one_place : (C : List ChangeParts) (i q : ℕ) (c : ChangeParts) → HashesOnce C → slice_get C i ≡ Some c → slice_get C q ≡ Some c → i ≡ q
+one_place [] i q c o e f = cc
+one_place (x ∷ C) zero zero c o e f = refl
+one_place (x ∷ C) zero (suc q) c o e f = let s : x ≡ c = cc in never (In-has C c (hash_of x) (In-slice_get C q c f) (ap hash_of (sym s))) o.0
+one_place (x ∷ C) (suc i) zero c o e f = let s : x ≡ c = cc in never (In-has C c (hash_of x) (In-slice_get C i c e) (ap hash_of (sym s))) o.0
+one_place (x ∷ C) (suc i) (suc q) c o e f = ap suc (one_place C i q c o.1 e f)
+
+-- the tip at a change's place reaches the change, and else what the change depends on
+reaches-own : (C : List ChangeParts) (q i : ℕ) (d c : ChangeParts) → Sound C → slice_get C q ≡ Some d → slice_get C i ≡ Some c → reaches C q i ≡ true → (c ≡ d) ⊎ In c (past C d.deps)
+unfolding HasOwn
+reaches-own C q i d c s there at r =
+    let low : nat_le i q ≡ true = both_left (nat_le i q) (same_author C q i) r in
+    let who : same_actor d.actor c.actor ≡ true = subst (λ o. same_author_of (Some d) o ≡ true) at (subst (λ o. same_author_of o (slice_get C i) ≡ true) there (both_right (nat_le i q) (same_author C q i) r)) in
+    elim (truth (nat_lt i q)) [
+      | inl t ↦
+          let less : i < q = grind (arith, nat_tests) in
+          inr (has_own C s i q c d at there less (same_actor-flip d.actor c.actor who))
+      | inr g ↦
+          let one : i ≡ q = grind (arith, nat_tests) in
+          let same : Some c ≡ Some d = sym at ∙ ap (slice_get C) one ∙ there in
+          let is : c ≡ d = cc in
+          inl is
+    ]
+
+reaches-itself : (C : List ChangeParts) (q : ℕ) (d : ChangeParts) → slice_get C q ≡ Some d → reaches C q q ≡ true
+reaches-itself C q d there =
+    let low : nat_le q q ≡ true = grind (arith, nat_tests) in
+    both (nat_le q q) (same_author C q q) low (subst (λ o. same_author_of o o ≡ true) (sym there) (same_actor-itself d.actor))
+
+-- an extent joined with that of a change, and with the change
+IsExtent-joined : (C : List ChangeParts) (H : List Hash) (q : ℕ) (d : ChangeParts) (old own new : Extent)
+    → Sound C → IsExtent C H old → slice_get C q ≡ Some d → IsExtent C d.deps own → IsPlaced C new
+    → ((i : ℕ) → is_held C new.prefix new.tips.items i ≡ ((reaches C q i || is_held C own.prefix own.tips.items i) || is_held C old.prefix old.tips.items i))
+    → IsExtent C (H ++ hash_of d ∷ []) new
+IsExtent-joined C H q d old own new s w there v placed joins = record { placed = placed; held = λ i c at. (into i c at, back i c at) } where
+  K : List Hash
+  K = H ++ hash_of d ∷ []
+
+  d_In : In d C
+  d_In = In-slice_get C q d there
+
+  last : AllIn (hash_of d ∷ []) (H ++ hash_of d ∷ [])
+  last h j = In-right h H (hash_of d ∷ []) j
+
+  of_own : (c : ChangeParts) → In c (past C d.deps) → In c (past C (H ++ hash_of d ∷ []))
+  of_own c j = past-more C (hash_of d ∷ []) (H ++ hash_of d ∷ []) last c (past-deps C d c s d_In j)
+
+  of_d : (c : ChangeParts) → c ≡ d → In c (past C (H ++ hash_of d ∷ []))
+  of_d c e = subst (λ y. In y (past C (H ++ hash_of d ∷ []))) (sym e) (past-named C (H ++ hash_of d ∷ []) d d_In (In-right (hash_of d) H (hash_of d ∷ []) (inl refl)))
+
+  into : (i : ℕ) (c : ChangeParts) → slice_get C i ≡ Some c → is_held C new.prefix new.tips.items i ≡ true → In c (past C (H ++ hash_of d ∷ []))
+  into i c at h =
+      elim (or_cases (reaches C q i || is_held C own.prefix own.tips.items i) (is_held C old.prefix old.tips.items i) (sym (joins i) ∙ h)) [
+        | inl u ↦ elim (or_cases (reaches C q i) (is_held C own.prefix own.tips.items i) u) [
+          | inl r ↦ elim (reaches-own C q i d c s there at r) [ inl e ↦ of_d c e | inr j ↦ of_own c j ]
+          | inr r ↦ of_own c ((v.held i c at).0 r)
+        ]
+        | inr u ↦ past-more C H (H ++ hash_of d ∷ []) (λ g j. In-left g H (hash_of d ∷ []) j) c ((w.held i c at).0 u)
+      ]
+
+  back : (i : ℕ) (c : ChangeParts) → slice_get C i ≡ Some c → In c (past C (H ++ hash_of d ∷ [])) → is_held C new.prefix new.tips.items i ≡ true
+  back i c at j =
+      joins i
+      ∙ elim (past-either C H (hash_of d ∷ []) c s j) [
+        | inl k ↦ or_right (reaches C q i || is_held C own.prefix own.tips.items i) (is_held C old.prefix old.tips.items i) ((w.held i c at).1 k)
+        | inr k ↦
+            or_left (reaches C q i || is_held C own.prefix own.tips.items i) (is_held C old.prefix old.tips.items i)
+            (elim (past-own C d c s d_In k) [
+              | inl e ↦
+                  let here : slice_get C i ≡ Some d = at ∙ ap Some e in
+                  let one : q ≡ i = one_place C q i d (hashes_once C s) there here in
+                  or_left (reaches C q i) (is_held C own.prefix own.tips.items i) (subst (λ (m : ℕ). reaches C q m ≡ true) one (reaches-itself C q d there))
+              | inr m ↦ or_right (reaches C q i) (is_held C own.prefix own.tips.items i) ((v.held i c at).1 m)
+            ])
+      ]
+
+-- the step over one of the hashes, where a change has it
+pub IsExtent-known : (C : List ChangeParts) (H : List Hash) (n : ℕ) (h : Hash) (q : ℕ) (es : List (Option Extent)) (old own new : Extent)
+    → Sound C → n < length H → IsExtent C (take n H) old → Some q ≡ place_from 0 C (get_or H n h) → AreExtents C es → slice_get es q ≡ Some (Some own) → IsPlaced C new
+    → ((i : ℕ) → is_held C new.prefix new.tips.items i ≡ ((reaches C q i || is_held C own.prefix own.tips.items i) || is_held C old.prefix old.tips.items i))
+    → IsExtent C (take (n + 1) H) new
+IsExtent-known C H n h q es old own new s small w at all here placed joins =
+    let found = place_from-some C (get_or H n h) q at in
+    let d = found.1.0 in
+    let there : slice_get C q ≡ Some d = found.1.1 in
+    let has_it : hash_of d ≡ get_or H n h = found.1.2 in
+    let known : IsExtent C d.deps own = all.known q d (Some own) there here in
+    subst (λ l. IsExtent C l new) (sym (take_more H n h small))
+    (subst (λ g. IsExtent C (take n H ++ g ∷ []) new) has_it (IsExtent-joined C (take n H) q d old own new s w there known placed joins))
+
+-- the same, where none has it
+pub IsExtent-unknown : (C : List ChangeParts) (H : List Hash) (n : ℕ) (h : Hash) (e : Extent)
+    → Sound C → n < length H → IsExtent C (take n H) e → None ≡ place_from 0 C (get_or H n h) → IsExtent C (take (n + 1) H) e
+IsExtent-unknown C H n h e s small w none =
+    let lacks : has C (get_or H n h) ≡ false = has-from_place C (get_or H n h) none in
+    subst (λ l. IsExtent C l e) (sym (take_more H n h small)) (record {
+      placed = w.placed;
+      held = λ i c at. (
+        λ t. past-more C (take n H) (take n H ++ get_or H n h ∷ []) (λ g j. In-left g (take n H) (get_or H n h ∷ []) j) c ((w.held i c at).0 t),
+        λ j. elim (past-either C (take n H) (get_or H n h ∷ []) c s j) [
+          | inl k ↦ (w.held i c at).1 k
+          | inr k ↦ absurd (no_past c lacks k)
+        ],
+      );
+    }) where
+      start : (n : ℕ) (k : Hash) (c : ChangeParts) → Chain C n k (hash_of c) → In c C → has C k ≡ true
+      start zero k c e j = In-has C c k j (sym e)
+      start (suc n) k c e j = In-has C e.0 k e.1 e.2
+
+      no_past : (c : ChangeParts) → has C (get_or H n h) ≡ false → In c (past C (get_or H n h ∷ [])) → ⊥
+      no_past c lacks k =
+          let p = InPast-from_past C (get_or H n h ∷ []) c k in
+          elim p.2 [
+            | inl e ↦ never (start p.3.0 (get_or H n h) c (subst (λ g. Chain C p.3.0 g (hash_of c)) e p.3.1) p.0) lacks
+            | inr z ↦ z
+          ]
+
+-- the extent of no hashes
+past-none : (C : List ChangeParts) (c : ChangeParts) → In c (past C []) → ⊥
+past-none C c i = let p = InPast-from_past C [] c i in p.2
+
+pub IsExtent-none : (C : List ChangeParts) (H : List Hash) (e : Extent) → e.prefix ≡ 0 → e.tips.items ≡ [] → IsExtent C (take 0 H) e
+IsExtent-none C H e prefix tips = record {
+  placed = record { prefix = omega arith; tips = subst (ArePlaces C) (sym tips) (λ k small. absurd (omega arith)) };
+  held = λ i c at. (
+    λ t. absurd (never t (none i)),
+    λ j. absurd (past-none C c j),
+  );
+} where
+  none : (i : ℕ) → is_held C e.prefix e.tips.items i ≡ false
+  none i = let low : nat_lt i e.prefix ≡ false = grind (arith, nat_tests) in ap (λ b. b || is_reached C e.tips.items i) low ∙ ap (λ l. is_reached C l i) tips
+
+-- the extent of the whole
+pub IsExtent-whole : (C : List ChangeParts) (H : List Hash) (e : Extent) → past C H ≡ C → e.prefix ≡ length C → e.tips.items ≡ [] → IsExtent C H e
+IsExtent-whole C H e whole prefix tips = record {
+  placed = record { prefix = omega arith; tips = subst (ArePlaces C) (sym tips) (λ k small. absurd (omega arith)) };
+  held = λ i c at. (
+    λ t. subst (λ (l : List ChangeParts). In c l) (sym whole) (In-slice_get C i c at),
+    λ j.
+        let small : i < length C = slice_get_within C i c at in
+        let low : nat_lt i e.prefix ≡ true = grind (arith, nat_tests) in
+        or_left (nat_lt i e.prefix) (is_reached C e.tips.items i) low,
+  );
+}
+
+-- an extent that is kept for a change has its tips at places of changes
+pub IsPlaced-kept : (C : List ChangeParts) (es : List (Option Extent)) (q : ℕ) (e : Extent) → AreExtents C es → q < length C → slice_get es q ≡ Some (Some e) → IsPlaced C e
+IsPlaced-kept C es q e all small here =
+    let w = slice_get-there C q small in
+    let known : IsExtent C w.0.deps e = all.known q w.0 (Some e) w.1 here in
+    known.placed
+
+-- ---- an extent as marks
+
+length-held_from : (C : List ChangeParts) (f : ℕ) (T : List ℕ) (n : ℕ) (D : List ChangeParts) → length (held_from C f T n D) ≡ length D
+length-held_from C f T n [] = refl
+length-held_from C f T n (c ∷ D) = ap suc (length-held_from C f T (n + 1) D)
+
+pub length-held : (C : List ChangeParts) (e : Extent) → length (held_from C e.prefix e.tips.items 0 C) ≡ length C
+length-held C e = length-held_from C e.prefix e.tips.items 0 C
+
+held_at_from : (C : List ChangeParts) (f : ℕ) (T : List ℕ) (n i : ℕ) (D : List ChangeParts) → i < length D → get_or (held_from C f T n D) i false ≡ is_held C f T (n + i)
+held_at_from C f T n i [] h = absurd (omega arith)
+held_at_from C f T n zero (c ∷ D) h = let e : n ≡ n + 0 = omega arith in ap (λ m. is_held C f T m) e
+held_at_from C f T n (suc i) (c ∷ D) h =
+    let e : n + 1 + i ≡ n + suc i = omega arith in
+    held_at_from C f T (n + 1) i D (omega arith) ∙ ap (λ m. is_held C f T m) e
+
+pub held_at : (C : List ChangeParts) (f : ℕ) (T : List ℕ) (i : ℕ) → i < length C → is_held C f T i ≡ get_or (held_from C f T 0 C) i false
+held_at C f T i small =
+    let e : 0 + i ≡ i = omega arith in
+    sym (held_at_from C f T 0 i C small ∙ ap (λ m. is_held C f T m) e)
+
+-- the places that the extent of a past holds are those that a walk marks
+pub held-marks : (C : List ChangeParts) (H : List Hash) (e : Extent) → Sound C → IsExtent C H e → held_from C e.prefix e.tips.items 0 C ≡ marks C H
+held-marks C H e s w =
+    ext_get_or false (held_from C e.prefix e.tips.items 0 C) (marks C H) (length-held C e ∙ sym (length-marks C H))
+    (λ i less. by i (subst (λ (n : ℕ). i < n) (length-held C e) less)) where
+      by : (i : ℕ) → i < length C → get_or (held_from C e.prefix e.tips.items 0 C) i false ≡ get_or (marks C H) i false
+      by i small =
+          let at = slice_get-there C i small in
+          sym (held_at C e.prefix e.tips.items i small)
+          ∙ same_test (is_held C e.prefix e.tips.items i) (get_or (marks C H) i false)
+          (λ t. marked-pick (marks C H) C i at.0 (hashes_once C s) at.1 (subst (λ (l : List ChangeParts). In at.0 l) (sym (pick-marks C H)) ((w.held i at.0 at.1).0 t)))
+          (λ t. (w.held i at.0 at.1).1 (subst (λ (l : List ChangeParts). In at.0 l) (pick-marks C H) (pick-marked (marks C H) C i at.0 at.1 t)))
+
+-- there is a mark for each change
+pub length-bits : (part : Part) (C : List ChangeParts) → IsPartOf part C → length (bits part C) ≡ length C
+length-bits (Within e) C h = length-held C e
+length-bits (Marked v) C h = h
+
+-- the changes that have a mark are the past, where the marks are those of a walk
+pub picked-past : (part : Part) (C : List ChangeParts) (H : List Hash) → bits part C ≡ marks C H → picked part C ≡ past C H
+picked-past part C H e = ap (λ bs. pick bs C) e ∙ pick-marks C H
+
+-- what a part holds are its changes
+pub Tells-part : (part : Part) (C : List ChangeParts) → Sound C → Tells C (picked part C) (holds part C)
+Tells-part part C s p c at = (pick-marked (bits part C) C p c at, marked-pick (bits part C) C p c (hashes_once C s) at)
+
+-- before its prefix a part has every mark
+pub prefix-marked : (part : Part) (C : List ChangeParts) (i : ℕ) → i < length C → i < prefix_of part → get_or (bits part C) i false ≡ true
+prefix-marked (Within e) C i small less =
+    let low : nat_lt i e.prefix ≡ true = grind (arith, nat_tests) in
+    sym (held_at C e.prefix e.tips.items i small) ∙ or_left (nat_lt i e.prefix) (is_reached C e.tips.items i) low
+prefix-marked (Marked v) C i small less = absurd (omega arith)

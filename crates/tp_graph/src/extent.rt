@@ -1,0 +1,323 @@
+//! How far a past reaches, kept beside each applied change: so whether a change is in the past of another is a
+//! comparison of places, and no walk.
+
+ghost use Rattle.std.specs.Prelude.{◌≡◌, ℕ, ◌+◌, ◌<◌, ◌≤◌, ◌||◌, ◌∷◌, [], true, length, take, IsTrue, IfOk, OnOk};
+ghost use Rattle.std.specs.declared.cmp.Ordering.TheVariants.{Equal};
+ghost use Rattle.tp_change.specs.Elements as made;
+ghost use Rattle.tp_graph.specs.Extents as extents;
+ghost use Rattle.tp_graph.specs.Extents.{ArePlaces, IsPlaced, IsExtent, IsKnown, AreExtents};
+ghost use Rattle.tp_graph.specs.Fit.{most_changes};
+ghost use Rattle.tp_graph.specs.Places.{NotesFrom};
+ghost use Rattle.tp_graph.specs.Sound.{Sound};
+
+use crate::index::Index;
+use crate::walk::place_of;
+use std::alloc::{AllocError, Global};
+use std::cmp::Ordering;
+use tp_change::Change;
+use tp_opid::Hash;
+
+// How many places a prefix moves on at most, each time that an extent is made: so a stranger's changes, which may each
+// join two long branches, take no more than this. Where a prefix lags behind, later changes move it on.
+const MOST_STEPS: usize = 64;
+
+// How many tips an extent has at most while it is made. A past that needs more isn't kept: so a stranger's changes can't
+// make more than this stand beside each change, nor make a join of very many heads the square of their number.
+const MOST_TIPS: usize = 4_096;
+
+/// How far a past reaches: it has all changes before the place `prefix`, and for each tip the changes of the tip's
+/// actor up to the place of the tip. An actor's changes depend on each other in turn, so this describes any past.
+///
+/// A history that is only ever on its heads has no tips; changes that stand beside others have one for each actor with
+/// changes in the past behind the prefix.
+#[derive(Drop)]
+pub(crate) struct Extent {
+    pub(crate) prefix: usize,
+    pub(crate) tips: Vec<u32>,
+}
+
+/// What was made ready for the entry of a change: its hash, its dependencies, and the extent of their past, where that
+/// is known.
+#[derive(Drop)]
+pub(crate) struct Room {
+    pub(crate) hash: Hash,
+    pub(crate) deps: Vec<Hash>,
+    pub(crate) past: Option<Extent>,
+}
+
+// Whether the changes at the two places have one actor.
+fn same_author(applied: &[Change], i: usize, j: usize) -> bool
+    requires { (i < length applied.now) × (j < length applied.now) }
+    ensures { result ≡ extents.same_author applied.now i j }
+{
+    applied[i].actor().is(&applied[j].actor())
+}
+
+// How the actors of the changes at the two places stand to each other.
+fn order_of(applied: &[Change], i: usize, j: usize) -> Ordering
+    requires { (i < length applied.now) × (j < length applied.now) }
+    ensures { result ≡ Equal → extents.same_author applied.now i j ≡ true }
+{
+    applied[i].actor().order(&applied[j].actor())
+}
+
+// The greater of two places.
+fn later_place(x: u32, y: u32) -> u32
+    ensures { result ≡ made.later x y }
+{
+    if x < y { y } else { x }
+}
+
+// Whether the tip is of the actor of the change at the place, and doesn't stand before it.
+fn reaches(applied: &[Change], tip: usize, place: usize) -> bool
+    requires { (tip < length applied.now) × (place < length applied.now) }
+    ensures { result ≡ extents.reaches applied.now tip place }
+{
+    if tip < place {
+        return false;
+    }
+    same_author(applied, tip, place)
+}
+
+// Whether one of the tips reaches the place.
+fn is_reached(applied: &[Change], tips: &[u32], place: usize) -> bool
+    requires tips { ArePlaces applied.now tips.now }
+    requires place { place < length applied.now }
+    ensures { result ≡ extents.is_reached applied.now tips.now place }
+{
+    for i in 0..tips.len() {
+        if reaches(applied, tips[i] as usize, place) {
+            return true;
+        }
+    }
+    false
+}
+
+// Takes the next tip of the two lists, and says how many of each are taken then: of two that are of one actor the later.
+// Where each list stands in the order of its actors, so does what is taken.
+fn take_next(
+    all: &mut Vec<u32>,
+    applied: &[Change],
+    xs: &[u32],
+    ys: &[u32],
+    i: usize,
+    j: usize,
+) -> Result<(usize, usize), AllocError>
+    requires all { ArePlaces applied.now all.old.items }
+    requires xs { ArePlaces applied.now xs.now }
+    requires ys { ArePlaces applied.now ys.now }
+    requires within { (i ≤ length xs.now) × (j ≤ length ys.now) }
+    requires left { i + j < length xs.now + length ys.now }
+    ensures all { OnOk result (ArePlaces applied.now all.new.items) }
+    ensures within { IfOk result
+        (λ n. (n.0 ≤ length xs.now) × (n.1 ≤ length ys.now) × (i + j < n.0 + n.1)) }
+    ensures reached { IfOk result
+        (λ n. (p : ℕ) → extents.taken applied.now xs.now ys.now all.new.items n.0 n.1 p
+        ≡ extents.taken applied.now xs.now ys.now all.old.items i j p) }
+{
+    if i == xs.len() {
+        all.push(ys[j])?;
+        return Ok((i, j + 1));
+    }
+    if j == ys.len() {
+        all.push(xs[i])?;
+        return Ok((i + 1, j));
+    }
+    match order_of(applied, xs[i] as usize, ys[j] as usize) {
+        Ordering::Less => {
+            all.push(xs[i])?;
+            Ok((i + 1, j))
+        }
+        Ordering::Greater => {
+            all.push(ys[j])?;
+            Ok((i, j + 1))
+        }
+        Ordering::Equal => {
+            all.push(later_place(xs[i], ys[j]))?;
+            Ok((i + 1, j + 1))
+        }
+    }
+}
+
+// The tips of both lists, one for each actor: as many comparisons as there are tips. Each list stands in the order of its
+// actors, and so does the answer; where they didn't, an actor could keep two tips, which would only cost time.
+fn merged(alloc: Global, applied: &[Change], xs: &[u32], ys: &[u32]) -> Result<Vec<u32>, AllocError>
+    requires xs { ArePlaces applied.now xs.now }
+    requires ys { ArePlaces applied.now ys.now }
+    ensures places { IfOk result (λ all. ArePlaces applied.now all.items) }
+    ensures reached { IfOk result (λ all. (p : ℕ) → extents.is_reached applied.now all.items p
+        ≡ (extents.is_reached applied.now xs.now p || extents.is_reached applied.now ys.now p)) }
+{
+    let mut all = Vec::new(alloc);
+    all.reserve(xs.len() + ys.len())?;
+    let mut i = 0;
+    let mut j = 0;
+    while i + j < xs.len() + ys.len() {
+        let (next_i, next_j) = take_next(&mut all, applied, xs, ys, i, j)?;
+        i = next_i;
+        j = next_j;
+    }
+    Ok(all)
+}
+
+// The prefix moved on past places that the tips reach: a few of them.
+fn moved_on(applied: &[Change], prefix: usize, tips: &[u32]) -> usize
+    requires tips { ArePlaces applied.now tips.now }
+    requires prefix { prefix ≤ length applied.now }
+    ensures prefix { result ≤ length applied.now }
+    ensures held { (i : ℕ) → extents.is_held applied.now result tips.now i
+        ≡ extents.is_held applied.now prefix tips.now i }
+{
+    let mut next = prefix;
+    for step in 0..MOST_STEPS {
+        if next == applied.len() {
+            return next;
+        }
+        if !is_reached(applied, tips, next) {
+            return next;
+        }
+        next += 1;
+    }
+    next
+}
+
+// Takes out the tips that stand before the prefix.
+fn take_out_passed(tips: &mut Vec<u32>, applied: &[Change], prefix: usize)
+    requires tips { ArePlaces applied.now tips.old.items }
+    ensures places { ArePlaces applied.now tips.new.items }
+    ensures held { (i : ℕ) → extents.is_held applied.now prefix tips.new.items i
+        ≡ extents.is_held applied.now prefix tips.old.items i }
+{
+    tips.retain(|tip| prefix <= *tip as usize);
+}
+
+impl Extent {
+    /// The extent of no changes. It takes no memory.
+    pub(crate) fn empty(alloc: Global) -> Extent
+        ensures prefix { result.prefix ≡ 0 }
+        ensures tips { result.tips.items ≡ [] }
+    {
+        Extent {
+            prefix: 0,
+            tips: Vec::new(alloc),
+        }
+    }
+
+    /// The extent of so many changes from the first on. It takes no memory.
+    pub(crate) fn whole(alloc: Global, count: usize) -> Extent
+        ensures prefix { result.prefix ≡ count }
+        ensures tips { result.tips.items ≡ [] }
+    {
+        Extent {
+            prefix: count,
+            tips: Vec::new(alloc),
+        }
+    }
+
+    /// Whether the change at the place is in the past: a comparison, and one for each tip.
+    pub(crate) fn holds(&self, applied: &[Change], place: usize) -> bool
+        requires tips { ArePlaces applied.now self.now.tips.items }
+        requires place { place < length applied.now }
+        ensures { result ≡ extents.is_held applied.now self.now.prefix self.now.tips.items place }
+    {
+        if place < self.prefix {
+            return true;
+        }
+        is_reached(applied, self.tips.as_slice(), place)
+    }
+
+    // Puts in the change at the place and its past.
+    fn take_in(
+        &mut self,
+        alloc: Global,
+        applied: &[Change],
+        past: &Extent,
+        place: usize,
+    ) -> Result<(), AllocError>
+        requires placed { IsPlaced applied.now self.old }
+        requires past { IsPlaced applied.now past.now }
+        requires place { place < length applied.now }
+        requires few { length applied.now ≤ most_changes }
+        ensures placed { OnOk result (IsPlaced applied.now self.new) }
+        ensures held { OnOk result ((i : ℕ)
+            → extents.is_held applied.now self.new.prefix self.new.tips.items i
+            ≡ ((extents.reaches applied.now place i || extents.is_held applied.now past.now.prefix
+            past.now.tips.items i)
+            || extents.is_held applied.now self.old.prefix self.old.tips.items i)) }
+    {
+        if self.prefix < past.prefix {
+            self.prefix = past.prefix;
+        }
+        let tips = merged(alloc, applied, self.tips.as_slice(), past.tips.as_slice())?;
+        self.tips = merged(alloc, applied, tips.as_slice(), &[place as u32])?;
+        Ok(())
+    }
+
+    // Moves the prefix on, and takes out the tips that it has passed.
+    fn tidy(&mut self, applied: &[Change])
+        requires { IsPlaced applied.now self.old }
+        ensures placed { IsPlaced applied.now self.new }
+        ensures held { (i : ℕ) → extents.is_held applied.now self.new.prefix self.new.tips.items i
+            ≡ extents.is_held applied.now self.old.prefix self.old.tips.items i }
+    {
+        self.prefix = moved_on(applied, self.prefix, self.tips.as_slice());
+        take_out_passed(&mut self.tips, applied, self.prefix);
+    }
+}
+
+// Puts in the past of the hash with the given number. False where its extent isn't known, or where there are too
+// many tips then.
+fn take_hash(
+    alloc: Global,
+    extent: &mut Extent,
+    applied: &[Change],
+    index: &Index,
+    pasts: &[Option<Extent>],
+    hashes: &[Hash],
+    number: usize,
+) -> Result<bool, AllocError>
+    requires sound { Sound applied.now }
+    requires few { length applied.now ≤ most_changes }
+    requires notes { NotesFrom 0 applied.now index.now }
+    requires pasts { AreExtents applied.now pasts.now }
+    requires number { number < length hashes.now }
+    requires extent { IsExtent applied.now (take number hashes.now) extent.old }
+    ensures { IfOk result (λ known. IsTrue known
+        → IsExtent applied.now (take (number + 1) hashes.now) extent.new) }
+{
+    match place_of(applied, index, &hashes[number]) {
+        Some(place) => match &pasts[place] {
+            Some(past) => {
+                extent.take_in(alloc, applied, past, place)?;
+                Ok(extent.tips.len() <= MOST_TIPS)
+            }
+            None => Ok(false),
+        },
+        None => Ok(true),
+    }
+}
+
+/// The extent of the past of those of the hashes that are known, joined from those of their changes. None where one of
+/// these isn't known, or where more than 4,096 tips would stand in it.
+pub(crate) fn extent_of(
+    alloc: Global,
+    applied: &[Change],
+    index: &Index,
+    pasts: &[Option<Extent>],
+    hashes: &[Hash],
+) -> Result<Option<Extent>, AllocError>
+    requires sound { Sound applied.now }
+    requires few { length applied.now ≤ most_changes }
+    requires notes { NotesFrom 0 applied.now index.now }
+    requires pasts { AreExtents applied.now pasts.now }
+    ensures { IfOk result (λ o. IsKnown applied.now hashes.now o) }
+{
+    let mut extent = Extent::empty(alloc);
+    for number in 0..hashes.len() {
+        if !take_hash(alloc, &mut extent, applied, index, pasts, hashes, number)? {
+            return Ok(None);
+        }
+    }
+    extent.tidy(applied);
+    Ok(Some(extent))
+}

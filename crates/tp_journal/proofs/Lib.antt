@@ -1,0 +1,7 @@
+pub mod RecordLaws
+pub mod HistoryLaws
+pub mod RecoveryLaws
+pub mod CutLaws
+pub mod BytesLaws
+pub mod RecoveredLaws
+mod Laying

@@ -1,0 +1,6 @@
+pub mod Layout
+pub mod Reading
+pub mod Recovery
+pub mod Refusals
+pub mod Laws
+pub mod Journal

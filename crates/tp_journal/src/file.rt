@@ -1,0 +1,251 @@
+//! A journal in a file.
+
+ghost use Rattle.std.specs.Prelude.{◌≡◌, ◌⊎◌, ℕ, ◌+◌, ◌≤◌, ◌++◌, length, take, true, vec_len, OnOk, OnErr, IfOk, IfErr, IfSome, IsOkUnless};
+ghost use Rattle.std.specs.Vec.{vec_capacity};
+ghost use Rattle.std.specs.Io.KnownBytes.{Appends};
+ghost use Rattle.tp_journal.specs.Journal.{HasGrown};
+ghost use Rattle.tp_store.specs.declared.error.StoreError.TheVariants.{Io, OutOfMemory};
+
+use crate::journal::Journal;
+use std::alloc::Global;
+use std::fs::{OpenFile, OpenOptions};
+use std::io;
+use std::io::{ErrorKind, Read, Write};
+use std::marker::Model;
+use std::rt::Files;
+use tp_store::StoreError;
+
+/// A journal in a file, with a copy in memory of what it read at opening and of what its writes and cuts did. Its
+/// content is that copy: that the file agrees with it is a matter of the device. One process at a time may have the
+/// file open as a journal.
+///
+/// Each append is one write at the end of the file. A write that took fewer bytes than it was given is a failure of the
+/// device, and the content has what it took. What was written is on the disk once [`sync`](FileJournal::sync) has
+/// answered Ok.
+///
+/// Contracts see its content and how often its device failed.
+#[derive(Drop)]
+pub struct FileJournal<F: Write + OpenFile + Drop> {
+    file: F,
+    copy: Vec<u8>,
+    failures: u64,
+}
+
+impl<F: Write + OpenFile + Drop> Model for FileJournal<F> {
+    ghost use Rattle.tp_journal.specs.Journal.{FileState};
+
+    ghost Value = { FileState };
+
+    ghost view = { λ j. record { content = j.copy.items; failures = j.failures } };
+}
+
+// The refusal that a fault of the system is.
+fn refusal(error: &io::Error) -> StoreError
+    ensures { (result ≡ Io) ⊎ (result ≡ OutOfMemory) }
+{
+    if error.kind() == ErrorKind::OutOfMemory {
+        StoreError::OutOfMemory
+    } else {
+        StoreError::Io
+    }
+}
+
+// All that the reader has.
+fn read_whole<R: Read>(alloc: Global, reader: &mut R) -> io::Result<Vec<u8>>
+    ensures { IfOk result
+        (λ bytes. IfSome (R.remaining reader.old) (λ held. bytes.items ≡ held)) }
+{
+    let mut bytes = Vec::new(alloc);
+    reader.read_to_end(&mut bytes)?;
+    Ok(bytes)
+}
+
+// Puts the bytes behind a copy that has room for them.
+fn extend(copy: &mut Vec<u8>, bytes: &[u8])
+    requires { vec_len copy.old + length bytes.now ≤ vec_capacity copy.old }
+    ensures { copy.new.items ≡ copy.old.items ++ bytes.now }
+{
+    match copy.extend_from_slice(bytes) {
+        Ok(()) => {}
+        Err(_) => unreachable!(),
+    }
+}
+
+// Writes the bytes, once, and puts behind the copy, which has room, what was written of them: all where it answers so.
+fn write_once<W: Write>(writer: &mut W, copy: &mut Vec<u8>, bytes: &[u8]) -> bool
+    requires { vec_len copy.old + length bytes.now ≤ vec_capacity copy.old }
+    ensures whole { result ≡ true → copy.new.items ≡ copy.old.items ++ bytes.now }
+    ensures same { (k : ℕ) × (copy.new.items ≡ copy.old.items ++ take k bytes.now)
+        × Appends (W.contents writer.old) (W.contents writer.new) (take k bytes.now) }
+{
+    match writer.write(bytes) {
+        Ok(count) => {
+            extend(copy, &bytes[..count]);
+            count == bytes.len()
+        }
+        Err(_) => false,
+    }
+}
+
+impl<F: Read + Write + OpenFile + Drop> FileJournal<F> {
+    /// Opens the file at the path as a journal, and reads all of it. An absent one is made where `make` is true, and else
+    /// refused as `Io`, as is a file that can't be opened for reading and writing, or read. The only other refusal is
+    /// `OutOfMemory`.
+    pub fn at<R: Files<File = F>>(
+        rt: &R,
+        alloc: Global,
+        path: &str,
+        make: bool,
+    ) -> Result<FileJournal<F>, StoreError>
+        ensures new { IfOk result (λ j. j.failures ≡ 0) }
+        ensures err { IfErr result (λ e. (e ≡ Io) ⊎ (e ≡ OutOfMemory)) }
+    {
+        match OpenOptions::new()
+            .read(true)
+            .append(true)
+            .create(make)
+            .open(rt, path)
+        {
+            Ok(mut file) => match read_whole(alloc, &mut file) {
+                Ok(copy) => Ok(FileJournal {
+                    file,
+                    copy,
+                    failures: 0,
+                }),
+                Err(error) => Err(refusal(&error)),
+            },
+            Err(error) => Err(refusal(&error)),
+        }
+    }
+}
+
+impl<F: Write + OpenFile + Drop> FileJournal<F> {
+    /// Brings to the disk what was written. A failure is refused as `Io` and counted; the content stays.
+    pub fn sync(&mut self) -> Result<(), StoreError>
+        ensures stays { self.new.content ≡ self.old.content }
+        ensures ok { OnOk result (self.new.failures ≡ self.old.failures) }
+        ensures err { IsOkUnless result Io }
+        ensures counts { OnErr result (HasGrown self.old.failures self.new.failures) }
+    {
+        match self.file.sync_data() {
+            Ok(()) => Ok(()),
+            Err(_) => {
+                self.failures = self.failures.saturating_add(1);
+                Err(StoreError::Io)
+            }
+        }
+    }
+}
+
+impl<F: Write + OpenFile + Drop> Journal for FileJournal<F> {
+    ghost content = { λ j. j.content };
+
+    ghost failures = { λ j. j.failures };
+
+    fn append(&mut self, bytes: &[u8]) -> Result<(), StoreError> {
+        if self.copy.reserve(bytes.len()).is_err() {
+            return Err(StoreError::OutOfMemory);
+        }
+        if !write_once(&mut self.file, &mut self.copy, bytes) {
+            self.failures = self.failures.saturating_add(1);
+            return Err(StoreError::Io);
+        }
+        Ok(())
+    }
+
+    fn cut(&mut self, len: u64) -> Result<(), StoreError> {
+        if self.copy.len() as u64 <= len {
+            return Ok(());
+        }
+        match self.file.set_len(len) {
+            Ok(()) => {
+                self.copy.truncate(len as usize);
+                Ok(())
+            }
+            Err(_) => {
+                self.failures = self.failures.saturating_add(1);
+                Err(StoreError::Io)
+            }
+        }
+    }
+
+    fn read_all(&mut self) -> Result<Vec<u8>, StoreError> {
+        match Vec::from_slice(*self.copy.allocator(), self.copy.as_slice()) {
+            Ok(bytes) => Ok(bytes),
+            Err(_) => Err(StoreError::OutOfMemory),
+        }
+    }
+
+    fn failures(&self) -> u64 {
+        self.failures
+    }
+}
+
+#[cfg(test)]
+mod tests {
+    use super::*;
+    use std::fs::Metadata;
+    use std::test::Fail;
+
+    // A file that takes so many bytes more and then fails, and whose other calls fail.
+    #[derive(Drop)]
+    struct Failing {
+        takes: usize,
+    }
+
+    fn fault() -> io::Error {
+        io::Error::from(ErrorKind::StorageFull)
+    }
+
+    impl Write for Failing {
+        fn write(&mut self, buf: &[u8]) -> io::Result<usize> {
+            if self.takes == 0 {
+                return Err(fault());
+            }
+            let count = buf.len().min(self.takes);
+            self.takes -= count;
+            Ok(count)
+        }
+
+        fn flush(&mut self) -> io::Result<()> {
+            Ok(())
+        }
+    }
+
+    impl OpenFile for Failing {
+        fn metadata(&self) -> io::Result<Metadata> {
+            Err(fault())
+        }
+
+        fn set_len(&self, _size: u64) -> io::Result<()> {
+            Err(fault())
+        }
+
+        fn sync_all(&self) -> io::Result<()> {
+            Err(fault())
+        }
+
+        fn sync_data(&self) -> io::Result<()> {
+            Err(fault())
+        }
+    }
+
+    #[test]
+    fn a_device_fails(rt: HostRuntime) -> Result<(), Fail> {
+        let mut journal = FileJournal {
+            file: Failing { takes: 3 },
+            copy: Vec::new(rt.alloc()),
+            failures: 0,
+        };
+        journal.append(b"ab")?;
+        assert_eq!(rt; journal.append(b"cd"), Err(StoreError::Io));
+        assert_eq!(rt; journal.failures(), 1);
+        assert_eq!(rt; journal.read_all()?.as_slice(), b"abc".as_slice());
+        assert_eq!(rt; journal.append(b"e"), Err(StoreError::Io));
+        assert_eq!(rt; journal.cut(1), Err(StoreError::Io));
+        assert_eq!(rt; journal.sync(), Err(StoreError::Io));
+        assert_eq!(rt; journal.failures(), 4);
+        assert_eq!(rt; journal.read_all()?.as_slice(), b"abc".as_slice());
+        Ok(())
+    }
+}

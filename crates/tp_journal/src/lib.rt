@@ -1,0 +1,28 @@
+//! The journal of a document: its changes in a file, one record after another, and what is recovered from one.
+//!
+//! A journal is a header with the document's identifier, and then a record for each change, in the order in which they
+//! entered: its bytes with their length and their digest. A record that wasn't written to its end is left out at the
+//! next recovery. docs/FORMATS.md says every byte.
+#![tactic(auto)]
+
+mod file;
+mod journal;
+mod laws;
+mod layout;
+mod memory;
+mod reading;
+mod recovering;
+#[cfg(test)]
+mod tests;
+mod writing;
+
+pub use file::FileJournal;
+pub use journal::Journal;
+pub use laws::{
+    beginnings_recover, cut_appends_recover, journals_are_bytes, journals_grow, one_recovery,
+    one_refusal, recovered_is_what_recovers, refused_or_recovered,
+};
+pub use layout::{DIGEST_BYTES, HEADER_BYTES, MAGIC};
+pub use memory::MemJournal;
+pub use recovering::{Recovered, recover};
+pub use writing::{header, put_record, record};

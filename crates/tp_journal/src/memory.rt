@@ -1,0 +1,83 @@
+//! A journal in memory.
+
+ghost use Rattle.std.specs.Prelude.{◌≡◌, ◌++◌, take, IsOk, OnOk, OnErr, IfOk, IsOkUnless};
+ghost use Rattle.tp_store.specs.declared.error.StoreError.TheVariants.{OutOfMemory};
+
+use crate::journal::Journal;
+use std::marker::Model;
+use tp_store::StoreError;
+
+/// A journal in memory. It has no device that could fail: its failures are none for ever, and its calls are refused as
+/// `OutOfMemory` alone.
+///
+/// Contracts see its content.
+#[derive(Drop)]
+pub struct MemJournal {
+    bytes: Vec<u8>,
+}
+
+impl Model for MemJournal {
+    ghost use Rattle.std.specs.Prelude.{ℕ, List};
+
+    ghost Value = { List ℕ };
+
+    ghost view = { λ j. j.bytes.items };
+}
+
+impl MemJournal {
+    /// A journal with these bytes as its content. No memory.
+    pub fn new(bytes: Vec<u8>) -> MemJournal
+        ensures { result ≡ bytes.items }
+    {
+        MemJournal { bytes }
+    }
+
+    /// The content. No memory.
+    pub fn into_vec(self) -> Vec<u8>
+        ensures { result.items ≡ self }
+    {
+        self.bytes
+    }
+}
+
+impl Journal for MemJournal {
+    ghost content = { λ j. j };
+
+    ghost failures = { λ _. 0 };
+
+    fn append(&mut self, bytes: &[u8]) -> Result<(), StoreError>
+        ensures ok { OnOk result (self.new ≡ self.old ++ bytes.now) }
+        ensures err { OnErr result (self.new ≡ self.old) }
+        ensures only { IsOkUnless result OutOfMemory }
+    {
+        match self.bytes.extend_from_slice(bytes) {
+            Ok(()) => Ok(()),
+            Err(_) => Err(StoreError::OutOfMemory),
+        }
+    }
+
+    fn cut(&mut self, len: u64) -> Result<(), StoreError>
+        ensures cut { self.new ≡ take len self.old }
+        ensures always { IsOk result }
+    {
+        self.bytes.truncate(len as usize);
+        Ok(())
+    }
+
+    fn read_all(&mut self) -> Result<Vec<u8>, StoreError>
+        ensures ok { IfOk result (λ bytes. bytes.items ≡ self.old) }
+        ensures stays { self.new ≡ self.old }
+        ensures only { IsOkUnless result OutOfMemory }
+    {
+        match Vec::from_slice(*self.bytes.allocator(), self.bytes.as_slice()) {
+            Ok(bytes) => Ok(bytes),
+            Err(_) => Err(StoreError::OutOfMemory),
+        }
+    }
+
+    fn failures(&self) -> u64
+        ensures { result ≡ 0 }
+    {
+        0
+    }
+}

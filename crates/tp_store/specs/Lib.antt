@@ -1,0 +1,5 @@
+pub mod StoreError
+pub mod Saved
+pub mod Loading
+pub mod Outlines
+pub mod Gives

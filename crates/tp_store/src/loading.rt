@@ -1,0 +1,146 @@
+//! Loading a document from a saved file.
+
+ghost use Rattle.std.specs.Prelude.{◌≡◌, ◌+◌, ◌<◌, ◌≤◌, ◌^◌, ℕ, List, [], length, drop, Ok, IfOk};
+ghost use Rattle.std.specs.Str.{bytes_eq};
+ghost use Rattle.tp_codec.specs.Reading.{repeat_at};
+ghost use Rattle.tp_opid.specs.declared.doc_id.DocId.{DocId as Identifier};
+ghost use Rattle.tp_change.specs.declared.parts.ChangeParts.{ChangeParts};
+ghost use Rattle.tp_change.specs.Reading as reading;
+ghost use Rattle.tp_graph.specs.Fit.{cause};
+ghost use Rattle.tp_store.specs.Gives.{Gives, IsDocument, contents};
+ghost use Rattle.tp_store.specs.Loading as loading;
+ghost use Rattle.tp_store.specs.Saved.{IsSaved};
+
+use crate::error::StoreError;
+use crate::layout::{Header, outline_of, piece_of};
+use crate::saved::{DIGEST_LEN, HEADER_LEN};
+use sha2::{Digest, Sha256};
+use std::alloc::Global;
+use tp_change::{Change, ChangeError};
+use tp_codec::Reader;
+use tp_document::Document;
+use tp_graph::GraphError;
+use tp_rga::Sequence;
+
+// Whether the digest is that of all bytes before the last 32.
+fn has_digest(bytes: &[u8], digest: &[u8; 32]) -> bool
+    requires { DIGEST_LEN ≤ length bytes.now }
+    ensures { result ≡ bytes_eq digest.now (loading.digest_of bytes.now) }
+{
+    let body = &bytes[..bytes.len() - DIGEST_LEN];
+    *digest == Sha256::digest(body)
+}
+
+// The change that the bytes are, whose length stands at the offset.
+fn change_of(alloc: Global, at: u64, bytes: &[u8]) -> Result<Change, StoreError>
+    ensures { Gives (λ c. c) result (loading.decoded at (reading.change_at bytes.now)) }
+{
+    match Change::decode(alloc, bytes) {
+        Ok(change) => Ok(change),
+        Err(ChangeError::OutOfMemory) => Err(StoreError::OutOfMemory),
+        Err(_) => Err(StoreError::Damaged { at }),
+    }
+}
+
+// Enters a change, where it can enter.
+fn push<S: Sequence>(document: &mut Document<S>, change: Change) -> Result<(), StoreError>
+    ensures pushed { Gives (λ _. document.new.applied) result
+        (loading.pushed document.old.applied change (cause document.old.applied change)) }
+    ensures id { document.new.id ≡ document.old.id }
+    ensures waiting { document.new.waiting ≡ document.old.waiting }
+{
+    match document.ready(&change) {
+        Ok(()) => {
+            document.enter(change);
+            Ok(())
+        }
+        Err(GraphError::OutOfMemory) => Err(StoreError::OutOfMemory),
+        Err(cause) => Err(StoreError::Refused(cause)),
+    }
+}
+
+// Enters the change that the bytes are, whose length stands at the offset.
+fn enter_piece<S: Sequence>(
+    alloc: Global,
+    document: &mut Document<S>,
+    at: u64,
+    bytes: &[u8],
+) -> Result<(), StoreError>
+    ensures grown { Gives (λ _. document.new.applied) result
+        (loading.grown at document.old.applied bytes.now) }
+    ensures id { document.new.id ≡ document.old.id }
+    ensures waiting { document.new.waiting ≡ document.old.waiting }
+{
+    let change = change_of(alloc, at, bytes)?;
+    push(document, change)
+}
+
+// Enters so many changes, which the reader has next.
+fn enter_pieces<S: Sequence>(
+    alloc: Global,
+    document: &mut Document<S>,
+    reader: &mut Reader<'_>,
+    count: u32,
+) -> Result<(), StoreError>
+    requires { HEADER_LEN + length reader.old < 2 ^ 64 }
+    ensures entered { (pieces : List (List ℕ)) (rest : List ℕ)
+        → repeat_at loading.piece_at loading.behind count HEADER_LEN reader.old ≡ Ok (pieces, rest)
+        → Gives (λ _. document.new.applied) result
+        (loading.entered HEADER_LEN document.old.applied pieces) }
+    ensures id { document.new.id ≡ document.old.id }
+    ensures waiting { document.new.waiting ≡ document.old.waiting }
+{
+    let mut at = HEADER_LEN as u64;
+    for _ in 0..count {
+        let piece = piece_of(reader, at)?;
+        enter_piece(alloc, document, at, piece)?;
+        at += 4 + piece.len() as u64;
+    }
+    Ok(())
+}
+
+// The document with the changes that stand behind the header.
+fn document_of<S: Sequence>(
+    alloc: Global,
+    bytes: &[u8],
+    header: Header,
+) -> Result<Document<S>, StoreError>
+    requires { HEADER_LEN ≤ length bytes.now }
+    ensures entered { (pieces : List (List ℕ)) (rest : List ℕ)
+        → repeat_at loading.piece_at loading.behind header.count HEADER_LEN
+        (drop HEADER_LEN bytes.now) ≡ Ok (pieces, rest)
+        → Gives (λ d. d.applied) result (loading.entered HEADER_LEN [] pieces) }
+    ensures id { IfOk result (λ d. d.id ≡ header.id) }
+    ensures waiting { IfOk result (λ d. d.waiting ≡ []) }
+{
+    let mut document = Document::new(alloc, header.id);
+    let mut reader = Reader::new(&bytes[HEADER_LEN..]);
+    enter_pieces(alloc, &mut document, &mut reader, header.count)?;
+    Ok(document)
+}
+
+/// The document whose saved file the bytes are, all of them: with the identifier and the applied changes that were
+/// saved, and with nothing that waits.
+///
+/// The refusals are judged in this order. `BadMagic`; from the start `Truncated` where a field, a change or the digest
+/// isn't whole, and `Damaged` at the offset of a length of 0 or past 4,194,304, or at that of the first byte after the
+/// digest. `BadDigest` where the digest isn't that of all before it. Then change by change `Damaged` at the offset of
+/// its length where its bytes are no change, and `Refused` where it can't enter behind those before it. `OutOfMemory`
+/// only where a growth was refused.
+///
+/// The layout and the digest are judged before anything is made, so no count or length asks for memory before the
+/// bytes are there. It takes one pass over the lengths, one digest of all, and for each change its decoding and its
+/// entry.
+pub fn load<S: Sequence>(alloc: Global, bytes: &[u8]) -> Result<Document<S>, StoreError>
+    ensures found { IfOk result (λ d. IsSaved bytes.now d.id d.applied) }
+    ensures waiting { IfOk result (λ d. d.waiting ≡ []) }
+    ensures only { (id : Identifier) (C : List ChangeParts) → IsSaved bytes.now id C
+        → IsDocument id C result }
+    ensures exact { Gives contents result (loading.loaded bytes.now) }
+{
+    let outline = outline_of(bytes)?;
+    if !has_digest(bytes, &outline.digest) {
+        return Err(StoreError::BadDigest);
+    }
+    document_of(alloc, bytes, outline.header)
+}
