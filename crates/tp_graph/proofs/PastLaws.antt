@@ -1,5 +1,5 @@
 -- Laws of the past in any list of changes.
-use Rattle.std.proofs.Common.{◌≡◌, ◌⊎◌, inl, inr, List, [], ◌∷◌, ◌++◌, true, false, ◌||◌, cond, refl, sym, ap, ◌∙◌, subst}
+use Rattle.std.proofs.Common.{◌≡◌, ◌⊎◌, inl, inr, List, [], ◌∷◌, ◌++◌, true, false, ◌||◌, cond, refl, sym, ap, ◌∙◌, subst, ◌≤◌, length, arith}
 use Rattle.tp_list.specs.Members.{In, AllIn}
 use Rattle.tp_list.proofs.Tests.{truth, never, not_true, or_cases, or_left, or_right, neither_left, neither_right, neither}
 use Rattle.tp_opid.specs.declared.hash.Hash.{Hash}
@@ -102,3 +102,9 @@ past-push (c ∷ C) H d e = ap (with_reached H c) (past-push C H d e) ∙ with_r
 pub past-push_other : (C : List ChangeParts) (H : List Hash) (d : ChangeParts) → names H d ≡ false → past (C ++ d ∷ []) H ≡ past C H
 past-push_other [] H d e = rw e refl
 past-push_other (c ∷ C) H d e = ap (with_reached H c) (past-push_other C H d e)
+
+pub length-past : (C : List ChangeParts) (H : List Hash) → length (past C H) ≤ length C
+length-past [] H = omega arith
+length-past (c ∷ C) H =
+    let h = length-past C H in
+    elim (names H c || is_needed (past C H) c) as (λ b. length (cond b (c ∷ past C H) (past C H)) ≤ length (c ∷ C)) [ true ↦ omega arith | false ↦ omega arith ]

@@ -12,3 +12,4 @@ pub mod ResultLaws
 pub mod AlikeLaws
 pub mod ComingLaws
 pub mod TakingLaws
+pub mod LackingLaws

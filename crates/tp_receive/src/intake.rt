@@ -5,6 +5,7 @@ ghost use Rattle.tp_graph.specs.Sound.{Sound};
 ghost use Rattle.tp_receive.specs.Receiving.{AllWait};
 ghost use Rattle.tp_receive.specs.Delivery as delivery;
 ghost use Rattle.tp_receive.specs.Intake.{Fails, Received, Run, Stopped, begin, intake};
+ghost use Rattle.tp_receive.specs.Lacking.{KnowsLack};
 ghost use Rattle.tp_receive.specs.Replies.{KeepsNew};
 ghost use Rattle.tp_receive.specs.Trying.{so_far};
 
@@ -12,6 +13,7 @@ use crate::coming::{Coming, reserve};
 use crate::error::ReceiveError;
 use crate::hashes::{hashes_of, held_of};
 use crate::keeper::Keeper;
+use crate::lacking::Lacking;
 use crate::replica::Replica;
 use crate::report::Report;
 use crate::settle::settle;
@@ -26,10 +28,12 @@ use tp_opid::Hash;
 fn take_all<R: Replica, K: Keeper>(
     replica: &mut R,
     keeper: &mut K,
+    lacking: &mut Lacking,
     coming: Coming,
     reported: &mut Report,
 ) -> Result<(), ReceiveError>
-    requires { coming.reserved ≡ delivery.slots coming.changes.items }
+    requires count { coming.reserved ≡ delivery.slots coming.changes.items }
+    requires knows { KnowsLack (R.applied replica.old) (R.waiting replica.old) lacking.old }
     ensures id { R.id replica.new ≡ R.id replica.old }
     ensures ok { OnOk result (Run K.keeps
         (so_far keeper.old (R.applied replica.old) (R.waiting replica.old)
@@ -41,13 +45,13 @@ fn take_all<R: Replica, K: Keeper>(
         coming.changes.items reported.old)
         e keeper.new (R.applied replica.new) (R.waiting replica.new)) }
 {
-    settle(replica, keeper, reported)?;
+    settle(replica, keeper, lacking, reported)?;
     let mut reserved = coming.reserved;
     for (change, slot) in coming.changes {
         if slot {
             reserved -= 1;
         }
-        take(replica, keeper, change, reserved, reported)?;
+        take(replica, keeper, lacking, change, reserved, reported)?;
     }
     Ok(())
 }
@@ -86,7 +90,11 @@ pub struct Applied {
 ///
 /// `NotKept` and `OutOfMemory` stop at some turn: what entered until then stays, and of what waited, also since the
 /// call began, nothing is lost. Only the change of the list whose turn it was and those behind it are let go: they have
-/// to come again. Each entry costs a check of each pending change: at most 1,024.
+/// to come again.
+///
+/// A pending change is checked once, and again where the dependency that it was found to lack entered, or a change with
+/// its own hash. Any other entry costs two comparisons of hashes for each pending change, of which there are 1,024 at
+/// most.
 pub fn receive<R: Replica, K: Keeper>(
     alloc: Global,
     replica: &mut R,
@@ -115,8 +123,9 @@ pub fn receive<R: Replica, K: Keeper>(
     if MOST_WAITING - replica.pending().len() < coming.reserved {
         return Err(ReceiveError::PendingFull);
     }
+    let mut lacking = Lacking::new(alloc, replica.pending())?;
     let mut reported = Report::new(alloc);
-    take_all(replica, keeper, coming, &mut reported)?;
+    take_all(replica, keeper, &mut lacking, coming, &mut reported)?;
     let held = held_of(alloc, &came, replica.pending())?;
     Ok(Applied {
         applied: reported.applied,

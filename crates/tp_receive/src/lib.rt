@@ -10,6 +10,7 @@ mod error;
 mod hashes;
 mod intake;
 mod keeper;
+mod lacking;
 pub mod laws;
 mod replica;
 mod report;

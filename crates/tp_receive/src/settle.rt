@@ -8,10 +8,12 @@ ghost use Rattle.tp_graph.specs.Fit.{cause};
 ghost use Rattle.tp_receive.specs.Trying.{IsEarliest, Tried, TryFails, so_far};
 ghost use Rattle.tp_receive.specs.Receiving.{AllWait, lacks_deps};
 ghost use Rattle.tp_receive.specs.Intake.{Run, Stopped, Turn};
+ghost use Rattle.tp_receive.specs.Lacking.{GainsOnly, KnowsLack};
 
 use crate::admit::{Outcome, keep};
 use crate::error::ReceiveError;
 use crate::keeper::Keeper;
+use crate::lacking::{Lacking, lack_of};
 use crate::replica::Replica;
 use crate::report::Report;
 use crate::verdict::{Verdict, judge};
@@ -30,16 +32,42 @@ fn must_wait<R: Replica>(replica: &R, change: &Change) -> Result<bool, ReceiveEr
     }
 }
 
-// The number of the earliest pending change that needn't wait.
-fn first_ready<R: Replica>(replica: &R) -> Result<Option<usize>, ReceiveError>
+// Whether the pending change with the number `i` must wait. One that is known to lack a dependency isn't checked, and of
+// one that was checked a dependency that it lacks is noted.
+fn waits_at<R: Replica>(replica: &R, lacking: &mut Lacking, i: usize) -> Result<bool, ReceiveError>
+    requires within { i < length (R.waiting replica.now) }
+    requires knows { KnowsLack (R.applied replica.now) (R.waiting replica.now) lacking.old }
+    ensures knows { KnowsLack (R.applied replica.now) (R.waiting replica.now) lacking.new }
+    ensures ok { (c : ChangeParts) → slice_get (R.waiting replica.now) i ≡ Some c
+        → IfOk result (λ b. b ≡ lacks_deps (cause (R.applied replica.now) c)) }
+    ensures err { IfErr result (λ e. e ≡ ReceiveError.OutOfMemory) }
+{
+    if lacking.is_known(i) {
+        return Ok(true);
+    }
+    let waiting = &replica.pending()[i];
+    if !must_wait(replica, waiting)? {
+        return Ok(false);
+    }
+    lacking.note(i, lack_of(replica, waiting));
+    Ok(true)
+}
+
+// The number of the earliest pending change that needn't wait. Each that isn't known to lack a dependency is checked.
+fn first_ready<R: Replica>(
+    replica: &R,
+    lacking: &mut Lacking,
+) -> Result<Option<usize>, ReceiveError>
+    requires { KnowsLack (R.applied replica.now) (R.waiting replica.now) lacking.old }
+    ensures knows { KnowsLack (R.applied replica.now) (R.waiting replica.now) lacking.new }
     ensures ok { IfOk result
         (λ found. MatchOption found (AllWait (R.applied replica.now) (R.waiting replica.now))
         (λ i. IsEarliest (R.applied replica.now) (R.waiting replica.now) i)) }
     ensures err { IfErr result (λ e. e ≡ ReceiveError.OutOfMemory) }
 {
-    let pending = replica.pending();
-    for i in 0..pending.len() {
-        if !must_wait(replica, &pending[i])? {
+    let count = replica.pending().len();
+    for i in 0..count {
+        if !waits_at(replica, lacking, i)? {
             return Ok(Some(i));
         }
     }
@@ -119,6 +147,9 @@ fn settle_one<R: Replica, K: Keeper>(
         e keeper.new (R.applied replica.new) (R.waiting replica.new)) }
     ensures fewer { OnOk result
         (length (R.waiting replica.new) + 1 ≡ length (R.waiting replica.old)) }
+    ensures out { OnOk result (R.waiting replica.new ≡ remove (R.waiting replica.old) i) }
+    ensures gains { (c : ChangeParts) → slice_get (R.waiting replica.old) i ≡ Some c
+        → OnOk result (GainsOnly (R.applied replica.old) (R.applied replica.new) (hash_of c)) }
 {
     match judge(replica.ready_waiting(i))? {
         Verdict::Enters => enter_waiting(replica, keeper, i, reported),
@@ -127,13 +158,45 @@ fn settle_one<R: Replica, K: Keeper>(
     }
 }
 
-/// Gives the pending changes their turns, from the earliest, until each of those left must wait. After each that
-/// enters it begins again from the earliest: at most 1,024 times 1,024 checks. An error loses none of them.
+// Gives the earliest pending change that needn't wait its turn, and keeps what is known of the others.
+fn settle_next<R: Replica, K: Keeper>(
+    replica: &mut R,
+    keeper: &mut K,
+    lacking: &mut Lacking,
+    i: usize,
+    reported: &mut Report,
+) -> Result<(), ReceiveError>
+    requires earliest { IsEarliest (R.applied replica.old) (R.waiting replica.old) i }
+    requires knows { KnowsLack (R.applied replica.old) (R.waiting replica.old) lacking.old }
+    ensures id { R.id replica.new ≡ R.id replica.old }
+    ensures ok { (P : List (ChangeParts × Bool)) → OnOk result (Turn K.keeps
+        (so_far keeper.old (R.applied replica.old) (R.waiting replica.old) P reported.old)
+        (so_far keeper.new (R.applied replica.new) (R.waiting replica.new) P reported.new)) }
+    ensures err { (P : List (ChangeParts × Bool)) → IfErr result (λ e. Stopped K.keeps K.refuses
+        (so_far keeper.old (R.applied replica.old) (R.waiting replica.old) P reported.old)
+        e keeper.new (R.applied replica.new) (R.waiting replica.new)) }
+    ensures fewer { OnOk result
+        (length (R.waiting replica.new) + 1 ≡ length (R.waiting replica.old)) }
+    ensures knows { OnOk result
+        (KnowsLack (R.applied replica.new) (R.waiting replica.new) lacking.new) }
+{
+    let hash = replica.pending()[i].hash();
+    settle_one(replica, keeper, i, reported)?;
+    lacking.remove(i);
+    lacking.forget(replica.pending(), &hash);
+    Ok(())
+}
+
+/// Gives the pending changes their turns, from the earliest, until each of those left must wait. After each turn it
+/// begins again from the earliest, where one that is known to lack a dependency isn't checked, and two hashes at most are
+/// compared for it. An error loses none of them.
 pub(crate) fn settle<R: Replica, K: Keeper>(
     replica: &mut R,
     keeper: &mut K,
+    lacking: &mut Lacking,
     reported: &mut Report,
 ) -> Result<(), ReceiveError>
+    requires { KnowsLack (R.applied replica.old) (R.waiting replica.old) lacking.old }
     ensures id { R.id replica.new ≡ R.id replica.old }
     ensures ok { (P : List (ChangeParts × Bool)) → OnOk result (Run K.keeps
         (so_far keeper.old (R.applied replica.old) (R.waiting replica.old) P reported.old)
@@ -142,9 +205,11 @@ pub(crate) fn settle<R: Replica, K: Keeper>(
     ensures err { (P : List (ChangeParts × Bool)) → IfErr result (λ e. Stopped K.keeps K.refuses
         (so_far keeper.old (R.applied replica.old) (R.waiting replica.old) P reported.old)
         e keeper.new (R.applied replica.new) (R.waiting replica.new)) }
+    ensures knows { OnOk result
+        (KnowsLack (R.applied replica.new) (R.waiting replica.new) lacking.new) }
 {
-    while let Some(i) = first_ready(replica)? {
-        settle_one(replica, keeper, i, reported)?;
+    while let Some(i) = first_ready(replica, lacking)? {
+        settle_next(replica, keeper, lacking, i, reported)?;
     }
     Ok(())
 }

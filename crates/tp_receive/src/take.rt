@@ -6,11 +6,13 @@ ghost use Rattle.tp_graph.specs.Named as named;
 ghost use Rattle.tp_receive.specs.Receiving.{AllWait};
 ghost use Rattle.tp_receive.specs.Delivery.{slots};
 ghost use Rattle.tp_receive.specs.Intake.{Run, Stopped};
+ghost use Rattle.tp_receive.specs.Lacking.{KnowsLack};
 ghost use Rattle.tp_receive.specs.Trying.{IsHeld, so_far};
 
 use crate::admit::{Outcome, admit};
 use crate::error::ReceiveError;
 use crate::keeper::Keeper;
+use crate::lacking::Lacking;
 use crate::replica::Replica;
 use crate::report::Report;
 use crate::settle::settle;
@@ -34,10 +36,12 @@ pub(crate) fn has_hash(changes: &[Change], hash: &Hash) -> bool
 // slots it is dropped and reported.
 fn let_wait<R: Replica>(
     replica: &mut R,
+    lacking: &mut Lacking,
     change: Change,
     reserved: usize,
     reported: &mut Report,
 ) -> Result<(), ReceiveError>
+    requires { KnowsLack (R.applied replica.old) (R.waiting replica.old) lacking.old }
     ensures id { R.id replica.new ≡ R.id replica.old }
     ensures applied { R.applied replica.new ≡ R.applied replica.old }
     ensures reported { reported.new.applied.items ≡ reported.old.applied.items }
@@ -46,6 +50,8 @@ fn let_wait<R: Replica>(
         reported.old.refused.items reported.new.refused.items) }
     ensures err { IfErr result (λ e. e ≡ ReceiveError.OutOfMemory) }
     ensures stays { OnErr result (R.waiting replica.new ≡ R.waiting replica.old) }
+    ensures knows { OnOk result
+        (KnowsLack (R.applied replica.new) (R.waiting replica.new) lacking.new) }
 {
     let hash = change.hash();
     if has_hash(replica.pending(), &hash) {
@@ -53,6 +59,7 @@ fn let_wait<R: Replica>(
     }
     let free = MOST_WAITING - replica.pending().len();
     if reserved < free {
+        lacking.push()?;
         match replica.hold(change) {
             Ok(()) => Ok(()),
             Err(_) => Err(ReceiveError::OutOfMemory),
@@ -69,11 +76,13 @@ fn let_wait<R: Replica>(
 pub(crate) fn take<R: Replica, K: Keeper>(
     replica: &mut R,
     keeper: &mut K,
+    lacking: &mut Lacking,
     change: Change,
     reserved: usize,
     reported: &mut Report,
 ) -> Result<(), ReceiveError>
     requires settled { AllWait (R.applied replica.old) (R.waiting replica.old) }
+    requires knows { KnowsLack (R.applied replica.old) (R.waiting replica.old) lacking.old }
     ensures id { R.id replica.new ≡ R.id replica.old }
     ensures ok { (slot : Bool) (P : List (ChangeParts × Bool)) → reserved ≡ slots P
         → OnOk result (Run K.keeps
@@ -86,10 +95,16 @@ pub(crate) fn take<R: Replica, K: Keeper>(
         (so_far keeper.old (R.applied replica.old) (R.waiting replica.old)
         ((change, slot) ∷ P) reported.old)
         e keeper.new (R.applied replica.new) (R.waiting replica.new)) }
+    ensures knows { OnOk result
+        (KnowsLack (R.applied replica.new) (R.waiting replica.new) lacking.new) }
 {
+    let hash = change.hash();
     match admit(replica, keeper, change, reported)? {
-        Outcome::Entered => settle(replica, keeper, reported),
+        Outcome::Entered => {
+            lacking.forget(replica.pending(), &hash);
+            settle(replica, keeper, lacking, reported)
+        }
         Outcome::Refused => Ok(()),
-        Outcome::Waits(change) => let_wait(replica, change, reserved, reported),
+        Outcome::Waits(change) => let_wait(replica, lacking, change, reserved, reported),
     }
 }

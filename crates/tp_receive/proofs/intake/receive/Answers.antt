@@ -18,6 +18,12 @@ returns-in_err-coming-clause-err g c =
     fails_for_memory g.K.Keeper.keeps g.K.Keeper.refuses (begin c.args.keeper.now (R.applied c.args.replica.now) (R.waiting c.args.replica.now) c.args.changes.items)
     c.args.keeper.now (R.applied c.args.replica.now) (R.waiting c.args.replica.now) c.from_residual-in_err-coming.result refl refl refl c.from_residual-in_err-coming.ensures.1
 
+pub returns-in_err-lacking-clause-err : goal.returns-in_err-lacking-clause-err
+returns-in_err-lacking-clause-err g c =
+    let R = g.R.Replica in
+    fails_for_memory g.K.Keeper.keeps g.K.Keeper.refuses (begin c.args.keeper.now (R.applied c.args.replica.now) (R.waiting c.args.replica.now) c.args.changes.items)
+    c.args.keeper.now (R.applied c.args.replica.now) (R.waiting c.args.replica.now) c.from_residual-in_err-lacking.result refl refl refl c.from_residual-in_err-lacking.ensures.1
+
 pub returns-in_err-held-clause-err : goal.returns-in_err-held-clause-err
 returns-in_err-held-clause-err g c =
     let R = g.R.Replica in
@@ -36,8 +42,8 @@ returns-clause-ok g c =
       run = Run-begun g.K.Keeper.keeps c.args.keeper.now (R.applied c.args.replica.now) (R.waiting c.args.replica.now) c.args.changes.items c.in_ok-coming.coming.changes.items c.new-reported.result.applied.items c.new-reported.result.refused.items _
           c.in_ok-coming.ensures.changes c.new-reported.ensures.applied c.new-reported.ensures.refused c.in_ok-take_all.ensures.ok;
       ends = record { settled = c.in_ok-take_all.ensures.settled; came = refl };
-      held_are = rw c.pending-2.ensures.pending at (c.in_ok-held.ensures c.args.changes.items came);
-      once = held_each _ c.pending-2.result.now (R.waiting c.take_all.new.replica) c.in_ok-held.held.items (c.in_ok-held.ensures c.args.changes.items came) c.pending-2.ensures.pending c.pending-2.ensures.once;
+      held_are = rw c.pending-3.ensures.pending at (c.in_ok-held.ensures c.args.changes.items came);
+      once = held_each _ c.pending-3.result.now (R.waiting c.take_all.new.replica) c.in_ok-held.held.items (c.in_ok-held.ensures c.args.changes.items came) c.pending-3.ensures.pending c.pending-3.ensures.once;
     }
 
 pub returns-clause-kept : goal.returns-clause-kept

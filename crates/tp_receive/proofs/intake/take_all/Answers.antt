@@ -20,6 +20,7 @@ loop-change-preserved g c =
           (intake c.take.new.keeper (R.applied c.take.new.replica) (R.waiting c.take.new.replica) c.next.new.self.rest.items c.take.new.reported.applied.items c.take.new.reported.refused.items))
           (sym c.in-Some.ensures.steps.0) (c.in_ok-take.ensures.ok c.in-Some.slot c.next.new.self.rest.items few));
       settled = c.in_ok-take.ensures.settled;
+      knows = c.in_ok-take.ensures.knows;
       count = few;
     }
 

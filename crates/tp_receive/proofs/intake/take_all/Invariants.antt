@@ -2,6 +2,7 @@ use Rattle.std.proofs.Common.{◌≡◌}
 use Rattle.tp_receive.specs.Delivery.{slots}
 use Rattle.tp_receive.specs.Receiving.{AllWait}
 use Rattle.tp_receive.specs.Intake.{Run, intake}
+use Rattle.tp_receive.specs.Lacking.{KnowsLack}
 use Rattle.tp_receive.proofs.intake.take_all.Given as goal
 
 abbrev pub invariant-loop-change : goal.invariant-loop-change
@@ -11,5 +12,6 @@ invariant-loop-change g l = record {
       (intake l.fn.keeper (g.R.Replica.applied l.fn.replica) (g.R.Replica.waiting l.fn.replica) l.fn.coming.changes.items l.fn.reported.applied.items l.fn.reported.refused.items)
       (intake l.keeper (g.R.Replica.applied l.replica) (g.R.Replica.waiting l.replica) l.change-iterator.rest.items l.reported.applied.items l.reported.refused.items);
   settled : AllWait (g.R.Replica.applied l.replica) (g.R.Replica.waiting l.replica);
+  knows : KnowsLack (g.R.Replica.applied l.replica) (g.R.Replica.waiting l.replica) l.lacking;
   count : l.reserved ≡ slots l.change-iterator.rest.items;
 }

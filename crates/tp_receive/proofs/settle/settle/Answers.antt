@@ -14,12 +14,13 @@ returns-in_err-i-clause-err g c P =
 
 pub loop-i-preserved : goal.loop-i-preserved
 loop-i-preserved g c = record {
-  id = c.settle_one.ensures.id ∙ c.loop-i.invariant.id;
-  run = λ P. Run-then g.K.Keeper.keeps _ _ _ (c.loop-i.invariant.run P) (Run-one g.K.Keeper.keeps _ _ (c.in_ok-settle_one.ensures.ok P));
+  id = c.settle_next.ensures.id ∙ c.loop-i.invariant.id;
+  knows = c.in_ok-settle_next.ensures.knows;
+  run = λ P. Run-then g.K.Keeper.keeps _ _ _ (c.loop-i.invariant.run P) (Run-one g.K.Keeper.keeps _ _ (c.in_ok-settle_next.ensures.ok P));
 }
 
-pub returns-in_err-settle_one-clause-err : goal.returns-in_err-settle_one-clause-err
-returns-in_err-settle_one-clause-err g c P =
+pub returns-in_err-settle_next-clause-err : goal.returns-in_err-settle_next-clause-err
+returns-in_err-settle_next-clause-err g c P =
     let R = g.R.Replica in
-    stops_on g.K.Keeper.keeps g.K.Keeper.refuses _ _ c.settle_one.new.keeper (R.applied c.settle_one.new.replica) (R.waiting c.settle_one.new.replica)
-    c.from_residual-in_err-settle_one.result c.in_err-settle_one.field-0.0 (c.loop-i.invariant.run P) (c.in_err-settle_one.ensures.err P) c.from_residual-in_err-settle_one.ensures.1
+    stops_on g.K.Keeper.keeps g.K.Keeper.refuses _ _ c.settle_next.new.keeper (R.applied c.settle_next.new.replica) (R.waiting c.settle_next.new.replica)
+    c.from_residual-in_err-settle_next.result c.in_err-settle_next.field-0.0 (c.loop-i.invariant.run P) (c.in_err-settle_next.ensures.err P) c.from_residual-in_err-settle_next.ensures.1

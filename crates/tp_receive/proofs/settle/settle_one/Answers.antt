@@ -1,10 +1,14 @@
-use Rattle.std.proofs.Common.{◌≡◌, true, false, ap, sym, refl, ◌∙◌, Result, Ok, Err, OnOk, IsOk}
+use Rattle.std.proofs.Common.{◌≡◌, List, true, false, ap, sym, subst, refl, ◌∙◌, Result, Ok, Err, OnOk, IsOk}
+use Rattle.tp_change.specs.declared.parts.ChangeParts.{ChangeParts}
+use Rattle.tp_change.specs.ChangeHash.{hash_of}
 use Rattle.tp_graph.specs.declared.error.GraphError.{GraphError}
 use Rattle.tp_graph.specs.Fit.{cause}
 use Rattle.tp_receive.specs.Receiving.{lacks_deps}
 use Rattle.tp_receive.specs.Intake.{intake}
+use Rattle.tp_receive.specs.Lacking.{GainsOnly}
 use Rattle.tp_receive.proofs.WaitLaws.{slice_get_there}
-use Rattle.tp_receive.proofs.TakingLaws.{stops_for_memory, turn_entered, turn_refused, turn_stopped, turn_unreported}
+use Rattle.tp_receive.proofs.TakingLaws.{OnOk-map, stops_for_memory, turn_entered, turn_refused, turn_stopped, turn_unreported}
+use Rattle.tp_receive.proofs.LackingLaws.{gains_last}
 use Rattle.tp_receive.proofs.settle.settle_one.Goals as goal
 
 from_ok : (P : Type 0) (r : Result (Unit {0}) GraphError) → OnOk r P → IsOk r → P
@@ -65,3 +69,9 @@ returns-in-Refused-clause-err g c P =
     (intake c.args.keeper.now (R.applied c.args.replica.now) (R.waiting c.args.replica.now) P c.args.reported.now.applied.items c.args.reported.now.refused.items)
     c.args.keeper.now (R.applied c.refuse_waiting.new.replica) (R.waiting c.refuse_waiting.new.replica) c.refuse_waiting.result
     c.refuse_waiting.ensures.err refl (c.refuse_waiting.ensures.applied ∙ c.ready_waiting.ensures.applied) (rw c.ready_waiting.ensures.waiting at c.refuse_waiting.ensures.waiting)
+
+pub returns-in-Enters-clause-gains : goal.returns-in-Enters-clause-gains
+returns-in-Enters-clause-gains g c x get =
+    let C = g.R.Replica.applied c.args.replica.now in
+    let entered = rw (c.ready_waiting.ensures.waiting, c.ready_waiting.ensures.applied) at c.enter_waiting.ensures.ok in
+    OnOk-map c.enter_waiting.result (λ a. subst (λ (D : List ChangeParts). GainsOnly C D (hash_of x)) (sym a.2) (gains_last C x)) (entered x get)

@@ -1,7 +1,13 @@
-use Rattle.std.proofs.Common.{inr, ◌∷◌, ◌∙◌}
+use Rattle.std.proofs.Common.{inr, List, ◌∷◌, ◌∙◌, subst, sym}
+use Rattle.std.proofs.lemmas.Slice.Zip.{AllZip-long}
+use Rattle.tp_opid.specs.declared.hash.Hash.{Hash}
+use Rattle.tp_change.specs.declared.parts.ChangeParts.{ChangeParts}
+use Rattle.tp_change.specs.ChangeHash.{hash_of}
 use Rattle.tp_receive.specs.Intake.{intake}
+use Rattle.tp_receive.specs.Lacking.{GainsOnly, KnowsLack, Lacks}
 use Rattle.tp_receive.proofs.TurnLaws.{Run-none, Run-one, Run-turn}
 use Rattle.tp_receive.proofs.TakingLaws.{OnOk-map, came, meets_entered, meets_refused, meets_held, next_comes, Stopped-trying, stops_later, stops_on, turn_unreported, wait_held}
+use Rattle.tp_receive.proofs.LackingLaws.{gains_last}
 use Rattle.tp_receive.proofs.take.take.Goals as goal
 
 pub returns-in_err-admit-clause-err : goal.returns-in_err-admit-clause-err
@@ -81,3 +87,19 @@ returns-in-Waits-clause-err g c slot P few =
     (intake c.args.keeper.now (R.applied c.args.replica.now) (R.waiting c.args.replica.now) ((c.args.change, slot) ∷ P) c.args.reported.now.applied.items c.args.reported.now.refused.items)
     c.admit.new.keeper (R.applied c.let_wait.new.replica) (R.waiting c.let_wait.new.replica) c.let_wait.result
     c.let_wait.ensures.err a.3 (c.let_wait.ensures.applied ∙ a.4) (rw c.admit.ensures.waiting at c.let_wait.ensures.stays)
+
+pub forget-requires : goal.forget-requires
+forget-requires g c =
+    let C = g.R.Replica.applied c.args.replica.now in
+    AllZip-long (Lacks C) c.pending.result.now c.args.lacking.now
+    (subst (λ (W : List ChangeParts). KnowsLack C W c.args.lacking.now) (sym (c.pending.ensures.pending ∙ c.admit.ensures.waiting)) c.requires.knows)
+
+pub settle-requires : goal.settle-requires
+settle-requires g c =
+    let C = g.R.Replica.applied c.args.replica.now in
+    let D = g.R.Replica.applied c.admit.new.replica in
+    let a = rw c.in-Entered.is at c.in_ok-admit.ensures.ok in
+    let gains : GainsOnly C D c.hash-hash.result = subst (λ (x : Hash). GainsOnly C D x) (sym c.hash-hash.ensures.hash)
+    (subst (λ (l : List ChangeParts). GainsOnly C l (hash_of c.args.change)) (sym a.2) (gains_last C c.args.change)) in
+    subst (λ (W : List ChangeParts). KnowsLack D W c.forget.new.self) c.pending.ensures.pending
+    (c.forget.ensures C D gains (subst (λ (W : List ChangeParts). KnowsLack C W c.args.lacking.now) (sym (c.pending.ensures.pending ∙ c.admit.ensures.waiting)) c.requires.knows))

@@ -1,0 +1,115 @@
+//! What the pending changes are known to lack: one of them isn't checked again before that came.
+
+ghost use Rattle.std.specs.Prelude.{◌≡◌, ◌<◌, ◌++◌, ◌∷◌, [], List, Option, Some, None, true, false, length, set, IfOk, MatchOption};
+ghost use Rattle.std.specs.List.{slice_get, remove};
+ghost use Rattle.std.specs.Option.{is_some};
+ghost use Rattle.tp_list.specs.Members.{In};
+ghost use Rattle.tp_opid.specs.declared.hash.Hash.{Hash as HashOf};
+ghost use Rattle.tp_change.specs.declared.parts.ChangeParts.{ChangeParts};
+ghost use Rattle.tp_graph.specs.Named as named;
+ghost use Rattle.tp_receive.specs.Lacking.{GainsOnly, KnowsLack, Lacks};
+
+use crate::replica::Replica;
+use std::alloc::{AllocError, AllocFailed, Global};
+use std::marker::Model;
+use tp_change::Change;
+use tp_opid::Hash;
+
+/// Of each pending change, in their order, one dependency that it is known to lack, where one is known.
+#[derive(Drop)]
+pub(crate) struct Lacking {
+    hashes: Vec<Option<Hash>>,
+}
+
+impl Model for Lacking {
+    ghost use Rattle.std.specs.Prelude.{List, Option};
+    ghost use Rattle.tp_opid.specs.declared.hash.Hash.{Hash};
+
+    ghost Value = { List (Option Hash) };
+
+    ghost view = { λ l. l.hashes.items };
+}
+
+impl Lacking {
+    /// Nothing is known of the pending changes.
+    pub(crate) fn new(alloc: Global, pending: &[Change]) -> Result<Lacking, AllocError>
+        ensures { IfOk result (λ l. (C : List ChangeParts) → KnowsLack C pending.now l) }
+    {
+        Ok(Lacking {
+            hashes: vec![in alloc; None; pending.len()]?,
+        })
+    }
+
+    /// Whether the change with the number `i` is known to lack a dependency.
+    pub(crate) fn is_known(&self, i: usize) -> bool
+        requires { i < length self.now }
+        ensures { (lack : Option HashOf) → slice_get self.now i ≡ Some lack → result ≡ is_some lack }
+    {
+        self.hashes[i].is_some()
+    }
+
+    /// Notes what the change with the number `i` lacks.
+    pub(crate) fn note(&mut self, i: usize, lack: Option<Hash>)
+        requires { i < length self.old }
+        ensures { self.new ≡ set self.old i lack }
+    {
+        self.hashes[i] = lack;
+    }
+
+    /// One more change waits, as the last, and nothing is known of it.
+    pub(crate) fn push(&mut self) -> Result<(), AllocFailed<Option<Hash>>>
+        ensures { IfOk result (λ _. self.new ≡ self.old ++ None ∷ []) }
+    {
+        self.hashes.push(None)
+    }
+
+    /// The change with the number `i` waits no longer. No memory.
+    pub(crate) fn remove(&mut self, i: usize)
+        requires { i < length self.old }
+        ensures { self.new ≡ remove self.old i }
+    {
+        let _lack = self.hashes.remove(i);
+    }
+
+    /// A change with the hash entered: what that changed isn't known any more. Two comparisons of hashes at most for
+    /// each pending change.
+    pub(crate) fn forget(&mut self, pending: &[Change], entered: &Hash)
+        requires { length self.old ≡ length pending.now }
+        ensures { (C D : List ChangeParts) → GainsOnly C D entered.now
+            → KnowsLack C pending.now self.old → KnowsLack D pending.now self.new }
+    {
+        for i in 0..pending.len() {
+            self.hashes[i] = still_lacks(self.hashes[i], &pending[i], entered);
+        }
+    }
+}
+
+// What is still known of the change where one with the hash entered.
+fn still_lacks(lack: Option<Hash>, change: &Change, entered: &Hash) -> Option<Hash>
+    ensures { (C D : List ChangeParts) → GainsOnly C D entered.now
+        → Lacks C change.now lack → Lacks D change.now result }
+{
+    match lack {
+        None => None,
+        Some(hash) => {
+            if entered.is(&hash) || entered.is(&change.hash()) {
+                None
+            } else {
+                Some(hash)
+            }
+        }
+    }
+}
+
+/// The first dependency of the change that isn't there, or None where each is. A look-up for each dependency up to it.
+pub(crate) fn lack_of<R: Replica>(replica: &R, change: &Change) -> Option<Hash>
+    ensures { MatchOption result (named.has_all (R.applied replica.now) change.now.deps ≡ true)
+        (λ h. In h change.now.deps × (named.has (R.applied replica.now) h ≡ false)) }
+{
+    for hash in change.deps() {
+        if !replica.contains(hash) {
+            return Some(*hash);
+        }
+    }
+    None
+}
