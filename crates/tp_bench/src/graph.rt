@@ -119,7 +119,10 @@ pub fn run_branches<R: Clock + Print + AllocGlobal>(rt: &R, count: u32) -> anyho
     for tenth in 0..TENTHS {
         let batch = by_turns(rt.alloc(), &mut branches, rounds)?;
         let micros = add_all(rt, &mut graph, batch)?;
-        println!(rt; "graph-branches {count:>2} tenth {:>2} {micros:>8} micros", tenth + 1)?;
+        println!(rt;
+            "graph-branches {count:>2} tenth {:>2} {micros:>8} micros",
+            tenth + 1
+        )?;
     }
     Ok(())
 }

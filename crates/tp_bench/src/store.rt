@@ -89,7 +89,10 @@ pub fn run_recover<R: Files + Clock + Print + AllocGlobal>(rt: &R) -> anyhow::Re
         let batch = branch.next(rt.alloc(), CHANGES / TENTHS)?;
         bytes = with_records(bytes, &batch)?;
         let (_document, micros) = recovered(rt, &bytes)?;
-        println!(rt; "journal-recover tenths {:>2} {micros:>8} micros", tenth + 1)?;
+        println!(rt;
+            "journal-recover tenths {:>2} {micros:>8} micros",
+            tenth + 1
+        )?;
     }
     report_memory(rt)
 }
@@ -114,6 +117,9 @@ pub fn run_saved<R: Files + Clock + Print + AllocGlobal>(rt: &R) -> anyhow::Resu
     let start = Instant::now(rt)?;
     let loaded: Doc = load(rt.alloc(), &bytes).map_err(failed)?;
     let micros = micros_since(rt, &start)?;
-    println!(rt; "load {:>9} changes {micros:>6} micros", loaded.changes().len())?;
+    println!(rt;
+        "load {:>9} changes {micros:>6} micros",
+        loaded.changes().len()
+    )?;
     report_memory(rt)
 }

@@ -30,6 +30,9 @@ const BOTH: [u8; 266] = [
 
 const PATH: &str = "tp_journal_test";
 
+// A file that nobody may write.
+const READ_ONLY: &str = "/sys/kernel/uevent_seqnum";
+
 // How many changes the bytes recover to, and how many of the bytes are kept.
 fn outcome(alloc: Global, bytes: &[u8]) -> Result<(usize, u64), StoreError> {
     match recover::<PlainSequence>(alloc, bytes) {
@@ -140,18 +143,10 @@ fn in_memory(rt: HostRuntime) -> Result<(), Fail> {
 fn in_a_file(rt: HostRuntime) -> Result<(), Fail> {
     let alloc = rt.alloc();
     let _ = fs::remove_file(&rt, PATH);
-    assert!(rt;
-        matches!(
-            FileJournal::<File>::at(&rt, alloc, PATH, false),
-            Err(StoreError::Io)
-        )
-    );
-    assert!(rt;
-        matches!(
-            FileJournal::<File>::at(&rt, alloc, "/", true),
-            Err(StoreError::Io)
-        )
-    );
+    for (path, make) in [(PATH, false), ("/", true), (READ_ONLY, false)] {
+        let opened = FileJournal::<File>::at(&rt, alloc, path, make);
+        assert!(rt; matches!(opened, Err(StoreError::Io)), "{path}");
+    }
     let mut journal = FileJournal::<File>::at(&rt, alloc, PATH, true)?;
     assert_eq!(rt; use_journal(&mut journal)?.as_slice(), b"abc".as_slice());
     journal.sync()?;

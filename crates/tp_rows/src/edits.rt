@@ -1,34 +1,31 @@
-//! Rows on splices alone.
+//! Calls on splices alone.
 
-use crate::documents::{lent, splices};
-use crate::fault::Fault;
-use crate::literals::count;
-use crate::words::Words;
-use crate::world::World;
+use std::alloc::Global;
 use tp_edit::{asks_nothing, in_range, operation_count};
+use tp_runner::{Fault, Words, count, lent, splices};
 
 // `in_range LEN SPLICE..`: whether each stands in the text that the ones before it leave, of so many characters.
-fn range(world: &World, words: &mut Words) -> Result<String, Fault> {
+fn range(alloc: Global, words: &mut Words) -> Result<String, Fault> {
     let len = count(words.next()?)?;
-    let owned = splices(world.alloc, words.left())?;
-    let is_within = in_range(&lent(world.alloc, &owned)?, len);
-    Ok(format!(in world.alloc; "{is_within}")?)
+    let owned = splices(alloc, words.left())?;
+    let is_within = in_range(&lent(alloc, &owned)?, len);
+    Ok(format!(in alloc; "{is_within}")?)
 }
 
 // `operation_count SPLICE..`: how many operations they make, and whether they ask for nothing.
-fn counted(world: &World, words: &mut Words) -> Result<String, Fault> {
-    let owned = splices(world.alloc, words.left())?;
-    let lent = lent(world.alloc, &owned)?;
+fn counted(alloc: Global, words: &mut Words) -> Result<String, Fault> {
+    let owned = splices(alloc, words.left())?;
+    let lent = lent(alloc, &owned)?;
     let count = operation_count(&lent);
     let behind = if asks_nothing(&lent) { ", nothing" } else { "" };
-    Ok(format!(in world.alloc; "{count}{behind}")?)
+    Ok(format!(in alloc; "{count}{behind}")?)
 }
 
-/// Runs a row on splices; `None` where the word is none of these.
-pub fn run(world: &World, word: &str, words: &mut Words) -> Option<Result<String, Fault>> {
+/// Makes a call on splices; `None` where the word is none of these.
+pub fn call(alloc: Global, word: &str, words: &mut Words) -> Option<Result<String, Fault>> {
     Some(match word {
-        "in_range" => range(world, words),
-        "operation_count" => counted(world, words),
+        "in_range" => range(alloc, words),
+        "operation_count" => counted(alloc, words),
         _ => return None,
     })
 }

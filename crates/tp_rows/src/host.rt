@@ -34,14 +34,9 @@ impl Host {
         }
     }
 
-    /// What was printed to the standard output.
-    pub fn printed(&self) -> Result<String, AllocError> {
-        all_of(&self.out)
-    }
-
-    /// What was printed to the standard error.
-    pub fn complained(&self) -> Result<String, AllocError> {
-        all_of(&self.err)
+    /// What was printed: to the standard output, and to the standard error.
+    pub fn streams(&self) -> Result<(String, String), AllocError> {
+        Ok((all_of(&self.out)?, all_of(&self.err)?))
     }
 }
 

@@ -1,15 +1,10 @@
-//! Rows on logs and what is shown of them.
+//! Calls on logs and what is shown of them.
 
-use crate::changes::altered;
-use crate::fault::{Fault, refusal};
-use crate::literals::count;
-use crate::printing::quoted;
-use crate::runs::Runs;
-use crate::words::Words;
-use crate::world::World;
+use crate::bytes::altered;
 use std::alloc::Global;
 use std::io;
 use std::io::{ErrorKind, Read, Write};
+use tp_runner::{Fault, Runs, Shelf, Words, count, quoted, refusal};
 use tp_textpeer::{Refusal, ShowError, show};
 
 // A reader that gives a byte at each call, and fails at one of them, counted from 0.
@@ -98,79 +93,109 @@ fn shown(alloc: Global, log: &[u8]) -> Result<String, Fault> {
     answer(alloc, shown, &out)
 }
 
-// `show NAME`: what is shown of the log.
-fn one(world: &World, words: &mut Words) -> Result<String, Fault> {
-    shown(world.alloc, world.bytes.get(words.next()?)?)
-}
-
 // `show_cuts NAME`: what is shown of each prefix of the log, the whole the last.
-fn cuts(world: &World, words: &mut Words) -> Result<String, Fault> {
-    let whole = world.bytes.get(words.next()?)?;
-    let mut runs = Runs::new(world.alloc, 0);
+fn cuts(alloc: Global, whole: &[u8]) -> Result<String, Fault> {
+    let mut runs = Runs::new(alloc, 0);
     for (len, _) in whole.iter().enumerate() {
-        runs.add(shown(world.alloc, &whole[..len])?)?;
+        runs.add(shown(alloc, &whole[..len])?)?;
     }
-    runs.add(shown(world.alloc, whole)?)?;
+    runs.add(shown(alloc, whole)?)?;
     runs.end()
 }
 
 // `show_complements NAME`: what is shown of the log with each of its bytes complemented, by its offset.
-fn complements(world: &World, words: &mut Words) -> Result<String, Fault> {
-    let whole = world.bytes.get(words.next()?)?;
-    let mut runs = Runs::new(world.alloc, 0);
+fn complements(alloc: Global, whole: &[u8]) -> Result<String, Fault> {
+    let mut runs = Runs::new(alloc, 0);
     for (at, byte) in whole.iter().enumerate() {
-        let changed = altered(world.alloc, whole, at, &[!*byte])?;
-        runs.add(shown(world.alloc, &changed)?)?;
+        add_complement(alloc, &mut runs, whole, at, *byte)?;
     }
     runs.end()
+}
+
+fn add_complement(
+    alloc: Global,
+    runs: &mut Runs,
+    whole: &[u8],
+    at: usize,
+    byte: u8,
+) -> Result<(), Fault> {
+    let changed = altered(alloc, whole, at, &[!byte])?;
+    runs.add(shown(alloc, &changed)?)
 }
 
 // `show_reader_fails NAME TIMES`: what is shown where the reader fails at its call 0, 1 and so on.
-fn reader_fails(world: &World, words: &mut Words) -> Result<String, Fault> {
-    let whole = world.bytes.get(words.next()?)?;
-    let times = count(words.next()?)?;
-    let mut runs = Runs::new(world.alloc, 0);
+fn reader_fails(alloc: Global, whole: &[u8], times: usize) -> Result<String, Fault> {
+    let mut runs = Runs::new(alloc, 0);
     for calls_left in 0..times {
-        let mut reader = FailingReader {
-            rest: whole,
-            calls_left,
-        };
-        let mut out = roomy(world.alloc, whole)?;
-        let shown = show(world.alloc, &mut reader, &mut out);
-        runs.add(answer(world.alloc, shown, &out)?)?;
+        runs.add(shown_until_reader_fails(alloc, whole, calls_left)?)?;
     }
     runs.end()
+}
+
+fn shown_until_reader_fails(
+    alloc: Global,
+    whole: &[u8],
+    calls_left: usize,
+) -> Result<String, Fault> {
+    let mut reader = FailingReader {
+        rest: whole,
+        calls_left,
+    };
+    let mut out = roomy(alloc, whole)?;
+    let shown = show(alloc, &mut reader, &mut out);
+    answer(alloc, shown, &out)
 }
 
 // `show_writer_fails NAME TIMES`: what is shown where the writer fails at its call 0, 1 and so on.
-fn writer_fails(world: &World, words: &mut Words) -> Result<String, Fault> {
-    let whole = world.bytes.get(words.next()?)?;
-    let times = count(words.next()?)?;
-    let mut runs = Runs::new(world.alloc, 0);
+fn writer_fails(alloc: Global, whole: &[u8], times: usize) -> Result<String, Fault> {
+    let mut runs = Runs::new(alloc, 0);
     for calls_left in 0..times {
-        let mut reader = whole.as_slice();
-        let mut writer = FailingWriter {
-            taken: roomy(world.alloc, whole)?,
-            calls_left,
-        };
-        let shown = show(world.alloc, &mut reader, &mut writer);
-        if shown.is_err() {
-            // (a writer that fails may have taken a part)
-            writer.taken.clear();
-        }
-        runs.add(answer(world.alloc, shown, &writer.taken)?)?;
+        runs.add(shown_until_writer_fails(alloc, whole, calls_left)?)?;
     }
     runs.end()
 }
 
-/// Runs a row on logs; `None` where the word is none of these.
-pub fn run(world: &World, word: &str, words: &mut Words) -> Option<Result<String, Fault>> {
-    Some(match word {
-        "show" => one(world, words),
-        "show_cuts" => cuts(world, words),
-        "show_complements" => complements(world, words),
-        "show_reader_fails" => reader_fails(world, words),
-        "show_writer_fails" => writer_fails(world, words),
-        _ => return None,
-    })
+fn shown_until_writer_fails(
+    alloc: Global,
+    whole: &[u8],
+    calls_left: usize,
+) -> Result<String, Fault> {
+    let mut reader = whole;
+    let mut writer = FailingWriter {
+        taken: roomy(alloc, whole)?,
+        calls_left,
+    };
+    let shown = show(alloc, &mut reader, &mut writer);
+    if shown.is_err() {
+        // (a writer that fails may have taken a part)
+        writer.taken.clear();
+    }
+    answer(alloc, shown, &writer.taken)
+}
+
+/// Makes a call on logs; `None` where the word is none of these.
+pub fn call(
+    shelf: &Shelf<Vec<u8>>,
+    word: &str,
+    words: &mut Words,
+) -> Option<Result<String, Fault>> {
+    if word.starts_with("show") {
+        Some(call_on(shelf, word, words))
+    } else {
+        None
+    }
+}
+
+// `show NAME` is what is shown of the log.
+fn call_on(shelf: &Shelf<Vec<u8>>, word: &str, words: &mut Words) -> Result<String, Fault> {
+    let alloc = shelf.alloc();
+    let whole = shelf.get(words.next()?)?;
+    match word {
+        "show" => shown(alloc, whole),
+        "show_cuts" => cuts(alloc, whole),
+        "show_complements" => complements(alloc, whole),
+        "show_reader_fails" => reader_fails(alloc, whole, count(words.next()?)?),
+        "show_writer_fails" => writer_fails(alloc, whole, count(words.next()?)?),
+        _ => Err(Fault::Row("no such call")),
+    }
 }

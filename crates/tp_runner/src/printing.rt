@@ -1,8 +1,10 @@
 //! Values as answers print them.
 
 use crate::fault::Fault;
-use crate::world::{UNKNOWN, World};
+use crate::lists::UNKNOWN;
+use crate::shelf::Shelf;
 use std::alloc::Global;
+use std::fmt::Display;
 use tp_change::{Change, Op, Record};
 use tp_opid::{Actor, Hash, OpId, Place};
 
@@ -101,8 +103,8 @@ pub fn put_op(out: &mut String, op: &Op) -> Result<(), Fault> {
 }
 
 /// Adds the name of the change with the hash, or `unknown`, or its digits.
-pub fn put_name(world: &World, out: &mut String, hash: &Hash) -> Result<(), Fault> {
-    for (name, change) in world.changes.all() {
+pub fn put_name(changes: &Shelf<Change>, out: &mut String, hash: &Hash) -> Result<(), Fault> {
+    for (name, change) in changes.all() {
         if change.hash().is(hash) {
             return Ok(out.push_str(name.as_str())?);
         }
@@ -110,14 +112,14 @@ pub fn put_name(world: &World, out: &mut String, hash: &Hash) -> Result<(), Faul
     if hash.is(&UNKNOWN) {
         return Ok(out.push_str("unknown")?);
     }
-    match hash.to_text(world.alloc) {
+    match hash.to_text(changes.alloc()) {
         Ok(digits) => Ok(out.push_str(digits.as_str())?),
         Err(_) => Err(Fault::Memory),
     }
 }
 
 /// Adds a list of names, or how many there are.
-pub fn put_names(world: &World, out: &mut String, hashes: &[Hash]) -> Result<(), Fault> {
+pub fn put_names(changes: &Shelf<Change>, out: &mut String, hashes: &[Hash]) -> Result<(), Fault> {
     let count = hashes.len();
     if count > MOST_NAMES {
         write!(out, "[{count} changes]")?;
@@ -128,14 +130,21 @@ pub fn put_names(world: &World, out: &mut String, hashes: &[Hash]) -> Result<(),
         if i > 0 {
             out.push(',')?;
         }
-        put_name(world, out, hash)?;
+        put_name(changes, out, hash)?;
     }
     out.push(']')?;
     Ok(())
 }
 
-/// The hashes of changes.
-pub fn hashes_of(alloc: Global, changes: &[Change]) -> Result<Vec<Hash>, Fault> {
+/// Adds the number and the name of an error, behind a comma where something stands before it.
+pub fn put_error(out: &mut String, code: u8, error: impl Display + Drop) -> Result<(), Fault> {
+    let comma = if out.is_empty() { "" } else { ", " };
+    write!(out, "{comma}{code} {error}")?;
+    Ok(())
+}
+
+// The hashes of changes.
+fn hashes_of(alloc: Global, changes: &[Change]) -> Result<Vec<Hash>, Fault> {
     let mut hashes = Vec::new(alloc);
     for change in changes {
         hashes.push(change.hash())?;
@@ -144,14 +153,14 @@ pub fn hashes_of(alloc: Global, changes: &[Change]) -> Result<Vec<Hash>, Fault> 
 }
 
 /// The names of hashes.
-pub fn names(world: &World, hashes: &[Hash]) -> Result<String, Fault> {
-    let mut out = String::new(world.alloc);
-    put_names(world, &mut out, hashes)?;
+pub fn names(changes: &Shelf<Change>, hashes: &[Hash]) -> Result<String, Fault> {
+    let mut out = String::new(changes.alloc());
+    put_names(changes, &mut out, hashes)?;
     Ok(out)
 }
 
-/// The names of changes.
-pub fn names_of(world: &World, changes: &[Change]) -> Result<String, Fault> {
-    let hashes = hashes_of(world.alloc, changes)?;
-    names(world, &hashes)
+/// The names of these changes.
+pub fn names_of(changes: &Shelf<Change>, these: &[Change]) -> Result<String, Fault> {
+    let hashes = hashes_of(changes.alloc(), these)?;
+    names(changes, &hashes)
 }

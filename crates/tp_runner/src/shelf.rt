@@ -6,6 +6,7 @@ use std::alloc::Global;
 /// Values of one kind, each with its name.
 #[derive(Drop)]
 pub struct Shelf<T> {
+    alloc: Global,
     values: Vec<(String, T)>,
 }
 
@@ -13,8 +14,14 @@ impl<T: Drop> Shelf<T> {
     /// No values.
     pub fn new(alloc: Global) -> Shelf<T> {
         Shelf {
+            alloc,
             values: Vec::new(alloc),
         }
+    }
+
+    /// Where the names lie.
+    pub fn alloc(&self) -> Global {
+        self.alloc
     }
 
     /// Forgets all values.
@@ -63,11 +70,17 @@ impl<T: Drop> Shelf<T> {
         }
     }
 
-    /// Puts a value in, in the place of one of its name.
-    pub fn put(&mut self, named: (String, T)) -> Result<(), Fault> {
+    /// Puts a value with its name in, in the place of one of that name.
+    pub fn put_back(&mut self, named: (String, T)) -> Result<(), Fault> {
         let _before = self.take(named.0.as_str());
         self.values.push(named)?;
         Ok(())
+    }
+
+    /// Gives a value a name, in the place of one of that name.
+    pub fn put(&mut self, name: &str, value: T) -> Result<(), Fault> {
+        let name = String::from_str(self.alloc, name)?;
+        self.put_back((name, value))
     }
 
     /// The values with their names.

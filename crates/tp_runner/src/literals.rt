@@ -1,6 +1,7 @@
 //! Values as words spell them.
 
 use crate::fault::Fault;
+use hex::FromHexError;
 use std::alloc::Global;
 use tp_change::Record;
 use tp_list::Text;
@@ -45,19 +46,24 @@ pub fn place(word: &str) -> Result<Place, Fault> {
     Ok(Place::After(id(word)?))
 }
 
-/// A text: `"abc"`, or `"abc"*3` for three times that, one behind another. `\n` is a newline.
-pub fn text(alloc: Global, word: &str) -> Result<String, Fault> {
+// What stands between the quotes of a text's word, and how often.
+fn quoted_part(word: &str) -> Result<(&str, usize), Fault> {
     let fault = Fault::Row("no text");
     let (inside, behind) = word
         .strip_prefix('"')
         .ok_or(fault)?
         .split_once('"')
         .ok_or(fault)?;
-    let times = match behind.strip_prefix('*') {
-        Some(times) => count(times)?,
-        None if behind.is_empty() => 1,
-        None => return Err(fault),
-    };
+    match behind.strip_prefix('*') {
+        Some(times) => Ok((inside, count(times)?)),
+        None if behind.is_empty() => Ok((inside, 1)),
+        None => Err(fault),
+    }
+}
+
+/// A text: `"abc"`, or `"abc"*3` for three times that, one behind another. `\n` is a newline.
+pub fn text(alloc: Global, word: &str) -> Result<String, Fault> {
+    let (inside, times) = quoted_part(word)?;
     let mut text = String::new(alloc);
     for _ in 0..times {
         text.push_str(inside)?;
@@ -89,17 +95,28 @@ pub fn records(alloc: Global, words: &[String]) -> Result<Vec<Record>, Fault> {
 }
 
 fn push_records(alloc: Global, made: &mut Vec<Record>, word: &str) -> Result<(), Fault> {
-    let (times, word) = match word.split_once('*') {
-        Some((times, rest)) if times.parse::<usize>().is_ok() => (count(times)?, rest),
-        _ => (1, word),
-    };
+    let (times, word) = many(word);
     for _ in 0..times {
         made.push(record(alloc, word)?)?;
     }
     Ok(())
 }
 
+/// How many things a word stands for, and the word of one: `3*WORD` is three, and any other word one.
+pub fn many(word: &str) -> (usize, &str) {
+    if let Some((times, rest)) = word.split_once('*') {
+        if let Ok(times) = times.parse::<usize>() {
+            return (times, rest);
+        }
+    }
+    (1, word)
+}
+
 /// Bytes, as hexadecimal digits.
 pub fn bytes(alloc: Global, word: &str) -> Result<Vec<u8>, Fault> {
-    hex::decode(alloc, word).ok().ok_or(Fault::Row("no bytes"))
+    match hex::decode(alloc, word) {
+        Ok(bytes) => Ok(bytes),
+        Err(FromHexError::OutOfMemory) => Err(Fault::Memory),
+        Err(_) => Err(Fault::Row("no bytes")),
+    }
 }

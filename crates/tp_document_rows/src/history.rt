@@ -1,0 +1,90 @@
+//! Calls that read a document.
+
+use crate::lists::hashes;
+use crate::world::{Doc, World};
+use std::alloc::Global;
+use tp_document::DocError;
+use tp_runner::{Fault, Words, count, done, names, names_of, quoted, refusal};
+
+fn answer_text(alloc: Global, answer: Result<String, DocError>) -> Result<String, Fault> {
+    match answer {
+        Ok(text) => quoted(alloc, text.as_str()),
+        Err(error) => refusal(alloc, error),
+    }
+}
+
+/// The text of a document, or the refusal.
+pub fn text_of(alloc: Global, document: &Doc) -> Result<String, Fault> {
+    answer_text(alloc, document.text())
+}
+
+// `text_at DOCUMENT HASHES`.
+fn text_at(document: &Doc, world: &World, words: &mut Words) -> Result<String, Fault> {
+    let at = hashes(world, words.next()?)?;
+    answer_text(world.alloc, document.text_at(&at))
+}
+
+// `len DOCUMENT`.
+fn len(alloc: Global, document: &Doc) -> Result<String, Fault> {
+    let len = document.len();
+    Ok(format!(in alloc; "{len}")?)
+}
+
+// `char_at DOCUMENT PLACE`.
+fn char_at(alloc: Global, document: &Doc, words: &mut Words) -> Result<String, Fault> {
+    match document.char_at(count(words.next()?)?) {
+        Some(ch) => Ok(format!(in alloc; "{ch}")?),
+        None => Ok(String::from_str(alloc, "none")?),
+    }
+}
+
+// `position DOCUMENT CURSOR`.
+fn position(document: &Doc, world: &World, words: &mut Words) -> Result<String, Fault> {
+    match document.cursor_position(world.cursors.get(words.next()?)?) {
+        Ok(at) => Ok(format!(in world.alloc; "{at}")?),
+        Err(error) => refusal(world.alloc, error),
+    }
+}
+
+// `check DOCUMENT CHANGE`.
+fn check(document: &Doc, world: &World, words: &mut Words) -> Result<String, Fault> {
+    match document.check(world.changes.get(words.next()?)?) {
+        Ok(()) => done(world.alloc),
+        Err(error) => refusal(world.alloc, error),
+    }
+}
+
+// `missing DOCUMENT`.
+fn missing(document: &Doc, world: &World) -> Result<String, Fault> {
+    match document.missing() {
+        Ok(hashes) => names(&world.changes, &hashes),
+        Err(error) => refusal(world.alloc, error),
+    }
+}
+
+// `since DOCUMENT HASHES`.
+fn since(document: &Doc, world: &World, words: &mut Words) -> Result<String, Fault> {
+    let at = hashes(world, words.next()?)?;
+    match document.changes_since(&at) {
+        Ok(changes) => names_of(&world.changes, &changes),
+        Err(error) => refusal(world.alloc, error),
+    }
+}
+
+/// Makes a call `WORD DOCUMENT ..` that reads the document.
+pub fn call(document: &Doc, world: &World, word: &str, words: &mut Words) -> Result<String, Fault> {
+    match word {
+        "text" => text_of(world.alloc, document),
+        "text_at" => text_at(document, world, words),
+        "len" => len(world.alloc, document),
+        "char_at" => char_at(world.alloc, document, words),
+        "position" => position(document, world, words),
+        "check" => check(document, world, words),
+        "heads" => names(&world.changes, document.heads()),
+        "changes" => names_of(&world.changes, document.changes()),
+        "pending" => names_of(&world.changes, document.pending()),
+        "missing" => missing(document, world),
+        "since" => since(document, world, words),
+        _ => Err(Fault::Row("no such call")),
+    }
+}

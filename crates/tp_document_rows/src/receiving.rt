@@ -1,0 +1,145 @@
+//! Calls that receive: lists that are applied, and merges.
+
+use crate::keepers::Few;
+use crate::lists::changes;
+use crate::world::{Doc, World};
+use std::alloc::Global;
+use std::fmt::Display;
+use tp_change::Change;
+use tp_document::{Applied, DocError};
+use tp_graph::{Graph, GraphError};
+use tp_opid::Hash;
+use tp_receive::{ReceiveError, receive};
+use tp_runner::{Fault, Shelf, Words, count, put_name, put_names, refusal};
+
+/// More refusals than this are printed as their number.
+const MOST_REFUSED: usize = 12;
+
+fn put_refused(
+    changes: &Shelf<Change>,
+    out: &mut String,
+    refused: &[(Hash, GraphError)],
+) -> Result<(), Fault> {
+    let count = refused.len();
+    if count > MOST_REFUSED {
+        write!(out, "[{count} changes]")?;
+        return Ok(());
+    }
+    out.push('[')?;
+    for (i, (hash, error)) in refused.iter().enumerate() {
+        if i > 0 {
+            out.push(',')?;
+        }
+        put_name(changes, out, hash)?;
+        write!(out, ":{error}")?;
+    }
+    out.push(']')?;
+    Ok(())
+}
+
+// What became of the changes: `entered [..] held [..] refused [..]`.
+fn put_applied(changes: &Shelf<Change>, out: &mut String, applied: &Applied) -> Result<(), Fault> {
+    out.push_str("entered ")?;
+    put_names(changes, out, &applied.applied)?;
+    out.push_str(" held ")?;
+    put_names(changes, out, &applied.held)?;
+    out.push_str(" refused ")?;
+    put_refused(changes, out, &applied.refused)
+}
+
+fn reply<E: Display + Drop>(
+    changes: &Shelf<Change>,
+    answer: Result<Applied, E>,
+) -> Result<String, Fault> {
+    match answer {
+        Ok(applied) => {
+            let mut out = String::new(changes.alloc());
+            put_applied(changes, &mut out, &applied)?;
+            Ok(out)
+        }
+        Err(error) => refusal(changes.alloc(), error),
+    }
+}
+
+// A graph receives.
+fn receive_some(
+    alloc: Global,
+    graph: &mut Graph,
+    left: usize,
+    came: Vec<Change>,
+) -> Result<Applied, ReceiveError> {
+    receive(alloc, graph, &mut Few { left }, came)
+}
+
+// A document receives, with a keeper where a number is given.
+fn apply_some(
+    document: &mut Doc,
+    left: Option<usize>,
+    came: Vec<Change>,
+) -> Result<Applied, DocError> {
+    match left {
+        Some(left) => document.apply_with(came, &mut Few { left }),
+        None => document.apply(came),
+    }
+}
+
+// `apply ON CHANGES`, where a graph receives with a keeper that never refuses, or `apply_with KEPT ON CHANGES`: the
+// keeper keeps so many changes and refuses those behind them.
+fn apply(world: &mut World, left: Option<usize>, words: &mut Words) -> Result<String, Fault> {
+    let on = words.next()?;
+    let came = changes(world, words.next()?)?;
+    if let Ok(graph) = world.graphs.get_mut(on) {
+        let answer = receive_some(world.alloc, graph, left.unwrap_or(usize::MAX), came);
+        return reply(&world.changes, answer);
+    }
+    let answer = apply_some(world.documents.get_mut(on)?, left, came);
+    reply(&world.changes, answer)
+}
+
+// `merge INTO FROM`, or `merge_with KEPT INTO FROM`.
+fn merge(world: &mut World, left: Option<usize>, words: &mut Words) -> Result<String, Fault> {
+    let answer = merge_named(&mut world.documents, left, words.next()?, words.next()?)?;
+    reply(&world.changes, answer)
+}
+
+// Takes out the document that receives, so that the other one can be lent beside it.
+fn merge_named(
+    documents: &mut Shelf<Doc>,
+    left: Option<usize>,
+    into: &str,
+    from: &str,
+) -> Result<Result<Applied, DocError>, Fault> {
+    let mut into = documents.take(into)?;
+    let answer = match documents.get(from) {
+        Ok(from) => Ok(merge_some(&mut into.1, left, from)),
+        Err(fault) => Err(fault),
+    };
+    documents.put_back(into)?;
+    answer
+}
+
+fn merge_some(into: &mut Doc, left: Option<usize>, from: &Doc) -> Result<Applied, DocError> {
+    match left {
+        Some(left) => into.merge_with(from, &mut Few { left }),
+        None => into.merge(from),
+    }
+}
+
+fn call_with(world: &mut World, word: &str, words: &mut Words) -> Result<String, Fault> {
+    let left = count(words.next()?)?;
+    if word == "apply_with" {
+        apply(world, Some(left), words)
+    } else {
+        merge(world, Some(left), words)
+    }
+}
+
+/// Makes a call that receives changes; `None` where the word is none of these.
+pub fn call(world: &mut World, word: &str, words: &mut Words) -> Option<Result<String, Fault>> {
+    Some(match word {
+        "apply" => apply(world, None, words),
+        "merge" => merge(world, None, words),
+        "apply_with" | "merge_with" => call_with(world, word, words),
+        _ => return None,
+    })
+}
