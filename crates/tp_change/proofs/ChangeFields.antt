@@ -129,7 +129,7 @@ dep_field before =
     (λ h g fit. fit.1))
     (λ h fit. append-nil h.0) (λ h fit. (fit.0, fit.1.0)) (λ h fit. (fit.0, (fit.1, refl)))
 
-abbrev DepFits : Option Hash → Hash → Type 0
+abbrev pub DepFits : Option Hash → Hash → Type 0
 DepFits before h = IsHash h × (rises before h ≡ true)
 
 rising_behind : (before : Hash) (deps : List Hash) → EachFits DepFits next_before (Some before) deps → IsBelowAll hash_cmp before deps × IsRising hash_cmp deps
@@ -139,11 +139,11 @@ rising_behind before (h ∷ deps) fit =
     let lt = less_of (hash_cmp before h) fit.0.1 in
     ((lt, IsBelowAll-trans hash_cmp hash_total before h deps lt rest.0), rest)
 
-rising_all : (deps : List Hash) → EachFits DepFits next_before None deps → IsRising hash_cmp deps
+pub rising_all : (deps : List Hash) → EachFits DepFits next_before None deps → IsRising hash_cmp deps
 rising_all [] fit = tt
 rising_all (h ∷ deps) fit = rising_behind h deps fit.1
 
-hashes_all : (before : Option Hash) (deps : List Hash) → EachFits DepFits next_before before deps → AllByRecursion IsHash deps
+pub hashes_all : (before : Option Hash) (deps : List Hash) → EachFits DepFits next_before before deps → AllByRecursion IsHash deps
 hashes_all before [] fit = tt
 hashes_all before (h ∷ deps) fit = (fit.0.0, hashes_all (Some h) deps fit.1)
 
@@ -151,7 +151,7 @@ fit_behind : (before : Hash) (deps : List Hash) → AllByRecursion IsHash deps �
 fit_behind before [] hashes below rise = tt
 fit_behind before (h ∷ deps) hashes below rise = ((hashes.0, ap is_lt below.0), fit_behind h deps hashes.1 rise.0 rise.1)
 
-fit_all : (deps : List Hash) → AllByRecursion IsHash deps → IsRising hash_cmp deps → EachFits DepFits next_before None deps
+pub fit_all : (deps : List Hash) → AllByRecursion IsHash deps → IsRising hash_cmp deps → EachFits DepFits next_before None deps
 fit_all [] hashes rise = tt
 fit_all (h ∷ deps) hashes rise = ((hashes.0, refl), fit_behind h deps hashes.1 rise.0 rise.1)
 

@@ -13,7 +13,7 @@ ghost use Rattle.tp_graph.specs.Named as named;
 ghost use Rattle.tp_graph.specs.Heads as head;
 ghost use Rattle.tp_graph.specs.Fit.{cause, most_changes};
 ghost use Rattle.tp_graph.specs.Sound.{Sound};
-ghost use Rattle.tp_graph.specs.Since.{IsMissing};
+ghost use Rattle.tp_graph.specs.Since.{marks_since, IsMissing};
 ghost use Rattle.tp_graph.specs.Answers.{Answers};
 ghost use Rattle.tp_graph.specs.GraphState.{most_waiting, HashesOnce};
 ghost use Rattle.tp_change.specs.ChangeHash.{hash_of};
@@ -146,6 +146,13 @@ impl<S: Sequence> Document<S> {
         self.graph.pending()
     }
 
+    /// Whether a waiting change has the hash. One pass over them.
+    pub fn waits(&self, hash: &Hash) -> bool
+        ensures { result ≡ named.has self.now.waiting hash.now }
+    {
+        self.graph.waits(hash)
+    }
+
     /// How many changes wait.
     pub fn pending_len(&self) -> usize
         ensures { result ≡ length self.now.waiting }
@@ -163,6 +170,19 @@ impl<S: Sequence> Document<S> {
     {
         match self.graph.missing() {
             Ok(hashes) => Ok(hashes),
+            Err(_) => Err(DocError::OutOfMemory),
+        }
+    }
+
+    /// For each applied change, in applied order, whether it is outside the past of those of the hashes that are known,
+    /// or has one of the hashes `also`. The only refusal is `OutOfMemory`. One pass, and a byte for each applied change.
+    pub fn marks_since(&self, hashes: &[Hash], also: &[Hash]) -> Result<Vec<bool>, DocError>
+        ensures marks { IfOk result
+            (λ v. v.items ≡ marks_since self.now.applied hashes.now also.now) }
+        ensures err { IsOkUnless result OutOfMemory }
+    {
+        match self.graph.marks_since(hashes, also) {
+            Ok(marks) => Ok(marks),
             Err(_) => Err(DocError::OutOfMemory),
         }
     }

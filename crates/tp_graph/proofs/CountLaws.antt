@@ -1,30 +1,28 @@
 -- Laws of counts and counters in sound lists.
-use Rattle.std.proofs.Common.{◌≡◌, ℕ, ◌+◌, ◌<◌, ◌≤◌, ◌==◌, ◌⊎◌, inl, inr, List, [], ◌∷◌, ◌++◌, Bool, true, false, ◌||◌, cond, nat_lt, Some, None, refl, sym, ap, ◌∙◌, subst, arith}
+use Rattle.std.proofs.Common.{◌≡◌, ℕ, ◌+◌, ◌<◌, ◌≤◌, ◌==◌, ◌⊎◌, inl, inr, List, [], ◌∷◌, ◌++◌, Bool, true, false, cond, nat_lt, Some, None, refl, sym, ap, ◌∙◌, subst, arith, length, nat_le}
 use Rattle.std.proofs.lemmas.Bool.Decides.{nat_tests}
 use Rattle.tp_list.specs.Members.{In, AllIn}
 use Rattle.tp_list.proofs.Tests.{truth, never, same_test}
-use Rattle.tp_list.proofs.Members.{In-left, In-right, In-append, In-last, In-split}
+use Rattle.tp_list.proofs.Members.{In-left, In-right, In-append, In-push, In-last, In-split}
 use Rattle.tp_opid.specs.declared.actor.Actor.{Actor}
-use Rattle.tp_opid.specs.declared.hash.Hash.{Hash}
 use Rattle.tp_opid.specs.declared.op_id.OpId.{OpId}
 use Rattle.tp_opid.specs.Same.{same_actor}
-use Rattle.tp_opid.proofs.Orders.{same_actor-same, same_actor-itself}
+use Rattle.tp_opid.proofs.Orders.{same_actor-same, same_actor-itself, same_actor-flip}
 use Rattle.tp_change.specs.declared.parts.ChangeParts.{ChangeParts}
 use Rattle.tp_change.specs.ChangeHash.{hash_of}
 use Rattle.tp_change.specs.Operations.{ops_of}
 use Rattle.tp_change.specs.Elements.{inserts, is_inserted, refers, next_counter}
 use Rattle.tp_change.proofs.ElementLaws.{is_inserted-more, refers-same, inserts-more, le_both, next_counter-same}
 use Rattle.tp_graph.specs.declared.error.GraphError.TheVariants.{BadSeq, BadStart, BadReference}
-use Rattle.tp_graph.specs.Named.{names, is_needed}
-use Rattle.tp_graph.specs.Past.{past, with_reached}
-use Rattle.tp_graph.specs.Fit.{count_by, defect_behind}
+use Rattle.tp_graph.specs.Past.{past}
+use Rattle.tp_graph.specs.Fit.{count_by, defect_behind, clashes}
 use Rattle.tp_graph.specs.Sound.{Sound, Fits}
 use Rattle.tp_graph.specs.GraphState.{HashesOnce}
 use Rattle.tp_graph.proofs.NamedLaws.{In-has}
-use Rattle.tp_graph.proofs.PastLaws.{past-In, kept, left_out, kept-In, In-with_reached}
+use Rattle.tp_graph.proofs.PastLaws.{past-In}
 use Rattle.tp_graph.proofs.SoundLaws.{sound-induct, sound_pasts}
 use Rattle.tp_graph.proofs.MarksLaws.{hashes_once}
-use Rattle.tp_graph.proofs.ClashLaws.{In-clashes}
+use Rattle.tp_graph.proofs.ClashLaws.{clash_of, In-clashes}
 
 -- ---- counts depend on the set alone
 
@@ -85,6 +83,7 @@ defect_behind-same P Q c o q f g =
 
 -- the sequence numbers of an actor are those from 1 to the number of its changes
 pub record SeqsRun (C : List ChangeParts) : Type 0 where
+  pub low : (c : ChangeParts) → In c C → 1 ≤ c.seq
   pub bounded : (c : ChangeParts) → In c C → c.seq ≤ count_by c.actor C
   pub there : (a : Actor) (s : ℕ) → 1 ≤ s → s ≤ count_by a C → (c : ChangeParts) × In c C × (same_actor c.actor a ≡ true) × (c.seq ≡ s)
 
@@ -110,18 +109,16 @@ seqs_step C x s r f =
     let own : count_by x.actor (past C x.deps) ≡ count_by x.actor C = own_count_by C x s r f in
     let number : x.seq ≡ count_by x.actor C + 1 = f.seq ∙ ap (λ n. n + 1) own in
     record {
-      bounded = λ c i. elim (In-append c C (x ∷ []) i) [
+      low = λ c i. elim (In-push c C x i) [ inl j ↦ r.low c j | inr e ↦ let one : 1 ≤ x.seq = omega arith in subst (λ (y : ChangeParts). 1 ≤ y.seq) (sym e) one ];
+      bounded = λ c i. elim (In-push c C x i) [
         | inl j ↦
             let h = r.bounded c j in
             let e = count_by-append c.actor C (x ∷ []) in
             omega arith
-        | inr j ↦ elim j [
-          | inl e ↦
-              let whole : count_by x.actor (C ++ x ∷ []) ≡ count_by x.actor C + 1 = count_by-append x.actor C (x ∷ []) ∙ ap (λ b. count_by x.actor C + cond b (0 + 1) 0) (same_actor-itself x.actor) ∙ ap (λ n. count_by x.actor C + n) one in
-              let h : x.seq ≤ count_by x.actor (C ++ x ∷ []) = omega arith in
-              subst (λ (y : ChangeParts). y.seq ≤ count_by y.actor (C ++ x ∷ [])) (sym e) h
-          | inr z ↦ absurd z
-        ]
+        | inr e ↦
+            let whole : count_by x.actor (C ++ x ∷ []) ≡ count_by x.actor C + 1 = count_by-append x.actor C (x ∷ []) ∙ ap (λ b. count_by x.actor C + cond b (0 + 1) 0) (same_actor-itself x.actor) ∙ ap (λ n. count_by x.actor C + n) one in
+            let h : x.seq ≤ count_by x.actor (C ++ x ∷ []) = omega arith in
+            subst (λ (y : ChangeParts). y.seq ≤ count_by y.actor (C ++ x ∷ [])) (sym e) h
       ];
       there = λ a n low high. found a n low (subst (λ k. n ≤ k) (count_by-append a C (x ∷ [])) high) (truth (same_actor x.actor a)) number;
     } where
@@ -146,63 +143,64 @@ seqs_step C x s r f =
 
 pub seqs_run : (C : List ChangeParts) → Sound C → SeqsRun C
 seqs_run = sound-induct SeqsRun
-    (record { bounded = λ c i. absurd i; there = λ a s low high. absurd (omega arith) })
+    (record { low = λ c i. absurd i; bounded = λ c i. absurd i; there = λ a s low high. absurd (omega arith) })
     seqs_step
 
 pub own_count : (C : List ChangeParts) (c : ChangeParts) → Sound C → Fits C c → count_by c.actor (past C c.deps) ≡ count_by c.actor C
 own_count C c s f = own_count_by C c s (seqs_run C s) f
 
--- a past that has as many of an actor's changes as the list has them all
-past_has_own : (C : List ChangeParts) (H : List Hash) (a : Actor) (d : ChangeParts) → HashesOnce C → count_by a (past C H) ≡ count_by a C → In d C → same_actor d.actor a ≡ true → In d (past C H)
-past_has_own [] H a d o e i s = i
-past_has_own (x ∷ C) H a d o e i s =
-    elim (truth (names H x || is_needed (past C H) x)) [
-      | inl t ↦
-          let rest : count_by a (past C H) ≡ count_by a C = both_more (same_actor x.actor a) (count_by a (past C H)) (count_by a C) (ap (count_by a) (sym (kept H x (past C H) t)) ∙ e) in
-          elim i [
-            | inl z ↦ subst (λ y. In y (with_reached H x (past C H))) (sym z) (kept-In H x (past C H) t)
-            | inr j ↦ In-with_reached H x d (past C H) (past_has_own C H a d o.1 rest j s)
-          ]
-      | inr f ↦
-          let same : count_by a (past C H) ≡ cond (same_actor x.actor a) (count_by a C + 1) (count_by a C) = ap (count_by a) (sym (left_out H x (past C H) f)) ∙ e in
-          let fewer : count_by a (past C H) ≤ count_by a C = past_fewer C H a in
-          elim i [
-            | inl z ↦
-                let mine : same_actor x.actor a ≡ true = subst (λ (y : ChangeParts). same_actor y.actor a ≡ true) z s in
-                let more : count_by a (past C H) ≡ count_by a C + 1 = same ∙ ap (λ b. cond b (count_by a C + 1) (count_by a C)) mine in
-                absurd (omega arith)
-            | inr j ↦
-                In-with_reached H x d (past C H) (past_has_own C H a d o.1 (not_more (same_actor x.actor a) (count_by a (past C H)) (count_by a C) same fewer) j s)
-          ]
-    ] where
-      both_more : (b : Bool) (m n : ℕ) → cond b (m + 1) m ≡ cond b (n + 1) n → m ≡ n
-      both_more true m n h = omega arith
-      both_more false m n h = h
+-- two changes of one actor with one number are one
+OneNumber : List ChangeParts → Type 0
+OneNumber C = (c d : ChangeParts) → In c C → In d C → same_actor c.actor d.actor ≡ true → c.seq ≡ d.seq → c ≡ d
 
-      not_more : (b : Bool) (m n : ℕ) → m ≡ cond b (n + 1) n → m ≤ n → m ≡ n
-      not_more true m n h k = absurd (omega arith)
-      not_more false m n h k = h
+one_step : (C : List ChangeParts) (x : ChangeParts) → Sound C → OneNumber C → Fits C x → OneNumber (C ++ x ∷ [])
+unfolding OneNumber
+one_step C x s p f c d i j e n = by (In-push c C x i) (In-push d C x j) where
+  by : (In c C ⊎ (c ≡ x)) → (In d C ⊎ (d ≡ x)) → c ≡ d
+  by (inl k) (inl l) = p c d k l e n
+  by (inl k) (inr z) = never (In-clashes C x c k (subst (λ (y : ChangeParts). same_actor c.actor y.actor ≡ true) z e) (n ∙ ap (λ (y : ChangeParts). y.seq) z)) f.free
+  by (inr z) (inl l) = never (In-clashes C x d l (same_actor-flip x.actor d.actor (subst (λ (y : ChangeParts). same_actor y.actor d.actor ≡ true) z e)) (sym n ∙ ap (λ (y : ChangeParts). y.seq) z)) f.free
+  by (inr z) (inr w) = z ∙ sym w
 
-      past_fewer : (C : List ChangeParts) (H : List Hash) (a : Actor) → count_by a (past C H) ≤ count_by a C
-      past_fewer [] H a = omega arith
-      past_fewer (y ∷ C) H a =
-          let h = past_fewer C H a in
-          elim (names H y || is_needed (past C H) y) as (λ b. count_by a (cond b (y ∷ past C H) (past C H)) ≤ count_by a (y ∷ C)) [
-            | true ↦ step (same_actor y.actor a) (count_by a (past C H)) (count_by a C) h
-            | false ↦ up (same_actor y.actor a) (count_by a (past C H)) (count_by a C) h
-          ] where
-            step : (b : Bool) (m n : ℕ) → m ≤ n → cond b (m + 1) m ≤ cond b (n + 1) n
-            step true m n h = omega arith
-            step false m n h = h
-
-            up : (b : Bool) (m n : ℕ) → m ≤ n → m ≤ cond b (n + 1) n
-            up true m n h = omega arith
-            up false m n h = h
+pub own_one : (C : List ChangeParts) (c d : ChangeParts) → Sound C → In c C → In d C → same_actor c.actor d.actor ≡ true → c.seq ≡ d.seq → c ≡ d
+unfolding OneNumber
+own_one C c d s = sound-induct OneNumber (λ c d i j e n. absurd i) one_step C s c d
 
 -- each of the actor's changes is in the past of a change that fits
 pub own_past : (C : List ChangeParts) (c d : ChangeParts) → Sound C → Fits C c → In d C → same_actor d.actor c.actor ≡ true → In d (past C c.deps)
-own_past C c d s f i e = past_has_own C c.deps c.actor d (hashes_once C s) (own_count C c s f) i e
+own_past C c d s f i e =
+    let low : 1 ≤ d.seq = (seqs_run C s).low d i in
+    let who : d.actor ≡ c.actor = same_actor-same d.actor c.actor e in
+    let bound : d.seq ≤ count_by c.actor C = subst (λ a. d.seq ≤ count_by a C) who ((seqs_run C s).bounded d i) in
+    let high : d.seq ≤ count_by c.actor (past C c.deps) = subst (λ n. d.seq ≤ n) (sym (own_count C c s f)) bound in
+    let w = (seqs_run (past C c.deps) (sound_pasts C s c.deps)).there c.actor d.seq low high in
+    let one : same_actor w.0.actor d.actor ≡ true = rw (same_actor-same w.0.actor c.actor w.2, who) (same_actor-itself c.actor) in
+    subst (λ x. In x (past C c.deps)) (own_one C w.0 d s (past-In C c.deps w.0 w.1) i one w.3) w.1
 
 -- a change that fits has its actor's next sequence number
 pub next_seq : (C : List ChangeParts) (c : ChangeParts) → Sound C → Fits C c → c.seq ≡ count_by c.actor C + 1
 next_seq C c s f = f.seq ∙ ap (λ n. n + 1) (own_count C c s f)
+
+-- ---- where an actor has reached a sequence number
+
+-- a change clashes exactly where its actor has reached its sequence number
+pub clashes-reached : (C : List ChangeParts) (c : ChangeParts) → Sound C → 1 ≤ c.seq → nat_le c.seq (count_by c.actor C) ≡ clashes C c
+clashes-reached C c s low =
+    same_test (nat_le c.seq (count_by c.actor C)) (clashes C c)
+    (λ t.
+    let high : c.seq ≤ count_by c.actor C = grind (arith, nat_tests) in
+    let w = (seqs_run C s).there c.actor c.seq low high in
+    In-clashes C c w.0 w.1 w.2 w.3)
+    (λ t.
+    let w = clash_of C c t in
+    let bound : w.0.seq ≤ count_by w.0.actor C = (seqs_run C s).bounded w.0 w.1 in
+    let one : count_by w.0.actor C ≡ count_by c.actor C = ap (λ a. count_by a C) (same_actor-same w.0.actor c.actor w.2) in
+    let same : w.0.seq ≡ c.seq = w.3 in
+    let high : c.seq ≤ count_by c.actor C = omega arith in
+    grind (arith, nat_tests))
+
+pub count_by-length : (a : Actor) (C : List ChangeParts) → count_by a C ≤ length C
+count_by-length a [] = omega arith
+count_by-length a (c ∷ C) =
+    let h = count_by-length a C in
+    elim (same_actor c.actor a) as (λ b. cond b (count_by a C + 1) (count_by a C) ≤ length (c ∷ C)) [ true ↦ omega arith | false ↦ omega arith ]

@@ -1,6 +1,8 @@
 -- The next counter of a past is that of the changes that are named: what they depend on ends before they start.
 use Rattle.std.proofs.Common.{◌≡◌, ℕ, suc, zero, ◌+◌, ◌<◌, ◌≤◌, inl, inr, List, [], ◌∷◌, ◌++◌, length, true, false, ◌||◌, cond, Some, None, drop, get_or, refl, sym, ap, ◌∙◌, subst, arith, add-one, drop-cons}
+use Rattle.std.specs.List.{slice_get}
 use Rattle.std.proofs.lemmas.List.{drop_all}
+use Rattle.std.proofs.lemmas.Option.{get_or_from_slice_get}
 use Rattle.std.proofs.lemmas.Bool.Decides.{nat_tests}
 use Rattle.tp_list.specs.Members.{In, AllIn}
 use Rattle.tp_list.proofs.Tests.{truth, never, not_true, or_cases}
@@ -24,6 +26,24 @@ use Rattle.tp_graph.proofs.PastLaws.{past-In, past-named, with_reached-In}
 use Rattle.tp_graph.proofs.SoundLaws.{Fits-at, hashes_apart}
 use Rattle.tp_graph.proofs.MarksLaws.{hashes_once}
 use Rattle.tp_graph.proofs.PlacesLaws.{place_from-low, has-from_place}
+
+-- ---- by place
+
+ends_of-at : (C : List ChangeParts) (i : ℕ) (c : ChangeParts) → slice_get C i ≡ Some c → slice_get (ends_of C) i ≡ Some (c.start + op_count c)
+ends_of-at [] i c e = cc
+ends_of-at (x ∷ C) zero c e = let s : x ≡ c = cc in rw s refl
+ends_of-at (x ∷ C) (suc i) c e = ends_of-at C i c e
+
+pub end_at : (C : List ChangeParts) (i : ℕ) (c : ChangeParts) → slice_get C i ≡ Some c → get_or (ends_of C) i 0 ≡ c.start + op_count c
+end_at C i c e = get_or_from_slice_get (ends_of C) i (c.start + op_count c) 0 (ends_of-at C i c e)
+
+pub length-ends_of : (C : List ChangeParts) → length (ends_of C) ≡ length C
+length-ends_of [] = refl
+length-ends_of (c ∷ C) = ap suc (length-ends_of C)
+
+pub ends_of-push : (C : List ChangeParts) (c : ChangeParts) → ends_of (C ++ c ∷ []) ≡ ends_of C ++ (c.start + op_count c) ∷ []
+ends_of-push [] c = refl
+ends_of-push (x ∷ C) c = ap (λ l. (x.start + op_count x) ∷ l) (ends_of-push C c)
 
 -- ---- of one hash
 

@@ -2,11 +2,11 @@
 use Rattle.std.proofs.Common.{◌≡◌, ◌↔◌, ◌⊎◌, ℕ, suc, zero, ◌+◌, ◌<◌, ◌≤◌, inl, inr, List, [], ◌∷◌, ◌++◌, length, get_or, take, drop, filter, Bool, true, false, ◌||◌, ◌&&◌, cond, nat_lt, nat_le, Option, Some, None, refl, sym, ap, ◌∙◌, subst, arith, add-one, drop-cons, length-append, ext_get_or}
 use Rattle.std.specs.List.{slice_get}
 use Rattle.std.proofs.lemmas.Bool.Decides.{nat_tests}
-use Rattle.std.proofs.lemmas.Option.{slice_get_within}
-use Rattle.std.proofs.lemmas.List.{take_more}
+use Rattle.std.proofs.lemmas.Option.{slice_get_within, get_or_from_slice_get}
+use Rattle.std.proofs.lemmas.List.{take_more, get_or-take, length-take-le, take-append-drop}
 use Rattle.tp_list.specs.Members.{In, AllIn}
 use Rattle.tp_list.proofs.Tests.{truth, never, same_test, or_cases, or_left, or_right, both, both_left, both_right}
-use Rattle.tp_list.proofs.Members.{In-left, In-right, In-append, In-slice_get, In-index, slice_get-there}
+use Rattle.tp_list.proofs.Members.{In-left, In-right, In-append, In-slice_get, In-get_or, In-index, slice_get-there}
 use Rattle.tp_opid.specs.declared.hash.Hash.{Hash}
 use Rattle.tp_opid.specs.Same.{same_actor}
 use Rattle.tp_opid.proofs.Orders.{same_actor-same, same_actor-itself, same_actor-flip}
@@ -16,7 +16,7 @@ use Rattle.tp_change.specs.Elements.{later}
 use Rattle.tp_graph.specs.declared.extent.Extent.{Extent}
 use Rattle.tp_graph.specs.declared.part.Part.{Part}
 use Rattle.tp_graph.specs.declared.part.Part.TheVariants.{Within, Marked}
-use Rattle.tp_graph.specs.Parts.{bits, picked, holds, prefix_of, IsPartOf}
+use Rattle.tp_graph.specs.Parts.{bits, picked, prefix_of, IsPartOf}
 use Rattle.tp_graph.specs.Named.{has, has_all}
 use Rattle.tp_graph.specs.Past.{past}
 use Rattle.tp_graph.specs.Reach.{Chain}
@@ -27,43 +27,25 @@ use Rattle.tp_graph.specs.GraphState.{HashesOnce}
 use Rattle.tp_graph.specs.Sound.{Sound, Fits}
 use Rattle.tp_graph.proofs.NamedLaws.{In-has}
 use Rattle.tp_graph.proofs.PastLaws.{past-In, past-named, past-more, past-push_other}
-use Rattle.tp_graph.proofs.PlacesLaws.{place_from-some, has-from_place}
-use Rattle.tp_graph.proofs.SoundLaws.{sound-induct, hashes_apart, deps_first, deps_there, not_among}
+use Rattle.tp_graph.proofs.PlacesLaws.{at_left, at_push, place_from-some, has-from_place}
+use Rattle.tp_graph.proofs.SoundLaws.{Fits-at, Sound-prefix, Sound-before, hashes_apart, deps_first, deps_there, not_among}
 use Rattle.tp_graph.proofs.ReachLaws.{InPast-from_past, past-from_InPast}
-use Rattle.tp_graph.proofs.MarksLaws.{hashes_once, length-marks, pick-marks}
+use Rattle.tp_graph.proofs.MarksLaws.{hashes_once, length-marks, pick-marks, pick-marked, marked-pick}
 use Rattle.tp_graph.proofs.CountLaws.{own_past}
-use Rattle.tp_graph.proofs.HeldLaws.{Tells}
-use Rattle.tp_graph.proofs.PartLaws.{pick-marked, marked-pick}
 
 -- ---- bits
 
 left_taken : (r a d e : Bool) → ((r || a) || (d || e)) ≡ (a || ((r || d) || e))
-left_taken true true d e = refl
-left_taken true false d e = refl
-left_taken false true d e = refl
-left_taken false false d e = refl
+left_taken r a d e = grind arith
 
 right_taken : (r a d e : Bool) → ((r || a) || (d || e)) ≡ (a || (d || (r || e)))
-right_taken true true d e = refl
-right_taken true false true e = refl
-right_taken true false false e = refl
-right_taken false true d e = refl
-right_taken false false d e = refl
+right_taken r a d e = grind arith
 
 both_taken : (q r a d e : Bool) → (((q || r) || a) || (d || e)) ≡ (a || ((q || d) || (r || e)))
-both_taken true r true d e = refl
-both_taken true r false d e = refl
-both_taken false true true d e = refl
-both_taken false true false true e = refl
-both_taken false true false false e = refl
-both_taken false false true d e = refl
-both_taken false false false d e = refl
+both_taken q r a d e = grind arith
 
 turn : (a b c : Bool) → (a || (b || c)) ≡ (b || (a || c))
-turn true true c = refl
-turn true false c = refl
-turn false true c = refl
-turn false false c = refl
+turn a b c = grind arith
 
 -- ---- authors
 
@@ -163,39 +145,20 @@ places-In C T t p i =
 
 -- tips before the prefix hold nothing else
 pub held-kept : (C : List ChangeParts) (T : List ℕ) (f i : ℕ) → is_held C f (filter (λ t. nat_le f t) T) i ≡ is_held C f T i
-held-kept C T f i = by (truth (nat_lt i f)) where
-  fewer : (T : List ℕ) → is_reached C (filter (λ t. nat_le f t) T) i ≡ true → is_reached C T i ≡ true
-  fewer [] r = r
-  fewer (t ∷ T) r =
-      elim (nat_le f t) as (λ b. is_reached C (cond b (t ∷ filter (λ s. nat_le f s) T) (filter (λ s. nat_le f s) T)) i ≡ true → is_reached C (t ∷ T) i ≡ true) [
-        | true ↦ λ h. elim (or_cases (reaches C t i) (is_reached C (filter (λ s. nat_le f s) T) i) h) [
-          | inl u ↦ or_left (reaches C t i) (is_reached C T i) u
-          | inr u ↦ or_right (reaches C t i) (is_reached C T i) (fewer T u)
-        ]
-        | false ↦ λ h. or_right (reaches C t i) (is_reached C T i) (fewer T h)
-      ] r
+held-kept C [] f i = refl
+held-kept C (t ∷ T) f i =
+    elim (nat_le f t) as (λ b. nat_le f t ≡ b → is_held C f (cond b (t ∷ filter (λ s. nat_le f s) T) (filter (λ s. nat_le f s) T)) i ≡ is_held C f (t ∷ T) i) [
+      | true ↦ λ e. kept (nat_lt i f) (reaches C t i) (is_reached C (filter (λ s. nat_le f s) T) i) (is_reached C T i) (held-kept C T f i)
+      | false ↦ λ e. passed (nat_lt i f) (reaches C t i) (is_reached C (filter (λ s. nat_le f s) T) i) (is_reached C T i)
+          (λ r. let low : nat_le i t ≡ true = both_left (nat_le i t) (same_author C t i) r in grind (arith, nat_tests))
+          (held-kept C T f i)
+    ] refl where
+      kept : (l r x y : Bool) → (l || x) ≡ (l || y) → (l || (r || x)) ≡ (l || (r || y))
+      kept l r x y e = grind arith
 
-  kept : nat_lt i f ≡ false → (T : List ℕ) → is_reached C T i ≡ true → is_reached C (filter (λ t. nat_le f t) T) i ≡ true
-  kept g [] r = r
-  kept g (t ∷ T) r =
-      elim (truth (nat_le f t)) [
-        | inl e ↦
-            subst (λ b. is_reached C (cond b (t ∷ filter (λ s. nat_le f s) T) (filter (λ s. nat_le f s) T)) i ≡ true) (sym e)
-            (elim (or_cases (reaches C t i) (is_reached C T i) r) [
-              | inl u ↦ or_left (reaches C t i) (is_reached C (filter (λ s. nat_le f s) T) i) u
-              | inr u ↦ or_right (reaches C t i) (is_reached C (filter (λ s. nat_le f s) T) i) (kept g T u)
-            ])
-        | inr e ↦
-            subst (λ b. is_reached C (cond b (t ∷ filter (λ s. nat_le f s) T) (filter (λ s. nat_le f s) T)) i ≡ true) (sym e)
-            (elim (or_cases (reaches C t i) (is_reached C T i) r) [
-              | inl u ↦ let low : nat_le i t ≡ true = both_left (nat_le i t) (same_author C t i) u in absurd (grind (arith, nat_tests))
-              | inr u ↦ kept g T u
-            ])
-      ]
-
-  by : ((nat_lt i f ≡ true) ⊎ (nat_lt i f ≡ false)) → is_held C f (filter (λ t. nat_le f t) T) i ≡ is_held C f T i
-  by (inl t) = or_left (nat_lt i f) (is_reached C (filter (λ t. nat_le f t) T) i) t ∙ sym (or_left (nat_lt i f) (is_reached C T i) t)
-  by (inr g) = ap (λ b. nat_lt i f || b) (same_test (is_reached C (filter (λ t. nat_le f t) T) i) (is_reached C T i) (fewer T) (kept g T))
+      passed : (l r x y : Bool) → (r ≡ true → l ≡ true) → (l || x) ≡ (l || y) → (l || x) ≡ (l || (r || y))
+      passed l true x y h e = rw (h refl) refl
+      passed l false x y h e = e
 
 -- ---- pasts
 
@@ -228,18 +191,6 @@ past-deps C d c s there i =
     past-from_InPast C (hash_of d ∷ []) (deps_first C s) c (p.0, hash_of d, inl refl, (suc p.3.0, (d, there, refl, p.1, p.2, p.3.1)))
 
 -- ---- one more change
-
--- what stands at a place of a longer list stood there, or is the last
-at_push : (C : List ChangeParts) (x : ChangeParts) (i : ℕ) (c : ChangeParts) → slice_get (C ++ x ∷ []) i ≡ Some c → (slice_get C i ≡ Some c) ⊎ ((i ≡ length C) × (c ≡ x))
-at_push [] x zero c e = let s : x ≡ c = cc in inr (refl, sym s)
-at_push [] x (suc i) c e = cc
-at_push (y ∷ C) x zero c e = inl e
-at_push (y ∷ C) x (suc i) c e = elim (at_push C x i c e) [ inl f ↦ inl f | inr w ↦ inr (ap suc w.0, w.1) ]
-
-at_left : (C : List ChangeParts) (x : ChangeParts) (i : ℕ) → i < length C → slice_get (C ++ x ∷ []) i ≡ slice_get C i
-at_left [] x i h = absurd (omega arith)
-at_left (c ∷ C) x zero h = refl
-at_left (c ∷ C) x (suc i) h = at_left C x i (omega arith)
 
 reached-longer : (C : List ChangeParts) (x : ChangeParts) (T : List ℕ) (i : ℕ) → ((t : ℕ) → In t T → t < length C) → i < length C → is_reached (C ++ x ∷ []) T i ≡ is_reached C T i
 reached-longer C x [] i p small = refl
@@ -294,12 +245,6 @@ IsKnown-push : (C : List ChangeParts) (x : ChangeParts) (H : List Hash) (o : Opt
 IsKnown-push C x H None s f all k = tt
 IsKnown-push C x H (Some e) s f all k = IsExtent-push C x H e s f all k
 
-option_at : (es : List (Option Extent)) (o : Option Extent) (i : ℕ) (p : Option Extent) → slice_get (es ++ o ∷ []) i ≡ Some p → (slice_get es i ≡ Some p) ⊎ ((i ≡ length es) × (p ≡ o))
-option_at [] o zero p e = let s : o ≡ p = cc in inr (refl, sym s)
-option_at [] o (suc i) p e = cc
-option_at (y ∷ es) o zero p e = inl e
-option_at (y ∷ es) o (suc i) p e = elim (option_at es o i p e) [ inl f ↦ inl f | inr w ↦ inr (ap suc w.0, w.1) ]
-
 pub AreExtents-push : (C : List ChangeParts) (x : ChangeParts) (es : List (Option Extent)) (o : Option Extent) → Sound C → Fits C x → AreExtents C es → IsKnown C x.deps o → AreExtents (C ++ x ∷ []) (es ++ o ∷ [])
 AreExtents-push C x es o s f w k =
     let same : length es ≡ length C = w.each in
@@ -307,7 +252,7 @@ AreExtents-push C x es o s f w k =
     let two : length (C ++ x ∷ []) ≡ length C + 1 = length-append C (x ∷ []) in
     record {
       each = omega arith;
-      known = λ i c p at here. by i c p (at_push C x i c at) (option_at es o i p here);
+      known = λ i c p at here. by i c p (at_push C x i c at) (at_push es o i p here);
     } where
       by : (i : ℕ) (c : ChangeParts) (p : Option Extent)
           → ((slice_get C i ≡ Some c) ⊎ ((i ≡ length C) × (c ≡ x))) → ((slice_get es i ≡ Some p) ⊎ ((i ≡ length es) × (p ≡ o))) → IsKnown (C ++ x ∷ []) c.deps p
@@ -329,32 +274,18 @@ AreExtents-push C x es o s f w k =
 -- ---- an actor's changes
 
 -- each change of an actor is in the past of its later ones
-HasOwn : List ChangeParts → Type 0
-HasOwn C = (i q : ℕ) (c d : ChangeParts) → slice_get C i ≡ Some c → slice_get C q ≡ Some d → i < q → same_actor c.actor d.actor ≡ true → In c (past C d.deps)
-
-own_step : (C : List ChangeParts) (x : ChangeParts) → Sound C → HasOwn C → Fits C x → HasOwn (C ++ x ∷ [])
-unfolding HasOwn
-own_step C x s own f i q c d at there less same = by (at_push C x i c at) (at_push C x q d there) where
-  out : (H : List Hash) → has_all C H ≡ true → In c (past C H) → In c (past (C ++ x ∷ []) H)
-  out H all j = subst (λ (l : List ChangeParts). In c l) (sym (past-push_other C H x (not_among C H x all f.new))) j
-
-  by : ((slice_get C i ≡ Some c) ⊎ ((i ≡ length C) × (c ≡ x))) → ((slice_get C q ≡ Some d) ⊎ ((q ≡ length C) × (d ≡ x))) → In c (past (C ++ x ∷ []) d.deps)
-  by (inl a) (inl b) = out d.deps (deps_there C s d (In-slice_get C q d b)) (own i q c d a b less same)
-  by (inl a) (inr z) =
-      subst (λ (y : ChangeParts). In c (past (C ++ x ∷ []) y.deps)) (sym z.1)
-      (out x.deps f.deps (own_past C x c s f (In-slice_get C i c a) (subst (λ (y : ChangeParts). same_actor c.actor y.actor ≡ true) z.1 same)))
-  by (inr z) (inl b) =
-      let small : q < length C = slice_get_within C q d b in
-      let end : i ≡ length C = z.0 in
-      absurd (omega arith)
-  by (inr z) (inr y) =
-      let one : i ≡ length C = z.0 in
-      let two : q ≡ length C = y.0 in
-      absurd (omega arith)
-
-has_own : (C : List ChangeParts) → Sound C → HasOwn C
-unfolding HasOwn
-has_own = sound-induct HasOwn (λ i q c d at there less same. cc) own_step
+has_own : (C : List ChangeParts) (i q : ℕ) (c d : ChangeParts) → Sound C → slice_get C i ≡ Some c → slice_get C q ≡ Some d → i < q → same_actor c.actor d.actor ≡ true → In c (past C d.deps)
+has_own C i q c d s at there less same =
+    let small : q < length C = slice_get_within C q d there in
+    let long : length (take q C) ≡ q = length-take-le q C (omega arith) in
+    let split : take q C ++ d ∷ drop (suc q) C ≡ C =
+    ap (λ x. take q C ++ x ∷ drop (suc q) C) (sym (get_or_from_slice_get C q d d there)) ∙ ap (λ l. take q C ++ l) (sym (drop-cons C q d small)) ∙ take-append-drop q C in
+    let whole = subst Sound (sym split) s in
+    let f = Fits-at (take q C) d (drop (suc q) C) whole in
+    let here : get_or (take q C) i c ≡ c = get_or-take q C i c less ∙ get_or_from_slice_get C i c c at in
+    let early : In c (take q C) = subst (λ x. In x (take q C)) here (In-get_or (take q C) i c (omega arith)) in
+    let inside = own_past (take q C) d c (Sound-prefix (take q C) (d ∷ drop (suc q) C) whole) f early same in
+    subst (λ D. In c (past D d.deps)) split (subst (λ l. In c l) (sym (Sound-before (take q C) (d ∷ drop (suc q) C) d.deps f.deps whole)) inside)
 
 -- ---- joining
 
@@ -368,14 +299,13 @@ one_place (x ∷ C) (suc i) (suc q) c o e f = ap suc (one_place C i q c o.1 e f)
 
 -- the tip at a change's place reaches the change, and else what the change depends on
 reaches-own : (C : List ChangeParts) (q i : ℕ) (d c : ChangeParts) → Sound C → slice_get C q ≡ Some d → slice_get C i ≡ Some c → reaches C q i ≡ true → (c ≡ d) ⊎ In c (past C d.deps)
-unfolding HasOwn
 reaches-own C q i d c s there at r =
     let low : nat_le i q ≡ true = both_left (nat_le i q) (same_author C q i) r in
     let who : same_actor d.actor c.actor ≡ true = subst (λ o. same_author_of (Some d) o ≡ true) at (subst (λ o. same_author_of o (slice_get C i) ≡ true) there (both_right (nat_le i q) (same_author C q i) r)) in
     elim (truth (nat_lt i q)) [
       | inl t ↦
           let less : i < q = grind (arith, nat_tests) in
-          inr (has_own C s i q c d at there less (same_actor-flip d.actor c.actor who))
+          inr (has_own C i q c d s at there less (same_actor-flip d.actor c.actor who))
       | inr g ↦
           let one : i ≡ q = grind (arith, nat_tests) in
           let same : Some c ≡ Some d = sym at ∙ ap (slice_get C) one ∙ there in
@@ -436,18 +366,17 @@ IsExtent-joined C H q d old own new s w there v placed joins = record { placed =
       ]
 
 -- the step over one of the hashes, where a change has it
-pub IsExtent-known : (C : List ChangeParts) (H : List Hash) (n : ℕ) (h : Hash) (q : ℕ) (es : List (Option Extent)) (old own new : Extent)
-    → Sound C → n < length H → IsExtent C (take n H) old → Some q ≡ place_from 0 C (get_or H n h) → AreExtents C es → slice_get es q ≡ Some (Some own) → IsPlaced C new
+pub IsExtent-known : (C : List ChangeParts) (H : List Hash) (n : ℕ) (h : Hash) (q : ℕ) (old own new : Extent)
+    → Sound C → n < length H → IsExtent C (take n H) old → Some q ≡ place_from 0 C (get_or H n h) → ((d : ChangeParts) → slice_get C q ≡ Some d → IsExtent C d.deps own) → IsPlaced C new
     → ((i : ℕ) → is_held C new.prefix new.tips.items i ≡ ((reaches C q i || is_held C own.prefix own.tips.items i) || is_held C old.prefix old.tips.items i))
     → IsExtent C (take (n + 1) H) new
-IsExtent-known C H n h q es old own new s small w at all here placed joins =
+IsExtent-known C H n h q old own new s small w at known placed joins =
     let found = place_from-some C (get_or H n h) q at in
     let d = found.1.0 in
     let there : slice_get C q ≡ Some d = found.1.1 in
     let has_it : hash_of d ≡ get_or H n h = found.1.2 in
-    let known : IsExtent C d.deps own = all.known q d (Some own) there here in
     subst (λ l. IsExtent C l new) (sym (take_more H n h small))
-    (subst (λ g. IsExtent C (take n H ++ g ∷ []) new) has_it (IsExtent-joined C (take n H) q d old own new s w there known placed joins))
+    (subst (λ g. IsExtent C (take n H ++ g ∷ []) new) has_it (IsExtent-joined C (take n H) q d old own new s w there (known d there) placed joins))
 
 -- the same, where none has it
 pub IsExtent-unknown : (C : List ChangeParts) (H : List Hash) (n : ℕ) (h : Hash) (e : Extent)
@@ -504,13 +433,6 @@ IsExtent-whole C H e whole prefix tips = record {
   );
 }
 
--- an extent that is kept for a change has its tips at places of changes
-pub IsPlaced-kept : (C : List ChangeParts) (es : List (Option Extent)) (q : ℕ) (e : Extent) → AreExtents C es → q < length C → slice_get es q ≡ Some (Some e) → IsPlaced C e
-IsPlaced-kept C es q e all small here =
-    let w = slice_get-there C q small in
-    let known : IsExtent C w.0.deps e = all.known q w.0 (Some e) w.1 here in
-    known.placed
-
 -- ---- an extent as marks
 
 length-held_from : (C : List ChangeParts) (f : ℕ) (T : List ℕ) (n : ℕ) (D : List ChangeParts) → length (held_from C f T n D) ≡ length D
@@ -553,10 +475,6 @@ length-bits (Marked v) C h = h
 -- the changes that have a mark are the past, where the marks are those of a walk
 pub picked-past : (part : Part) (C : List ChangeParts) (H : List Hash) → bits part C ≡ marks C H → picked part C ≡ past C H
 picked-past part C H e = ap (λ bs. pick bs C) e ∙ pick-marks C H
-
--- what a part holds are its changes
-pub Tells-part : (part : Part) (C : List ChangeParts) → Sound C → Tells C (picked part C) (holds part C)
-Tells-part part C s p c at = (pick-marked (bits part C) C p c at, marked-pick (bits part C) C p c (hashes_once C s) at)
 
 -- before its prefix a part has every mark
 pub prefix-marked : (part : Part) (C : List ChangeParts) (i : ℕ) → i < length C → i < prefix_of part → get_or (bits part C) i false ≡ true

@@ -60,8 +60,7 @@ is_inserted-run a n after (ch ∷ text) id =
 pub is_inserted-covers : (a : Actor) (n : ℕ) (rs : List Record) (id : OpId) → is_inserted (inserts_in (ops_from a n rs)) id ≡ (same_actor a id.actor && covers n rs id.counter)
 is_inserted-covers a n [] id = none (same_actor a id.actor) where
   none : (s : Bool) → false ≡ (s && false)
-  none true = refl
-  none false = refl
+  none s = grind arith
 is_inserted-covers a n (Insert after text ∷ rs) id =
     ap (λ l. is_inserted l id) (inserts_in-append (run a n after text) (ops_from a (n + length text) rs))
     ∙ is_inserted-append (inserts_in (run a n after text)) (inserts_in (ops_from a (n + length text) rs)) id
@@ -69,8 +68,7 @@ is_inserted-covers a n (Insert after text ∷ rs) id =
     ∙ ap (λ b. (same_actor a id.actor && (nat_le n id.counter && nat_lt id.counter (n + length text))) || b) (is_inserted-covers a (n + length text) rs id)
     ∙ joined (same_actor a id.actor) (nat_le n id.counter && nat_lt id.counter (n + length text)) (covers (n + length text) rs id.counter) where
       joined : (s x y : Bool) → ((s && x) || (s && y)) ≡ (s && (x || y))
-      joined true x y = refl
-      joined false x y = refl
+      joined s x y = grind arith
 is_inserted-covers a n (Delete target ∷ rs) id = is_inserted-covers a (n + 1) rs id
 
 -- ---- references depend on which identifiers are inserted
@@ -89,15 +87,13 @@ refers-run a n after (ch ∷ text) S some =
     (run_goes_on a (n + 1) text (element (id_of a n) after ch ∷ S) (id_of a n) (or_left (id_eq (id_of a n) (id_of a n)) (is_inserted S (id_of a n)) (id_eq-itself (id_of a n))))
     ∙ alone (is_reference S after) where
       alone : (b : Bool) → (b && true) ≡ b
-      alone true = refl
-      alone false = refl
+      alone b = grind arith
 
 refers-record : (a : Actor) (n : ℕ) (r : Record) (S : List element_of.Insert) → IsRecord r → refers S (ops_in a n r) ≡ is_there S r
 refers-record a n (Insert after text) S h = refers-run a n after text S h.2
 refers-record a n (Delete target) S h = alone (is_inserted S target) where
   alone : (b : Bool) → (b && true) ≡ b
-  alone true = refl
-  alone false = refl
+  alone b = grind arith
 
 is_there-same : (S T : List element_of.Insert) (r : Record) → SameIds S T → is_there S r ≡ is_there T r
 is_there-same S T (Insert after text) f = is_reference-same S T after f
@@ -126,10 +122,7 @@ refers-records a n S T before (r ∷ rs) h f =
     ∙ ap (λ b. is_there (inserts_in (ops_from a n before) ++ S) r && b) (refers-records a n S (grown T (ops_in a m r)) (before ++ r ∷ []) rs h.1 next)
   where
     turn : (a b c : Bool) → (a || (b || c)) ≡ ((b || a) || c)
-    turn true true c = refl
-    turn true false c = refl
-    turn false true c = refl
-    turn false false c = refl
+    turn a b c = grind arith
 
     counted : (before : List Record) → n + count_of before + count_in r ≡ n + count_of (before ++ r ∷ [])
     counted [] = omega arith
@@ -179,8 +172,7 @@ pub inserts_id-other : (c : ChangeParts) (id : OpId) → same_actor c.actor id.a
 inserts_id-other c id e = sym (inserts_id-is c id ∙ ap (λ b. b && covers c.start c.records id.counter) e)
 
 nothing_covered : (s : Bool) → (s && false) ≡ false
-nothing_covered true = refl
-nothing_covered false = refl
+nothing_covered s = grind arith
 
 pub inserts_id-low : (c : ChangeParts) (id : OpId) → id.counter < c.start → false ≡ is_inserted (inserts_in (ops_of c)) id
 inserts_id-low c id h = sym (inserts_id-is c id ∙ ap (λ b. same_actor c.actor id.actor && b) (covers-low c.start c.records id.counter h) ∙ nothing_covered (same_actor c.actor id.actor))

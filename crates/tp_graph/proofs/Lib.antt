@@ -6,8 +6,6 @@ pub mod HeadsLaws
 pub mod PlacesLaws
 pub mod MarksLaws
 pub mod InsertLaws
-pub mod PickLaws
-pub mod HeadSteps
 pub mod CauseLaws
 pub mod KeptLaws
 pub mod SinceLaws
@@ -15,13 +13,9 @@ pub mod CountLaws
 pub mod TreeLaws
 pub mod SetLaws
 pub mod PlaceLists
-pub mod FirstFaults
-pub mod LatestLaws
 pub mod WaitingLaws
-pub mod ByActorLaws
 pub mod OwnLaws
-pub mod HeldLaws
 pub mod ExtentLaws
-pub mod PartLaws
 pub mod EndLaws
 pub mod ClashLaws
+pub mod LawRules

@@ -1,5 +1,5 @@
 -- Laws of marks, and of the walk back that makes them.
-use Rattle.std.proofs.Common.{◌≡◌, ℕ, suc, zero, ◌+◌, ◌-◌, ◌<◌, ◌≤◌, ◌⊎◌, inl, inr, List, [], ◌∷◌, ◌++◌, length, Bool, true, false, ◌||◌, cond, Some, take, drop, get_or, replicate, refl, sym, ap, ◌∙◌, subst, arith, add-one, append_assoc}
+use Rattle.std.proofs.Common.{◌≡◌, ℕ, suc, zero, ◌+◌, ◌-◌, ◌<◌, ◌≤◌, inl, inr, List, [], ◌∷◌, ◌++◌, length, Bool, true, false, ◌||◌, cond, Some, take, drop, get_or, replicate, refl, sym, ap, ◌∙◌, subst, arith, add-one, append_assoc, ◌↔◌}
 use Rattle.std.proofs.Math.ListN.{set}
 use Rattle.std.proofs.lemmas.List.{take_more, append-nil, take_all, drop_all, length-replicate}
 use Rattle.std.proofs.lemmas.Option.{get_or_from_slice_get}
@@ -22,6 +22,9 @@ use Rattle.tp_graph.proofs.NamedLaws.{In-has, has-In, names-append, names-In}
 use Rattle.tp_graph.proofs.PastLaws.{kept, left_out}
 use Rattle.tp_graph.proofs.PlacesLaws.{place_from-low}
 use Rattle.tp_graph.proofs.SoundLaws.{sound-induct, DepsFirst}
+use Rattle.tp_list.proofs.Members.{In-slice_get, In-push}
+use Rattle.tp_graph.specs.declared.part.Part.{Part}
+use Rattle.tp_graph.specs.Parts.{bits, holds, picked}
 
 pub length-marks : (C : List ChangeParts) (H : List Hash) → length (marks C H) ≡ length C
 length-marks [] H = refl
@@ -41,27 +44,16 @@ pick-marks (c ∷ C) H =
 pub HashesOnce-push : (C : List ChangeParts) (x : ChangeParts) → HashesOnce C → has C (hash_of x) ≡ false → HashesOnce (C ++ x ∷ [])
 HashesOnce-push [] x o e = (refl, tt)
 HashesOnce-push (c ∷ C) x o e = (
-  not_true (has (C ++ x ∷ []) (hash_of c)) (λ t. at_end t),
+  not_true (has (C ++ x ∷ []) (hash_of c)) (λ t.
+      let w = has-In (C ++ x ∷ []) (hash_of c) t in
+      elim (In-push w.0 C x w.1) [
+        | inl i ↦ never (In-has C w.0 (hash_of c) i w.2) o.0
+        | inr s ↦
+            let same : hash_of c ≡ hash_of x = sym w.2 ∙ ap hash_of s in
+            never (subst (λ g. same_hash (hash_of c) g ≡ true) same (same_hash-itself (hash_of c))) (neither_left (same_hash (hash_of c) (hash_of x)) (has C (hash_of x)) e)
+      ]),
   HashesOnce-push C x o.1 (neither_right (same_hash (hash_of c) (hash_of x)) (has C (hash_of x)) e),
-) where
-  at_end : has (C ++ x ∷ []) (hash_of c) ≡ true → ⊥
-  at_end t = in_two C (has-In (C ++ x ∷ []) (hash_of c) t) where
-    other : same_hash (hash_of c) (hash_of x) ≡ false
-    other = neither_left (same_hash (hash_of c) (hash_of x)) (has C (hash_of x)) e
-
-    cases : (y : ChangeParts) (D : List ChangeParts) → In y (D ++ x ∷ []) → In y D ⊎ (y ≡ x)
-    cases y [] (inl s) = inr s
-    cases y [] (inr i) = absurd i
-    cases y (d ∷ D) (inl s) = inl (inl s)
-    cases y (d ∷ D) (inr i) = elim (cases y D i) [ inl j ↦ inl (inr j) | inr s ↦ inr s ]
-
-    in_two : (D : List ChangeParts) → ((y : ChangeParts) × In y (C ++ x ∷ []) × (hash_of y ≡ hash_of c)) → ⊥
-    in_two D w = elim (cases w.0 C w.1) [
-      | inl i ↦ never (In-has C w.0 (hash_of c) i w.2) o.0
-      | inr s ↦
-          let same : hash_of c ≡ hash_of x = sym w.2 ∙ ap hash_of s in
-          never (subst (λ g. same_hash (hash_of c) g ≡ true) same (same_hash-itself (hash_of c))) other
-    ]
+)
 
 pub hashes_once : (C : List ChangeParts) → Sound C → HashesOnce C
 hashes_once = sound-induct HashesOnce tt (λ C x s o f. HashesOnce-push C x o f.new)
@@ -76,8 +68,7 @@ marked_more-none H (c ∷ C) (b ∷ bs) l f =
     let less : length bs ≡ length C = omega arith in
     rw (f c (inl refl)) (ap (λ x. x ∷ marked_more H C bs) (or_nothing b) ∙ ap (λ l. b ∷ l) (marked_more-none H C bs less (λ d i. f d (inr i)))) where
       or_nothing : (b : Bool) → (b || false) ≡ b
-      or_nothing true = refl
-      or_nothing false = refl
+      or_nothing b = grind arith
 
 pub marked_more-nil : (C : List ChangeParts) (bs : List Bool) → length bs ≡ length C → marked_more [] C bs ≡ bs
 marked_more-nil C bs l = marked_more-none [] C bs l (λ c i. refl)
@@ -96,8 +87,7 @@ marked_more-twice H K (c ∷ C) [] = refl
 marked_more-twice H K (c ∷ C) (b ∷ bs) =
     rw (names-append H K c) (ap (λ x. x ∷ marked_more K C (marked_more H C bs)) (assoc b (names H c) (names K c)) ∙ ap (λ l. (b || (names H c || names K c)) ∷ l) (marked_more-twice H K C bs)) where
       assoc : (a b c : Bool) → ((a || b) || c) ≡ (a || (b || c))
-      assoc true b c = refl
-      assoc false b c = refl
+      assoc a b c = grind arith
 
 -- the mark of a hash that is not the first change's
 mark_later : (n : ℕ) (C : List ChangeParts) (bs : List Bool) (h : Hash) (b : Bool) (i : ℕ) → Some (n + i) ≡ place_from (n + 1) C h → {m : Bool} → m ≡ false
@@ -108,8 +98,7 @@ mark_later n C bs h b (suc j) there miss ih =
     let step : n + suc j ≡ n + 1 + j = omega arith in
     rw miss (ap (λ x. x ∷ marked_more (h ∷ []) C bs) (nothing b) ∙ ap (λ l. b ∷ l) (ih j (ap Some (sym step) ∙ there))) where
       nothing : (b : Bool) → (b || (false || false)) ≡ b
-      nothing true = refl
-      nothing false = refl
+      nothing b = grind arith
 
 -- the mark of one hash is at its place
 mark_at : (n : ℕ) (C : List ChangeParts) (bs : List Bool) (h : Hash) (i : ℕ) → HashesOnce C → length bs ≡ length C → Some (n + i) ≡ place_from n C h → marked_more (h ∷ []) C bs ≡ set bs i true
@@ -136,15 +125,10 @@ mark_at n (c ∷ C) (b ∷ bs) h i o l e =
           mark_later n C bs h b i there miss (λ j t. mark_at (n + 1) C bs h j o.1 less t)
     ] where
       yes : (b : Bool) → (b || (true || false)) ≡ true
-      yes true = refl
-      yes false = refl
+      yes b = grind arith
 
       other : (h : Hash) (d : ChangeParts) → names (h ∷ []) d ≡ true → hash_of d ≡ h
       other h d t = elim (names-In (h ∷ []) d t) [ inl s ↦ s | inr z ↦ absurd z ]
-
-      nothing : (b : Bool) → (b || (false || false)) ≡ b
-      nothing true = refl
-      nothing false = refl
 
 pub set_is_marked_more : (C : List ChangeParts) (bs : List Bool) (h : Hash) (i : ℕ) → HashesOnce C → length bs ≡ length C → Some i ≡ place_from 0 C h → marked_more (h ∷ []) C bs ≡ set bs i true
 set_is_marked_more C bs h i o l e = let at : i ≡ 0 + i = omega arith in mark_at 0 C bs h i o l (ap Some (sym at) ∙ e)
@@ -182,11 +166,7 @@ marks_for-more : (c : ChangeParts) (A K : List ChangeParts) (H : List Hash) → 
 marks_for-more c [] K H = refl
 marks_for-more c (x ∷ A) K H = ap (λ b. b ∷ marked_more c.deps A (marks_for A K H)) (turn (names H x) (is_needed K x) (names c.deps x)) ∙ ap (λ l. (names H x || (names c.deps x || is_needed K x)) ∷ l) (marks_for-more c A K H) where
   turn : (a b d : Bool) → ((a || b) || d) ≡ (a || (d || b))
-  turn true b d = refl
-  turn false true true = refl
-  turn false true false = refl
-  turn false false true = refl
-  turn false false false = refl
+  turn a b d = grind arith
 
 marks_for-append : (A B K : List ChangeParts) (H : List Hash) → marks_for (A ++ B) K H ≡ marks_for A K H ++ marks_for B K H
 marks_for-append [] B K H = refl
@@ -268,8 +248,7 @@ walked-start C H bs e = e ∙ first C ∙ ends C where
   first [] = refl
   first (c ∷ D) = ap (λ b. b ∷ marked_more H D (replicate (length D) false)) (turn (names H c)) ∙ ap (λ l. (names H c || false) ∷ l) (first D) where
     turn : (b : Bool) → (false || b) ≡ (b || false)
-    turn true = refl
-    turn false = refl
+    turn b = grind arith
 
   ends : (D : List ChangeParts) → marks_for D [] H ≡ walked D H (length D)
   ends D =
@@ -290,3 +269,38 @@ walk_starts C H xs ys n e f g =
     let back : take n (xs ++ drop (length xs) ys) ≡ xs = written_back xs ys n (whole ∙ sym long) e in
     let none : length C ≡ length C - 0 = omega arith in
     (back ∙ walked-start C H xs (g ∙ ap (marked_more H C) f) ∙ ap (walked C H) none, ap length back ∙ whole)
+
+-- ---- the changes that are marked, by place
+
+pick-In : (bs : List Bool) (C : List ChangeParts) (c : ChangeParts) → In c (pick bs C) → In c C
+pick-In [] C c i = absurd i
+pick-In (b ∷ bs) [] c i = absurd i
+pick-In (true ∷ bs) (d ∷ C) c (inl e) = inl e
+pick-In (true ∷ bs) (d ∷ C) c (inr i) = inr (pick-In bs C c i)
+pick-In (false ∷ bs) (d ∷ C) c i = inr (pick-In bs C c i)
+
+pub pick-marked : (bs : List Bool) (C : List ChangeParts) (p : ℕ) (c : ChangeParts) → slice_get C p ≡ Some c → get_or bs p false ≡ true → In c (pick bs C)
+pick-marked [] C zero c e t = cc
+pick-marked [] C (suc p) c e t = cc
+pick-marked (b ∷ bs) [] p c e t = cc
+pick-marked (true ∷ bs) (d ∷ C) zero c e t = let s : d ≡ c = cc in inl (sym s)
+pick-marked (false ∷ bs) (d ∷ C) zero c e t = cc
+pick-marked (true ∷ bs) (d ∷ C) (suc p) c e t = inr (pick-marked bs C p c e t)
+pick-marked (false ∷ bs) (d ∷ C) (suc p) c e t = pick-marked bs C p c e t
+
+pub marked-pick : (bs : List Bool) (C : List ChangeParts) (p : ℕ) (c : ChangeParts) → HashesOnce C → slice_get C p ≡ Some c → In c (pick bs C) → get_or bs p false ≡ true
+marked-pick [] C p c o e i = absurd i
+marked-pick (b ∷ bs) [] p c o e i = absurd i
+marked-pick (true ∷ bs) (d ∷ C) zero c o e i = refl
+marked-pick (false ∷ bs) (d ∷ C) zero c o e i =
+    let s : d ≡ c = cc in never (In-has C c (hash_of d) (pick-In bs C c i) (ap hash_of (sym s))) o.0
+marked-pick (true ∷ bs) (d ∷ C) (suc p) c o e (inl s) = never (In-has C c (hash_of d) (In-slice_get C p c e) (ap hash_of s)) o.0
+marked-pick (true ∷ bs) (d ∷ C) (suc p) c o e (inr i) = marked-pick bs C p c o.1 e i
+marked-pick (false ∷ bs) (d ∷ C) (suc p) c o e i = marked-pick bs C p c o.1 e i
+
+-- a part holds a place exactly where the change there is among those that it has
+pub holds-picked : (part : Part) (C : List ChangeParts) (p : ℕ) (c : ChangeParts) → Sound C → slice_get C p ≡ Some c → (holds part C p ≡ true) ↔ In c (picked part C)
+holds-picked part C p c s at = (pick-marked (bits part C) C p c at, marked-pick (bits part C) C p c (hashes_once C s) at)
+
+pub picked-In : (part : Part) (C : List ChangeParts) (c : ChangeParts) → In c (picked part C) → In c C
+picked-In part C c i = pick-In (bits part C) C c i

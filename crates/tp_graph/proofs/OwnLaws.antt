@@ -1,11 +1,14 @@
--- An actor's changes in a sound list: their numbers and counters rise, and the latest one says how many there are and
--- who inserted what.
-use Rattle.std.proofs.Common.{◌≡◌, ◌⊎◌, ℕ, ◌+◌, ◌<◌, ◌≤◌, inl, inr, List, [], ◌∷◌, ◌++◌, Bool, true, false, ◌&&◌, nat_lt, Some, None, refl, sym, ap, ◌∙◌, subst, arith}
+-- An actor's changes in a sound list: where they stand, that their numbers and counters rise, and who inserted what.
+use Rattle.std.proofs.Common.{◌≡◌, ◌↔◌, ◌⊎◌, ℕ, ◌+◌, ◌-◌, ◌<◌, ◌≤◌, inl, inr, List, [], ◌∷◌, ◌++◌, length, take, get_or, Bool, true, false, ◌&&◌, cond, nat_lt, Some, None, refl, sym, ap, ◌∙◌, subst, arith, length-append}
 use Rattle.std.specs.List.{slice_get}
+use Rattle.std.proofs.Math.ListN.{get_or-append}
+use Rattle.std.proofs.Math.Seq.{get_or-append_seam}
 use Rattle.std.proofs.lemmas.Bool.Decides.{nat_tests}
+use Rattle.std.proofs.lemmas.List.{append-nil, take_all, take_more, length-take-le}
+use Rattle.std.proofs.lemmas.Option.{slice_get_within}
 use Rattle.tp_list.specs.Members.{In, AllIn}
-use Rattle.tp_list.proofs.Tests.{truth, never, not_true, same_test, or_cases, or_left, or_right, both_left}
-use Rattle.tp_list.proofs.Members.{In-append, In-slice_get}
+use Rattle.tp_list.proofs.Tests.{truth, never, not_true, same_test, or_cases, or_left, or_right, both, both_left, both_right}
+use Rattle.tp_list.proofs.Members.{In-push, In-slice_get}
 use Rattle.tp_opid.specs.declared.actor.Actor.{Actor}
 use Rattle.tp_opid.specs.declared.op_id.OpId.{OpId}
 use Rattle.tp_opid.specs.Same.{same_actor}
@@ -14,12 +17,19 @@ use Rattle.tp_change.specs.declared.parts.ChangeParts.{ChangeParts}
 use Rattle.tp_change.specs.Operations.{op_count, ops_of}
 use Rattle.tp_change.specs.Elements.{inserts_in, inserts, is_inserted, next_counter}
 use Rattle.tp_change.proofs.ElementLaws.{is_inserted-append, next_counter-above}
-use Rattle.tp_graph.specs.ByActor.{StartsWithin, IsLatest}
+use Rattle.tp_graph.specs.declared.by_actor.ByActor.{ByActor}
+use Rattle.tp_graph.specs.declared.part.Part.{Part}
+use Rattle.tp_graph.specs.ByActor.{places_of, IsOwn, IsByActor, HasOp, IsMaker}
 use Rattle.tp_graph.specs.Fit.{count_by}
+use Rattle.tp_graph.specs.Parts.{holds, picked}
 use Rattle.tp_graph.specs.Past.{past}
+use Rattle.tp_graph.specs.Places.{ends_of}
 use Rattle.tp_graph.specs.Sound.{Sound, Fits}
-use Rattle.tp_graph.proofs.SoundLaws.{sound-induct}
-use Rattle.tp_graph.proofs.CountLaws.{seqs_run, next_seq, own_past}
+use Rattle.tp_graph.proofs.EndLaws.{end_at}
+use Rattle.tp_graph.proofs.MarksLaws.{holds-picked, picked-In}
+use Rattle.tp_graph.proofs.PlacesLaws.{at_left, at_last}
+use Rattle.tp_graph.proofs.SoundLaws.{sound-induct, Sound-prefix, Fits-at}
+use Rattle.tp_graph.proofs.CountLaws.{count_by-append, seqs_run, next_seq, own_past, own_one}
 use Rattle.tp_graph.proofs.InsertLaws.{inserts_id-is, inserts_id-low, inserts_id-high}
 
 -- an actor's changes come before one that fits
@@ -32,93 +42,223 @@ own_before C x c s f i e =
     let start : x.start ≡ next_counter (past C x.deps) = f.start in
     (omega arith, omega arith)
 
-pub own_earlier : (C : List ChangeParts) (x c : ChangeParts) → Sound C → Fits C x → In c C → same_actor c.actor x.actor ≡ true → (c.seq < x.seq) × (c.start ≤ x.start)
-own_earlier C x c s f i e = let w = own_before C x c s f i e in let h : c.start + op_count c ≤ x.start = w.1 in (w.0, omega arith)
+-- of two changes of one actor the later starts where the earlier has ended, or behind
+InTurn : List ChangeParts → Type 0
+InTurn C = (c d : ChangeParts) → In c C → In d C → same_actor c.actor d.actor ≡ true → c.seq < d.seq → c.start + op_count c ≤ d.start
 
--- of two changes of one actor the later starts where the earlier has ended, and two with one number are one
-OwnApart : List ChangeParts → Type 0
-OwnApart C = (c d : ChangeParts) → In c C → In d C → same_actor c.actor d.actor ≡ true → (c.seq < d.seq → c.start + op_count c ≤ d.start) × (c.seq ≡ d.seq → c ≡ d)
+turn_step : (C : List ChangeParts) (x : ChangeParts) → Sound C → InTurn C → Fits C x → InTurn (C ++ x ∷ [])
+unfolding InTurn
+turn_step C x s p f c d i j e less = by (In-push c C x i) (In-push d C x j) where
+  by : (In c C ⊎ (c ≡ x)) → (In d C ⊎ (d ≡ x)) → c.start + op_count c ≤ d.start
+  by (inl k) (inl l) = p c d k l e less
+  by (inl k) (inr z) = subst (λ (y : ChangeParts). c.start + op_count c ≤ y.start) (sym z) (own_before C x c s f k (subst (λ (y : ChangeParts). same_actor c.actor y.actor ≡ true) z e)).1
+  by (inr z) (inl l) =
+      let before : d.seq < x.seq = (own_before C x d s f l (same_actor-flip x.actor d.actor (subst (λ (y : ChangeParts). same_actor y.actor d.actor ≡ true) z e))).0 in
+      let same : c.seq ≡ x.seq = ap (λ (y : ChangeParts). y.seq) z in
+      absurd (omega arith)
+  by (inr z) (inr w) = let same : c.seq ≡ d.seq = ap (λ (y : ChangeParts). y.seq) (z ∙ sym w) in absurd (omega arith)
 
-own_step : (C : List ChangeParts) (x : ChangeParts) → Sound C → OwnApart C → Fits C x → OwnApart (C ++ x ∷ [])
-unfolding OwnApart
-own_step C x s p f c d i j e = by (In-append c C (x ∷ []) i) (In-append d C (x ∷ []) j) where
-  by : (In c C ⊎ In c (x ∷ [])) → (In d C ⊎ In d (x ∷ [])) → (c.seq < d.seq → c.start + op_count c ≤ d.start) × (c.seq ≡ d.seq → c ≡ d)
-  by (inl k) (inl l) = p c d k l e
-  by (inl k) (inr (inl z)) =
-      let w = own_before C x c s f k (subst (λ (y : ChangeParts). same_actor c.actor y.actor ≡ true) z e) in
-      let less : c.seq < d.seq = subst (λ (y : ChangeParts). c.seq < y.seq) (sym z) w.0 in
-      (λ h. subst (λ (y : ChangeParts). c.start + op_count c ≤ y.start) (sym z) w.1, λ h. absurd (omega arith))
-  by (inl k) (inr (inr z)) = absurd z
-  by (inr (inl y)) (inl l) =
-      let w = own_before C x d s f l (same_actor-flip x.actor d.actor (subst (λ (z : ChangeParts). same_actor z.actor d.actor ≡ true) y e)) in
-      let less : d.seq < c.seq = subst (λ (z : ChangeParts). d.seq < z.seq) (sym y) w.0 in
-      (λ h. absurd (omega arith), λ h. absurd (omega arith))
-  by (inr (inr z)) (inl l) = absurd z
-  by (inr (inl y)) (inr (inl z)) =
-      let one : c ≡ d = y ∙ sym z in
-      let same : c.seq ≡ d.seq = ap (λ (u : ChangeParts). u.seq) one in
-      (λ h. absurd (omega arith), λ h. one)
-  by (inr (inl y)) (inr (inr z)) = absurd z
-  by (inr (inr z)) (inr j) = absurd z
+in_turn : (C : List ChangeParts) → Sound C → InTurn C
+unfolding InTurn
+in_turn = sound-induct InTurn (λ c d i j e less. absurd i) turn_step
 
-own_apart : (C : List ChangeParts) → Sound C → OwnApart C
-unfolding OwnApart
-own_apart = sound-induct OwnApart (λ c d i j e. absurd i) own_step
+-- ---- where they stand
 
--- two changes of one actor with one number are one
-pub own_one : (C : List ChangeParts) (c d : ChangeParts) → Sound C → In c C → In d C → same_actor c.actor d.actor ≡ true → c.seq ≡ d.seq → c ≡ d
-unfolding OwnApart
-own_one C c d s i j same number = (own_apart C s c d i j same).1 number
+-- the places of an actor's changes where one more enters
+IsOwn-push : (C : List ChangeParts) (x : ChangeParts) (a : Actor) (ps : List ℕ) → Sound C → Fits C x → IsOwn C a ps → IsOwn (C ++ x ∷ []) a (ps ++ cond (same_actor x.actor a) (length C ∷ []) [])
+IsOwn-push C x a ps s f o = by (same_actor x.actor a) refl where
+  more : (b : Bool) → same_actor x.actor a ≡ b → count_by a (C ++ x ∷ []) ≡ count_by a C + cond b (0 + 1) 0
+  more b e = count_by-append a C (x ∷ []) ∙ ap (λ t. count_by a C + cond t (0 + 1) 0) e
 
--- ---- how many
+  was : (k : ℕ) → k < length ps → (c : ChangeParts) × (slice_get (C ++ x ∷ []) (get_or ps k 0) ≡ Some c) × (same_actor c.actor a ≡ true) × (c.seq ≡ k + 1)
+  was k small = let w = o.each k small in (w.0, at_left C x (get_or ps k 0) (slice_get_within C (get_or ps k 0) w.0 w.1) ∙ w.1, w.2, w.3)
 
-le_cases : (m n : ℕ) → m ≤ n → (m ≡ n) ⊎ (m < n)
-le_cases m n h = elim (truth (nat_lt m n)) [ inl t ↦ inr (grind (arith, nat_tests)) | inr f ↦ inl (grind (arith, nat_tests)) ]
+  by : (b : Bool) → same_actor x.actor a ≡ b → IsOwn (C ++ x ∷ []) a (ps ++ cond b (length C ∷ []) [])
+  by false e =
+      let one : count_by a (C ++ x ∷ []) ≡ count_by a C + 0 = more false e in
+      let all : length ps ≡ count_by a C = o.all in
+      subst (IsOwn (C ++ x ∷ []) a) (sym (append-nil ps)) (record { all = omega arith; each = was })
+  by true e =
+      let one : count_by a (C ++ x ∷ []) ≡ count_by a C + (0 + 1) = more true e in
+      let all : length ps ≡ count_by a C = o.all in
+      let long : length (ps ++ length C ∷ []) ≡ length ps + 1 = length-append ps (length C ∷ []) in
+      let number : x.seq ≡ count_by a C + 1 = subst (λ b. x.seq ≡ count_by b C + 1) (same_actor-same x.actor a e) (next_seq C x s f) in
+      record {
+        all = omega arith;
+        each = λ k small. elim (truth (nat_lt k (length ps))) [
+          | inl t ↦
+              let low : k < length ps = grind (arith, nat_tests) in
+              let w = was k low in
+              (w.0, ap (slice_get (C ++ x ∷ [])) (get_or-append ps (length C ∷ []) 0 k low) ∙ w.1, w.2, w.3)
+          | inr g ↦
+              let end : k ≡ length ps = grind (arith, nat_tests) in
+              let here : get_or (ps ++ length C ∷ []) k 0 ≡ length C = ap (λ m. get_or (ps ++ length C ∷ []) m 0) end ∙ get_or-append_seam ps (length C) [] 0 in
+              (x, ap (slice_get (C ++ x ∷ [])) here ∙ at_last C x, e, omega arith)
+        ];
+      }
 
-pub count-latest : (C : List ChangeParts) (a : Actor) (p : ℕ) (c : ChangeParts) → Sound C → IsLatest C a None (Some p) → slice_get C p ≡ Some c → c.seq ≡ count_by a C
-count-latest C a p c s w at =
-    let h : Some w.0 ≡ Some c = sym w.1 ∙ at in
-    let one : w.0 ≡ c = cc in
-    let who : w.0.actor ≡ a = same_actor-same w.0.actor a w.2.actor in
-    let there : In w.0 C = In-slice_get C p w.0 w.1 in
-    let bound : w.0.seq ≤ count_by a C = subst (λ b. w.0.seq ≤ count_by b C) who ((seqs_run C s).bounded w.0 there) in
-    let all : w.0.seq ≡ count_by a C = elim (le_cases w.0.seq (count_by a C) bound) [
-      | inl e ↦ e
-      | inr l ↦
-          let some : 1 ≤ count_by a C = omega arith in
-          let itself : count_by a C ≤ count_by a C = omega arith in
-          let d = (seqs_run C s).there a (count_by a C) some itself in
-          let number : d.0.seq ≡ count_by a C = d.3 in
-          let most : d.0.seq ≤ w.0.seq = w.3 d.0 d.1 (record { actor = d.2; start = refl }) in
-          absurd (omega arith)
-    ] in
-    subst (λ (x : ChangeParts). x.seq ≡ count_by a C) one all
+-- the actor's changes, where the last one isn't listed
+pub unlisted : (C : List ChangeParts) (b : ByActor) (a : Actor) (c : ChangeParts) → Sound C → IsByActor C b → b.listed < length C → c ≡ get_or C b.listed c
+    → IsOwn C a (places_of b.lists.entries a ++ cond (same_actor c.actor a) (b.listed ∷ []) [])
+unlisted C b a c s w small at =
+    let n = b.listed in
+    let near : length C ≤ b.listed + 1 = w.near in
+    let split : take n C ++ c ∷ [] ≡ C = ap (λ x. take n C ++ x ∷ []) at ∙ sym (take_more C n c small) ∙ take_all (n + 1) C near in
+    let whole = subst Sound (sym split) s in
+    let count : length (take n C) ≡ n = length-take-le n C w.within in
+    subst (λ m. IsOwn C a (places_of b.lists.entries a ++ cond (same_actor c.actor a) (m ∷ []) [])) count
+    (subst (λ D. IsOwn D a (places_of b.lists.entries a ++ cond (same_actor c.actor a) (length (take n C) ∷ []) [])) split
+    (IsOwn-push (take n C) c a (places_of b.lists.entries a) (Sound-prefix (take n C) (c ∷ []) whole) (Fits-at (take n C) c [] whole) (w.own a)))
 
-pub count-none : (C : List ChangeParts) (a : Actor) → Sound C → IsLatest C a None None → 0 ≡ count_by a C
-count-none C a s w =
-    elim (le_cases 0 (count_by a C) (omega arith)) [
-      | inl e ↦ e
-      | inr l ↦
-          let some : 1 ≤ count_by a C = omega arith in
-          let itself : count_by a C ≤ count_by a C = omega arith in
-          let d = (seqs_run C s).there a (count_by a C) some itself in absurd (w d.0 d.1 (record { actor = d.2; start = refl }))
+pub own_within : (C : List ChangeParts) (a : Actor) (ps : List ℕ) (k p : ℕ) → IsOwn C a ps → k < length ps → p ≡ get_or ps k 0 → p < length C
+own_within C a ps k p o small e = let w = o.each k small in subst (λ q. q < length C) (sym e) (slice_get_within C (get_or ps k 0) w.0 w.1)
+
+-- each of the actor's changes stands at its number
+own_there : (C : List ChangeParts) (a : Actor) (ps : List ℕ) (d : ChangeParts) → Sound C → IsOwn C a ps → In d C → same_actor d.actor a ≡ true
+    → (k : ℕ) × (k < length ps) × (slice_get C (get_or ps k 0) ≡ Some d)
+own_there C a ps d s o i mine =
+    let low : 1 ≤ d.seq = (seqs_run C s).low d i in
+    let who : d.actor ≡ a = same_actor-same d.actor a mine in
+    let high : d.seq ≤ count_by a C = subst (λ b. d.seq ≤ count_by b C) who ((seqs_run C s).bounded d i) in
+    let all : length ps ≡ count_by a C = o.all in
+    let small : d.seq - 1 < length ps = omega arith in
+    let w = o.each (d.seq - 1) small in
+    let number : w.0.seq ≡ d.seq - 1 + 1 = w.3 in
+    let same : w.0.seq ≡ d.seq = omega arith in
+    let one : same_actor w.0.actor d.actor ≡ true = subst (λ x. same_actor w.0.actor x ≡ true) (sym who) w.2 in
+    (d.seq - 1, small, w.1 ∙ ap Some (own_one C w.0 d s (In-slice_get C (get_or ps (d.seq - 1) 0) w.0 w.1) i one same))
+
+-- a past holds the place with a number exactly where it has more of the actor's changes
+pub held_by_number : (part : Part) (C : List ChangeParts) (a : Actor) (ps : List ℕ) (k p : ℕ) → Sound C → Sound (picked part C) → IsOwn C a ps → k < length ps → p ≡ get_or ps k 0
+    → holds part C p ≡ nat_lt k (count_by a (picked part C))
+held_by_number part C a ps k p s t o small e =
+    let P : List ChangeParts = picked part C in
+    let w = o.each k small in
+    let number : w.0.seq ≡ k + 1 = w.3 in
+    let who : w.0.actor ≡ a = same_actor-same w.0.actor a w.2 in
+    let at : slice_get C p ≡ Some w.0 = ap (slice_get C) e ∙ w.1 in
+    let has = holds-picked part C p w.0 s at in
+    same_test (holds part C p) (nat_lt k (count_by a P))
+    (λ h.
+    let bound : w.0.seq ≤ count_by a P = subst (λ b. w.0.seq ≤ count_by b P) who ((seqs_run P t).bounded w.0 (has.0 h)) in
+    grind (arith, nat_tests))
+    (λ h.
+    let low : 1 ≤ w.0.seq = omega arith in
+    let high : w.0.seq ≤ count_by a P = grind (arith, nat_tests) in
+    let v = (seqs_run P t).there a w.0.seq low high in
+    let one : same_actor v.0.actor w.0.actor ≡ true = subst (λ x. same_actor v.0.actor x ≡ true) (sym who) v.2 in
+    has.1 (subst (λ x. In x P) (own_one C v.0 w.0 s (picked-In part C v.0 v.1) (In-slice_get C p w.0 at) one v.3) v.1))
+
+-- ---- the change that has an operation
+
+-- of an actor's places, the one of a change that has the operation is within these bounds
+pub Within : List ChangeParts → List ℕ → OpId → ℕ → ℕ → Type 0
+Within C ps id low high = (k : ℕ) (d : ChangeParts) → k < length ps → slice_get C (get_or ps k 0) ≡ Some d → HasOp id d → (low ≤ k) × (k ≤ high)
+
+pub Within-first : (C : List ChangeParts) (ps : List ℕ) (id : OpId) → Within C ps id 0 (length ps)
+unfolding Within
+Within-first C ps id k d small at h = (omega arith, omega arith)
+
+-- an actor's change ends before its later ones start
+ends_before : (C : List ChangeParts) (a : Actor) (ps : List ℕ) (k l : ℕ) (c d : ChangeParts) → Sound C → IsOwn C a ps → k < l → l < length ps
+    → slice_get C (get_or ps k 0) ≡ Some c → slice_get C (get_or ps l 0) ≡ Some d → c.start + op_count c ≤ d.start
+unfolding InTurn
+ends_before C a ps k l c d s o less small at there =
+    let v = o.each k (omega arith) in
+    let w = o.each l small in
+    let e : Some v.0 ≡ Some c = sym v.1 ∙ at in
+    let g : Some w.0 ≡ Some d = sym w.1 ∙ there in
+    let first : v.0 ≡ c = cc in
+    let last : w.0 ≡ d = cc in
+    let one : v.0.seq ≡ k + 1 = v.3 in
+    let two : w.0.seq ≡ l + 1 = w.3 in
+    let same : same_actor v.0.actor w.0.actor ≡ true = rw (same_actor-same v.0.actor a v.2, same_actor-same w.0.actor a w.2) (same_actor-itself a) in
+    let turn = in_turn C s v.0 w.0 (In-slice_get C (get_or ps k 0) v.0 v.1) (In-slice_get C (get_or ps l 0) w.0 w.1) same (omega arith) in
+    subst (λ (x : ChangeParts). c.start + op_count c ≤ x.start) last (subst (λ (x : ChangeParts). x.start + op_count x ≤ w.0.start) first turn)
+
+same_at : (C : List ChangeParts) (ps : List ℕ) (k l : ℕ) (c d : ChangeParts) → k ≡ l → slice_get C (get_or ps k 0) ≡ Some c → slice_get C (get_or ps l 0) ≡ Some d → c ≡ d
+same_at C ps k l c d e f g = let h : Some c ≡ Some d = sym f ∙ ap (λ m. slice_get C (get_or ps m 0)) e ∙ g in cc
+
+-- the change in the middle has ended before the operation
+pub Within-up : (C : List ChangeParts) (a : Actor) (ps : List ℕ) (id : OpId) (low high mid p : ℕ) → Sound C → IsOwn C a ps → mid < length ps
+    → p ≡ get_or ps mid 0 → get_or (ends_of C) p 0 ≤ id.counter → Within C ps id low high → Within C ps id (mid + 1) high
+unfolding Within
+Within-up C a ps id low high mid p s o small e past w k d less there h =
+    let v = o.each mid small in
+    let c : ChangeParts = v.0 in
+    let at : slice_get C (get_or ps mid 0) ≡ Some c = v.1 in
+    let end : get_or (ends_of C) p 0 ≡ c.start + op_count c = end_at C p c (ap (slice_get C) e ∙ at) in
+    let ended : c.start + op_count c ≤ id.counter = omega arith in
+    let up : k ≤ high = (w k d less there h).1 in
+    let out : id.counter < d.start + op_count d = h.high in
+    elim (truth (nat_lt mid k)) [
+      | inl t ↦ (grind (arith, nat_tests), up)
+      | inr f ↦ elim (truth (nat_lt k mid)) [
+        | inl t ↦
+            let turn : d.start + op_count d ≤ c.start = ends_before C a ps k mid d c s o (grind (arith, nat_tests)) small there at in
+            absurd (omega arith)
+        | inr g ↦
+            let one : d ≡ c = same_at C ps k mid d c (grind (arith, nat_tests)) there at in
+            let out : id.counter < c.start + op_count c = subst (λ (x : ChangeParts). id.counter < x.start + op_count x) one h.high in
+            absurd (omega arith)
+      ]
     ]
+
+-- it hasn't
+pub Within-down : (C : List ChangeParts) (a : Actor) (ps : List ℕ) (id : OpId) (low high mid p : ℕ) → Sound C → IsOwn C a ps → mid < length ps
+    → p ≡ get_or ps mid 0 → id.counter < get_or (ends_of C) p 0 → Within C ps id low high → Within C ps id low mid
+unfolding Within
+Within-down C a ps id low high mid p s o small e more w k d less there h =
+    let v = o.each mid small in
+    let c : ChangeParts = v.0 in
+    let at : slice_get C (get_or ps mid 0) ≡ Some c = v.1 in
+    let end : get_or (ends_of C) p 0 ≡ c.start + op_count c = end_at C p c (ap (slice_get C) e ∙ at) in
+    elim (truth (nat_lt mid k)) [
+      | inl t ↦
+          let turn : c.start + op_count c ≤ d.start = ends_before C a ps mid k c d s o (grind (arith, nat_tests)) less at there in
+          let begun : d.start ≤ id.counter = h.low in
+          absurd (omega arith)
+      | inr f ↦ ((w k d less there h).0, grind (arith, nat_tests))
+    ]
+
+-- where the bounds meet, it is there or nowhere
+pub maker-some : (C : List ChangeParts) (ps : List ℕ) (id : OpId) (n : ℕ) → Sound C → IsOwn C id.actor ps → Within C ps id n n → n < length ps → IsMaker C id (Some (get_or ps n 0))
+unfolding Within
+maker-some C ps id n s o w small =
+    let here = o.each n small in (
+      slice_get_within C (get_or ps n 0) here.0 here.1,
+      λ d i h.
+          let at = own_there C id.actor ps d s o i h.actor in
+          let bounds = w at.0 d at.1 at.2 h in
+          let low : n ≤ at.0 = bounds.0 in
+          let high : at.0 ≤ n = bounds.1 in
+          let one : n ≡ at.0 = omega arith in
+          ap (λ m. slice_get C (get_or ps m 0)) one ∙ at.2,
+    )
+
+pub maker-none : (C : List ChangeParts) (ps : List ℕ) (id : OpId) (n : ℕ) → Sound C → IsOwn C id.actor ps → Within C ps id n n → length ps ≤ n → IsMaker C id None
+unfolding Within
+maker-none C ps id n s o w past d i h =
+    let at = own_there C id.actor ps d s o i h.actor in
+    let low : n ≤ at.0 = (w at.0 d at.1 at.2 h).0 in
+    let small : at.0 < length ps = at.1 in
+    absurd (omega arith)
 
 -- ---- who inserted what
 
--- a change inserts operations of its own actor alone, from its start on
-inserts-within : (d : ChangeParts) (id : OpId) → is_inserted (inserts_in (ops_of d)) id ≡ true → StartsWithin id.actor (Some id.counter) d
-inserts-within d id t = record {
+-- a change inserts operations of its own alone
+inserts-own : (d : ChangeParts) (id : OpId) → is_inserted (inserts_in (ops_of d)) id ≡ true → HasOp id d
+inserts-own d id t = record {
   actor = both_left (same_actor d.actor id.actor) _ (sym (inserts_id-is d id) ∙ t);
-  start = not_true (nat_lt id.counter d.start) (λ u. let low : id.counter < d.start = grind (arith, nat_tests) in never t (sym (inserts_id-low d id low)));
+  low = elim (truth (nat_lt id.counter d.start)) [
+    | inl u ↦ let less : id.counter < d.start = grind (arith, nat_tests) in never t (sym (inserts_id-low d id less))
+    | inr f ↦ grind (arith, nat_tests)
+  ];
+  high = elim (truth (nat_lt id.counter (d.start + op_count d))) [
+    | inl u ↦ grind (arith, nat_tests)
+    | inr f ↦ let past : d.start + op_count d ≤ id.counter = grind (arith, nat_tests) in never t (sym (inserts_id-high d id (d.start + op_count d) refl past))
+  ];
 }
-
-inserts-below : (d : ChangeParts) (id : OpId) → is_inserted (inserts_in (ops_of d)) id ≡ true → id.counter < d.start + op_count d
-inserts-below d id t =
-    elim (truth (nat_lt id.counter (d.start + op_count d))) [
-      | inl u ↦ grind (arith, nat_tests)
-      | inr f ↦ let high : d.start + op_count d ≤ id.counter = grind (arith, nat_tests) in never t (sym (inserts_id-high d id (d.start + op_count d) refl high))
-    ]
 
 -- of the changes of a list one inserts it, where it is inserted
 inserted_by : (P : List ChangeParts) (id : OpId) → is_inserted (inserts P) id ≡ true → (d : ChangeParts) × In d P × (is_inserted (inserts_in (ops_of d)) id ≡ true)
@@ -137,41 +277,19 @@ by_inserted (c ∷ P) id d (inl e) t =
 by_inserted (c ∷ P) id d (inr i) t =
     is_inserted-append (inserts_in (ops_of c)) (inserts P) id ∙ or_right (is_inserted (inserts_in (ops_of c)) id) (is_inserted (inserts P) id) (by_inserted P id d i t)
 
--- where the actor has no change within the counter, no change of a part inserts it
-pub inserted-none : (C P : List ChangeParts) (id : OpId) → AllIn P C → IsLatest C id.actor (Some id.counter) None → false ≡ is_inserted (inserts P) id
+-- where no change has the operation, none of a part inserts it
+pub inserted-none : (C P : List ChangeParts) (id : OpId) → AllIn P C → IsMaker C id None → false ≡ is_inserted (inserts P) id
 inserted-none C P id more w =
-    sym (not_true (is_inserted (inserts P) id) (λ t. let d = inserted_by P id t in w d.0 (more d.0 d.1) (inserts-within d.0 id d.2)))
+    sym (not_true (is_inserted (inserts P) id) (λ t. let d = inserted_by P id t in w d.0 (more d.0 d.1) (inserts-own d.0 id d.2)))
 
--- else only the actor's latest change within the counter may insert it
-pub inserted-latest : (C P : List ChangeParts) (id : OpId) (p : ℕ) (c : ChangeParts) (held b : Bool)
-    → Sound C → AllIn P C → IsLatest C id.actor (Some id.counter) (Some p) → slice_get C p ≡ Some c
-    → (held ≡ true → In c P) → (In c P → held ≡ true) → b ≡ is_inserted (inserts_in (ops_of c)) id → (held && b) ≡ is_inserted (inserts P) id
-unfolding OwnApart
-inserted-latest C P id p c held b s more w at holds held_by is =
+-- else only the change at the place may insert it
+pub inserted-maker : (C P : List ChangeParts) (id : OpId) (p : ℕ) (c : ChangeParts) (held b : Bool)
+    → AllIn P C → IsMaker C id (Some p) → slice_get C p ≡ Some c → (held ≡ true) ↔ In c P → b ≡ is_inserted (inserts_in (ops_of c)) id → (held && b) ≡ is_inserted (inserts P) id
+inserted-maker C P id p c held b more w at has is =
     same_test (held && b) (is_inserted (inserts P) id)
-    (λ t. let both = and_both held b t in by_inserted P id c (holds both.0) (sym is ∙ both.1))
+    (λ t. by_inserted P id c (has.0 (both_left held b t)) (sym is ∙ both_right held b t))
     (λ t.
     let d = inserted_by P id t in
-    let within = inserts-within d.0 id d.2 in
-    let h : Some w.0 ≡ Some c = sym w.1 ∙ at in
-    let one : w.0 ≡ c = cc in
-    let most : d.0.seq ≤ c.seq = subst (λ (x : ChangeParts). d.0.seq ≤ x.seq) one (w.3 d.0 (more d.0 d.1) within) in
-    let mine : StartsWithin id.actor (Some id.counter) c = subst (StartsWithin id.actor (Some id.counter)) one w.2 in
-    let who : same_actor d.0.actor c.actor ≡ true = rw (same_actor-same d.0.actor id.actor within.actor, same_actor-same c.actor id.actor mine.actor) (same_actor-itself id.actor) in
-    let apart = own_apart C s d.0 c (more d.0 d.1) (In-slice_get C p c at) who in
-    let same : d.0 ≡ c = elim (le_cases d.0.seq c.seq most) [
-      | inl e ↦ apart.1 e
-      | inr l ↦
-          let ended : d.0.start + op_count d.0 ≤ c.start = apart.0 l in
-          let low : id.counter < d.0.start + op_count d.0 = inserts-below d.0 id d.2 in
-          let start : nat_lt id.counter c.start ≡ false = mine.start in
-          absurd (grind (arith, nat_tests))
-    ] in
-    and_of held b (held_by (subst (λ x. In x P) same d.1)) (is ∙ subst (λ x. is_inserted (inserts_in (ops_of x)) id ≡ true) same d.2)) where
-      and_both : (x y : Bool) → (x && y) ≡ true → (x ≡ true) × (y ≡ true)
-      and_both true y t = (refl, t)
-      and_both false y t = cc
-
-      and_of : (x y : Bool) → x ≡ true → y ≡ true → (x && y) ≡ true
-      and_of true y e f = f
-      and_of false y e f = cc
+    let here : Some d.0 ≡ Some c = sym (w.1 d.0 (more d.0 d.1) (inserts-own d.0 id d.2)) ∙ at in
+    let one : d.0 ≡ c = cc in
+    both held b (has.1 (subst (λ x. In x P) one d.1)) (is ∙ subst (λ x. is_inserted (inserts_in (ops_of x)) id ≡ true) one d.2))

@@ -1,7 +1,7 @@
 -- Laws of places.
-use Rattle.std.proofs.Common.{◌≡◌, ℕ, suc, ◌+◌, ◌<◌, ◌≤◌, inl, inr, List, [], ◌∷◌, ◌++◌, length, Bool, true, false, ◌||◌, cond, Some, None, refl, sym, ap, ◌∙◌, subst, arith, add-zero, add-one, IsTrue, ◌↔◌, ◌&&◌, drop, get_or, drop-cons, is_some}
+use Rattle.std.proofs.Common.{◌≡◌, ◌⊎◌, ℕ, suc, zero, ◌+◌, ◌<◌, ◌≤◌, inl, inr, List, [], ◌∷◌, ◌++◌, length, Bool, true, false, ◌||◌, cond, Some, None, refl, sym, ap, ◌∙◌, subst, arith, add-zero, add-one, IsTrue, ◌↔◌, ◌&&◌, drop, get_or, drop-cons, is_some}
 use Rattle.std.specs.List.{slice_get}
-use Rattle.std.proofs.lemmas.Option.{slice_get_past, slice_get_read}
+use Rattle.std.proofs.lemmas.Option.{slice_get_past}
 use Rattle.tp_list.specs.Members.{In}
 use Rattle.tp_list.proofs.Tests.{truth, not_true}
 use Rattle.tp_list.proofs.Members.{In-slice_get}
@@ -13,6 +13,24 @@ use Rattle.tp_change.specs.ChangeHash.{hash_of}
 use Rattle.tp_graph.specs.Named.{has, has_all}
 use Rattle.tp_graph.specs.Places.{place_from, noted, NotesFrom, HasAt}
 use Rattle.tp_graph.proofs.NamedLaws.{In-has}
+
+-- ---- a list with one more
+
+-- what stands at a place of a longer list stood there, or is the last
+pub at_push : {X : Type 0} (xs : List X) (y : X) (i : ℕ) (x : X) → slice_get (xs ++ y ∷ []) i ≡ Some x → (slice_get xs i ≡ Some x) ⊎ ((i ≡ length xs) × (x ≡ y))
+at_push [] y zero x e = let s : y ≡ x = cc in inr (refl, sym s)
+at_push [] y (suc i) x e = cc
+at_push (z ∷ xs) y zero x e = inl e
+at_push (z ∷ xs) y (suc i) x e = elim (at_push xs y i x e) [ inl f ↦ inl f | inr w ↦ inr (ap suc w.0, w.1) ]
+
+pub at_left : {X : Type 0} (xs : List X) (y : X) (i : ℕ) → i < length xs → slice_get (xs ++ y ∷ []) i ≡ slice_get xs i
+at_left [] y i h = absurd (omega arith)
+at_left (x ∷ xs) y zero h = refl
+at_left (x ∷ xs) y (suc i) h = at_left xs y i (omega arith)
+
+pub at_last : {X : Type 0} (xs : List X) (y : X) → slice_get (xs ++ y ∷ []) (length xs) ≡ Some y
+at_last [] y = refl
+at_last (x ∷ xs) y = at_last xs y
 
 -- a map that notes the places gives the place of each hash that is there
 pub place_from-noted : (n : ℕ) (C : List ChangeParts) (entries : List (Hash × ℕ)) (h : Hash) → NotesFrom n C entries → has C h ≡ true → noted entries h ≡ place_from n C h
@@ -158,11 +176,9 @@ pub has_all-on : (C : List ChangeParts) (H : List Hash) (i : ℕ) (d : Hash) →
 has_all-on C H i d small e f = sym (sym e ∙ has_all-drop C H i d small ∙ ap (λ b. b && has_all C (drop (i + 1) H)) f)
 
 -- the change that is read at the place of a hash has it
-pub change_at : (C : List ChangeParts) (h : Hash) (i : ℕ) (x : ChangeParts) → Some i ≡ place_from 0 C h → x ≡ get_or C i x → In x C × (hash_of x ≡ h)
-change_at C h i x e r =
-    let w = place_from-some C h i e in
-    let here : slice_get C i ≡ Some x = slice_get_read C (length C) i x refl w.0 r in
-    let at = w.1 in
+pub change_at : (C : List ChangeParts) (h : Hash) (i : ℕ) (x : ChangeParts) → Some i ≡ place_from 0 C h → slice_get C i ≡ Some x → In x C × (hash_of x ≡ h)
+change_at C h i x e here =
+    let at = (place_from-some C h i e).1 in
     let found : Some at.0 ≡ Some x = sym at.1 ∙ here in
     let one : at.0 ≡ x = cc in
     (In-slice_get C i x here, ap hash_of (sym one) ∙ at.2)

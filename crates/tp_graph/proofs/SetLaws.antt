@@ -88,8 +88,7 @@ defect-later C D c e s all new m =
     (step (has C (hash_of c)) (defect_behind (past C c.deps) c) (clashes C c) (clashes (C ++ D) c)
     (λ t. more t) (ap (λ b. cond (has C (hash_of c)) (Some Known) (cond b (or_clash (defect_behind (past C c.deps) c) (clashes C c)) (Some MissingDeps))) (sym all) ∙ m)) where
       alone : (b : Bool) → (b || false) ≡ b
-      alone true = refl
-      alone false = refl
+      alone b = grind arith
 
       more : clashes C c ≡ true → clashes (C ++ D) c ≡ true
       more t = elim (truth (clashes (C ++ D) c)) [ inl u ↦ u | inr n ↦ never t (clashes-fewer C (C ++ D) c (λ x i. In-left x C D i) n) ]
@@ -140,7 +139,8 @@ Fits-edit C c s deps seq start refs new =
 abbrev pub NoTwins : List ChangeParts → List ChangeParts → Type 0
 NoTwins C D = (c d : ChangeParts) → In c C → In d D → hash_of c ≡ hash_of d → c ≡ d
 
-chain_over : (C D : List ChangeParts) → IsClosed D → NoTwins C D → (n : ℕ) (h g : Hash) → Chain C n h g → has D h ≡ true → has D g ≡ true
+-- what the other list's changes lead to from a hash that is there is there too
+pub chain_over : (C D : List ChangeParts) → IsClosed D → NoTwins C D → (n : ℕ) (h g : Hash) → Chain C n h g → has D h ≡ true → has D g ≡ true
 chain_over C D closed twins zero h g k e = subst (λ x. has D x ≡ true) k e
 chain_over C D closed twins (suc n) h g k e =
     let d = has-In D h e in

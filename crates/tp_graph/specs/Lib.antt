@@ -14,5 +14,7 @@ pub mod Parts
 pub mod Ends
 pub mod ByActor
 pub mod AppliedState
+pub mod Lists
+pub mod Kept
 pub mod Answers
 pub mod Since

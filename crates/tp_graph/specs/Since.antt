@@ -1,17 +1,21 @@
 -- What stands outside a past, and what waiting changes want.
-use Rattle.std.specs.Prelude.{◌≡◌, ℕ, List, [], ◌∷◌, Bool, true, false, ◌||◌, cond}
+use Rattle.std.specs.Prelude.{◌≡◌, ℕ, List, [], ◌∷◌, Bool, true, false, ◌||◌, not, cond, map}
 use Rattle.tp_list.specs.Rising.{put}
 use Rattle.tp_opid.specs.declared.hash.Hash.{Hash}
 use Rattle.tp_opid.specs.Order.{hash_cmp}
 use Rattle.tp_change.specs.declared.parts.ChangeParts.{ChangeParts}
 use Rattle.tp_graph.specs.Named.{among, names, has, is_needed}
 use Rattle.tp_graph.specs.Past.{past}
-use Rattle.tp_graph.specs.Marks.{marks, places_from}
+use Rattle.tp_graph.specs.Marks.{marks, marked_more, places_from}
 
 -- the changes outside the past of H, in the order of the list
 abbrev pub since : List ChangeParts → List Hash → List ChangeParts
 since [] H = []
 since (c ∷ C) H = cond (names H c || is_needed (past C H) c) (since C H) (c ∷ since C H)
+
+-- for each change of C whether it is outside the past of H, or K names it
+abbrev pub marks_since : List ChangeParts → List Hash → List Hash → List Bool
+marks_since C H K = marked_more K C (map not (marks C H))
 
 -- the changes that aren't marked
 abbrev pub skip : List Bool → List ChangeParts → List ChangeParts

@@ -1,133 +1,140 @@
-//! Places of changes in the order of their actors: the latest change of an actor, by a binary search.
+//! The places of each actor's changes, in the order of their sequence numbers.
 
-ghost use Rattle.std.specs.Prelude.{◌≡◌, ◌≤◌, ◌<◌, length, Some, IfSome};
-ghost use Rattle.std.specs.List.{slice_get};
-ghost use Rattle.tp_change.specs.declared.parts.ChangeParts.{ChangeParts};
-ghost use Rattle.tp_graph.specs.ByActor.{is_after, is_outside, IsByActor, IsCut, IsCutIn, IsLatest};
-ghost use Rattle.tp_graph.specs.Fit.{count_by};
-ghost use Rattle.tp_graph.specs.Parts.{holds, picked, IsPartOf};
+ghost use Rattle.std.specs.Prelude.{◌≡◌, ◌≤◌, ◌<◌, [], ◌∷◌, ◌++◌, cond, length, IfOk, OnOk, OnErr};
+ghost use Rattle.tp_opid.specs.declared.actor.Actor.{Actor};
+ghost use Rattle.tp_opid.specs.Same.{same_actor};
+ghost use Rattle.tp_graph.specs.ByActor.{places_of, IsOwn, IsByActor};
+ghost use Rattle.tp_graph.specs.Fit.{most_changes};
 ghost use Rattle.tp_graph.specs.Sound.{Sound};
 
-use crate::part::Part;
-use std::cmp::Ordering;
+use crate::own::Own;
+use std::alloc::{AllocError, Global};
+use std::collections::BTreeMap;
+use std::marker::Model;
 use tp_change::Change;
 use tp_opid::Actor;
 
-// Whether the change's actor stands after the given one, or the change is the actor's and starts above the limit.
-fn stands_after(change: &Change, actor: &Actor, limit: Option<u64>) -> bool
-    ensures { result ≡ is_after actor.now limit change.now }
-{
-    match change.actor().order(actor) {
-        Ordering::Less => false,
-        Ordering::Equal => match limit {
-            Some(counter) => counter < change.start(),
-            None => false,
-        },
-        Ordering::Greater => true,
+/// Places of changes, rising.
+#[derive(Drop)]
+struct Places {
+    items: Vec<u32>,
+}
+
+impl Model for Places {
+    ghost use Rattle.std.specs.Prelude.{ℕ, List};
+
+    ghost Value = { List ℕ };
+
+    ghost view = { λ p. p.items.items };
+}
+
+impl Places {
+    fn one(alloc: Global, place: u32) -> Result<Places, AllocError>
+        ensures { IfOk result (λ places. places ≡ place ∷ []) }
+    {
+        let mut items = Vec::new(alloc);
+        items.push(place)?;
+        Ok(Places { items })
+    }
+
+    fn push(&mut self, place: u32) -> Result<(), AllocError>
+        ensures ok { OnOk result (self.new ≡ self.old ++ place ∷ []) }
+        ensures err { OnErr result (self.new ≡ self.old) }
+    {
+        self.items.push(place)?;
+        Ok(())
+    }
+
+    fn as_slice(&self) -> &[u32]
+        ensures { result.now ≡ self.now }
+    {
+        self.items.as_slice()
     }
 }
 
-/// How many of the places are of changes that don't stand after the actor and the limit: where the actor's next change
-/// belongs. A number of comparisons that grows with the logarithm of the number of changes.
-pub(crate) fn cut(changes: &[Change], order: &[u32], actor: &Actor, limit: Option<u64>) -> usize
-    requires { IsByActor changes.now order.now }
-    ensures within { result ≤ length order.now }
-    ensures cut { IsCut changes.now order.now actor.now limit result result }
-{
-    let mut low = 0;
-    let mut high = order.len();
-    while low < high {
-        let middle = low + (high - low) / 2;
-        if stands_after(&changes[order[middle] as usize], actor, limit) {
-            high = middle;
-        } else {
-            low = middle + 1;
+/// The places of each actor's changes among the first `listed` changes, which are all or all but the last.
+///
+/// A change enters without memory, so it is listed only when the next one is made ready for. The map is ordered: a
+/// look-up takes a number of comparisons that grows with the logarithm of the number of actors.
+#[derive(Drop)]
+pub(crate) struct ByActor {
+    lists: BTreeMap<Actor, Places>,
+    listed: usize,
+}
+
+impl ByActor {
+    /// No changes. It takes no memory.
+    pub(crate) fn new(alloc: Global) -> ByActor
+        ensures { IsByActor [] result }
+    {
+        ByActor {
+            lists: BTreeMap::new(alloc),
+            listed: 0,
         }
     }
-    low
-}
 
-/// The place of the latest of the actor's changes that start within the limit. A number of comparisons that grows
-/// with the logarithm of the number of changes.
-pub(crate) fn latest(
-    changes: &[Change],
-    order: &[u32],
-    actor: &Actor,
-    limit: Option<u64>,
-) -> Option<usize>
-    requires { IsByActor changes.now order.now }
-    ensures latest { IsLatest changes.now actor.now limit result }
-    ensures within { IfSome result (λ place. place < length changes.now) }
-{
-    let count = cut(changes, order, actor, limit);
-    if count == 0 {
-        return None;
-    }
-    let place = order[count - 1] as usize;
-    if changes[place].actor().is(actor) {
-        Some(place)
-    } else {
-        None
-    }
-}
-
-// Whether the change's actor stands after the given one, or the change is the actor's and outside the past.
-fn stands_outside(changes: &[Change], part: &Part, actor: &Actor, place: usize) -> bool
-    requires part { IsPartOf part.now changes.now }
-    requires place { place < length changes.now }
-    ensures { (c : ChangeParts) → slice_get changes.now place ≡ Some c
-        → result ≡ is_outside actor.now (holds part.now changes.now place) c }
-{
-    match changes[place].actor().order(actor) {
-        Ordering::Less => false,
-        Ordering::Equal => !part.holds(changes, place),
-        Ordering::Greater => true,
-    }
-}
-
-// How many of the places are of changes that don't stand outside the past by the actor: the last of them is that of the
-// actor's latest change in the past, if there is one. As many questions to the past as the logarithm of the number of
-// changes.
-fn cut_in(changes: &[Change], order: &[u32], part: &Part, actor: &Actor) -> usize
-    requires sound { Sound changes.now }
-    requires past { Sound (picked part.now changes.now) }
-    requires order { IsByActor changes.now order.now }
-    requires part { IsPartOf part.now changes.now }
-    ensures within { result ≤ length order.now }
-    ensures cut { IsCutIn changes.now
-        (holds part.now changes.now) order.now actor.now result result }
-{
-    let mut low = 0;
-    let mut high = order.len();
-    while low < high {
-        let middle = low + (high - low) / 2;
-        if stands_outside(changes, part, actor, order[middle] as usize) {
-            high = middle;
-        } else {
-            low = middle + 1;
+    // The places that are listed for the actor.
+    #[tactic(auto, unfolding(tp_opid::specs::Order::actor_cmp, tp_opid::specs::Same::same_actor))]
+    fn places(&self, actor: &Actor) -> &[u32]
+        ensures { result.now ≡ places_of self.now.lists.entries actor.now }
+    {
+        match self.lists.get(actor) {
+            Some(places) => places.as_slice(),
+            None => &[],
         }
     }
-    low
-}
 
-/// How many changes of the past the actor made: the sequence number of its latest there. As many questions to the past
-/// as the logarithm of the number of changes.
-pub(crate) fn count_in(changes: &[Change], order: &[u32], part: &Part, actor: &Actor) -> u64
-    requires sound { Sound changes.now }
-    requires past { Sound (picked part.now changes.now) }
-    requires order { IsByActor changes.now order.now }
-    requires part { IsPartOf part.now changes.now }
-    ensures count { result ≡ count_by actor.now (picked part.now changes.now) }
-    ensures few { result ≤ length changes.now }
-{
-    let count = cut_in(changes, order, part, actor);
-    if count == 0 {
-        return 0;
+    /// The places of the actor's changes: those that are listed, and that of the last change, where it is the actor's
+    /// and isn't listed yet.
+    pub(crate) fn own(&self, changes: &[Change], actor: &Actor) -> Own<'_>
+        requires sound { Sound changes.now }
+        requires by_actor { IsByActor changes.now self.now }
+        ensures { IsOwn changes.now actor.now result }
+    {
+        let places = self.places(actor);
+        if self.listed == changes.len() {
+            return Own::new(places);
+        }
+        if changes[self.listed].actor().is(actor) {
+            Own::with_last(places, self.listed)
+        } else {
+            Own::new(places)
+        }
     }
-    let place = order[count - 1] as usize;
-    if changes[place].actor().is(actor) {
-        changes[place].seq()
-    } else {
-        0
+
+    // Puts a place at the end of those of an actor.
+    fn put(&mut self, alloc: Global, actor: Actor, place: u32) -> Result<(), AllocError>
+        ensures listed { self.new.listed ≡ self.old.listed }
+        ensures ok { OnOk result ((a : Actor) → places_of self.new.lists.entries a
+            ≡ places_of self.old.lists.entries a ++ cond (same_actor actor a) (place ∷ []) []) }
+        ensures err { OnErr result ((a : Actor) → places_of self.new.lists.entries a
+            ≡ places_of self.old.lists.entries a) }
+    {
+        match self.lists.get_mut(&actor) {
+            Some(places) => places.push(place)?,
+            None => {
+                let places = Places::one(alloc, place)?;
+                self.lists.insert(actor, places)?;
+            }
+        }
+        Ok(())
+    }
+
+    /// Lists the last change, where it isn't listed yet.
+    pub(crate) fn catch_up(&mut self, alloc: Global, changes: &[Change]) -> Result<(), AllocError>
+        requires sound { Sound changes.now }
+        requires few { length changes.now ≤ most_changes }
+        requires by_actor { IsByActor changes.now self.old }
+        ensures by_actor { IsByActor changes.now self.new }
+        ensures ok { OnOk result (self.new.listed ≡ length changes.now) }
+        ensures err { OnErr result (self.new.listed ≡ self.old.listed) }
+    {
+        let place = self.listed;
+        if place == changes.len() {
+            return Ok(());
+        }
+        self.put(alloc, changes[place].actor(), place as u32)?;
+        self.listed = place + 1;
+        Ok(())
     }
 }

@@ -5,16 +5,12 @@ ghost use Rattle.std.specs.Prelude.{◌≡◌, ℕ, ◌+◌, ◌<◌, ◌≤◌,
 ghost use Rattle.std.specs.declared.cmp.Ordering.TheVariants.{Equal};
 ghost use Rattle.tp_change.specs.Elements as made;
 ghost use Rattle.tp_graph.specs.Extents as extents;
-ghost use Rattle.tp_graph.specs.Extents.{ArePlaces, IsPlaced, IsExtent, IsKnown, AreExtents};
+ghost use Rattle.tp_graph.specs.Extents.{ArePlaces, IsPlaced, IsExtent, IsKnown};
 ghost use Rattle.tp_graph.specs.Fit.{most_changes};
-ghost use Rattle.tp_graph.specs.Places.{NotesFrom};
-ghost use Rattle.tp_graph.specs.Sound.{Sound};
 
-use crate::index::Index;
-use crate::walk::place_of;
+use crate::applied::Applied;
 use std::alloc::{AllocError, Global};
 use std::cmp::Ordering;
-use tp_change::Change;
 use tp_opid::Hash;
 
 // How many places a prefix moves on at most, each time that an extent is made: so a stranger's changes, which may each
@@ -45,22 +41,6 @@ pub(crate) struct Room {
     pub(crate) past: Option<Extent>,
 }
 
-// Whether the changes at the two places have one actor.
-fn same_author(applied: &[Change], i: usize, j: usize) -> bool
-    requires { (i < length applied.now) × (j < length applied.now) }
-    ensures { result ≡ extents.same_author applied.now i j }
-{
-    applied[i].actor().is(&applied[j].actor())
-}
-
-// How the actors of the changes at the two places stand to each other.
-fn order_of(applied: &[Change], i: usize, j: usize) -> Ordering
-    requires { (i < length applied.now) × (j < length applied.now) }
-    ensures { result ≡ Equal → extents.same_author applied.now i j ≡ true }
-{
-    applied[i].actor().order(&applied[j].actor())
-}
-
 // The greater of two places.
 fn later_place(x: u32, y: u32) -> u32
     ensures { result ≡ made.later x y }
@@ -68,125 +48,12 @@ fn later_place(x: u32, y: u32) -> u32
     if x < y { y } else { x }
 }
 
-// Whether the tip is of the actor of the change at the place, and doesn't stand before it.
-fn reaches(applied: &[Change], tip: usize, place: usize) -> bool
-    requires { (tip < length applied.now) × (place < length applied.now) }
-    ensures { result ≡ extents.reaches applied.now tip place }
-{
-    if tip < place {
-        return false;
-    }
-    same_author(applied, tip, place)
-}
-
-// Whether one of the tips reaches the place.
-fn is_reached(applied: &[Change], tips: &[u32], place: usize) -> bool
-    requires tips { ArePlaces applied.now tips.now }
-    requires place { place < length applied.now }
-    ensures { result ≡ extents.is_reached applied.now tips.now place }
-{
-    for i in 0..tips.len() {
-        if reaches(applied, tips[i] as usize, place) {
-            return true;
-        }
-    }
-    false
-}
-
-// Takes the next tip of the two lists, and says how many of each are taken then: of two that are of one actor the later.
-// Where each list stands in the order of its actors, so does what is taken.
-fn take_next(
-    all: &mut Vec<u32>,
-    applied: &[Change],
-    xs: &[u32],
-    ys: &[u32],
-    i: usize,
-    j: usize,
-) -> Result<(usize, usize), AllocError>
-    requires all { ArePlaces applied.now all.old.items }
-    requires xs { ArePlaces applied.now xs.now }
-    requires ys { ArePlaces applied.now ys.now }
-    requires within { (i ≤ length xs.now) × (j ≤ length ys.now) }
-    requires left { i + j < length xs.now + length ys.now }
-    ensures all { OnOk result (ArePlaces applied.now all.new.items) }
-    ensures within { IfOk result
-        (λ n. (n.0 ≤ length xs.now) × (n.1 ≤ length ys.now) × (i + j < n.0 + n.1)) }
-    ensures reached { IfOk result
-        (λ n. (p : ℕ) → extents.taken applied.now xs.now ys.now all.new.items n.0 n.1 p
-        ≡ extents.taken applied.now xs.now ys.now all.old.items i j p) }
-{
-    if i == xs.len() {
-        all.push(ys[j])?;
-        return Ok((i, j + 1));
-    }
-    if j == ys.len() {
-        all.push(xs[i])?;
-        return Ok((i + 1, j));
-    }
-    match order_of(applied, xs[i] as usize, ys[j] as usize) {
-        Ordering::Less => {
-            all.push(xs[i])?;
-            Ok((i + 1, j))
-        }
-        Ordering::Greater => {
-            all.push(ys[j])?;
-            Ok((i, j + 1))
-        }
-        Ordering::Equal => {
-            all.push(later_place(xs[i], ys[j]))?;
-            Ok((i + 1, j + 1))
-        }
-    }
-}
-
-// The tips of both lists, one for each actor: as many comparisons as there are tips. Each list stands in the order of its
-// actors, and so does the answer; where they didn't, an actor could keep two tips, which would only cost time.
-fn merged(alloc: Global, applied: &[Change], xs: &[u32], ys: &[u32]) -> Result<Vec<u32>, AllocError>
-    requires xs { ArePlaces applied.now xs.now }
-    requires ys { ArePlaces applied.now ys.now }
-    ensures places { IfOk result (λ all. ArePlaces applied.now all.items) }
-    ensures reached { IfOk result (λ all. (p : ℕ) → extents.is_reached applied.now all.items p
-        ≡ (extents.is_reached applied.now xs.now p || extents.is_reached applied.now ys.now p)) }
-{
-    let mut all = Vec::new(alloc);
-    all.reserve(xs.len() + ys.len())?;
-    let mut i = 0;
-    let mut j = 0;
-    while i + j < xs.len() + ys.len() {
-        let (next_i, next_j) = take_next(&mut all, applied, xs, ys, i, j)?;
-        i = next_i;
-        j = next_j;
-    }
-    Ok(all)
-}
-
-// The prefix moved on past places that the tips reach: a few of them.
-fn moved_on(applied: &[Change], prefix: usize, tips: &[u32]) -> usize
-    requires tips { ArePlaces applied.now tips.now }
-    requires prefix { prefix ≤ length applied.now }
-    ensures prefix { result ≤ length applied.now }
-    ensures held { (i : ℕ) → extents.is_held applied.now result tips.now i
-        ≡ extents.is_held applied.now prefix tips.now i }
-{
-    let mut next = prefix;
-    for step in 0..MOST_STEPS {
-        if next == applied.len() {
-            return next;
-        }
-        if !is_reached(applied, tips, next) {
-            return next;
-        }
-        next += 1;
-    }
-    next
-}
-
 // Takes out the tips that stand before the prefix.
-fn take_out_passed(tips: &mut Vec<u32>, applied: &[Change], prefix: usize)
-    requires tips { ArePlaces applied.now tips.old.items }
-    ensures places { ArePlaces applied.now tips.new.items }
-    ensures held { (i : ℕ) → extents.is_held applied.now prefix tips.new.items i
-        ≡ extents.is_held applied.now prefix tips.old.items i }
+fn take_out_passed(tips: &mut Vec<u32>, applied: &Applied, prefix: usize)
+    requires tips { ArePlaces applied.now.changes tips.old.items }
+    ensures places { ArePlaces applied.now.changes tips.new.items }
+    ensures held { (i : ℕ) → extents.is_held applied.now.changes prefix tips.new.items i
+        ≡ extents.is_held applied.now.changes prefix tips.old.items i }
 {
     tips.retain(|tip| prefix <= *tip as usize);
 }
@@ -215,109 +82,222 @@ impl Extent {
     }
 
     /// Whether the change at the place is in the past: a comparison, and one for each tip.
-    pub(crate) fn holds(&self, applied: &[Change], place: usize) -> bool
-        requires tips { ArePlaces applied.now self.now.tips.items }
-        requires place { place < length applied.now }
-        ensures { result ≡ extents.is_held applied.now self.now.prefix self.now.tips.items place }
+    pub(crate) fn holds(&self, applied: &Applied, place: usize) -> bool
+        requires tips { ArePlaces applied.now.changes self.now.tips.items }
+        requires place { place < length applied.now.changes }
+        ensures { result
+            ≡ extents.is_held applied.now.changes self.now.prefix self.now.tips.items place }
     {
         if place < self.prefix {
             return true;
         }
-        is_reached(applied, self.tips.as_slice(), place)
+        applied.is_reached(self.tips.as_slice(), place)
     }
 
     // Puts in the change at the place and its past.
-    fn take_in(
-        &mut self,
-        alloc: Global,
-        applied: &[Change],
-        past: &Extent,
-        place: usize,
-    ) -> Result<(), AllocError>
-        requires placed { IsPlaced applied.now self.old }
-        requires past { IsPlaced applied.now past.now }
-        requires place { place < length applied.now }
-        requires few { length applied.now ≤ most_changes }
-        ensures placed { OnOk result (IsPlaced applied.now self.new) }
+    fn take_in(&mut self, applied: &Applied, past: &Extent, place: usize) -> Result<(), AllocError>
+        requires placed { IsPlaced applied.now.changes self.old }
+        requires past { IsPlaced applied.now.changes past.now }
+        requires place { place < length applied.now.changes }
+        ensures placed { OnOk result (IsPlaced applied.now.changes self.new) }
         ensures held { OnOk result ((i : ℕ)
-            → extents.is_held applied.now self.new.prefix self.new.tips.items i
-            ≡ ((extents.reaches applied.now place i || extents.is_held applied.now past.now.prefix
-            past.now.tips.items i)
-            || extents.is_held applied.now self.old.prefix self.old.tips.items i)) }
+            → extents.is_held applied.now.changes self.new.prefix self.new.tips.items i
+            ≡ ((extents.reaches applied.now.changes place i
+            || extents.is_held applied.now.changes past.now.prefix past.now.tips.items i)
+            || extents.is_held applied.now.changes self.old.prefix self.old.tips.items i)) }
     {
+        let _count = applied.len();
         if self.prefix < past.prefix {
             self.prefix = past.prefix;
         }
-        let tips = merged(alloc, applied, self.tips.as_slice(), past.tips.as_slice())?;
-        self.tips = merged(alloc, applied, tips.as_slice(), &[place as u32])?;
+        let tips = applied.merged(self.tips.as_slice(), past.tips.as_slice())?;
+        self.tips = applied.merged(tips.as_slice(), &[place as u32])?;
         Ok(())
     }
 
     // Moves the prefix on, and takes out the tips that it has passed.
-    fn tidy(&mut self, applied: &[Change])
-        requires { IsPlaced applied.now self.old }
-        ensures placed { IsPlaced applied.now self.new }
-        ensures held { (i : ℕ) → extents.is_held applied.now self.new.prefix self.new.tips.items i
-            ≡ extents.is_held applied.now self.old.prefix self.old.tips.items i }
+    fn tidy(&mut self, applied: &Applied)
+        requires { IsPlaced applied.now.changes self.old }
+        ensures placed { IsPlaced applied.now.changes self.new }
+        ensures held { (i : ℕ)
+            → extents.is_held applied.now.changes self.new.prefix self.new.tips.items i
+            ≡ extents.is_held applied.now.changes self.old.prefix self.old.tips.items i }
     {
-        self.prefix = moved_on(applied, self.prefix, self.tips.as_slice());
+        self.prefix = applied.moved_on(self.prefix, self.tips.as_slice());
         take_out_passed(&mut self.tips, applied, self.prefix);
     }
 }
 
-// Puts in the past of the hash with the given number. False where its extent isn't known, or where there are too
-// many tips then.
-fn take_hash(
-    alloc: Global,
-    extent: &mut Extent,
-    applied: &[Change],
-    index: &Index,
-    pasts: &[Option<Extent>],
-    hashes: &[Hash],
-    number: usize,
-) -> Result<bool, AllocError>
-    requires sound { Sound applied.now }
-    requires few { length applied.now ≤ most_changes }
-    requires notes { NotesFrom 0 applied.now index.now }
-    requires pasts { AreExtents applied.now pasts.now }
-    requires number { number < length hashes.now }
-    requires extent { IsExtent applied.now (take number hashes.now) extent.old }
-    ensures { IfOk result (λ known. IsTrue known
-        → IsExtent applied.now (take (number + 1) hashes.now) extent.new) }
-{
-    match place_of(applied, index, &hashes[number]) {
-        Some(place) => match &pasts[place] {
-            Some(past) => {
-                extent.take_in(alloc, applied, past, place)?;
-                Ok(extent.tips.len() <= MOST_TIPS)
-            }
-            None => Ok(false),
-        },
-        None => Ok(true),
+impl Applied {
+    // Whether the changes at the two places have one actor.
+    fn same_author(&self, i: usize, j: usize) -> bool
+        requires { (i < length self.now.changes) × (j < length self.now.changes) }
+        ensures { result ≡ extents.same_author self.now.changes i j }
+    {
+        self.at(i).actor().is(&self.at(j).actor())
     }
-}
 
-/// The extent of the past of those of the hashes that are known, joined from those of their changes. None where one of
-/// these isn't known, or where more than 4,096 tips would stand in it.
-pub(crate) fn extent_of(
-    alloc: Global,
-    applied: &[Change],
-    index: &Index,
-    pasts: &[Option<Extent>],
-    hashes: &[Hash],
-) -> Result<Option<Extent>, AllocError>
-    requires sound { Sound applied.now }
-    requires few { length applied.now ≤ most_changes }
-    requires notes { NotesFrom 0 applied.now index.now }
-    requires pasts { AreExtents applied.now pasts.now }
-    ensures { IfOk result (λ o. IsKnown applied.now hashes.now o) }
-{
-    let mut extent = Extent::empty(alloc);
-    for number in 0..hashes.len() {
-        if !take_hash(alloc, &mut extent, applied, index, pasts, hashes, number)? {
-            return Ok(None);
+    // How the actors of the changes at the two places stand to each other.
+    fn order_of(&self, i: usize, j: usize) -> Ordering
+        requires { (i < length self.now.changes) × (j < length self.now.changes) }
+        ensures { result ≡ Equal → extents.same_author self.now.changes i j ≡ true }
+    {
+        self.at(i).actor().order(&self.at(j).actor())
+    }
+
+    // Whether the tip is of the actor of the change at the place, and doesn't stand before it.
+    fn reaches(&self, tip: usize, place: usize) -> bool
+        requires { (tip < length self.now.changes) × (place < length self.now.changes) }
+        ensures { result ≡ extents.reaches self.now.changes tip place }
+    {
+        if tip < place {
+            return false;
+        }
+        self.same_author(tip, place)
+    }
+
+    // Whether one of the tips reaches the place.
+    fn is_reached(&self, tips: &[u32], place: usize) -> bool
+        requires tips { ArePlaces self.now.changes tips.now }
+        requires place { place < length self.now.changes }
+        ensures { result ≡ extents.is_reached self.now.changes tips.now place }
+    {
+        for i in 0..tips.len() {
+            if self.reaches(tips[i] as usize, place) {
+                return true;
+            }
+        }
+        false
+    }
+
+    // Takes the next tip of the two lists, and says how many of each are taken then: of two that are of one actor the
+    // later. Where each list stands in the order of its actors, so does what is taken.
+    fn take_next(
+        &self,
+        all: &mut Vec<u32>,
+        xs: &[u32],
+        ys: &[u32],
+        i: usize,
+        j: usize,
+    ) -> Result<(usize, usize), AllocError>
+        requires all { ArePlaces self.now.changes all.old.items }
+        requires xs { ArePlaces self.now.changes xs.now }
+        requires ys { ArePlaces self.now.changes ys.now }
+        requires within { (i ≤ length xs.now) × (j ≤ length ys.now) }
+        requires left { i + j < length xs.now + length ys.now }
+        ensures all { OnOk result (ArePlaces self.now.changes all.new.items) }
+        ensures within { IfOk result
+            (λ n. (n.0 ≤ length xs.now) × (n.1 ≤ length ys.now) × (i + j < n.0 + n.1)) }
+        ensures reached { IfOk result
+            (λ n. (p : ℕ) → extents.taken self.now.changes xs.now ys.now all.new.items n.0 n.1 p
+            ≡ extents.taken self.now.changes xs.now ys.now all.old.items i j p) }
+    {
+        if i == xs.len() {
+            all.push(ys[j])?;
+            return Ok((i, j + 1));
+        }
+        if j == ys.len() {
+            all.push(xs[i])?;
+            return Ok((i + 1, j));
+        }
+        match self.order_of(xs[i] as usize, ys[j] as usize) {
+            Ordering::Less => {
+                all.push(xs[i])?;
+                Ok((i + 1, j))
+            }
+            Ordering::Greater => {
+                all.push(ys[j])?;
+                Ok((i, j + 1))
+            }
+            Ordering::Equal => {
+                all.push(later_place(xs[i], ys[j]))?;
+                Ok((i + 1, j + 1))
+            }
         }
     }
-    extent.tidy(applied);
-    Ok(Some(extent))
+
+    // The tips of both lists, one for each actor: as many comparisons as there are tips. Each list stands in the order
+    // of its actors, and so does the answer; where they didn't, an actor could keep two tips, which would only cost time.
+    fn merged(&self, xs: &[u32], ys: &[u32]) -> Result<Vec<u32>, AllocError>
+        requires xs { ArePlaces self.now.changes xs.now }
+        requires ys { ArePlaces self.now.changes ys.now }
+        ensures places { IfOk result (λ all. ArePlaces self.now.changes all.items) }
+        ensures reached { IfOk result
+            (λ all. (p : ℕ) → extents.is_reached self.now.changes all.items p
+            ≡ (extents.is_reached self.now.changes xs.now p
+            || extents.is_reached self.now.changes ys.now p)) }
+    {
+        let mut all = Vec::new(self.alloc());
+        all.reserve(xs.len() + ys.len())?;
+        let mut i = 0;
+        let mut j = 0;
+        while i + j < xs.len() + ys.len() {
+            let (next_i, next_j) = self.take_next(&mut all, xs, ys, i, j)?;
+            i = next_i;
+            j = next_j;
+        }
+        Ok(all)
+    }
+
+    // The prefix moved on past places that the tips reach: a few of them.
+    fn moved_on(&self, prefix: usize, tips: &[u32]) -> usize
+        requires tips { ArePlaces self.now.changes tips.now }
+        requires prefix { prefix ≤ length self.now.changes }
+        ensures prefix { result ≤ length self.now.changes }
+        ensures held { (i : ℕ) → extents.is_held self.now.changes result tips.now i
+            ≡ extents.is_held self.now.changes prefix tips.now i }
+    {
+        let mut next = prefix;
+        for step in 0..MOST_STEPS {
+            if next == self.len() {
+                return next;
+            }
+            if !self.is_reached(tips, next) {
+                return next;
+            }
+            next += 1;
+        }
+        next
+    }
+
+    // Puts in the past of the hash with the given number. False where its extent isn't known, or where there are too
+    // many tips then.
+    fn take_hash(
+        &self,
+        extent: &mut Extent,
+        hashes: &[Hash],
+        number: usize,
+    ) -> Result<bool, AllocError>
+        requires number { number < length hashes.now }
+        requires extent { IsExtent self.now.changes (take number hashes.now) extent.old }
+        ensures { IfOk result (λ known. IsTrue known
+            → IsExtent self.now.changes (take (number + 1) hashes.now) extent.new) }
+    {
+        let _changes = self.changes();
+        match self.place(&hashes[number]) {
+            Some(place) => match self.past_at(place) {
+                Some(past) => {
+                    extent.take_in(self, past, place)?;
+                    Ok(extent.tips.len() <= MOST_TIPS)
+                }
+                None => Ok(false),
+            },
+            None => Ok(true),
+        }
+    }
+
+    /// The extent of the past of those of the hashes that are known, joined from those of their changes. None where one
+    /// of these isn't known, or where more than 4,096 tips would stand in it.
+    pub(crate) fn extent_of(&self, hashes: &[Hash]) -> Result<Option<Extent>, AllocError>
+        ensures { IfOk result (λ o. IsKnown self.now.changes hashes.now o) }
+    {
+        let mut extent = Extent::empty(self.alloc());
+        for number in 0..hashes.len() {
+            if !self.take_hash(&mut extent, hashes, number)? {
+                return Ok(None);
+            }
+        }
+        extent.tidy(self);
+        Ok(Some(extent))
+    }
 }

@@ -14,15 +14,15 @@ ghost use Rattle.tp_graph.specs.Places.{place_from};
 ghost use Rattle.tp_graph.specs.Sound.{Sound};
 ghost use Rattle.tp_graph.specs.Answers.{Answers, IsCause, TakesMemory};
 ghost use Rattle.tp_graph.specs.GraphState.{most_waiting, HashesOnce};
-ghost use Rattle.tp_graph.specs.Since.{past_places, since, IsMissing};
+ghost use Rattle.tp_graph.specs.Since.{marks_since, past_places, since, IsMissing};
 ghost use Rattle.tp_list.specs.Rising.{IsRising};
 ghost use Rattle.tp_opid.specs.Order.{hash_cmp};
 ghost use Rattle.tp_opid.specs.declared.hash.Hash.{Hash};
 
 use crate::applied::Applied;
 use crate::error::GraphError;
-use crate::past::{Past, places_of};
-use crate::since::{has, outside};
+use crate::past::Past;
+use crate::since::has;
 use std::alloc::Global;
 use std::marker::Model;
 use tp_change::Change;
@@ -30,11 +30,10 @@ use tp_opid::{Actor, Hash};
 
 /// Changes by hash: those that are applied, in the order in which they entered, and those that wait for others.
 ///
-/// Contracts see the two lists, and for which change room was made. Heads, places, counters and the order by actors
+/// Contracts see the two lists, and for which change room was made. Heads, counters, and places by hash and by actor
 /// are kept beside them: a look-up takes as many comparisons as the logarithm of the number of changes.
 #[derive(Drop)]
 pub struct Graph {
-    alloc: Global,
     applied: Applied,
     waiting: Vec<Change>,
 }
@@ -66,7 +65,6 @@ impl Graph {
         ensures room { result.room ≡ None }
     {
         Graph {
-            alloc,
             applied: Applied::new(alloc),
             waiting: Vec::new(alloc),
         }
@@ -187,7 +185,7 @@ impl Graph {
     }
 
     /// Enters a change that can enter and that was made [`ready`](Graph::ready) for, as the last applied one. No
-    /// memory. It moves four bytes for each applied change of a later actor.
+    /// memory.
     pub fn enter(&mut self, change: Change)
         requires enters { cause self.old.applied change ≡ None }
         requires room { self.old.room ≡ Some (hash_of change) }
@@ -269,8 +267,7 @@ impl Graph {
             return Err(GraphError::UnknownHead);
         }
         let part = self.applied.part(hashes)?;
-        let places = places_of(self.alloc, self.applied.changes(), &part)?;
-        Ok(Past::new(places))
+        Ok(Past::new(self.applied.places_in(&part)?))
     }
 
     /// Copies of the applied changes outside the past of those hashes that are known, in applied order. The only
@@ -282,8 +279,20 @@ impl Graph {
         ensures changes { IfOk result (λ v. v.items ≡ since self.now.applied hashes.now) }
         ensures err { IsOkUnless result GraphError.OutOfMemory }
     {
-        let part = self.applied.part(hashes)?;
-        outside(self.alloc, self.applied.changes(), &part)
+        self.applied.since(hashes)
+    }
+
+    /// For each applied change, in applied order, whether it is outside the past of those of the hashes that are known,
+    /// or has one of the hashes `also`. The only refusal is `OutOfMemory`.
+    ///
+    /// The pasts of the hashes are joined as [`check`](Graph::check) does; then each place is asked for, with a
+    /// comparison before the prefix. It takes a byte for each applied change, and a look-up for each of `also`.
+    pub fn marks_since(&self, hashes: &[Hash], also: &[Hash]) -> Result<Vec<bool>, GraphError>
+        ensures marks { IfOk result
+            (λ v. v.items ≡ marks_since self.now.applied hashes.now also.now) }
+        ensures err { IsOkUnless result GraphError.OutOfMemory }
+    {
+        Ok(self.applied.marks_since(hashes, also)?)
     }
 
     /// The dependencies of waiting changes that are neither applied nor waiting, rising, each once. The only

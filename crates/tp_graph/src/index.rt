@@ -1,12 +1,13 @@
 //! A map from hashes to places.
 
-ghost use Rattle.std.specs.Prelude.{◌≡◌, Some, None, IsOk, IsSome, OnOk, OnErr, cond};
+ghost use Rattle.std.specs.Prelude.{◌≡◌, ◌↔◌, ◌<◌, Some, length, IsTrue, IfSome, OnOk, OnErr, cond};
 ghost use Rattle.tp_opid.specs.Same.{same_hash};
-ghost use Rattle.tp_graph.specs.Places.{noted};
+ghost use Rattle.tp_graph.specs.Places.{noted, place_from, NotesFrom, HasAt};
 
 use std::alloc::{AllocError, Global};
 use std::collections::BTreeMap;
 use std::marker::Model;
+use tp_change::Change;
 use tp_opid::Hash;
 
 /// From the hash of a change to its place in applied order.
@@ -57,5 +58,35 @@ impl Index {
     {
         self.map.insert(hash, place)?;
         Ok(())
+    }
+}
+
+// Whether the change at the place has the hash.
+fn has_at(changes: &[Change], place: usize, hash: &Hash) -> bool
+    ensures { IsTrue result ↔ HasAt changes.now place hash.now }
+{
+    if place < changes.len() {
+        changes[place].hash().is(hash)
+    } else {
+        false
+    }
+}
+
+/// The place of the change with the hash. A noted place is trusted only where the change there has the hash.
+pub(crate) fn place_of(changes: &[Change], index: &Index, hash: &Hash) -> Option<usize>
+    requires { NotesFrom 0 changes.now index.now }
+    ensures place { result ≡ place_from 0 changes.now hash.now }
+    ensures within { IfSome result (λ place. place < length changes.now) }
+{
+    match index.find(hash) {
+        Some(place) => {
+            let place = place as usize;
+            if has_at(changes, place, hash) {
+                Some(place)
+            } else {
+                None
+            }
+        }
+        None => None,
     }
 }

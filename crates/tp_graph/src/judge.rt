@@ -1,21 +1,16 @@
 //! What a change has to be behind the changes of its past: its numbers and its references.
 
-ghost use Rattle.std.specs.Prelude.{◌≡◌, ◌+◌, ◌<◌, ◌≤◌, ◌^◌, [], ◌++◌, ◌||◌, length};
-ghost use Rattle.tp_change.specs.Operations.{count_of, op_count, ops_of, ops_from};
-ghost use Rattle.tp_graph.specs.Fit as fit;
+ghost use Rattle.std.specs.Prelude.{◌≡◌, ◌+◌, ◌<◌, ◌≤◌, ◌^◌, ◌++◌, ◌||◌};
 ghost use Rattle.tp_change.specs.Elements as made;
+ghost use Rattle.tp_change.specs.Operations.{count_of, op_count, ops_of, ops_from};
+ghost use Rattle.tp_graph.specs.ByActor.{IsMaker};
 ghost use Rattle.tp_graph.specs.Covers as cover;
-ghost use Rattle.tp_graph.specs.ByActor.{IsByActor};
-ghost use Rattle.tp_graph.specs.Parts.{picked, IsPartOf};
 ghost use Rattle.tp_graph.specs.Ends.{end_named};
+ghost use Rattle.tp_graph.specs.Parts.{picked, IsPartOf};
 ghost use Rattle.tp_graph.specs.Past.{past};
-ghost use Rattle.tp_graph.specs.Places.{ends_of, NotesFrom};
-ghost use Rattle.tp_graph.specs.Sound.{Sound};
 
-use crate::by_actor::latest;
-use crate::index::Index;
+use crate::applied::Applied;
 use crate::part::Part;
-use crate::walk::place_of;
 use tp_change::{Change, Record};
 use tp_list::char_count;
 use tp_opid::{Actor, Hash, OpId, Place};
@@ -82,166 +77,135 @@ pub(crate) fn later(a: u64, b: u64) -> u64
     if a < b { b } else { a }
 }
 
-// One more than the last counter of the change with the hash, or 0 where none has it.
-fn end_of(applied: &[Change], index: &Index, ends: &[u64], hash: &Hash) -> u64
-    requires notes { NotesFrom 0 applied.now index.now }
-    requires ends { ends.now ≡ ends_of applied.now }
-    ensures { result ≡ end_named applied.now hash.now }
-{
-    match place_of(applied, index, hash) {
-        Some(place) => ends[place],
-        None => 0,
+impl Applied {
+    // One more than the last counter of the change with the hash, or 0 where none has it.
+    fn end_of(&self, hash: &Hash) -> u64
+        ensures { result ≡ end_named self.now.changes hash.now }
+    {
+        match self.place(hash) {
+            Some(place) => self.end_at(place),
+            None => 0,
+        }
     }
-}
 
-/// One more than the greatest counter in the past of the hashes, or 1: that of the changes that have them, since what a
-/// change depends on ends before it starts. A look-up for each hash.
-pub(crate) fn start_after(applied: &[Change], index: &Index, ends: &[u64], hashes: &[Hash]) -> u64
-    requires sound { Sound applied.now }
-    requires notes { NotesFrom 0 applied.now index.now }
-    requires ends { ends.now ≡ ends_of applied.now }
-    ensures { result ≡ made.next_counter (past applied.now hashes.now) }
-{
-    let mut next = 1;
-    for hash in hashes {
-        next = later(next, end_of(applied, index, ends, hash));
+    /// One more than the greatest counter in the past of the hashes, or 1: that of the changes that have them, since
+    /// what a change depends on ends before it starts. A look-up for each hash.
+    pub(crate) fn start_after(&self, hashes: &[Hash]) -> u64
+        ensures { result ≡ made.next_counter (past self.now.changes hashes.now) }
+    {
+        let _changes = self.changes();
+        let mut next = 1;
+        for hash in hashes {
+            next = later(next, self.end_of(hash));
+        }
+        next
     }
-    next
-}
 
-/// How many of the changes the actor made: the sequence number of its latest. A number of comparisons that grows with
-/// the logarithm of the number of changes.
-pub(crate) fn count_all(applied: &[Change], order: &[u32], actor: &Actor) -> u64
-    requires sound { Sound applied.now }
-    requires order { IsByActor applied.now order.now }
-    ensures count { result ≡ fit.count_by actor.now applied.now }
-    ensures few { result ≤ length applied.now }
-{
-    match latest(applied, order, actor, None) {
-        Some(place) => applied[place].seq(),
-        None => 0,
+    // The place of the change that has the operation: of its actor's changes the first that ends behind the counter is
+    // the only one that may. A number of comparisons that grows with the logarithm of the number of these changes.
+    fn maker(&self, id: &OpId) -> Option<usize>
+        ensures { IsMaker self.now.changes id.now result }
+    {
+        let _changes = self.changes();
+        let own = self.own(&id.actor);
+        let mut low = 0;
+        let mut high = own.len();
+        while low < high {
+            let middle = low + (high - low) / 2;
+            if self.end_at(own.get(middle)) <= id.counter {
+                low = middle + 1;
+            } else {
+                high = middle;
+            }
+        }
+        if low < own.len() {
+            Some(own.get(low))
+        } else {
+            None
+        }
     }
-}
 
-// Whether a change of the past inserts the element with the identifier: its actor's latest change that starts within the
-// counter is the only one that may. A number of comparisons that grows with the logarithm of the number of changes,
-// and the records of that one.
-fn is_inserted(applied: &[Change], ends: &[u64], order: &[u32], part: &Part, id: &OpId) -> bool
-    requires sound { Sound applied.now }
-    requires ends { ends.now ≡ ends_of applied.now }
-    requires order { IsByActor applied.now order.now }
-    requires part { IsPartOf part.now applied.now }
-    ensures { result ≡ made.is_inserted (made.inserts (picked part.now applied.now)) id.now }
-{
-    match latest(applied, order, &id.actor, Some(id.counter)) {
-        Some(place) => {
-            if !part.holds(applied, place) {
+    // Whether a change of the past inserts the element with the identifier: a look-up for the change that has the
+    // operation, and its records.
+    fn is_inserted(&self, part: &Part, id: &OpId) -> bool
+        requires { IsPartOf part.now self.now.changes }
+        ensures { result
+            ≡ made.is_inserted (made.inserts (picked part.now self.now.changes)) id.now }
+    {
+        let _changes = self.changes();
+        match self.maker(id) {
+            Some(place) => {
+                if !part.holds(self, place) {
+                    return false;
+                }
+                inserts_id(self.at(place), self.end_at(place), id)
+            }
+            None => false,
+        }
+    }
+
+    // Whether a change of the past, or one of the actor's records, the first of which has the counter `first`,
+    // inserts the element with the identifier.
+    fn is_known(&self, part: &Part, actor: &Actor, first: u64, before: &[Record], id: &OpId) -> bool
+        requires part { IsPartOf part.now self.now.changes }
+        requires counters { first + count_of before.now < 2 ^ 64 }
+        ensures { result
+            ≡ made.is_inserted (made.inserts_in (ops_from actor.now first before.now)
+            ++ made.inserts (picked part.now self.now.changes)) id.now }
+    {
+        if !actor.is(&id.actor) {
+            return self.is_inserted(part, id);
+        }
+        if id.counter < first {
+            return self.is_inserted(part, id);
+        }
+        if covers(before, first, id.counter) {
+            return true;
+        }
+        self.is_inserted(part, id)
+    }
+
+    // Whether the reference or the target of the record is inserted by a change of the past, or by one of the
+    // records before it.
+    fn is_there(
+        &self,
+        part: &Part,
+        actor: &Actor,
+        first: u64,
+        before: &[Record],
+        entry: &Record,
+    ) -> bool
+        requires part { IsPartOf part.now self.now.changes }
+        requires counters { first + count_of before.now < 2 ^ 64 }
+        ensures { result
+            ≡ cover.is_there (made.inserts_in (ops_from actor.now first before.now)
+            ++ made.inserts (picked part.now self.now.changes)) entry.now }
+    {
+        match entry {
+            Record::Insert { after, .. } => match after {
+                Place::Start => true,
+                Place::After(id) => self.is_known(part, actor, first, before, id),
+            },
+            Record::Delete { target } => self.is_known(part, actor, first, before, target),
+        }
+    }
+
+    /// Whether each reference and each target of the change is inserted by a change of the past, or earlier in the
+    /// change.
+    pub(crate) fn refers(&self, part: &Part, change: &Change) -> bool
+        requires { IsPartOf part.now self.now.changes }
+        ensures { result ≡ made.refers (made.inserts (picked part.now self.now.changes))
+            (ops_of change.now) }
+    {
+        let _hash = change.hash();
+        let actor = change.actor();
+        let first = change.start();
+        let records = change.records();
+        for i in 0..records.len() {
+            if !self.is_there(part, &actor, first, &records[..i], &records[i]) {
                 return false;
             }
-            inserts_id(&applied[place], ends[place], id)
         }
-        None => false,
+        true
     }
-}
-
-// Whether a change of the past, or one of the actor's records, the first of which has the counter `first`,
-// inserts the element with the identifier.
-fn is_known(
-    applied: &[Change],
-    ends: &[u64],
-    order: &[u32],
-    part: &Part,
-    actor: &Actor,
-    first: u64,
-    before: &[Record],
-    id: &OpId,
-) -> bool
-    requires sound { Sound applied.now }
-    requires ends { ends.now ≡ ends_of applied.now }
-    requires order { IsByActor applied.now order.now }
-    requires part { IsPartOf part.now applied.now }
-    requires counters { first + count_of before.now < 2 ^ 64 }
-    ensures { result
-        ≡ made.is_inserted (made.inserts_in (ops_from actor.now first before.now) ++ made.inserts
-        (picked part.now applied.now)) id.now }
-{
-    if !actor.is(&id.actor) {
-        return is_inserted(applied, ends, order, part, id);
-    }
-    if id.counter < first {
-        return is_inserted(applied, ends, order, part, id);
-    }
-    if covers(before, first, id.counter) {
-        return true;
-    }
-    is_inserted(applied, ends, order, part, id)
-}
-
-// Whether the reference or the target of the record is inserted by a change of the past, or by one of the
-// records before it.
-fn is_there(
-    applied: &[Change],
-    ends: &[u64],
-    order: &[u32],
-    part: &Part,
-    actor: &Actor,
-    first: u64,
-    before: &[Record],
-    entry: &Record,
-) -> bool
-    requires sound { Sound applied.now }
-    requires ends { ends.now ≡ ends_of applied.now }
-    requires order { IsByActor applied.now order.now }
-    requires part { IsPartOf part.now applied.now }
-    requires counters { first + count_of before.now < 2 ^ 64 }
-    ensures { result
-        ≡ cover.is_there (made.inserts_in (ops_from actor.now first before.now) ++ made.inserts
-        (picked part.now applied.now)) entry.now }
-{
-    match entry {
-        Record::Insert { after, .. } => match after {
-            Place::Start => true,
-            Place::After(id) => is_known(applied, ends, order, part, actor, first, before, id),
-        },
-        Record::Delete { target } => {
-            is_known(applied, ends, order, part, actor, first, before, target)
-        }
-    }
-}
-
-/// Whether each reference and each target of the change is inserted by a change of the past, or earlier in
-/// the change.
-pub(crate) fn refers(
-    applied: &[Change],
-    ends: &[u64],
-    order: &[u32],
-    part: &Part,
-    change: &Change,
-) -> bool
-    requires sound { Sound applied.now }
-    requires ends { ends.now ≡ ends_of applied.now }
-    requires order { IsByActor applied.now order.now }
-    requires part { IsPartOf part.now applied.now }
-    ensures { result ≡ made.refers (made.inserts (picked part.now applied.now))
-        (ops_of change.now) }
-{
-    let _hash = change.hash();
-    let actor = change.actor();
-    let first = change.start();
-    let records = change.records();
-    for i in 0..records.len() {
-        if !is_there(
-            applied,
-            ends,
-            order,
-            part,
-            &actor,
-            first,
-            &records[..i],
-            &records[i],
-        ) {
-            return false;
-        }
-    }
-    true
 }

@@ -3,21 +3,20 @@
 ghost use Rattle.std.specs.Prelude.{◌≡◌, ◌<◌, ◌≤◌, List, length, IfOk, OnErr};
 ghost use Rattle.tp_opid.specs.declared.hash.Hash.{Hash};
 ghost use Rattle.tp_change.specs.declared.parts.ChangeParts.{ChangeParts};
-ghost use Rattle.tp_graph.specs.Extents.{AreExtents, IsKnown};
-ghost use Rattle.tp_graph.specs.Fit.{most_changes};
+ghost use Rattle.tp_graph.specs.Extents.{IsKnown};
+ghost use Rattle.tp_graph.specs.Fit as fit;
 ghost use Rattle.tp_graph.specs.Heads as head;
 ghost use Rattle.tp_graph.specs.Marks as marked;
+ghost use Rattle.tp_graph.specs.Marks.{places_from};
 ghost use Rattle.tp_graph.specs.Parts as of_part;
-ghost use Rattle.tp_graph.specs.Parts.{bits, IsPartOf, IsPartFor};
-ghost use Rattle.tp_graph.specs.Places.{NotesFrom};
+ghost use Rattle.tp_graph.specs.Parts.{bits, picked, IsPartOf, IsPartFor};
 ghost use Rattle.tp_graph.specs.Sound.{Sound};
 
-use crate::extent::{Extent, extent_of};
-use crate::index::Index;
-use crate::walk::{same_hashes, walk_back};
-use std::alloc::{AllocError, Global};
-use tp_change::Change;
-use tp_opid::Hash;
+use crate::applied::Applied;
+use crate::extent::Extent;
+use crate::walk::same_hashes;
+use std::alloc::AllocError;
+use tp_opid::{Actor, Hash};
 
 /// Which of the applied changes a past has.
 #[derive(Drop)]
@@ -30,10 +29,10 @@ pub(crate) enum Part {
 
 impl Part {
     /// Whether the past has the change at the place.
-    pub(crate) fn holds(&self, applied: &[Change], place: usize) -> bool
-        requires part { IsPartOf self.now applied.now }
-        requires place { place < length applied.now }
-        ensures { result ≡ of_part.holds self.now applied.now place }
+    pub(crate) fn holds(&self, applied: &Applied, place: usize) -> bool
+        requires part { IsPartOf self.now applied.now.changes }
+        requires place { place < length applied.now.changes }
+        ensures { result ≡ of_part.holds self.now applied.now.changes place }
     {
         match self {
             Part::Within(extent) => extent.holds(applied, place),
@@ -62,34 +61,62 @@ pub(crate) fn extent_in(part: Part) -> Option<Extent>
     }
 }
 
-/// Which of the applied changes the past of the hashes has. All of them where the hashes are the heads: that takes no
-/// memory. Elsewhere the extents of the changes with the hashes are joined: for each hash as many comparisons as the
-/// extent and the join have tips. Only where one of the extents isn't known, or there are too many tips, are the applied
-/// changes walked back over.
-pub(crate) fn part_of(
-    alloc: Global,
-    applied: &[Change],
-    index: &Index,
-    pasts: &[Option<Extent>],
-    heads: &[Hash],
-    hashes: &[Hash],
-) -> Result<Part, AllocError>
-    requires sound { Sound applied.now }
-    requires few { length applied.now ≤ most_changes }
-    requires notes { NotesFrom 0 applied.now index.now }
-    requires pasts { AreExtents applied.now pasts.now }
-    requires heads { heads.now ≡ head.heads applied.now }
-    ensures bits { IfOk result
-        (λ part. bits part applied.now ≡ marked.marks applied.now hashes.now) }
-    ensures part { IfOk result (λ part. IsPartOf part applied.now) }
-    ensures of { IfOk result (λ part. IsPartFor part applied.now hashes.now) }
-    ensures memory { OnErr result (hashes.now ≡ heads.now → ⊥) }
-{
-    if same_hashes(hashes, heads) {
-        return Ok(Part::Within(Extent::whole(alloc, applied.len())));
+impl Applied {
+    /// Which of the changes the past of those of the hashes that are known has. All of them where the hashes are the
+    /// heads: that takes no memory. Elsewhere the extents of the changes with the hashes are joined: for each hash as
+    /// many comparisons as the extent and the join have tips. Only where one of the extents isn't known, or there are
+    /// too many tips, are the changes walked back over.
+    pub(crate) fn part(&self, hashes: &[Hash]) -> Result<Part, AllocError>
+        ensures bits { IfOk result
+            (λ part. bits part self.now.changes ≡ marked.marks self.now.changes hashes.now) }
+        ensures part { IfOk result (λ part. IsPartOf part self.now.changes) }
+        ensures of { IfOk result (λ part. IsPartFor part self.now.changes hashes.now) }
+        ensures memory { OnErr result (hashes.now ≡ head.heads self.now.changes → ⊥) }
+    {
+        let changes = self.changes();
+        if same_hashes(hashes, self.heads()) {
+            return Ok(Part::Within(Extent::whole(self.alloc(), changes.len())));
+        }
+        match self.extent_of(hashes)? {
+            Some(extent) => Ok(Part::Within(extent)),
+            None => Ok(Part::Marked(self.walk_back(hashes)?)),
+        }
     }
-    match extent_of(alloc, applied, index, pasts, hashes)? {
-        Some(extent) => Ok(Part::Within(extent)),
-        None => Ok(Part::Marked(walk_back(alloc, applied, index, hashes)?)),
+
+    /// How many changes of the past the actor made: the sequence number of its latest there. As many questions to the
+    /// past as the logarithm of the number of the actor's changes.
+    pub(crate) fn count_in(&self, part: &Part, actor: &Actor) -> u64
+        requires past { Sound (picked part.now self.now.changes) }
+        requires part { IsPartOf part.now self.now.changes }
+        ensures count { result ≡ fit.count_by actor.now (picked part.now self.now.changes) }
+        ensures few { result ≤ length self.now.changes }
+    {
+        let _changes = self.changes();
+        let own = self.own(actor);
+        let mut low = 0;
+        let mut high = own.len();
+        while low < high {
+            let middle = low + (high - low) / 2;
+            if part.holds(self, own.get(middle)) {
+                low = middle + 1;
+            } else {
+                high = middle;
+            }
+        }
+        low as u64
+    }
+
+    /// The places that a past has.
+    pub(crate) fn places_in(&self, part: &Part) -> Result<Vec<u32>, AllocError>
+        requires { IsPartOf part.now self.now.changes }
+        ensures { IfOk result (λ v. v.items ≡ places_from 0 (bits part.now self.now.changes)) }
+    {
+        let mut places = Vec::new(self.alloc());
+        for i in 0..self.len() {
+            if part.holds(self, i) {
+                places.push(i as u32)?;
+            }
+        }
+        Ok(places)
     }
 }

@@ -1,14 +1,8 @@
 //! Pasts as places.
 
-ghost use Rattle.std.specs.Prelude.{◌≡◌, ◌≤◌, length, IfOk};
-ghost use Rattle.tp_graph.specs.Fit.{most_changes};
-ghost use Rattle.tp_graph.specs.Marks.{places_from};
-ghost use Rattle.tp_graph.specs.Parts.{bits, IsPartOf};
+ghost use Rattle.std.specs.Prelude.{◌≡◌};
 
-use crate::part::Part;
-use std::alloc::{AllocError, Global};
 use std::marker::Model;
-use tp_change::Change;
 
 /// The places in applied order, from 0, of the changes of a past.
 #[derive(Drop)]
@@ -37,23 +31,4 @@ impl Past {
     {
         self.places.as_slice()
     }
-}
-
-/// The places that a past has.
-pub(crate) fn places_of(
-    alloc: Global,
-    applied: &[Change],
-    part: &Part,
-) -> Result<Vec<u32>, AllocError>
-    requires few { length applied.now ≤ most_changes }
-    requires part { IsPartOf part.now applied.now }
-    ensures { IfOk result (λ v. v.items ≡ places_from 0 (bits part.now applied.now)) }
-{
-    let mut places = Vec::new(alloc);
-    for i in 0..applied.len() {
-        if part.holds(applied, i) {
-            places.push(i as u32)?;
-        }
-    }
-    Ok(places)
 }

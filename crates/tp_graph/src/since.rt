@@ -1,6 +1,6 @@
 //! Changes outside a past, and hashes that waiting changes want.
 
-ghost use Rattle.std.specs.Prelude.{◌≡◌, ◌↔◌, ◌||◌, cond, IfOk, IsOkUnless, OnOk};
+ghost use Rattle.std.specs.Prelude.{◌≡◌, ◌↔◌, ◌||◌, cond, length, map, not, IfOk, IsOkUnless, OnOk};
 ghost use Rattle.tp_list.specs.Members.{In};
 ghost use Rattle.tp_list.specs.Rising as list;
 ghost use Rattle.tp_list.specs.Rising.{IsRising};
@@ -8,16 +8,14 @@ ghost use Rattle.tp_opid.specs.declared.hash.Hash.{Hash};
 ghost use Rattle.tp_opid.specs.Order.{hash_cmp};
 ghost use Rattle.tp_graph.specs.Named as named;
 ghost use Rattle.tp_graph.specs.Parts.{bits, IsPartOf};
-ghost use Rattle.tp_graph.specs.Places.{NotesFrom};
-ghost use Rattle.tp_graph.specs.Since.{skip, gather, IsMissing};
+ghost use Rattle.tp_graph.specs.Since.{marks_since, since, skip, gather, IsMissing};
 ghost use Rattle.tp_graph.specs.declared.error.GraphError.TheVariants.{OutOfMemory};
 
+use crate::applied::Applied;
 use crate::error::GraphError;
 use crate::heads::put;
-use crate::index::Index;
 use crate::part::Part;
-use crate::walk::contains;
-use std::alloc::{AllocError, Global};
+use std::alloc::AllocError;
 use tp_change::Change;
 use tp_opid::Hash;
 
@@ -29,25 +27,6 @@ fn copy_of(change: &Change) -> Result<Change, GraphError>
         Ok(copied) => Ok(copied),
         Err(_) => Err(GraphError::OutOfMemory),
     }
-}
-
-/// Copies of the changes that a past hasn't. Those before its prefix aren't looked at.
-pub(crate) fn outside(
-    alloc: Global,
-    applied: &[Change],
-    part: &Part,
-) -> Result<Vec<Change>, GraphError>
-    requires { IsPartOf part.now applied.now }
-    ensures copied { IfOk result (λ v. v.items ≡ skip (bits part.now applied.now) applied.now) }
-    ensures err { IsOkUnless result OutOfMemory }
-{
-    let mut found = Vec::new(alloc);
-    for i in part.prefix()..applied.len() {
-        if !part.holds(applied, i) {
-            found.push(copy_of(&applied[i])?)?;
-        }
-    }
-    Ok(found)
 }
 
 /// Whether one of the changes has the hash.
@@ -62,63 +41,110 @@ pub(crate) fn has(changes: &[Change], hash: &Hash) -> bool
     false
 }
 
-// Puts the hash at its place, where neither the applied nor the waiting changes have it.
-fn gather_one(
-    found: &mut Vec<Hash>,
-    applied: &[Change],
-    index: &Index,
-    waiting: &[Change],
-    hash: &Hash,
-) -> Result<(), AllocError>
-    requires { NotesFrom 0 applied.now index.now }
-    ensures { OnOk result (found.new.items
-        ≡ cond (named.has applied.now hash.now || named.has waiting.now hash.now) found.old.items
-        (list.put hash_cmp hash.now found.old.items)) }
-{
-    if contains(applied, index, hash) {
-        return Ok(());
+impl Applied {
+    /// Copies of the changes outside the past of those of the hashes that are known, in order. Those before a place up
+    /// to which the past has every change aren't looked at.
+    pub(crate) fn since(&self, hashes: &[Hash]) -> Result<Vec<Change>, GraphError>
+        ensures copied { IfOk result (λ v. v.items ≡ since self.now.changes hashes.now) }
+        ensures err { IsOkUnless result OutOfMemory }
+    {
+        let part = self.part(hashes)?;
+        self.outside(&part)
     }
-    if has(waiting, hash) {
-        return Ok(());
-    }
-    found.reserve(1)?;
-    put(found, *hash);
-    Ok(())
-}
 
-// Puts those of the hashes that neither the applied nor the waiting changes have.
-fn gather_deps(
-    found: &mut Vec<Hash>,
-    applied: &[Change],
-    index: &Index,
-    waiting: &[Change],
-    deps: &[Hash],
-) -> Result<(), AllocError>
-    requires { NotesFrom 0 applied.now index.now }
-    ensures { OnOk result (found.new.items
-        ≡ gather applied.now waiting.now deps.now found.old.items) }
-{
-    for hash in deps {
-        gather_one(found, applied, index, waiting, hash)?;
+    // Copies of the changes that a past hasn't.
+    fn outside(&self, part: &Part) -> Result<Vec<Change>, GraphError>
+        requires { IsPartOf part.now self.now.changes }
+        ensures copied { IfOk result
+            (λ v. v.items ≡ skip (bits part.now self.now.changes) self.now.changes) }
+        ensures err { IsOkUnless result OutOfMemory }
+    {
+        let mut found = Vec::new(self.alloc());
+        for i in part.prefix()..self.len() {
+            if !part.holds(self, i) {
+                found.push(copy_of(self.at(i))?)?;
+            }
+        }
+        Ok(found)
     }
-    Ok(())
-}
 
-/// The dependencies of the waiting changes that are neither applied nor waiting, rising.
-pub(crate) fn missing(
-    alloc: Global,
-    applied: &[Change],
-    index: &Index,
-    waiting: &[Change],
-) -> Result<Vec<Hash>, AllocError>
-    requires { NotesFrom 0 applied.now index.now }
-    ensures rising { IfOk result (λ v. IsRising hash_cmp v.items) }
-    ensures there { IfOk result
-        (λ v. (h : Hash) → In h v.items ↔ IsMissing applied.now waiting.now h) }
-{
-    let mut found = Vec::new(alloc);
-    for change in waiting {
-        gather_deps(&mut found, applied, index, waiting, change.deps())?;
+    /// For each of the changes, in order, whether it is outside the past of those of the hashes that are known, or has
+    /// one of the hashes `also`.
+    pub(crate) fn marks_since(
+        &self,
+        hashes: &[Hash],
+        also: &[Hash],
+    ) -> Result<Vec<bool>, AllocError>
+        ensures { IfOk result
+            (λ v. v.items ≡ marks_since self.now.changes hashes.now also.now) }
+    {
+        let part = self.part(hashes)?;
+        let mut marks = self.outside_marks(&part)?;
+        self.mark(&mut marks, also);
+        Ok(marks)
     }
-    Ok(found)
+
+    // For each of the changes, in order, whether a past hasn't it.
+    fn outside_marks(&self, part: &Part) -> Result<Vec<bool>, AllocError>
+        requires { IsPartOf part.now self.now.changes }
+        ensures marks { IfOk result (λ v. v.items ≡ map not (bits part.now self.now.changes)) }
+        ensures len { IfOk result (λ v. length v.items ≡ length self.now.changes) }
+    {
+        let mut marks = Vec::with_capacity(self.alloc(), self.len())?;
+        for i in 0..self.len() {
+            marks.push(!part.holds(self, i))?;
+        }
+        Ok(marks)
+    }
+
+    // Puts the hash at its place, where neither the applied nor the waiting changes have it.
+    fn gather_one(
+        &self,
+        found: &mut Vec<Hash>,
+        waiting: &[Change],
+        hash: &Hash,
+    ) -> Result<(), AllocError>
+        ensures { OnOk result (found.new.items
+            ≡ cond (named.has self.now.changes hash.now || named.has waiting.now hash.now)
+            found.old.items (list.put hash_cmp hash.now found.old.items)) }
+    {
+        if self.contains(hash) {
+            return Ok(());
+        }
+        if has(waiting, hash) {
+            return Ok(());
+        }
+        found.reserve(1)?;
+        put(found, *hash);
+        Ok(())
+    }
+
+    // Puts those of the hashes that neither the applied nor the waiting changes have.
+    fn gather_deps(
+        &self,
+        found: &mut Vec<Hash>,
+        waiting: &[Change],
+        deps: &[Hash],
+    ) -> Result<(), AllocError>
+        ensures { OnOk result (found.new.items
+            ≡ gather self.now.changes waiting.now deps.now found.old.items) }
+    {
+        for hash in deps {
+            self.gather_one(found, waiting, hash)?;
+        }
+        Ok(())
+    }
+
+    /// The dependencies of the waiting changes that are neither applied nor waiting, rising.
+    pub(crate) fn missing(&self, waiting: &[Change]) -> Result<Vec<Hash>, AllocError>
+        ensures rising { IfOk result (λ v. IsRising hash_cmp v.items) }
+        ensures there { IfOk result
+            (λ v. (h : Hash) → In h v.items ↔ IsMissing self.now.changes waiting.now h) }
+    {
+        let mut found = Vec::new(self.alloc());
+        for change in waiting {
+            self.gather_deps(&mut found, waiting, change.deps())?;
+        }
+        Ok(found)
+    }
 }

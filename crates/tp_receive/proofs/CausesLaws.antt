@@ -13,7 +13,7 @@ use Rattle.tp_list.proofs.Tests.{truth, never, not_true}
 use Rattle.tp_graph.proofs.NamedLaws.{has-In, has-append, has-left, has_all-In}
 use Rattle.tp_graph.proofs.SoundLaws.{Sound-push}
 use Rattle.tp_graph.proofs.SetLaws.{defect-later}
-use Rattle.tp_graph.proofs.FirstFaults.{missing_deps_is}
+use Rattle.tp_graph.proofs.CauseLaws.{missing_deps_is}
 use Rattle.tp_graph.proofs.KeptLaws.{enters, Fits-from_cause}
 use Rattle.tp_receive.specs.Receiving.{EntersAfter, lacks_deps, is_refusal}
 use Rattle.tp_receive.proofs.RefusalLaws.{cause-known, refused-stays, EntersAfter-append}

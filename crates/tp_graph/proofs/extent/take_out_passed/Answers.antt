@@ -7,6 +7,6 @@ use Rattle.tp_graph.proofs.extent.take_out_passed.Goals as goal
 pub returns-clause-held : goal.returns-clause-held
 returns-clause-held c =
     λ i.
-    ap (λ l. extents.is_held c.args.applied.now c.args.prefix l i)
+    ap (λ l. extents.is_held c.args.applied.now.changes c.args.prefix l i)
     (filter_same _ (λ t. nat_le c.args.prefix t) _ (λ x b g k. search rules) _ _ c.retain.ensures.filtered)
-    ∙ held-kept c.args.applied.now c.args.tips.now.items c.args.prefix i
+    ∙ held-kept c.args.applied.now.changes c.args.tips.now.items c.args.prefix i

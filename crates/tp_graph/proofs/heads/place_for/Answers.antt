@@ -1,5 +1,5 @@
 use Rattle.std.proofs.Common.{◌≤◌, sym, length, arith}
-use Rattle.tp_graph.proofs.HeadSteps.{put-less, put-equal, put-greater, put-last}
+use Rattle.tp_graph.proofs.HeadsLaws.{put-less, put-equal, put-greater, put-last}
 use Rattle.tp_graph.proofs.heads.place_for.Goals as goal
 
 pub returns-in-Less : goal.returns-in-Less

@@ -1,20 +1,27 @@
-use Rattle.std.proofs.Common.{◌≡◌, ◌∙◌, ap, subst, IfOk, Result, Ok, Err, List}
-use Rattle.tp_opid.specs.declared.hash.Hash.{Hash}
-use Rattle.tp_change.specs.declared.parts.ChangeParts.{ChangeParts}
-use Rattle.tp_graph.specs.declared.part.Part.{Part}
-use Rattle.tp_graph.specs.AppliedState.{AppliedState}
-use Rattle.tp_graph.specs.Marks.{marks}
-use Rattle.tp_graph.specs.Parts.{bits}
-use Rattle.tp_graph.specs.Since.{skip, since}
-use Rattle.tp_graph.proofs.SinceLaws.{skip-marks}
+use Rattle.std.proofs.Common.{◌≡◌, ◌∙◌, ap, subst, length, Option}
+use Rattle.tp_graph.specs.declared.extent.Extent.{Extent}
+use Rattle.tp_graph.specs.Extents.{IsExtent, IsKnown}
+use Rattle.tp_graph.specs.Past.{past}
+use Rattle.tp_graph.proofs.ExtentLaws.{IsExtent-whole, held-marks}
+use Rattle.tp_graph.proofs.HeadsLaws.{past-heads}
+use Rattle.tp_graph.proofs.SoundLaws.{deps_first}
 use Rattle.tp_graph.proofs.applied.Applied.part.Goals as goal
 
-outside : {E : Type 0} (r : Result Part E) (C : List ChangeParts) (H : List Hash) → IfOk r (λ part. bits part C ≡ marks C H) → IfOk r (λ part. skip (bits part C) C ≡ since C H)
-outside (Ok part) C H e = ap (λ bs. skip bs C) e ∙ skip-marks C H
-outside (Err x) C H e = e
+all_of : goal.returns-then-same_hashes-clause-of
+all_of c =
+    let C = c.args.self.now.changes in
+    let whole : past C c.args.hashes.now ≡ C = ap (past C) (c.same_hashes.ensures.0 c.if-same_hashes.true ∙ c.heads.ensures) ∙ past-heads C (deps_first C c.changes-changes.ensures.sound) in
+    IsExtent-whole C c.args.hashes.now c.whole.result whole (c.whole.ensures.prefix ∙ ap length c.changes-changes.ensures.changes) c.whole.ensures.tips
 
-pub returns-clause-since : goal.returns-clause-since
-returns-clause-since c =
-    let same : c.as_slice.result.now ≡ c.args.self.now.changes = c.as_slice.ensures.value ∙ ap (λ (s : AppliedState). s.changes) c.self.view_is in
-    outside c.part_of.result c.args.self.now.changes c.args.hashes.now
-    (subst (λ (C : List ChangeParts). IfOk c.part_of.result (λ part. bits part C ≡ marks C c.args.hashes.now)) same c.part_of.ensures.bits)
+pub returns-then-same_hashes-clause-of : goal.returns-then-same_hashes-clause-of
+unfolding all_of
+returns-then-same_hashes-clause-of c = all_of c
+
+pub returns-then-same_hashes-clause-bits : goal.returns-then-same_hashes-clause-bits
+returns-then-same_hashes-clause-bits c = held-marks c.args.self.now.changes c.args.hashes.now c.whole.result c.changes-changes.ensures.sound (all_of c)
+
+pub returns-in-Some-clause-bits : goal.returns-in-Some-clause-bits
+returns-in-Some-clause-bits c =
+    let known : IsExtent c.args.self.now.changes c.args.hashes.now c.in-Some.extent =
+    subst (λ (o : Option Extent). IsKnown c.args.self.now.changes c.args.hashes.now o) c.in-Some.is c.in_ok-extent.ensures in
+    held-marks c.args.self.now.changes c.args.hashes.now c.in-Some.extent c.changes-changes.ensures.sound known

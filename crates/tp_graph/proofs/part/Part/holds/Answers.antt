@@ -7,5 +7,5 @@ use Rattle.tp_graph.proofs.part.Part.holds.Goals as goal
 pub returns-in-Within : goal.returns-in-Within
 returns-in-Within c =
     c.holds.ensures
-    ∙ held_at c.args.applied.now c.in-Within.extent.prefix c.in-Within.extent.tips.items c.args.place c.requires.place
-    ∙ ap (λ (p : Part). of_part.holds p c.args.applied.now c.args.place) (sym c.in-Within.is)
+    ∙ held_at c.args.applied.now.changes c.in-Within.extent.prefix c.in-Within.extent.tips.items c.args.place c.requires.place
+    ∙ ap (λ (p : Part). of_part.holds p c.args.applied.now.changes c.args.place) (sym c.in-Within.is)

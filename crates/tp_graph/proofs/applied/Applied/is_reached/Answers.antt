@@ -1,0 +1,17 @@
+use Rattle.std.proofs.Common.{◌∙◌, sym, ap}
+use Rattle.std.proofs.lemmas.List.{drop_all}
+use Rattle.tp_graph.specs.Extents as extents
+use Rattle.tp_graph.proofs.ExtentLaws.{reached-stop, reached-on}
+use Rattle.tp_graph.proofs.applied.Applied.is_reached.Goals as goal
+
+pub returns-then-reaches : goal.returns-then-reaches
+returns-then-reaches c =
+    reached-stop c.args.self.now.changes c.args.tips.now c.loop-i.i c.args.place c.loop-i-test.true c.loop-i.invariant (sym c.reaches.ensures ∙ c.if-reaches.true)
+
+pub loop-i-preserved : goal.loop-i-preserved
+loop-i-preserved c =
+    reached-on c.args.self.now.changes c.args.tips.now c.loop-i.i c.args.place c.loop-i-test.true c.loop-i.invariant (sym c.reaches.ensures ∙ c.if-reaches.false)
+
+pub returns : goal.returns
+returns c =
+    sym (sym c.loop-i.invariant ∙ ap (λ l. extents.is_reached c.args.self.now.changes l c.args.place) (drop_all c.loop-i.i c.args.tips.now c.loop-i-test.false))

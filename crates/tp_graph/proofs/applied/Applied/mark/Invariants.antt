@@ -1,0 +1,6 @@
+use Rattle.std.proofs.Common.{◌≡◌, take}
+use Rattle.tp_graph.specs.Marks.{marked_more}
+use Rattle.tp_graph.proofs.applied.Applied.mark.Given as goal
+
+abbrev pub invariant-loop-hash : goal.invariant-loop-hash
+invariant-loop-hash l = l.marks ≡ marked_more (take l.hash-index l.hashes) l.self.changes l.initial.marks

@@ -1,0 +1,6 @@
+use Rattle.std.proofs.Common.{◌≡◌, drop, []}
+use Rattle.tp_graph.specs.Since.{gather_all}
+use Rattle.tp_graph.proofs.applied.Applied.missing.Given as goal
+
+abbrev pub invariant-loop-change : goal.invariant-loop-change
+invariant-loop-change l = gather_all l.self.changes l.waiting (drop l.change-index l.waiting) l.found.items ≡ gather_all l.self.changes l.waiting l.waiting []

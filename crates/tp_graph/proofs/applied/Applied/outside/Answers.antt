@@ -1,0 +1,46 @@
+use Rattle.std.proofs.Common.{◌≡◌, ◌≤◌, ◌∙◌, List, Bool, length, drop, sym, ap, arith, append-nil, Vec, Global, [], ◌∷◌, ◌++◌}
+use Rattle.std.proofs.lemmas.List.{drop_all}
+use Rattle.tp_list.proofs.Members.{slice_get-there}
+use Rattle.tp_change.specs.declared.parts.ChangeParts.{ChangeParts}
+use Rattle.tp_graph.specs.Parts.{bits, prefix_of}
+use Rattle.tp_graph.specs.Since.{skip}
+use Rattle.tp_graph.proofs.ExtentLaws.{length-bits, prefix-marked}
+use Rattle.tp_graph.proofs.SinceLaws.{skip-on, skip-by, skip-prefix}
+use Rattle.tp_graph.proofs.applied.Applied.outside.Goals.{then-not-holds+in_ok-copy_of+in_ok-push, else-not-holds}
+use Rattle.tp_graph.proofs.applied.Applied.outside.Goals as goal
+
+pub loop-i-init : goal.loop-i-init
+loop-i-init c =
+    let C = c.args.self.now.changes in
+    let part = c.args.part.now in
+    ap (λ l. l ++ skip (drop c.prefix-i.result (bits part C)) (drop c.prefix-i.result C)) c.new-found.ensures.items
+    ∙ ap (λ n. skip (drop n (bits part C)) (drop n C)) c.prefix-i.ensures
+    ∙ skip-prefix (bits part C) C (prefix_of part) (length-bits part C c.requires) (prefix-marked part C)
+
+pub loop-i-preserved : goal.loop-i-preserved
+loop-i-preserved c =
+    let C = c.args.self.now.changes in
+    let marks : List Bool = bits c.args.part.now C in
+    let long : length marks ≡ length C = length-bits c.args.part.now C c.requires in
+    elim c.if-not-holds.branch [
+      | then-not-holds+in_ok-copy_of+in_ok-push w ↦
+          skip-on marks C c.loop-i.i w.at.result.now c.loop-i.found.items c.if-not-holds.found.items long
+          w.at.ensures
+          (sym c.holds.ensures ∙ w.if-not-holds.true)
+          (ap (λ (v : Vec ChangeParts Global). v.items) w.found-is ∙ w.in_ok-push.ensures.items ∙ ap (λ x. c.loop-i.found.items ++ x ∷ []) w.in_ok-copy_of.ensures.copied)
+          c.loop-i.invariant
+      | else-not-holds w ↦
+          let p = slice_get-there C c.loop-i.i (rw c.len-i-end.ensures.len at c.loop-i-test.true) in
+          skip-by marks C c.loop-i.i p.0 c.loop-i.found.items c.if-not-holds.found.items long p.1
+          (sym c.holds.ensures ∙ w.if-not-holds.false) (ap (λ (v : Vec ChangeParts Global). v.items) w.found-is) c.loop-i.invariant
+    ]
+
+pub returns-clause-copied : goal.returns-clause-copied
+returns-clause-copied c =
+    let C = c.args.self.now.changes in
+    let marks : List Bool = bits c.args.part.now C in
+    let long : length marks ≡ length C = length-bits c.args.part.now C c.requires in
+    let past : length marks ≤ c.loop-i.i = omega (arith, c.loop-i-test.false) in
+    sym (append-nil c.loop-i.found.items)
+    ∙ ap (λ l. c.loop-i.found.items ++ skip l (drop c.loop-i.i C)) (sym (drop_all c.loop-i.i marks past))
+    ∙ c.loop-i.invariant

@@ -1,6 +1,0 @@
-use Rattle.std.proofs.Common.{◌≡◌, drop}
-use Rattle.tp_graph.specs.Since.{gather}
-use Rattle.tp_graph.proofs.since.gather_deps.Given as goal
-
-abbrev pub invariant-loop-hash : goal.invariant-loop-hash
-invariant-loop-hash l = gather l.applied l.waiting (drop l.hash-index l.deps) l.found.items ≡ gather l.applied l.waiting l.deps l.initial.found.items

@@ -1,6 +1,0 @@
-use Rattle.std.proofs.Common.{◌≡◌, take}
-use Rattle.tp_graph.specs.Marks.{marked_more}
-use Rattle.tp_graph.proofs.walk.mark.Given as goal
-
-abbrev pub invariant-loop-hash : goal.invariant-loop-hash
-invariant-loop-hash l = l.marks ≡ marked_more (take l.hash-index l.hashes) l.applied l.initial.marks

@@ -1,0 +1,37 @@
+-- What is kept beside applied changes.
+use Rattle.std.specs.Prelude.{◌≡◌, ◌≤◌, length, Option, Some, None}
+use Rattle.tp_change.specs.Elements as made
+use Rattle.tp_graph.specs.declared.applied.Applied.TheInside.{Inside}
+use Rattle.tp_graph.specs.declared.extent.Room.{Room}
+use Rattle.tp_graph.specs.ByActor.{IsByActor}
+use Rattle.tp_graph.specs.Extents.{AreExtents, IsKnown}
+use Rattle.tp_graph.specs.Fit.{most_changes}
+use Rattle.tp_graph.specs.Heads as head
+use Rattle.tp_graph.specs.Lists.{HasRoom}
+use Rattle.tp_graph.specs.Places.{noted, NotesFrom, ends_of}
+use Rattle.tp_graph.specs.Sound.{Sound}
+
+-- Every growth is made for a change with the hash: its place is noted, all changes are listed by actor, and there is
+-- room in the lists; and the extent is that of the dependencies that it was made for.
+pub record IsReady (r : Room) (a : Inside) : Type 0 where
+  pub past : IsKnown a.lists.changes.items r.deps.items r.past
+  pub noted_is : noted a.index r.hash ≡ Some (length a.lists.changes.items)
+  pub listed : a.by_actor.listed ≡ length a.lists.changes.items
+  pub room : HasRoom a.lists
+
+-- the same, where something was made ready
+abbrev pub IsReadyIf : Option Room → Inside → Type 0
+IsReadyIf None a = Unit {0}
+IsReadyIf (Some r) a = IsReady r a
+
+-- The changes are sound, and what is kept beside them is theirs.
+pub record IsKept (a : Inside) : Type 0 where
+  pub sound : Sound a.lists.changes.items
+  pub few : length a.lists.changes.items ≤ most_changes
+  pub heads_are : a.lists.heads.items ≡ head.heads a.lists.changes.items
+  pub ends_are : a.lists.ends.items ≡ ends_of a.lists.changes.items
+  pub pasts : AreExtents a.lists.changes.items a.lists.pasts.items
+  pub next_is : a.next ≡ made.next_counter a.lists.changes.items
+  pub notes : NotesFrom 0 a.lists.changes.items a.index
+  pub by_actor : IsByActor a.lists.changes.items a.by_actor
+  pub ready : IsReadyIf a.room a

@@ -1,0 +1,77 @@
+//! The lists of a graph: its changes, and what is kept for each.
+
+ghost use Rattle.std.specs.Prelude.{◌≡◌, [], ◌∷◌, ◌++◌, OnOk, vec_len, vec_capacity, ◌<◌};
+ghost use Rattle.tp_list.specs.Rising as list;
+ghost use Rattle.tp_opid.specs.Order.{hash_cmp};
+ghost use Rattle.tp_change.specs.ChangeHash.{hash_of};
+ghost use Rattle.tp_graph.specs.Heads as head;
+ghost use Rattle.tp_graph.specs.Lists.{HasRoom, HasSameItems, AreEmpty};
+
+use crate::extent::Extent;
+use crate::heads;
+use std::alloc::{AllocError, Global};
+use tp_change::Change;
+use tp_opid::Hash;
+
+/// The applied changes in the order in which they entered, their heads, and for each change where its counters end
+/// and how far the past of its dependencies reaches.
+#[derive(Drop)]
+pub(crate) struct Lists {
+    pub(crate) changes: Vec<Change>,
+    pub(crate) heads: Vec<Hash>,
+    pub(crate) ends: Vec<u64>,
+    pub(crate) pasts: Vec<Option<Extent>>,
+}
+
+// Puts an item at the end of a vector that has room for it.
+fn push_within<T: Drop>(items: &mut Vec<T>, item: T)
+    requires { vec_len items.old < vec_capacity items.old }
+    ensures { items.new.items ≡ items.old.items ++ item ∷ [] }
+{
+    match items.push(item) {
+        Ok(()) => {}
+        Err(_) => unreachable!(),
+    }
+}
+
+impl Lists {
+    /// No changes. It takes no memory.
+    pub(crate) fn new(alloc: Global) -> Lists
+        ensures { AreEmpty result }
+    {
+        Lists {
+            changes: Vec::new(alloc),
+            heads: Vec::new(alloc),
+            ends: Vec::new(alloc),
+            pasts: Vec::new(alloc),
+        }
+    }
+
+    /// Makes room for one more change. Room that was there stays.
+    pub(crate) fn grow(&mut self) -> Result<(), AllocError>
+        ensures same { HasSameItems self.old self.new }
+        ensures room { OnOk result (HasRoom self.new) }
+        ensures stays { HasRoom self.old → HasRoom self.new }
+    {
+        self.changes.reserve(1)?;
+        self.heads.reserve(1)?;
+        self.ends.reserve(1)?;
+        self.pasts.reserve(1)?;
+        Ok(())
+    }
+
+    /// Puts a change at the end. There is room for it.
+    pub(crate) fn push(&mut self, change: Change, end: u64, past: Option<Extent>)
+        requires { HasRoom self.old }
+        ensures changes { self.new.changes.items ≡ self.old.changes.items ++ change ∷ [] }
+        ensures heads { self.new.heads.items ≡ list.put hash_cmp (hash_of change)
+            (head.without change.deps self.old.heads.items) }
+        ensures ends { self.new.ends.items ≡ self.old.ends.items ++ end ∷ [] }
+        ensures pasts { self.new.pasts.items ≡ self.old.pasts.items ++ past ∷ [] }
+    {
+        heads::move_on(&mut self.heads, change.deps(), change.hash());
+        push_within(&mut self.ends, end);
+        push_within(&mut self.pasts, past);
+        push_within(&mut self.changes, change);
+    }
+}
