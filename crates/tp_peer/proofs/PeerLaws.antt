@@ -1,0 +1,205 @@
+-- What receiving comes to, what a peer's journal recovers to, and who made an edit's change.
+use Rattle.std.proofs.Common.{◌≡◌, ℕ, inl, inr, List, [], ◌∷◌, ◌++◌, length, take, true, false, Bool, Some, None, refl, sym, ap, ◌∙◌, subst, append-nil, append_assoc, arith}
+use Rattle.std.proofs.lemmas.List.{append_cancel_left}
+use Rattle.tp_list.specs.Members.{In}
+use Rattle.tp_change.specs.declared.parts.ChangeParts.{ChangeParts}
+use Rattle.tp_graph.specs.Named.{HashesApart}
+use Rattle.tp_graph.specs.Sound.{Sound}
+use Rattle.tp_receive.specs.Receiving.{Between}
+use Rattle.tp_receive.proofs.GrowsLaws.{Between-grown}
+use Rattle.tp_receive.proofs.ResultLaws.{results}
+use Rattle.tp_receive.proofs.RunLaws.{Grew-run, nothing_lost}
+use Rattle.tp_journal.specs.Layout.{IsDocId, journal, record_of, records_of}
+use Rattle.tp_journal.specs.Recovery.{IsHistory, Recovers}
+use Rattle.tp_journal.proofs.CutLaws.{recovers_cut}
+use Rattle.tp_journal.proofs.HistoryLaws.{history_push}
+use Rattle.tp_peer.specs.Appending.{AppendsRecord, JournalState, journal_state}
+use Rattle.tp_peer.specs.PeerData.{HasJournal, IsPeer, PeerData}
+use Rattle.tp_peer.specs.Taking.{Report, TakesAll, TakesAndStops, TakesPart, coming, journal_of}
+use Rattle.tp_peer.specs.declared.error.PeerError.{PeerError}
+use Rattle.tp_peer.specs.declared.error.PeerError.TheVariants.{ActorInUse, JournalFailed, JournalNotEmpty, Doc, Store, OutOfMemory}
+use Rattle.tp_peer.specs.declared.error.PeerError.TheVariants as error
+use Rattle.tp_edit.specs.declared.splice.Splice.{Splice}
+use Rattle.tp_document.specs.Editing.{Asked, asking}
+use Rattle.tp_graph.specs.Fit.{cause}
+use Rattle.tp_change.specs.Limits.{IsChange}
+use Rattle.tp_receive.specs.Intake.{Intake, Next, Run, Turn, enter}
+use Rattle.tp_receive.specs.Replies.{LosesNone}
+use Rattle.tp_receive.proofs.TurnLaws.{Run-one, Run-then}
+use Rattle.tp_peer.specs.PeerStep.{Call, Edit, Heads, Made, Merge, Merged, PeerStep, Read, ReadAt, ReadHeads, Refused, RefusesEdit, RefusesMerge, Reply, Runs, Text}
+use Rattle.tp_peer.specs.Laws.{IsComplete, IsPartial, IsTornAt, RecoversTorn}
+use Rattle.tp_peer.proofs.StepLaws.{journal_grows, running_journal, step_cases}
+use Rattle.tp_peer.proofs.KeepingLaws.{run_advances}
+
+-- ---- receiving
+
+pub complete : (p : PeerData) (K : List ChangeParts) (r : Report) (p' : PeerData) → Sound p.applied → HashesApart (p.waiting ++ K) → TakesAll p K r p' → IsComplete p K r p'
+complete p K r p' sound apart t =
+    let x = results AppendsRecord (journal_of p) p.applied p.waiting K t.at sound apart t.space t.received.run t.received.ends in
+    let applied : p'.applied ≡ t.at.applied = ap (λ (q : PeerData). q.applied) t.left in
+    let waiting : p'.waiting ≡ t.at.waiting = ap (λ (q : PeerData). q.waiting) t.left in
+    record {
+      receives = rw applied x.receives;
+      causes = rw (applied, t.refused) x.causes;
+      placed = rw (applied, waiting, t.applied, t.refused) x.placed;
+    }
+
+partial_at : (p : PeerData) (K : List ChangeParts) (at : Intake JournalState) (C W : List ChangeParts) → Sound p.applied → Run AppendsRecord (coming p K) at → C ≡ at.applied → W ≡ at.waiting
+    → Between p.applied (p.waiting ++ K) C × LosesNone p.applied C p.waiting W
+partial_at p K at C W sound run applied waiting =
+    let g = Grew-run AppendsRecord (journal_of p) p.applied p.waiting K at run in (
+      subst (Between p.applied (p.waiting ++ K)) (sym applied) (Between-grown p.applied (p.waiting ++ K) at.applied g.new sound g.grows),
+      rw (applied, waiting) (nothing_lost AppendsRecord (coming p K) at run),
+    )
+
+pub partial : (p : PeerData) (K : List ChangeParts) (p' : PeerData) → Sound p.applied → TakesPart p K p' → IsPartial p K p'
+partial p K p' sound t =
+    let x = partial_at p K t.at p'.applied p'.waiting sound t.run (ap (λ (q : PeerData). q.applied) t.left) (ap (λ (q : PeerData). q.waiting) t.left) in
+    record { between = x.0; lost = x.1 }
+
+-- what a turn leaves as it was until the change is met
+rest_is : {S : Type 0} (at rest : Intake S) (c : ChangeParts) → Next at c rest → (rest.applied ≡ at.applied) × (rest.keeper ≡ at.keeper)
+rest_is {S} at rest c (inl n) = (ap (λ (s : Intake S). s.applied) n.without, ap (λ (s : Intake S). s.keeper) n.without)
+rest_is {S} at rest c (inr n) = (ap (λ (s : Intake S). s.applied) n.without, ap (λ (s : Intake S). s.keeper) n.without)
+
+-- the turn at which the device failed, had it not
+whole_turn : (at rest : Intake JournalState) (c : ChangeParts) → Next at c rest → cause at.applied c ≡ None → IsChange c
+    → (t : Intake JournalState) × Turn AppendsRecord at t × (t.applied ≡ at.applied ++ c ∷ [])
+whole_turn at rest c next fits limits =
+    let is = rest_is at rest c next in
+    let k : JournalState = journal_state (at.keeper.content ++ record_of c) at.keeper.failures in (
+      enter rest c k,
+      record {
+        change = c;
+        rest = rest;
+        next = next;
+        meets = inl (
+          subst (λ C. cause C c ≡ None) (sym is.0) fits,
+          k,
+          subst (λ (j : JournalState). AppendsRecord j c k) (sym is.1) (record { limits = limits; content = refl; failures = refl }),
+          refl,
+        );
+      },
+      ap (λ C. C ++ c ∷ []) is.0,
+    )
+
+pub torn : (p : PeerData) (K : List ChangeParts) (p' : PeerData) → Sound p.applied → TakesAndStops p K p' → IsTornAt p K p'
+torn p K p' sound t =
+    let s = t.stops in
+    let applied : p'.applied ≡ t.at.applied = ap (λ (q : PeerData). q.applied) s.left in
+    let x = partial_at p K t.at p'.applied p'.waiting sound t.run applied (ap (λ (q : PeerData). q.waiting) s.left) in
+    let w = whole_turn t.at t.rest t.change t.next t.fits s.tears.limits in
+    let run = Run-then AppendsRecord (coming p K) t.at w.0 t.run (Run-one AppendsRecord t.at w.0 w.1) in
+    let y = partial_at p K w.0 (p'.applied ++ t.change ∷ []) w.0.waiting sound run (ap (λ C. C ++ t.change ∷ []) applied ∙ sym w.2) refl in
+    let a = run_advances p K t.at t.run in
+    let part = s.tears.part in
+    let id : p'.id ≡ p.id = ap (λ (q : PeerData). q.id) s.left in
+    record {
+      change = t.change;
+      between = y.0;
+      lost = x.1;
+      limits = s.tears.limits;
+      fits = subst (λ C. cause C t.change ≡ None) (sym applied) t.fits;
+      count = part.0;
+      journal = λ is.
+          part.1
+          ∙ ap (λ l. l ++ take part.0 (record_of t.change)) a.appended.content
+          ∙ append_assoc p.journal (records_of a.new) (take part.0 (record_of t.change))
+          ∙ journal_grows p p' a.new (take part.0 (record_of t.change)) id (applied ∙ a.grows.begins) is;
+    }
+
+-- ---- journals
+
+pub recovers_running : (p : PeerData) → IsPeer p → p.stopped ≡ false → Recovers p.journal p.id p.applied (length p.journal)
+recovers_running p h running =
+    let is = running_journal p.stopped p.id p.applied p.journal running h.kept in
+    record {
+      tail = [];
+      is_id = h.is_id;
+      history = h.history;
+      short = inl (omega arith);
+      spelled = is ∙ sym (append-nil (journal p.id p.applied));
+      keep_is = ap length is;
+    }
+
+recovers_stopped_at : (s : Bool) (p : PeerData) → s ≡ true → IsDocId p.id → IsHistory p.applied → HasJournal s p.id p.applied p.journal → RecoversTorn p
+recovers_stopped_at false p stopped is h k = absurd cc
+recovers_stopped_at true p stopped is h k =
+    let t = k.1 in
+    record {
+      change = t.change;
+      count = t.count;
+      content = k.2 ∙ ap (λ l. journal p.id p.applied ++ l) (t.torn ∙ ap (take t.count) (sym (append-nil (record_of t.change))));
+      recovers = recovers_cut p.id p.applied (t.change ∷ []) t.count is (history_push p.applied t.change h t.limits t.fits);
+    }
+
+pub recovers_stopped : (p : PeerData) → IsPeer p → p.stopped ≡ true → RecoversTorn p
+recovers_stopped p h stopped = recovers_stopped_at p.stopped p stopped h.is_id h.history h.kept
+
+-- ---- edits and refusals
+
+none_behind : (C A : List ChangeParts) → C ≡ C ++ A → A ≡ []
+none_behind C A e = append_cancel_left C A [] (sym e ∙ sym (append-nil C))
+
+pub edit_actor : (p : PeerData) (ss : List Splice) (time : ℕ) (message : List ℕ) (reply : Reply) (p' : PeerData) (new : List ChangeParts)
+    → PeerStep p (Edit ss time message) reply p' → p'.applied ≡ p.applied ++ new → (c : ChangeParts) → In c new → c.actor ≡ p.actor
+edit_actor p ss time message reply p' new s grown c i =
+    elim (step_cases p (Edit ss time message) reply p' s) [
+      | inl stopped ↦ none (ap (λ (q : PeerData). q.applied) stopped.1)
+      | inr runs ↦ by reply runs.1
+    ] where
+      none : p'.applied ≡ p.applied → c.actor ≡ p.actor
+      none e = absurd (subst (In c) (none_behind p.applied new (sym e ∙ grown)) i)
+
+      refused : (e : PeerError) → RefusesEdit p (asking p.actor ss time message) e p' → c.actor ≡ p.actor
+      refused (Doc e) r = none (ap (λ (q : PeerData). q.applied) r.2)
+      refused OutOfMemory r = none (ap (λ (q : PeerData). q.applied) r)
+      refused JournalFailed r = none (ap (λ (q : PeerData). q.applied) r.2.left)
+      refused ActorInUse r = absurd r
+      refused error.Stopped r = absurd r
+      refused JournalNotEmpty r = absurd r
+      refused (Store e) r = absurd r
+
+      one : (d : ChangeParts) → p'.applied ≡ p.applied ++ d ∷ [] → d.actor ≡ p.actor → c.actor ≡ p.actor
+      one d e is =
+          elim (subst (In c) (append_cancel_left p.applied new (d ∷ []) (sym grown ∙ e)) i) [
+            | inl same ↦ ap (λ (x : ChangeParts). x.actor) same ∙ is
+            | inr none_left ↦ absurd none_left
+          ]
+
+      by : (r : Reply) → Runs p (Edit ss time message) r p' → c.actor ≡ p.actor
+      by (Made None) r = none (ap (λ (q : PeerData). q.applied) r.1)
+      by (Made (Some h)) r = one r.0 (ap (λ (q : PeerData). q.applied) r.3) r.1.edit.actor
+      by (Refused e) r = refused e r
+      by (Merged x) r = absurd r
+      by (Text t) r = absurd r
+      by (Heads hs) r = absurd r
+
+-- a refusal that changes nothing
+pub refusal_changes_nothing : (p : PeerData) (call : Call) (e : PeerError) (p' : PeerData) → PeerStep p call (Refused e) p' → (e ≡ OutOfMemory → ⊥) → (e ≡ JournalFailed → ⊥) → p' ≡ p
+refusal_changes_nothing p call e p' s memory device =
+    elim (step_cases p call (Refused e) p' s) [ inl stopped ↦ stopped.1 | inr runs ↦ by call e runs.1 memory device ] where
+      edit : (asked : Asked) (e : PeerError) → RefusesEdit p asked e p' → (e ≡ OutOfMemory → ⊥) → (e ≡ JournalFailed → ⊥) → p' ≡ p
+      edit asked (Doc e) r memory device = r.2
+      edit asked OutOfMemory r memory device = absurd (memory refl)
+      edit asked JournalFailed r memory device = absurd (device refl)
+      edit asked ActorInUse r memory device = absurd r
+      edit asked error.Stopped r memory device = absurd r
+      edit asked JournalNotEmpty r memory device = absurd r
+      edit asked (Store e) r memory device = absurd r
+
+      merge : (other : PeerData) (e : PeerError) → RefusesMerge p other e p' → (e ≡ OutOfMemory → ⊥) → (e ≡ JournalFailed → ⊥) → p' ≡ p
+      merge other (Doc e) r memory device = r.1
+      merge other OutOfMemory r memory device = absurd (memory refl)
+      merge other JournalFailed r memory device = absurd (device refl)
+      merge other ActorInUse r memory device = absurd r
+      merge other error.Stopped r memory device = absurd r
+      merge other JournalNotEmpty r memory device = absurd r
+      merge other (Store e) r memory device = absurd r
+
+      by : (call : Call) (e : PeerError) → Runs p call (Refused e) p' → (e ≡ OutOfMemory → ⊥) → (e ≡ JournalFailed → ⊥) → p' ≡ p
+      by (Edit ss t m) e r memory device = edit (asking p.actor ss t m) e r memory device
+      by (Merge other) e r memory device = merge other e r memory device
+      by Read e r memory device = r.1
+      by (ReadAt H) e r memory device = r.1
+      by ReadHeads e r memory device = absurd r

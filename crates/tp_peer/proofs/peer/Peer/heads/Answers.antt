@@ -1,0 +1,15 @@
+use Rattle.std.proofs.Common.{refl, ap, sym, subst, ◌∙◌}
+use Rattle.tp_peer.specs.PeerData.{PeerData, peer_data}
+use Rattle.tp_peer.specs.PeerStep.{Heads, PeerStep, ReadHeads}
+use Rattle.tp_peer.proofs.StepLaws.{step_runs, step_stopped}
+use Rattle.tp_peer.proofs.peer.Peer.heads.Goals as goal
+
+pub returns-then-self : goal.returns-then-self
+returns-then-self g c = step_stopped c.args.self.now ReadHeads (ap (λ (p : PeerData). p.stopped) (sym c.self.view_is) ∙ c.if-self.true)
+
+pub returns : goal.returns
+returns g c =
+    let s = c.self.inside in
+    let p : PeerData = peer_data s.actor s.document s.appender s.stopped in
+    subst (λ (q : PeerData). PeerStep q ReadHeads (Heads c.heads.result.now) q) c.self.view_is
+    (step_runs p ReadHeads (Heads c.heads.result.now) p c.if-self.false (c.heads.ensures, refl))

@@ -1,0 +1,96 @@
+-- What the laws of peers say.
+use Rattle.std.specs.Prelude.{◌≡◌, ◌≢◌, ◌⊎◌, ℕ, ◌≤◌, List, [], ◌++◌, ◌∷◌, length, true, false, take, None}
+use Rattle.tp_list.specs.Members.{AllIn}
+use Rattle.tp_change.specs.declared.parts.ChangeParts.{ChangeParts}
+use Rattle.tp_change.specs.Limits.{IsChange}
+use Rattle.tp_graph.specs.Fit.{cause}
+use Rattle.tp_document.specs.DocState.{AllChanges}
+use Rattle.tp_document.specs.Merging.{absent}
+use Rattle.tp_receive.specs.Receiving.{Between, EntersAfter, Receives}
+use Rattle.tp_receive.specs.Replies.{AllAccounted, AreRefused, LosesNone}
+use Rattle.tp_journal.specs.Journal.{HasGrown}
+use Rattle.tp_journal.specs.Laws.{RecoversCut}
+use Rattle.tp_journal.specs.Layout.{journal, record_of, records_of}
+use Rattle.tp_peer.specs.declared.error.PeerError.TheVariants.{JournalFailed}
+use Rattle.tp_peer.specs.PeerData.{IsTornRecord, PeerData}
+use Rattle.tp_peer.specs.PeerStep.{Call, Edit, Merge, Read, ReadAt, ReadHeads, Reply, Refused}
+use Rattle.tp_peer.specs.Taking.{Report}
+
+-- the changes that come to a peer by a call
+abbrev pub came : PeerData → Call → List ChangeParts
+came p (Merge other) = absent p.applied other.applied
+came p (Edit splices time message) = []
+came p Read = []
+came p (ReadAt H) = []
+came p ReadHeads = []
+
+-- how many changes a call enters: one at most by an edit, any number by a merge, and else none
+abbrev pub AreFew : Call → List ChangeParts → Type 0
+AreFew (Edit splices time message) new = length new ≤ 1
+AreFew (Merge other) new = Unit {0}
+AreFew Read new = new ≡ []
+AreFew (ReadAt H) new = new ≡ []
+AreFew ReadHeads new = new ≡ []
+
+-- The records of the new changes were appended, and nothing else.
+pub record Appends (p : PeerData) (new : List ChangeParts) (reply : Reply) (p' : PeerData) : Type 0 where
+  pub journal : p'.journal ≡ p.journal ++ records_of new
+  pub failures : p'.failures ≡ p.failures
+  pub goes_on : p'.stopped ≡ p.stopped
+  pub answered : reply ≢ Refused JournalFailed
+
+-- The records of the new changes were appended, and then the device failed: a beginning of the record of a change that
+-- could enter next may stand behind them. The peer has stopped, and says so.
+pub record Tears (p : PeerData) (new : List ChangeParts) (reply : Reply) (p' : PeerData) : Type 0 where
+  pub bytes : List ℕ
+  pub torn : IsTornRecord p'.applied bytes
+  pub journal : p'.journal ≡ p.journal ++ (records_of new ++ bytes)
+  pub failures : HasGrown p.failures p'.failures
+  pub running : p.stopped ≡ false
+  pub stopped : p'.stopped ≡ true
+  pub answered : reply ≡ Refused JournalFailed
+
+-- What each step keeps: who the peer is; its list, which grows at its end by changes that could enter; that what waits
+-- waited or came; and its journal, which grows by their records.
+pub record Keeps (p : PeerData) (call : Call) (reply : Reply) (p' : PeerData) : Type 0 where
+  pub id : p'.id ≡ p.id
+  pub actor : p'.actor ≡ p.actor
+  pub new : List ChangeParts
+  pub applied : p'.applied ≡ p.applied ++ new
+  pub few : AreFew call new
+  pub fits : EntersAfter p.applied new
+  pub limits : AllChanges new
+  pub still : p.stopped ≡ true → new ≡ []
+  pub waits : AllIn p'.waiting (p.waiting ++ came p call)
+  pub journal : Appends p new reply p' ⊎ Tears p new reply p'
+
+-- What receiving the changes K, all of them, comes to: a result, each reported cause is the cause now, and each change
+-- is somewhere.
+pub record IsComplete (p : PeerData) (K : List ChangeParts) (r : Report) (p' : PeerData) : Type 0 where
+  pub receives : Receives p.applied (p.waiting ++ K) p'.applied
+  pub causes : AreRefused (p.waiting ++ K) p'.applied r.refused
+  pub placed : AllAccounted (p.waiting ++ K) p'.applied p'.waiting r.applied r.refused
+
+-- What receiving a part of the changes K comes to: what is applied stands between, and nothing that waited is lost.
+pub record IsPartial (p : PeerData) (K : List ChangeParts) (p' : PeerData) : Type 0 where
+  pub between : Between p.applied (p.waiting ++ K) p'.applied
+  pub lost : LosesNone p.applied p'.applied p.waiting p'.waiting
+
+-- What receiving a part of the changes K comes to where the device failed: the list with the change that was being
+-- appended stands between, nothing that waited is lost, and a beginning of the change's record stands in the journal.
+pub record IsTornAt (p : PeerData) (K : List ChangeParts) (p' : PeerData) : Type 0 where
+  pub change : ChangeParts
+  pub between : Between p.applied (p.waiting ++ K) (p'.applied ++ change ∷ [])
+  pub lost : LosesNone p.applied p'.applied p.waiting p'.waiting
+  pub limits : IsChange change
+  pub fits : cause p'.applied change ≡ None
+  pub count : ℕ
+  pub journal : p.journal ≡ journal p.id p.applied → p'.journal ≡ journal p'.id p'.applied ++ take count (record_of change)
+
+-- What the journal of a stopped peer recovers to: its changes, and the one that was being appended where its record is
+-- whole.
+pub record RecoversTorn (p : PeerData) : Type 0 where
+  pub change : ChangeParts
+  pub count : ℕ
+  pub content : p.journal ≡ journal p.id p.applied ++ take count (records_of (change ∷ []))
+  pub recovers : RecoversCut p.id p.applied (change ∷ []) count

@@ -1,0 +1,44 @@
+-- The numbers of the refusals, and what stands for the refusals of a document and of a journal.
+use Rattle.std.specs.Prelude.{ℕ}
+use Rattle.tp_document.specs.declared.error.DocError.{DocError}
+use Rattle.tp_document.specs.declared.error.DocError.TheVariants as doc
+use Rattle.tp_store.specs.declared.error.StoreError.{StoreError}
+use Rattle.tp_store.specs.declared.error.StoreError.TheVariants as store
+use Rattle.tp_peer.specs.declared.error.PeerError.{PeerError}
+use Rattle.tp_peer.specs.declared.error.PeerError.TheVariants.{ActorInUse, JournalFailed, Stopped, JournalNotEmpty, Doc, Store, OutOfMemory}
+
+abbrev pub code_of : PeerError → ℕ
+code_of ActorInUse = 1
+code_of JournalFailed = 2
+code_of Stopped = 3
+code_of JournalNotEmpty = 5
+code_of (Doc e) = 6
+code_of (Store e) = 8
+code_of OutOfMemory = 9
+
+-- the refusal for one of the document, whose keeper is the journal
+abbrev pub refusal_of_document : DocError → PeerError
+refusal_of_document doc.OutOfRange = Doc doc.OutOfRange
+refusal_of_document doc.CounterLimit = Doc doc.CounterLimit
+refusal_of_document doc.TooManyOps = Doc doc.TooManyOps
+refusal_of_document doc.TooManyHeads = Doc doc.TooManyHeads
+refusal_of_document doc.UnknownHead = Doc doc.UnknownHead
+refusal_of_document doc.UnknownElement = Doc doc.UnknownElement
+refusal_of_document doc.PendingFull = Doc doc.PendingFull
+refusal_of_document doc.HashTaken = Doc doc.HashTaken
+refusal_of_document doc.OutOfMemory = OutOfMemory
+refusal_of_document doc.OtherDocument = Doc doc.OtherDocument
+refusal_of_document doc.TooLong = Doc doc.TooLong
+refusal_of_document doc.Full = Doc doc.Full
+refusal_of_document doc.NotKept = JournalFailed
+
+-- the refusal for one of the journal, or of what it recovers to
+abbrev pub refusal_of_journal : StoreError → PeerError
+refusal_of_journal store.BadMagic = Store store.BadMagic
+refusal_of_journal store.Truncated = Store store.Truncated
+refusal_of_journal store.BadDigest = Store store.BadDigest
+refusal_of_journal (store.Damaged at) = Store (store.Damaged at)
+refusal_of_journal (store.Refused e) = Store (store.Refused e)
+refusal_of_journal store.Io = JournalFailed
+refusal_of_journal store.OutOfMemory = OutOfMemory
+refusal_of_journal store.NoHeader = Store store.NoHeader

@@ -1,0 +1,83 @@
+//! Laws of peers: public functions whose contract is the law and whose body is empty.
+
+ghost use Rattle.std.specs.Prelude.{◌≡◌, ℕ, List, ◌++◌, true, false, length};
+ghost use Rattle.tp_list.specs.Members.{In};
+ghost use Rattle.tp_change.specs.declared.parts.ChangeParts.{ChangeParts};
+ghost use Rattle.tp_edit.specs.declared.splice.Splice.{Splice};
+ghost use Rattle.tp_graph.specs.Named.{HashesApart};
+ghost use Rattle.tp_graph.specs.Sound.{Sound};
+ghost use Rattle.tp_journal.specs.Recovery.{Recovers};
+ghost use Rattle.tp_peer.specs.declared.error.PeerError.{PeerError as Refusal};
+ghost use Rattle.tp_peer.specs.declared.error.PeerError.TheVariants.{JournalFailed, OutOfMemory};
+ghost use Rattle.tp_peer.specs.PeerData.{PeerData, IsPeer};
+ghost use Rattle.tp_peer.specs.PeerStep.{Call, Edit, PeerStep, Refused, Reply};
+ghost use Rattle.tp_peer.specs.Taking.{Report, TakesAll, TakesPart, TakesAndStops};
+ghost use Rattle.tp_peer.specs.Laws.{Keeps, IsComplete, IsPartial, IsTornAt, RecoversTorn};
+
+use crate::peer::Peer;
+use tp_journal::MemJournal;
+
+/// A step keeps the identifier and the actor. The list of applied changes grows at its end, by one at most for an edit
+/// and by none for all but an edit and a merge, and the journal by just their records. What waits waited before or
+/// came. The device failed exactly where `JournalFailed` is answered: the peer has stopped then.
+pub fn a_step_keeps()
+    ensures { (p : PeerData) (call : Call) (reply : Reply) (p' : PeerData)
+        → PeerStep p call reply p' → Keeps p call reply p' }
+{}
+
+/// What every peer keeps is kept by each step: its changes are a history, and its journal is theirs, with a beginning
+/// of one record behind it where the peer has stopped.
+pub fn a_step_leaves_a_peer()
+    ensures { (p : PeerData) (call : Call) (reply : Reply) (p' : PeerData)
+        → IsPeer p → PeerStep p call reply p' → IsPeer p' }
+{}
+
+/// A refused call changes nothing, but for want of memory and for a device that failed.
+pub fn a_refusal_changes_nothing()
+    ensures { (p : PeerData) (call : Call) (e : Refusal) (p' : PeerData)
+        → PeerStep p call (Refused e) p'
+        → (e ≡ OutOfMemory → ⊥) → (e ≡ JournalFailed → ⊥) → p' ≡ p }
+{}
+
+/// The change that an edit enters is the peer's actor's.
+pub fn an_edit_bears_the_actor()
+    ensures { (p : PeerData) (splices : List Splice) (time : ℕ) (message : List ℕ)
+        (reply : Reply) (p' : PeerData) (new : List ChangeParts)
+        → PeerStep p (Edit splices time message) reply p' → p'.applied ≡ p.applied ++ new
+        → (c : ChangeParts) → In c new → c.actor ≡ p.actor }
+{}
+
+/// Where no two different changes of what waited and came have one hash, what received all of them is a result.
+pub fn all_is_complete()
+    ensures { (p : PeerData) (K : List ChangeParts) (r : Report) (p' : PeerData) → Sound p.applied
+        → HashesApart (p.waiting ++ K) → TakesAll p K r p' → IsComplete p K r p' }
+{}
+
+/// Where memory was refused, what is applied stands between what was there and a result.
+pub fn a_part_is_between()
+    ensures { (p : PeerData) (K : List ChangeParts) (p' : PeerData) → Sound p.applied
+        → TakesPart p K p' → IsPartial p K p' }
+{}
+
+/// Where the device failed, what is applied, with the change that was being appended, stands between, and the journal
+/// has a beginning of just that change's record behind those of what is applied.
+pub fn a_stop_is_between()
+    ensures { (p : PeerData) (K : List ChangeParts) (p' : PeerData) → Sound p.applied
+        → TakesAndStops p K p' → IsTornAt p K p' }
+{}
+
+/// The journal of a peer in memory has no device that could fail, so no call on it answers `JournalFailed`: by
+/// [`a_step_keeps`] the number of failures would have grown.
+pub fn a_peer_in_memory_never_fails(peer: &Peer<MemJournal>)
+    ensures { peer.now.failures ≡ 0 }
+{
+    peer.appender.never_fails();
+}
+
+/// The journal of a running peer recovers to its changes, whole. That of one that has stopped recovers to its changes,
+/// and to the one that was being appended where its record is whole.
+pub fn a_peer_recovers()
+    ensures running { (p : PeerData) → IsPeer p → p.stopped ≡ false
+        → Recovers p.journal p.id p.applied (length p.journal) }
+    ensures stopped { (p : PeerData) → IsPeer p → p.stopped ≡ true → RecoversTorn p }
+{}

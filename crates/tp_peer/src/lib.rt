@@ -1,0 +1,21 @@
+//! A peer: a document with the journal that keeps its changes.
+//!
+//! Each change is appended to the journal before it enters the document, so what a peer shows is kept, and a peer whose
+//! journal's device failed stops. Every call on a peer is one step of a machine, `PeerStep` in specs/PeerStep.
+#![tactic(auto)]
+
+mod actors;
+mod appender;
+mod editing;
+mod error;
+pub mod laws;
+mod merging;
+mod opening;
+mod peer;
+mod sequence;
+
+pub use actors::fresh_actor;
+pub use error::PeerError;
+pub use opening::Unopened;
+pub use peer::Peer;
+pub use sequence::PeerSequence;

@@ -1,0 +1,259 @@
+//! Opening a peer on a journal: anew, again, or as a fork.
+
+ghost use Rattle.std.specs.Prelude.{◌≡◌, ℕ, List, [], false, MatchBool, OnOk, IfOk, IfErr, IsOkUnless};
+ghost use Rattle.tp_journal.specs.Layout.{journal as journal_bytes};
+ghost use Rattle.tp_journal.specs.Recovery.{Recovers};
+ghost use Rattle.tp_peer.specs.Actors.{has_actor as is_used};
+ghost use Rattle.tp_peer.specs.Appending.{journal_state};
+ghost use Rattle.tp_peer.specs.Opening.{IsUnused, NotBegun, NotCopied, Forks, NotForked, Reopens, NotReopened};
+ghost use Rattle.tp_peer.specs.PeerData.{opened};
+
+use crate::actors::has_actor;
+use crate::error::PeerError;
+use crate::peer::Peer;
+use crate::sequence::PeerSequence;
+use std::alloc::Global;
+use tp_change::Change;
+use tp_document::Document;
+use tp_journal::{DIGEST_BYTES, HEADER_BYTES, Journal, header, put_record, recover};
+use tp_opid::{Actor, DocId};
+use tp_store::StoreError;
+
+/// A journal on which no peer was opened.
+#[derive(Drop)]
+pub struct Unopened<J: Journal> {
+    /// The journal, given back.
+    pub journal: J,
+    /// Why it wasn't.
+    pub error: PeerError,
+}
+
+// Whether bytes are those of an unused journal. Only fewer bytes than a header has are looked at.
+fn is_unused(alloc: Global, bytes: &[u8]) -> Result<bool, PeerError>
+    ensures ok { IfOk result
+        (λ unused. MatchBool unused (IsUnused bytes.now) (IsUnused bytes.now → ⊥)) }
+    ensures err { IsOkUnless result PeerError.OutOfMemory }
+{
+    if bytes.len() >= HEADER_BYTES {
+        return Ok(false);
+    }
+    match recover::<PeerSequence>(alloc, bytes) {
+        Ok(_) => Ok(false),
+        Err(StoreError::NoHeader) => Ok(true),
+        Err(StoreError::OutOfMemory) => Err(PeerError::OutOfMemory),
+        Err(_) => Ok(false),
+    }
+}
+
+// Refuses a journal that isn't unused, whatever bytes were to be put into it.
+fn check_unused<J: Journal>(alloc: Global, journal: &mut J) -> Result<(), PeerError>
+    ensures ok { OnOk result (IsUnused (J.content journal.old)) }
+    ensures stays { OnOk result
+        (journal_state (J.content journal.new) (J.failures journal.new)
+        ≡ journal_state (J.content journal.old) (J.failures journal.old)) }
+    ensures err { (bytes : List ℕ) → IfErr result
+        (λ e. NotBegun bytes (journal_state (J.content journal.old) (J.failures journal.old)) e
+        (journal_state (J.content journal.new) (J.failures journal.new))) }
+{
+    match journal.read_all() {
+        Ok(bytes) => match is_unused(alloc, &bytes) {
+            Ok(true) => Ok(()),
+            Ok(false) => Err(PeerError::JournalNotEmpty),
+            Err(error) => Err(error),
+        },
+        Err(error) => Err(PeerError::from(error)),
+    }
+}
+
+// Cuts an unused journal to nothing and appends the bytes.
+fn begin<J: Journal>(journal: &mut J, bytes: &[u8]) -> Result<(), PeerError>
+    requires { IsUnused (J.content journal.old) }
+    ensures ok { OnOk result (J.content journal.new ≡ bytes.now) }
+    ensures quiet { OnOk result (J.failures journal.new ≡ J.failures journal.old) }
+    ensures err { IfErr result
+        (λ e. NotBegun bytes.now (journal_state (J.content journal.old) (J.failures journal.old)) e
+        (journal_state (J.content journal.new) (J.failures journal.new))) }
+{
+    match journal.cut(0) {
+        Ok(()) => match journal.append(bytes) {
+            Ok(()) => Ok(()),
+            Err(error) => Err(PeerError::from(error)),
+        },
+        Err(error) => Err(PeerError::from(error)),
+    }
+}
+
+// How many bytes the records of the changes have, or the greatest number there is. Room alone depends on it.
+fn records_len(changes: &[Change]) -> usize {
+    let mut len: usize = 0;
+    for change in changes {
+        len = len
+            .saturating_add(change.encoded_len())
+            .saturating_add(4 + DIGEST_BYTES);
+    }
+    len
+}
+
+// The journal of a document: its header and its records.
+fn journal_of(alloc: Global, document: &Document<PeerSequence>) -> Result<Vec<u8>, StoreError>
+    ensures { IfOk result
+        (λ bytes. bytes.items ≡ journal_bytes document.now.id document.now.applied) }
+{
+    let mut bytes = header(alloc, document.id())?;
+    bytes.reserve(records_len(document.changes()))?;
+    for change in document.changes() {
+        bytes = put_record(bytes, change)?;
+    }
+    Ok(bytes)
+}
+
+// A copy of the document, for a peer under the actor on an unused journal, which is begun with the document's header
+// and records. All that can fail comes before the append.
+fn copy_to<J: Journal>(
+    alloc: Global,
+    document: &Document<PeerSequence>,
+    journal: &mut J,
+    actor: &Actor,
+) -> Result<Document<PeerSequence>, PeerError>
+    ensures unused { OnOk result (IsUnused (J.content journal.old)) }
+    ensures free { OnOk result (is_used document.now.applied actor.now ≡ false) }
+    ensures id { IfOk result (λ d. d.id ≡ document.now.id) }
+    ensures applied { IfOk result (λ d. d.applied ≡ document.now.applied) }
+    ensures waiting { IfOk result (λ d. d.waiting ≡ []) }
+    ensures begun { OnOk result
+        (J.content journal.new ≡ journal_bytes document.now.id document.now.applied) }
+    ensures quiet { OnOk result (J.failures journal.new ≡ J.failures journal.old) }
+    ensures err { IfErr result
+        (λ e. NotCopied document.now.id document.now.applied actor.now
+        (journal_state (J.content journal.old) (J.failures journal.old)) e
+        (journal_state (J.content journal.new) (J.failures journal.new))) }
+{
+    match check_unused(alloc, journal) {
+        Ok(()) => {}
+        Err(error) => return Err(error),
+    }
+    if has_actor(document.changes(), actor) {
+        return Err(PeerError::ActorInUse);
+    }
+    let bytes = match journal_of(alloc, document) {
+        Ok(bytes) => bytes,
+        Err(_) => return Err(PeerError::OutOfMemory),
+    };
+    match document.fork() {
+        Ok(copy) => match begin(journal, &bytes) {
+            Ok(()) => Ok(copy),
+            Err(error) => Err(error),
+        },
+        Err(_) => Err(PeerError::OutOfMemory),
+    }
+}
+
+// The document of the journal, for a peer under the actor. The journal is cut to what is kept of it.
+fn recover_for<J: Journal>(
+    alloc: Global,
+    journal: &mut J,
+    actor: &Actor,
+) -> Result<Document<PeerSequence>, PeerError>
+    ensures ok { IfOk result
+        (λ d. (keep : ℕ) × Recovers (J.content journal.old) d.id d.applied keep) }
+    ensures free { IfOk result (λ d. is_used d.applied actor.now ≡ false) }
+    ensures waiting { IfOk result (λ d. d.waiting ≡ []) }
+    ensures kept { IfOk result (λ d. J.content journal.new ≡ journal_bytes d.id d.applied) }
+    ensures quiet { OnOk result (J.failures journal.new ≡ J.failures journal.old) }
+    ensures err { IfErr result
+        (λ e. NotReopened (journal_state (J.content journal.old) (J.failures journal.old)) actor.now
+        e (journal_state (J.content journal.new) (J.failures journal.new))) }
+{
+    let bytes = match journal.read_all() {
+        Ok(bytes) => bytes,
+        Err(error) => return Err(PeerError::from(error)),
+    };
+    let recovered = match recover(alloc, &bytes) {
+        Ok(recovered) => recovered,
+        Err(error) => return Err(PeerError::from(error)),
+    };
+    if has_actor(recovered.document.changes(), actor) {
+        return Err(PeerError::ActorInUse);
+    }
+    match journal.cut(recovered.keep) {
+        Ok(()) => Ok(recovered.document),
+        Err(error) => Err(PeerError::from(error)),
+    }
+}
+
+impl<J: Journal> Peer<J> {
+    /// A peer with no changes, edited under the actor, on a journal in which no header was written: one that
+    /// [`recover`] refuses as `NoHeader`. It is cut to nothing, and the header of the document is appended.
+    ///
+    /// Another journal is refused as `JournalNotEmpty`. `JournalFailed` where its device failed; it is then as it was,
+    /// or empty but for a beginning of the header. The only other refusal is `OutOfMemory`, which leaves it as it was
+    /// or empty. Each refusal gives the journal back.
+    pub fn create(
+        alloc: Global,
+        mut journal: J,
+        id: DocId,
+        actor: Actor,
+    ) -> Result<Peer<J>, Unopened<J>>
+        ensures ok { IfOk result (λ p. p ≡ opened id actor [] (J.failures journal)) }
+        ensures unused { OnOk result (IsUnused (J.content journal)) }
+        ensures err { IfErr result
+            (λ u. NotBegun (journal_bytes id [])
+            (journal_state (J.content journal) (J.failures journal))
+            u.error (journal_state (J.content u.journal) (J.failures u.journal))) }
+    {
+        match copy_to(alloc, &Document::new(alloc, id), &mut journal, &actor) {
+            Ok(document) => Ok(Peer::new(alloc, journal, document, actor)),
+            Err(error) => Err(Unopened { journal, error }),
+        }
+    }
+
+    /// A peer with the changes that the journal recovers to, edited under the actor; nothing waits. What stands in the
+    /// journal behind its whole records is cut off.
+    ///
+    /// It is refused as [`recover`] refuses the bytes; then as `ActorInUse` where a change is the actor's: each peer
+    /// that is opened has an actor of its own. `JournalFailed` where the journal's device failed. The only other
+    /// refusal is `OutOfMemory`. Each refusal gives the journal back with its content as it was.
+    ///
+    /// The cost is that of `recover`, and of one copy of the journal.
+    pub fn reopen(alloc: Global, mut journal: J, actor: Actor) -> Result<Peer<J>, Unopened<J>>
+        ensures ok { IfOk result
+            (λ p. Reopens (journal_state (J.content journal) (J.failures journal)) actor p) }
+        ensures err { IfErr result
+            (λ u. NotReopened (journal_state (J.content journal) (J.failures journal)) actor
+            u.error (journal_state (J.content u.journal) (J.failures u.journal))) }
+    {
+        match recover_for(alloc, &mut journal, &actor) {
+            Ok(document) => Ok(Peer::new(alloc, journal, document, actor)),
+            Err(error) => Err(Unopened { journal, error }),
+        }
+    }
+
+    /// A peer with the same identifier and changes, edited under another actor, on a journal in which no header was
+    /// written; nothing waits. The journal is cut to nothing, and the header and all records are appended at once. This
+    /// peer stays as it is.
+    ///
+    /// It is refused as `Stopped`; then as `JournalNotEmpty`, as [`create`](Peer::create) refuses a journal; then as
+    /// `ActorInUse` where a change is the actor's. `JournalFailed` where the device of the other journal failed; that
+    /// is then as it was, or empty but for a beginning of what was appended. The only other refusal is `OutOfMemory`,
+    /// which leaves it as it was or empty. Each refusal gives the journal back.
+    ///
+    /// It enters each change anew, and makes the whole journal in memory.
+    pub fn fork<K: Journal>(&self, mut journal: K, actor: Actor) -> Result<Peer<K>, Unopened<K>>
+        ensures ok { IfOk result
+            (λ p. Forks self.now actor (journal_state (K.content journal) (K.failures journal)) p) }
+        ensures err { IfErr result
+            (λ u. NotForked self.now actor (journal_state (K.content journal) (K.failures journal))
+            u.error (journal_state (K.content u.journal) (K.failures u.journal))) }
+    {
+        if self.stopped {
+            return Err(Unopened {
+                journal,
+                error: PeerError::Stopped,
+            });
+        }
+        match copy_to(self.alloc, &self.document, &mut journal, &actor) {
+            Ok(document) => Ok(Peer::new(self.alloc, journal, document, actor)),
+            Err(error) => Err(Unopened { journal, error }),
+        }
+    }
+}

@@ -1,0 +1,161 @@
+//! The peer: its parts, what is read of it, and how it ends.
+
+ghost use Rattle.std.specs.Prelude.{◌≡◌, [], length};
+ghost use Rattle.std.specs.Str.{chars};
+ghost use Rattle.std.specs.String.{string_bytes};
+ghost use Rattle.tp_peer.specs.PeerData.{IsPeer, HasJournal, opened};
+ghost use Rattle.tp_peer.specs.PeerStep.{PeerStep, Heads, Read, ReadAt, ReadHeads, Text, replied};
+ghost use Rattle.tp_journal.specs.Layout.{IsDocId, journal as journal_bytes};
+
+use crate::appender::Appender;
+use crate::error::PeerError;
+use crate::sequence::PeerSequence;
+use std::alloc::Global;
+use std::marker::Model;
+use tp_document::Document;
+use tp_journal::Journal;
+use tp_opid::{Actor, DocId, Hash};
+
+/// A document with the journal that keeps its changes, and the actor under which it is edited.
+///
+/// Each change is appended to the journal before it enters the document. Where the journal's device fails in a call,
+/// the peer stops: it answers `Stopped` to every call but [`stop`](Peer::stop), [`document`](Peer::document),
+/// [`actor`](Peer::actor), [`is_stopped`](Peer::is_stopped) and [`change_count`](Peer::change_count), and its journal
+/// is opened again under a fresh actor.
+///
+/// Contracts see `PeerData`, and each call is a `PeerStep`.
+#[derive(Drop)]
+pub struct Peer<J: Journal> {
+    pub(crate) alloc: Global,
+    pub(crate) actor: Actor,
+    pub(crate) document: Document<PeerSequence>,
+    pub(crate) appender: Appender<J>,
+    pub(crate) stopped: bool,
+}
+
+impl<J: Journal> Model for Peer<J> {
+    ghost use Rattle.tp_peer.specs.PeerData.{PeerData, IsPeer, peer_data};
+
+    ghost Value = { PeerData };
+
+    ghost view = { λ p. peer_data p.actor p.document p.appender p.stopped };
+
+    ghost invariant = { λ p. IsPeer (peer_data p.actor p.document p.appender p.stopped) };
+}
+
+// What the type of an identifier says: it has 16 bytes. Answers their number.
+fn id_len(id: DocId) -> usize
+    ensures { IsDocId id }
+{
+    let bytes = id.0;
+    bytes.len()
+}
+
+impl<J: Journal> Peer<J> {
+    /// A peer that runs, on a journal that is the document's.
+    pub(crate) fn new(
+        alloc: Global,
+        journal: J,
+        document: Document<PeerSequence>,
+        actor: Actor,
+    ) -> Peer<J>
+        requires kept { J.content journal ≡ journal_bytes document.id document.applied }
+        requires waiting { document.waiting ≡ [] }
+        ensures { result ≡ opened document.id actor document.applied (J.failures journal) }
+    {
+        let _len = id_len(document.id());
+        let _changes = document.changes();
+        Peer {
+            alloc,
+            actor,
+            document,
+            appender: Appender::new(alloc, journal),
+            stopped: false,
+        }
+    }
+
+    /// The text: the visible characters in order. The only refusals are `Stopped` and `OutOfMemory`.
+    ///
+    /// One pass over the elements, deleted ones among them.
+    pub fn read(&self) -> Result<String, PeerError>
+        ensures { PeerStep self.now Read
+            (replied (λ t. Text (chars (string_bytes t))) result) self.now }
+    {
+        if self.stopped {
+            return Err(PeerError::Stopped);
+        }
+        match self.document.text() {
+            Ok(text) => Ok(text),
+            Err(_) => Err(PeerError::OutOfMemory),
+        }
+    }
+
+    /// The text of the past of the hashes, which may come in any order and more than once; no hash gives the empty
+    /// text. It is refused as `Stopped`, then as `UnknownHead` of the document where no applied change has a hash; the
+    /// only other refusal is `OutOfMemory`.
+    ///
+    /// The cost is that of [`Document::text_at`].
+    pub fn read_at(&self, hashes: &[Hash]) -> Result<String, PeerError>
+        ensures { PeerStep self.now (ReadAt hashes.now)
+            (replied (λ t. Text (chars (string_bytes t))) result) self.now }
+    {
+        if self.stopped {
+            return Err(PeerError::Stopped);
+        }
+        match self.document.text_at(hashes) {
+            Ok(text) => Ok(text),
+            Err(error) => Err(PeerError::from(error)),
+        }
+    }
+
+    /// The hashes of the applied changes on which no applied change depends, rising. The only refusal is `Stopped`.
+    pub fn heads(&self) -> Result<&[Hash], PeerError>
+        ensures { PeerStep self.now ReadHeads
+            (replied (λ hs. Heads hs.now) result) self.now }
+    {
+        if self.stopped {
+            return Err(PeerError::Stopped);
+        }
+        Ok(self.document.heads())
+    }
+
+    /// The document, also of a peer that has stopped. It has all changes that entered.
+    pub fn document(&self) -> &Document<PeerSequence>
+        ensures id { result.now.id ≡ self.now.id }
+        ensures applied { result.now.applied ≡ self.now.applied }
+        ensures waiting { result.now.waiting ≡ self.now.waiting }
+        ensures keeps { IsPeer self.now }
+    {
+        &self.document
+    }
+
+    /// The actor of its edits, also of a peer that has stopped.
+    pub fn actor(&self) -> Actor
+        ensures { result ≡ self.now.actor }
+    {
+        self.actor
+    }
+
+    /// Whether the journal's device failed, since when the peer answers `Stopped`.
+    pub fn is_stopped(&self) -> bool
+        ensures { result ≡ self.now.stopped }
+    {
+        self.stopped
+    }
+
+    /// How many changes are applied, also of a peer that has stopped.
+    pub fn change_count(&self) -> usize
+        ensures { result ≡ length self.now.applied }
+    {
+        self.document.changes().len()
+    }
+
+    /// Ends the peer, also one that has stopped, and gives its journal back. No memory.
+    pub fn stop(self) -> J
+        ensures content { J.content result ≡ self.journal }
+        ensures failures { J.failures result ≡ self.failures }
+        ensures kept { HasJournal self.stopped self.id self.applied (J.content result) }
+    {
+        self.appender.into_journal()
+    }
+}

@@ -1,0 +1,161 @@
+//! Calls that open, fork, merge and end peers.
+
+use crate::faulty::FaultyJournal;
+use crate::world::{RowPeer, World};
+use std::alloc::Global;
+use std::fmt::Display;
+use tp_change::Change;
+use tp_document::Applied;
+use tp_journal::MemJournal;
+use tp_opid::DocId;
+use tp_peer::{Peer, PeerError, Unopened};
+use tp_runner::{Fault, Shelf, Words, actor, count, done, number, put_name, put_names, refusal};
+
+// `[fails=N] [keeps=K]`: the journal with these bytes, whose append number N, from 0, fails and keeps K bytes.
+fn journal_of(bytes: Vec<u8>, words: &mut Words) -> Result<FaultyJournal, Fault> {
+    let succeeds = match words.option("fails") {
+        Some(word) => Some(number(word)?),
+        None => None,
+    };
+    let keeps = count(words.option("keeps").unwrap_or("0"))?;
+    Ok(FaultyJournal {
+        memory: MemJournal::new(bytes),
+        failures: 0,
+        succeeds,
+        keeps,
+    })
+}
+
+// `[on=BYTES]`: a copy of these bytes; none where there are none named.
+fn bytes_of(shelf: &Shelf<Vec<u8>>, words: &mut Words) -> Result<Vec<u8>, Fault> {
+    match words.option("on") {
+        Some(name) => Ok(Vec::from_slice(shelf.alloc(), shelf.get(name)?)?),
+        None => Ok(Vec::new(shelf.alloc())),
+    }
+}
+
+// Gives a peer its name, or answers why there is none, and how many bytes its journal has then.
+fn keep(
+    peers: &mut Shelf<RowPeer>,
+    name: &str,
+    made: Result<RowPeer, Unopened<FaultyJournal>>,
+) -> Result<String, Fault> {
+    let alloc = peers.alloc();
+    match made {
+        Ok(peer) => {
+            peers.put(name, peer)?;
+            done(alloc)
+        }
+        Err(unopened) => {
+            let error = refusal(alloc, unopened.error)?;
+            let left = unopened.journal.memory.into_vec().len();
+            Ok(format!(in alloc; "{error}, {left} bytes")?)
+        }
+    }
+}
+
+// `create NAME ACTOR [id=BYTE] [on=BYTES] [fails=N] [keeps=K]`.
+fn create(world: &mut World, words: &mut Words) -> Result<String, Fault> {
+    let name = words.next()?;
+    let actor = actor(words.next()?)?;
+    let byte = words.option("id").unwrap_or("7");
+    let byte = byte.parse::<u8>().ok().ok_or(Fault::Row("no number"))?;
+    let bytes = bytes_of(&world.bytes, words)?;
+    let journal = journal_of(bytes, words)?;
+    let made = Peer::create(world.alloc, journal, DocId([byte; 16]), actor);
+    keep(&mut world.peers, name, made)
+}
+
+// `reopen NAME ACTOR on=BYTES [fails=N] [keeps=K]`.
+fn reopen(world: &mut World, words: &mut Words) -> Result<String, Fault> {
+    let name = words.next()?;
+    let actor = actor(words.next()?)?;
+    let bytes = bytes_of(&world.bytes, words)?;
+    let journal = journal_of(bytes, words)?;
+    let made = Peer::reopen(world.alloc, journal, actor);
+    keep(&mut world.peers, name, made)
+}
+
+// `fork NAME OF ACTOR [on=BYTES] [fails=N] [keeps=K]`.
+fn fork(world: &mut World, words: &mut Words) -> Result<String, Fault> {
+    let name = words.next()?;
+    let of = words.next()?;
+    let actor = actor(words.next()?)?;
+    let bytes = bytes_of(&world.bytes, words)?;
+    let journal = journal_of(bytes, words)?;
+    let made = world.peers.get(of)?.fork(journal, actor);
+    keep(&mut world.peers, name, made)
+}
+
+// `stop PEER BYTES`: ends the peer, and gives its journal's bytes a name. Answers how many there are.
+fn stop(world: &mut World, words: &mut Words) -> Result<String, Fault> {
+    let name = words.next()?;
+    let bytes = words.next()?;
+    world.bytes.put(bytes, Vec::new(world.alloc))?;
+    let (_name, peer) = world.peers.take(name)?;
+    let journal = peer.stop().memory.into_vec();
+    let len = journal.len();
+    *world.bytes.get_mut(bytes)? = journal;
+    Ok(format!(in world.alloc; "{len} bytes")?)
+}
+
+// What became of the changes: `entered [..] held [..]`, and how many were refused where some were.
+fn put_applied(changes: &Shelf<Change>, out: &mut String, applied: &Applied) -> Result<(), Fault> {
+    out.push_str("entered ")?;
+    put_names(changes, out, &applied.applied)?;
+    out.push_str(" held ")?;
+    put_names(changes, out, &applied.held)?;
+    for (hash, error) in &applied.refused {
+        out.push_str(" refused ")?;
+        put_name(changes, out, hash)?;
+        write!(out, ":{error}")?;
+    }
+    Ok(())
+}
+
+fn reply<E: Display + Drop>(
+    changes: &Shelf<Change>,
+    answer: Result<Applied, E>,
+) -> Result<String, Fault> {
+    match answer {
+        Ok(applied) => {
+            let mut out = String::new(changes.alloc());
+            put_applied(changes, &mut out, &applied)?;
+            Ok(out)
+        }
+        Err(error) => refusal(changes.alloc(), error),
+    }
+}
+
+// Takes out the peer that receives, so that the other one can be lent beside it.
+fn merge_named(
+    peers: &mut Shelf<RowPeer>,
+    into: &str,
+    from: &str,
+) -> Result<Result<Applied, PeerError>, Fault> {
+    let mut into = peers.take(into)?;
+    let answer = match peers.get(from) {
+        Ok(from) => Ok(into.1.merge(from)),
+        Err(fault) => Err(fault),
+    };
+    peers.put_back(into)?;
+    answer
+}
+
+// `merge INTO FROM`.
+fn merge(world: &mut World, words: &mut Words) -> Result<String, Fault> {
+    let answer = merge_named(&mut world.peers, words.next()?, words.next()?)?;
+    reply(&world.changes, answer)
+}
+
+/// Makes a call that opens, forks, merges or ends a peer; `None` where the word is none of these.
+pub fn call(world: &mut World, word: &str, words: &mut Words) -> Option<Result<String, Fault>> {
+    Some(match word {
+        "create" => create(world, words),
+        "reopen" => reopen(world, words),
+        "fork" => fork(world, words),
+        "merge" => merge(world, words),
+        "stop" => stop(world, words),
+        _ => return None,
+    })
+}

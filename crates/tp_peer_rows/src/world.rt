@@ -1,0 +1,65 @@
+//! What the rows of an example have made so far, and what makes their calls.
+
+use crate::faulty::FaultyJournal;
+use crate::{bytes, edits, peers, reads};
+use std::alloc::Global;
+use tp_change::Change;
+use tp_peer::Peer;
+use tp_runner::{Calls, Fault, Shelf, Words, call_on_fields};
+
+/// A peer of the rows.
+pub type RowPeer = Peer<FaultyJournal>;
+
+/// What the rows of an example have made so far.
+#[derive(Drop)]
+pub struct World {
+    /// Where all of it lies.
+    pub alloc: Global,
+    /// Changes.
+    pub changes: Shelf<Change>,
+    /// Peers.
+    pub peers: Shelf<RowPeer>,
+    /// Journals, as bytes.
+    pub bytes: Shelf<Vec<u8>>,
+}
+
+impl World {
+    /// Nothing made yet.
+    pub fn new(alloc: Global) -> World {
+        World {
+            alloc,
+            changes: Shelf::new(alloc),
+            peers: Shelf::new(alloc),
+            bytes: Shelf::new(alloc),
+        }
+    }
+}
+
+impl Calls for World {
+    fn call(&mut self, words: &mut Words) -> Result<String, Fault> {
+        let word = words.next()?;
+        if let Some(answer) = call_on_fields(&mut self.changes, word, words) {
+            return answer;
+        }
+        if let Some(answer) = bytes::call(&mut self.bytes, word, words) {
+            return answer;
+        }
+        if let Some(answer) = peers::call(self, word, words) {
+            return answer;
+        }
+        if let Some(answer) = edits::call(self, word, words) {
+            return answer;
+        }
+        reads::call(self, word, words)
+    }
+
+    fn clear(&mut self) {
+        self.changes.clear();
+        self.peers.clear();
+        self.bytes.clear();
+    }
+
+    fn is_partial(&self, row: &str) -> bool {
+        row.starts_with("merge")
+    }
+}
