@@ -1,0 +1,3 @@
+pub mod FrameFields
+pub mod StreamLaws
+pub mod FrontSteps

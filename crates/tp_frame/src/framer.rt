@@ -1,0 +1,85 @@
+//! Frames out of a stream that comes in any pieces.
+
+ghost use Rattle.std.specs.Prelude.{◌≡◌, [], ◌++◌, IfOk, IfSome, OnOk, OnErr, IsOkUnless};
+ghost use Rattle.tp_frame.specs.declared.error.FrameError.TheVariants.{OutOfMemory};
+ghost use Rattle.tp_frame.specs.Frame.{spelling, IsFrame};
+ghost use Rattle.tp_frame.specs.Stream.{Answers};
+
+use crate::error::FrameError;
+use crate::frame::Frame;
+use crate::limits::HEADER_LEN;
+use crate::reading::{Front, NoFrame, front_of};
+use bytes::BytesMut;
+use std::alloc::Global;
+use std::marker::Model;
+
+/// Takes a stream of bytes in whatever pieces it comes, and gives its frames.
+///
+/// Contracts see the bytes held: those that were fed and stand in no frame that was given. So much memory is kept and
+/// no more than what growing by doubling asks for: a length takes none before its bytes are there.
+#[derive(Drop)]
+pub struct Framer {
+    buffer: BytesMut,
+}
+
+impl Model for Framer {
+    ghost use Rattle.std.specs.Prelude.{List, ℕ};
+
+    ghost Value = { List ℕ };
+
+    ghost view = { λ f. f.buffer.items };
+}
+
+impl Framer {
+    /// A framer that holds nothing. No memory.
+    pub fn new(alloc: Global) -> Framer
+        ensures { result ≡ [] }
+    {
+        Framer {
+            buffer: BytesMut::new(alloc),
+        }
+    }
+
+    /// Takes the next bytes of the stream. The only refusal is `OutOfMemory`, which takes none of them.
+    ///
+    /// The cost is that of copying the bytes once, and now and then what is held, as often as a `Vec` that grows does.
+    pub fn feed(&mut self, bytes: &[u8]) -> Result<(), FrameError>
+        ensures ok { OnOk result (self.new ≡ self.old ++ bytes.now) }
+        ensures err { OnErr result (self.new ≡ self.old) }
+        ensures memory { IsOkUnless result OutOfMemory }
+    {
+        self.buffer.extend_from_slice(bytes)?;
+        Ok(())
+    }
+
+    /// The next frame, or `None` where it isn't whole yet and shows no fault.
+    ///
+    /// `TooLong` for a length past 16,777,216, and `BadKind` for a length of 0, once the 4 bytes of the length are
+    /// there; `BadKind` for a kind past 3 once its byte is there; and once the body is whole, `BadHello` for a hello of
+    /// another length than 18, and `BadKind` for a done of another length than 1 and a refusal of another than 2. The
+    /// frame stays where it was then, so every later call answers the same. `OutOfMemory` is answered at a whole sync
+    /// frame alone, and changes nothing.
+    ///
+    /// No byte of a body is copied, but for a hello's document: the bytes of a sync frame are a part of the framer's
+    /// block, which is kept as long as they are. What is taken is a count of the block's owners.
+    pub fn next(&mut self) -> Result<Option<Frame>, FrameError>
+        ensures frame { IfOk result (λ next. IfSome next
+            (λ f. IsFrame f × (self.old ≡ spelling f ++ self.new))) }
+        ensures exact { Answers self.old result self.new }
+    {
+        let held = self.buffer.as_slice();
+        match front_of(held) {
+            Ok(Front::Sync { len }) => {
+                let mut body = self.buffer.freeze_to(len)?;
+                body.advance(HEADER_LEN);
+                Ok(Some(Frame::Sync(body)))
+            }
+            Ok(Front::Other { frame, len }) => {
+                self.buffer.advance(len);
+                Ok(Some(frame))
+            }
+            Err(NoFrame::Missing) => Ok(None),
+            Err(NoFrame::Fault(e)) => Err(e),
+        }
+    }
+}

@@ -1,0 +1,23 @@
+//! Frames: what two peers send each other over a stream of bytes.
+//!
+//! A frame is the length of its body in 4 bytes, and the body: a kind and what stands behind it. A [`Framer`] takes
+//! the stream in whatever pieces it comes and gives the frames; [`write_frame`] gives the bytes of one. The bytes are
+//! a layout of our own, of which docs/FORMATS.md says every byte.
+#![tactic(auto)]
+
+mod error;
+mod frame;
+mod framer;
+pub mod laws;
+mod limits;
+mod reading;
+mod writing;
+
+pub use error::FrameError;
+pub use frame::Frame;
+pub use framer::Framer;
+pub use limits::MAX_BODY;
+pub use writing::write_frame;
+
+#[cfg(test)]
+mod tests;

@@ -1,0 +1,7 @@
+//! How long frames are.
+
+/// The most bytes that the body of a frame has.
+pub const MAX_BODY: usize = 16_777_216;
+
+/// How many bytes stand before what is behind the kind: the length and the kind.
+pub(crate) const HEADER_LEN: usize = 5;

@@ -1,0 +1,169 @@
+//! Reading the frame that stands at the front of bytes.
+//!
+//! Nothing here takes memory or makes a copy, but for the 16 bytes of a hello's document.
+#![tactic(auto, unfolding(tp_codec::specs::Reading::or_fail, tp_codec::specs::Reading::found_or, tp_codec::specs::Reading::and_then, tp_codec::specs::Reading::and_next, tp_codec::specs::Reading::give, tp_codec::specs::Reading::require, tp_codec::specs::Reading::passed, crate::specs::Reading::body_at))]
+
+ghost use Rattle.std.specs.Prelude.{◌≡◌, ℕ, ◌<◌, slice_index, Err, IfOk, IfErr, IsOkUnless};
+ghost use Rattle.std.specs.Int.{w32};
+ghost use Rattle.tp_codec.specs.Prefix.{byte_at, bytes_at, number_at};
+ghost use Rattle.tp_codec.specs.Reading.{or_fail};
+ghost use Rattle.tp_frame.specs.declared.reading.NoFrame.TheVariants.{Missing, Fault};
+ghost use Rattle.tp_frame.specs.declared.error.FrameError.TheVariants.{BadKind, BadHello, OutOfMemory};
+ghost use Rattle.tp_frame.specs.Gives.{Is};
+ghost use Rattle.tp_frame.specs.Reading.{body_at, hello_of, done_of, refusal_of, frame_behind, frame_at};
+ghost use Rattle.tp_frame.specs.Fronts.{seen, IsFront};
+
+use crate::error::FrameError;
+use crate::frame::Frame;
+use crate::limits::{HEADER_LEN, MAX_BODY};
+use tp_codec::Reader;
+use tp_opid::DocId;
+
+/// Why no frame was read.
+#[derive(Clone, Copy)]
+pub(crate) enum NoFrame {
+    /// The bytes end before the frame does.
+    Missing,
+    /// The frame is refused, whatever follows.
+    Fault(FrameError),
+}
+
+/// The body of a frame, borrowed: its kind, and what stands behind that.
+#[derive(Clone, Copy)]
+pub(crate) struct SeenBody<'a> {
+    kind: u8,
+    content: &'a [u8],
+}
+
+/// The frame at the front, and how many bytes it has.
+#[derive(Drop)]
+pub(crate) enum Front {
+    /// The bytes behind the kind are those of a sync frame, and are left where they are.
+    Sync { len: usize },
+    /// Any other frame.
+    Other { frame: Frame, len: usize },
+}
+
+fn u32_of(reader: &mut Reader<'_>) -> Result<u32, NoFrame>
+    ensures found { Is (λ n. (n, reader.new)) result
+        (or_fail Missing (number_at w32) reader.old) }
+    ensures err { IsOkUnless result Missing }
+{
+    match reader.u32() {
+        Some(n) => Ok(n),
+        None => Err(NoFrame::Missing),
+    }
+}
+
+fn u8_of(reader: &mut Reader<'_>) -> Result<u8, NoFrame>
+    ensures found { Is (λ b. (b, reader.new)) result (or_fail Missing byte_at reader.old) }
+    ensures err { IsOkUnless result Missing }
+{
+    match reader.u8() {
+        Some(byte) => Ok(byte),
+        None => Err(NoFrame::Missing),
+    }
+}
+
+fn bytes_of<'a>(reader: &mut Reader<'a>, count: usize) -> Result<&'a [u8], NoFrame>
+    ensures found { Is (λ b. (b.now, reader.new)) result
+        (or_fail Missing (bytes_at count) reader.old) }
+    ensures err { IsOkUnless result Missing }
+{
+    match reader.bytes(count) {
+        Some(bytes) => Ok(bytes),
+        None => Err(NoFrame::Missing),
+    }
+}
+
+// The next body, behind its length. The length is judged once it is whole, and the kind before the rest is there.
+fn body_of<'a>(reader: &mut Reader<'a>) -> Result<SeenBody<'a>, NoFrame>
+    ensures found { Is (λ b. (seen b, reader.new)) result (body_at reader.old) }
+    ensures err { IfErr result (λ e. e ≡ Fault OutOfMemory → ⊥) }
+{
+    let len = u32_of(reader)? as usize;
+    if len > MAX_BODY {
+        return Err(NoFrame::Fault(FrameError::TooLong));
+    }
+    if len < 1 {
+        return Err(NoFrame::Fault(FrameError::BadKind));
+    }
+    let kind = u8_of(reader)?;
+    if kind >= 4 {
+        return Err(NoFrame::Fault(FrameError::BadKind));
+    }
+    let content = bytes_of(reader, len - 1)?;
+    Ok(SeenBody { kind, content })
+}
+
+// The hello that stands behind its kind.
+fn hello_in(content: &[u8]) -> Result<Frame, FrameError>
+    ensures found { Is (λ f. f) result (hello_of content.now) }
+    ensures err { IsOkUnless result BadHello }
+{
+    match content {
+        [version, rest @ ..] if rest.len() == 16 => {
+            let mut id = [0; 16];
+            id.copy_from_slice(rest);
+            Ok(Frame::Hello {
+                version: *version,
+                id: DocId(id),
+            })
+        }
+        _ => Err(FrameError::BadHello),
+    }
+}
+
+// The done that stands behind its kind.
+fn done_in(content: &[u8]) -> Result<Frame, FrameError>
+    ensures found { Is (λ f. f) result (done_of content.now) }
+    ensures err { IsOkUnless result BadKind }
+{
+    match content {
+        [] => Ok(Frame::Done),
+        _ => Err(FrameError::BadKind),
+    }
+}
+
+// The refusal that stands behind its kind.
+fn refusal_in(content: &[u8]) -> Result<Frame, FrameError>
+    ensures found { Is (λ f. f) result (refusal_of content.now) }
+    ensures err { IsOkUnless result BadKind }
+{
+    match content {
+        [code] => Ok(Frame::Refusal(*code)),
+        _ => Err(FrameError::BadKind),
+    }
+}
+
+// The frame that a body is, but for a sync frame.
+fn frame_of(kind: u8, content: &[u8]) -> Result<Frame, FrameError>
+    requires { kind ≡ 1 → ⊥ }
+    ensures found { Is (λ f. f) result (frame_behind kind content.now) }
+    ensures err { IfErr result (λ e. e ≡ OutOfMemory → ⊥) }
+{
+    match kind {
+        0 => hello_in(content),
+        2 => done_in(content),
+        3 => refusal_in(content),
+        _ => Err(FrameError::BadKind),
+    }
+}
+
+/// The frame at the front of the bytes, or why none is read.
+pub(crate) fn front_of(bytes: &[u8]) -> Result<Front, NoFrame>
+    ensures found { IfOk result (λ front. IsFront bytes.now front) }
+    ensures err { IfErr result (λ e. (frame_at bytes.now ≡ Err e) × (e ≡ Fault OutOfMemory → ⊥)) }
+    ensures bytes { (i : ℕ) → slice_index bytes.now i < 256 }
+{
+    let mut reader = Reader::new(bytes);
+    let body = body_of(&mut reader)?;
+    let len = HEADER_LEN + body.content.len();
+    if body.kind == 1 {
+        return Ok(Front::Sync { len });
+    }
+    match frame_of(body.kind, body.content) {
+        Ok(frame) => Ok(Front::Other { frame, len }),
+        Err(e) => Err(NoFrame::Fault(e)),
+    }
+}

@@ -1,0 +1,10 @@
+pub mod MarkLaws
+pub mod TakeLaws
+pub mod LoadLaws
+pub mod LimitLaws
+pub mod WantLaws
+pub mod UnionLaws
+pub mod ExchangeLaws
+pub mod Refusals
+pub mod MessageFields
+pub mod WholeMessage

@@ -1,0 +1,127 @@
+-- What a message carries, by marks of the changes that are due.
+use Rattle.std.proofs.Common.{◌≡◌, ◌<◌, ◌↔◌, inl, inr, ℕ, List, [], ◌∷◌, ◌++◌, length, Bool, true, false, ◌||◌, ◌&&◌, not, cond, Some, drop, map, filter, refl, sym, ap, ◌∙◌, subst, nat_lt, arith}
+use Rattle.std.specs.List.{list_any}
+use Rattle.std.proofs.lemmas.List.{length-map}
+use Rattle.std.proofs.lemmas.Bool.Decides.{nat_tests}
+use Rattle.tp_list.specs.Members.{In}
+use Rattle.tp_list.proofs.Members.{filter-In}
+use Rattle.tp_list.proofs.Tests.{truth, never, not_true, neither, or_left}
+use Rattle.tp_opid.specs.declared.hash.Hash.{Hash}
+use Rattle.tp_change.specs.declared.parts.ChangeParts.{ChangeParts}
+use Rattle.tp_change.specs.ChangeHash.{hash_of}
+use Rattle.tp_graph.specs.Named.{names, has}
+use Rattle.tp_graph.specs.Heads.{heads}
+use Rattle.tp_graph.specs.Past.{past}
+use Rattle.tp_graph.specs.Marks.{pick}
+use Rattle.tp_graph.specs.Since.{marks_since}
+use Rattle.tp_graph.specs.Sound.{Sound}
+use Rattle.tp_graph.proofs.NamedLaws.{has-In, In-has, names-In, In-names}
+use Rattle.tp_graph.proofs.SoundLaws.{deps_first}
+use Rattle.tp_graph.proofs.HeadsLaws.{past-heads}
+use Rattle.tp_sync.specs.State.{SyncParts}
+use Rattle.tp_sync.specs.Due.{begins_again, begins_at, carried, due, due_from, due_of, is_any, is_due, leaves_out, take_due}
+use Rattle.tp_sync.proofs.MarkLaws.{marks_are_due, any-drop, pick-drop, length-marked}
+use Rattle.tp_sync.proofs.TakeLaws.{piece}
+
+-- ---- by marks
+
+-- The marks say of each change whether it is due.
+pub record AreMarks (C : List ChangeParts) (s : SyncParts) (marks : List Bool) : Type 0 where
+  pub long : length marks ≡ length C
+  pub any : (n : ℕ) → list_any (λ (b : Bool). b) (drop n marks) ≡ is_any (due_from C s n)
+  pub picks : (n : ℕ) → pick (drop n marks) (drop n C) ≡ due_from C s n
+  pub count : length (filter (λ (b : Bool). b) marks) ≡ length (due C s)
+
+pub are_marks : (C : List ChangeParts) (theirs : List Hash) (s : SyncParts) (marks : List Bool) → Sound C → s.theirs ≡ Some theirs → marks ≡ marks_since C theirs s.wants → AreMarks C s marks
+are_marks C theirs s marks sound e m =
+    let f : ChangeParts → Bool = is_due C theirs s.wants in
+    let are : marks ≡ map f C = m ∙ marks_are_due C theirs s.wants sound in
+    let by : (D : List ChangeParts) → filter f D ≡ due_of C s.theirs s.wants D = λ D. ap (λ o. due_of C o s.wants D) (sym e) in
+    record {
+      long = ap length are ∙ length-map C f;
+      any = λ n. ap (λ l. list_any (λ (b : Bool). b) (drop n l)) are ∙ any-drop f C n ∙ ap is_any (by (drop n C));
+      picks = λ n. ap (λ l. pick (drop n l) (drop n C)) are ∙ pick-drop f C n ∙ by (drop n C);
+      count = ap (λ l. length (filter (λ (b : Bool). b) l)) are ∙ length-marked f C ∙ ap length (by C);
+    }
+
+pub begins_by : (C : List ChangeParts) (s : SyncParts) (marks : List Bool) (goes_on : Bool) (from : ℕ) → AreMarks C s marks → goes_on ≡ list_any (λ (b : Bool). b) (drop s.next marks) → from ≡ cond goes_on s.next 0 → from ≡ begins_at C s
+begins_by C s marks goes_on from w g f = f ∙ ap (λ b. cond b s.next 0) (g ∙ w.any s.next)
+
+pub carried_by : (C : List ChangeParts) (s : SyncParts) (marks : List Bool) (from : ℕ) (changes : List ChangeParts) → AreMarks C s marks → from ≡ begins_at C s
+    → changes ≡ take_due 0 0 (pick (drop from marks) (drop from C)) → changes ≡ carried C s
+carried_by C s marks from changes w f e = e ∙ ap (take_due 0 0) (w.picks from) ∙ ap (λ n. take_due 0 0 (due_from C s n)) f
+
+some_counts : (D : List ChangeParts) (n : ℕ) → n ≡ length D → nat_lt 0 n ≡ is_any D
+some_counts [] n e = rw e refl
+some_counts (c ∷ D) n e = let more : 0 < n = omega arith in grind (arith, nat_tests)
+
+pub again_by : (C : List ChangeParts) (s : SyncParts) (marks : List Bool) (goes_on : Bool) (count : ℕ) → AreMarks C s marks → goes_on ≡ list_any (λ (b : Bool). b) (drop s.next marks)
+    → count ≡ length (filter (λ (b : Bool). b) marks) → (nat_lt 0 count && not goes_on) ≡ begins_again C s
+again_by C s marks goes_on count w g n =
+    ap (λ b. nat_lt 0 count && not b) (g ∙ w.any s.next) ∙ ap (λ b. b && not (is_any (due_from C s s.next))) (some_counts (due C s) count (n ∙ w.count))
+
+-- ---- where nothing is due
+
+-- What a message carries then: nothing.
+pub record CarriesNone (C : List ChangeParts) (s : SyncParts) : Type 0 where
+  pub none : [] ≡ carried C s
+  pub again : false ≡ begins_again C s
+  pub whole : false ≡ leaves_out C s
+
+pub carries_none : (C : List ChangeParts) (s : SyncParts) → due C s ≡ [] → CarriesNone C s
+carries_none C s e =
+    let p = piece C s in
+    let no : carried C s ≡ [] = inner p.before (carried C s) p.behind (sym p.joined ∙ e) in
+    record {
+      none = sym no;
+      again = sym (ap (λ l. is_any l && not (is_any (due_from C s s.next))) e);
+      whole = sym (ap (λ l. nat_lt (length l) (length (due C s))) no ∙ ap (λ l. nat_lt 0 (length l)) e);
+    } where
+      inner : (A B D : List ChangeParts) → A ++ (B ++ D) ≡ [] → B ≡ []
+      inner [] [] D f = refl
+      inner [] (b ∷ B) D f = cc
+      inner (a ∷ A) B D f = cc
+
+-- ---- heads that are the same
+
+filter-none : (f : ChangeParts → Bool) (C : List ChangeParts) → ((c : ChangeParts) → In c C → f c ≡ false) → filter f C ≡ []
+filter-none f [] h = refl
+filter-none f (c ∷ C) h = ap (λ b. cond b (c ∷ filter f C) (filter f C)) (h c (inl refl)) ∙ filter-none f C (λ d i. h d (inr i))
+
+any-In : (C : List ChangeParts) (H : List Hash) → list_any (λ (h : Hash). has C h) H ≡ true → (h : Hash) × In h H × (has C h ≡ true)
+any-In C [] e = cc
+any-In C (h ∷ H) e = elim (truth (has C h)) [
+  | inl t ↦ (h, inl refl, t)
+  | inr f ↦ let w = any-In C H (ap (λ b. b || list_any (λ (h : Hash). has C h) H) (sym f) ∙ e) in (w.0, inr w.1, w.2)
+]
+
+In-any : (C : List ChangeParts) (H : List Hash) (h : Hash) → In h H → has C h ≡ true → list_any (λ (h : Hash). has C h) H ≡ true
+In-any C [] h i e = absurd i
+In-any C (g ∷ H) h (inl k) e = ap (λ b. b || list_any (λ (h : Hash). has C h) H) (ap (has C) (sym k) ∙ e)
+In-any C (g ∷ H) h (inr j) e = elim (truth (has C g)) [
+  | inl t ↦ or_left (has C g) (list_any (λ (h : Hash). has C h) H) t
+  | inr f ↦ ap (λ b. b || list_any (λ (h : Hash). has C h) H) f ∙ In-any C H h j e
+]
+
+-- where the other has the heads, only what it wants is due
+even_due : (C : List ChangeParts) (wants : List Hash) (c : ChangeParts) → Sound C → In c C → is_due C (heads C) wants c ≡ (names wants c || false)
+even_due C wants c sound i =
+    let all : has (past C (heads C)) (hash_of c) ≡ true = subst (λ l. has l (hash_of c) ≡ true) (sym (past-heads C (deps_first C sound))) (In-has C c (hash_of c) i refl) in
+    ap (λ b. names wants c || not b) all
+
+pub even_is : (C : List ChangeParts) (s : SyncParts) → Sound C → s.theirs ≡ Some (heads C) → (list_any (λ (h : Hash). has C h) s.wants ≡ false) ↔ (due C s ≡ [])
+even_is C s sound e =
+    let by : due C s ≡ filter (is_due C (heads C) s.wants) C = ap (λ o. due_of C o s.wants C) e in (
+      λ none. by ∙ filter-none (is_due C (heads C) s.wants) C (λ c i. even_due C s.wants c sound i ∙ neither (names s.wants c) false
+          (not_true (names s.wants c) (λ t. never (In-any C s.wants (hash_of c) (names-In s.wants c t) (In-has C c (hash_of c) i refl)) none)) refl),
+      λ none. not_true (list_any (λ (h : Hash). has C h) s.wants) (λ t.
+          let w = any-In C s.wants t in
+          let c = has-In C w.0 w.2 in
+          let wanted : names s.wants c.0 ≡ true = In-names s.wants c.0 (subst (λ h. In h s.wants) (sym c.2) w.1) in
+          let is : is_due C (heads C) s.wants c.0 ≡ true = even_due C s.wants c.0 sound c.1 ∙ or_left (names s.wants c.0) false wanted in
+          subst (In c.0) (sym by ∙ none) (filter-In (is_due C (heads C) s.wants) C c.0 c.1 is)),
+    )
+
+pub not_any : (b : Bool) → (not b ≡ true) ↔ (b ≡ false)
+not_any true = (λ e. sym e, λ e. sym e)
+not_any false = (λ e. refl, λ e. refl)

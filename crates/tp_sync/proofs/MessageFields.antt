@@ -1,0 +1,226 @@
+-- The fields of a message: what is read is spelled so, and what is spelled is read again.
+use Rattle.std.proofs.Common.{◌≡◌, ℕ, ◌^◌, ◌<◌, ◌≤◌, true, eqb, leb, List, [], ◌∷◌, ◌++◌, length, Option, None, Result, Ok, Err, refl, sym, ap, subst, ◌∙◌, append-nil, append_assoc, arith, eqb-true, le-leb, leb-true, inl, inr}
+use Rattle.std.specs.Int.{w32, to_be_bytes}
+use Rattle.std.specs.List.{flat_map}
+use Rattle.std.proofs.lemmas.List.{take_at, drop_at, length-append}
+use Rattle.std.proofs.lemmas.Bool.{le-ltb}
+use Rattle.tp_opid.specs.declared.hash.Hash.{Hash}
+use Rattle.tp_codec.specs.Prefix.{byte_at, bytes_at, number_at}
+use Rattle.tp_codec.specs.Reading.{Reads, give, fail, and_next, and_then, or_fail, found_or, require, repeat_at}
+use Rattle.tp_codec.proofs.Fields.{IsField, as_field, give_field, then_field, require_field, test_field, byte_field, bytes_field, AreSoMany, number_field, repeat_field, EachFits, wide32}
+use Rattle.tp_change.specs.declared.error.ChangeError.{ChangeError}
+use Rattle.tp_change.specs.declared.parts.ChangeParts.{ChangeParts}
+use Rattle.tp_change.specs.Limits.{IsChange}
+use Rattle.tp_change.specs.Reading.{rises, next_before, change_at}
+use Rattle.tp_change.specs.Spelling.{spelling}
+use Rattle.tp_change.proofs.ChangeFields.{DepFits, rising_all, hashes_all, fit_all}
+use Rattle.tp_change.proofs.WholeChange.{change_takes, change_again}
+use Rattle.tp_document.specs.DocState.{AllChanges}
+use Rattle.tp_sync.specs.declared.error.SyncError.{SyncError}
+use Rattle.tp_sync.specs.declared.error.SyncError.TheVariants.{BadMessage}
+use Rattle.tp_sync.specs.Message.{MessageParts, AreHashes, IsMessage}
+use Rattle.tp_sync.specs.Spelling.{entry, spelling_of_hashes, spelling_of_changes, message_spelling}
+use Rattle.tp_sync.specs.Reading.{version_at, hash_at, hashes_at, decoded, entry_at, each_entry, stay, changes_at, parts_at}
+
+version_field : IsField BadMessage version_at (λ _. 1 ∷ []) (λ _. Unit {0})
+unfolding version_at
+version_field =
+    as_field BadMessage version_at (λ _. (1 ∷ []) ++ []) (λ _. 1 ∷ []) (λ _. (1 < 256) × (eqb 1 1 ≡ true)) (λ _. Unit {0})
+    (then_field BadMessage (or_fail BadMessage byte_at) (λ v. require (eqb v 1) BadMessage) (λ b. b ∷ []) (λ b. b < 256) (λ (_ : Unit {0}). 1) (λ _. []) (λ v _. eqb v 1 ≡ true)
+    (byte_field BadMessage)
+    (λ v lt. test_field BadMessage (eqb v 1) BadMessage)
+    (λ v x fit. sym (eqb-true v 1 fit)))
+    (λ x fit. refl) (λ x fit. tt) (λ x fit. (omega arith, refl))
+
+-- ---- hashes
+
+abbrev hash_with : List ℕ → Hash
+hash_with bytes = record { 0 = bytes }
+
+hash_field : (before : Option Hash) → IsField BadMessage (hash_at before) (λ h. h.0) (DepFits before)
+unfolding hash_at
+hash_field before =
+    as_field BadMessage (hash_at before) (λ (h : Hash). h.0 ++ []) (λ h. h.0) (λ h. AreSoMany 32 h.0 × ((rises before (hash_with h.0) ≡ true) × (h ≡ hash_with h.0))) (DepFits before)
+    (then_field BadMessage (or_fail BadMessage (bytes_at 32)) (λ bytes. and_then (require (rises before (hash_with bytes)) BadMessage) (λ _. give (hash_with bytes))) (λ b. b) (AreSoMany 32)
+    (λ (h : Hash). h.0) (λ _. []) (λ bytes h. (rises before (hash_with bytes) ≡ true) × (h ≡ hash_with bytes))
+    (bytes_field BadMessage 32)
+    (λ bytes fit. require_field BadMessage (rises before (hash_with bytes)) BadMessage (give (hash_with bytes)) (λ _. []) (λ h. h ≡ hash_with bytes) (λ _. give_field BadMessage (hash_with bytes)))
+    (λ bytes h fit. ap (λ (x : Hash). x.0) fit.1))
+    (λ h fit. append-nil h.0)
+    (λ h fit. (record { count = fit.0.count; each = fit.0.each }, fit.1.0))
+    (λ h fit. (record { count = fit.0.count; each = fit.0.each }, (fit.1, refl)))
+
+hashes_field : IsField BadMessage hashes_at spelling_of_hashes AreHashes
+unfolding hashes_at
+hashes_field =
+    as_field BadMessage hashes_at spelling_of_hashes spelling_of_hashes (λ hs. (length hs < 2 ^ 32) × ((leb (length hs) 65535 ≡ true) × ((length hs ≡ length hs) × EachFits DepFits next_before None hs))) AreHashes
+    (then_field BadMessage (or_fail BadMessage (number_at w32)) (λ count. and_then (require (leb count 65535) BadMessage) (λ _. repeat_at hash_at next_before count None)) (to_be_bytes w32) (λ n. n < 2 ^ 32)
+    (λ (hs : List Hash). length hs) (flat_map (λ (h : Hash). h.0)) (λ count hs. (leb count 65535 ≡ true) × ((length hs ≡ count) × EachFits DepFits next_before None hs))
+    (number_field BadMessage w32 (2 ^ 32) wide32)
+    (λ count lt. require_field BadMessage (leb count 65535) BadMessage (repeat_at hash_at next_before count None) (flat_map (λ (h : Hash). h.0)) (λ hs. (length hs ≡ count) × EachFits DepFits next_before None hs)
+    (λ _. repeat_field BadMessage hash_at next_before (λ h. h.0) DepFits hash_field count None))
+    (λ count hs fit. fit.1.0))
+    (λ hs fit. refl)
+    (λ hs fit. record { each = hashes_all None hs fit.1.1.1; rise = rising_all hs fit.1.1.1; few = leb-true (length hs) 65535 fit.1.0 })
+    (λ hs fit. (omega (arith, fit.few), (le-leb (length hs) 65535 fit.few, (refl, fit_all hs fit.each fit.rise))))
+
+-- ---- changes
+
+decoded_ok : (r : Result ChangeParts ChangeError) (bytes : List ℕ) (c : ChangeParts) (rest : List ℕ) → decoded r bytes ≡ Ok (c, rest) → (r ≡ Ok c) × (bytes ≡ rest)
+unfolding decoded give fail
+decoded_ok (Ok d) bytes c rest e =
+    let pair : (d, bytes) ≡ (c, rest) = cc in
+    (ap (λ (x : ChangeParts × List ℕ). Ok x.0) pair, ap (λ (x : ChangeParts × List ℕ). x.1) pair)
+decoded_ok (Err d) bytes c rest e = absurd cc
+
+decoded_of_ok : (r : Result ChangeParts ChangeError) (c : ChangeParts) (rest : List ℕ) → r ≡ Ok c → decoded r rest ≡ Ok (c, rest)
+unfolding decoded give
+decoded_of_ok r c rest e = rw e refl
+
+decoded_stays : (r : Result ChangeParts ChangeError) (bytes more : List ℕ) (e : SyncError) → decoded r bytes ≡ Err e → decoded r (bytes ++ more) ≡ Err e
+unfolding decoded give fail
+decoded_stays (Ok d) bytes more e h = absurd cc
+decoded_stays (Err d) bytes more e h = h
+
+-- the bytes are a change's
+abbrev SpellsChange : List ℕ → ChangeParts → Type 0
+SpellsChange bytes c = (change_at bytes ≡ Ok c) × (IsChange c × (spelling c ≡ bytes))
+
+decoded_field : (len : ℕ) (bytes : List ℕ) → AreSoMany len bytes → IsField BadMessage (decoded (change_at bytes)) (λ _. []) (SpellsChange bytes)
+decoded_field len bytes fit = record {
+  takes = λ before c rest fits e.
+      let d = decoded_ok (change_at bytes) before c rest e in
+      let t = change_takes bytes c fit.each d.0 in
+      (d.1, (d.0, (t.0, sym t.1)));
+  again = λ c rest is. decoded_of_ok (change_at bytes) c rest is.0;
+  stays = λ before more e fits h apart. decoded_stays (change_at bytes) before more e h;
+}
+
+abbrev EntryFits : ChangeParts → Type 0
+EntryFits c = (length (spelling c) < 2 ^ 32) × (AreSoMany (length (spelling c)) (spelling c) × SpellsChange (spelling c) c)
+
+-- what is read of an entry
+entry_read : IsField BadMessage entry_at (λ c. to_be_bytes w32 (length (spelling c)) ++ (spelling c ++ [])) EntryFits
+unfolding entry_at
+entry_read =
+    then_field BadMessage (or_fail BadMessage (number_at w32)) (λ len. and_then (or_fail BadMessage (bytes_at len)) (λ bytes. decoded (change_at bytes))) (to_be_bytes w32) (λ n. n < 2 ^ 32)
+    (λ (c : ChangeParts). length (spelling c)) (λ c. spelling c ++ []) (λ len c. AreSoMany len (spelling c) × SpellsChange (spelling c) c)
+    (number_field BadMessage w32 (2 ^ 32) wide32)
+    (λ len lt. then_field BadMessage (or_fail BadMessage (bytes_at len)) (λ bytes. decoded (change_at bytes)) (λ b. b) (AreSoMany len)
+    spelling (λ _. []) SpellsChange
+    (bytes_field BadMessage len)
+    (λ bytes fit. decoded_field len bytes fit)
+    (λ bytes c fit. fit.1.1))
+    (λ len c fit. fit.0.count)
+
+-- so many bytes are found again
+bytes_again : (bytes rest : List ℕ) → or_fail {E = SyncError} BadMessage (bytes_at (length bytes)) (bytes ++ rest) ≡ Ok (bytes, rest)
+unfolding or_fail found_or bytes_at
+bytes_again bytes rest =
+    let long = le-ltb (length (bytes ++ rest)) (length bytes) (omega (arith, length-append bytes rest)) in
+    rw (long, take_at bytes rest (length bytes) refl, drop_at bytes rest (length bytes) refl) refl
+
+-- an entry is read again
+entry_again : (c : ChangeParts) (rest : List ℕ) → IsChange c → entry_at (entry c ++ rest) ≡ Ok (c, rest)
+unfolding entry_at and_then and_next
+entry_again c rest is =
+    let len = length (spelling c) in
+    let small : len < 2 ^ 32 = omega (arith, is.size) in
+    ap entry_at (append_assoc (to_be_bytes w32 len) (spelling c) rest)
+    ∙ rw ((number_field {E = SyncError} BadMessage w32 (2 ^ 32) wide32).again len (spelling c ++ rest) small, bytes_again (spelling c) rest) (decoded_of_ok (change_at (spelling c)) c rest (change_again c is))
+
+entry_field : IsField BadMessage entry_at entry IsChange
+entry_field = record {
+  takes = λ bytes c rest fits e.
+      let t = entry_read.takes bytes c rest fits e in
+      (t.0 ∙ ap (λ (s : List ℕ). (to_be_bytes w32 (length (spelling c)) ++ s) ++ rest) (append-nil (spelling c)), t.1.1.1.1.0);
+  again = entry_again;
+  stays = entry_read.stays;
+}
+
+abbrev ChangeFits : Unit {0} → ChangeParts → Type 0
+ChangeFits s c = IsChange c
+
+all_changes : (changes : List ChangeParts) → EachFits ChangeFits stay tt changes → AllChanges changes
+all_changes [] fit = λ c i. absurd i
+all_changes (d ∷ changes) fit = λ c i. elim i [ inl e ↦ subst IsChange (sym e) fit.0 | inr j ↦ all_changes changes fit.1 c j ]
+
+each_fits : (changes : List ChangeParts) → AllChanges changes → EachFits ChangeFits stay tt changes
+each_fits [] all = tt
+each_fits (d ∷ changes) all = (all d (inl refl), each_fits changes (λ c i. all c (inr i)))
+
+record FitsChanges (changes : List ChangeParts) : Type 0 where
+  each : AllChanges changes
+  few : length changes ≤ 1024
+
+changes_field : IsField BadMessage changes_at spelling_of_changes FitsChanges
+unfolding changes_at
+changes_field =
+    as_field BadMessage changes_at spelling_of_changes spelling_of_changes (λ cs. (length cs < 2 ^ 32) × ((leb (length cs) 1024 ≡ true) × ((length cs ≡ length cs) × EachFits ChangeFits stay tt cs))) FitsChanges
+    (then_field BadMessage (or_fail BadMessage (number_at w32)) (λ count. and_then (require (leb count 1024) BadMessage) (λ _. repeat_at each_entry stay count tt)) (to_be_bytes w32) (λ n. n < 2 ^ 32)
+    (λ (cs : List ChangeParts). length cs) (flat_map entry) (λ count cs. (leb count 1024 ≡ true) × ((length cs ≡ count) × EachFits ChangeFits stay tt cs))
+    (number_field BadMessage w32 (2 ^ 32) wide32)
+    (λ count lt. require_field BadMessage (leb count 1024) BadMessage (repeat_at each_entry stay count tt) (flat_map entry) (λ cs. (length cs ≡ count) × EachFits ChangeFits stay tt cs)
+    (λ _. repeat_field BadMessage each_entry stay entry ChangeFits (λ s. entry_field) count tt))
+    (λ count cs fit. fit.1.0))
+    (λ cs fit. refl)
+    (λ cs fit. record { each = all_changes cs fit.1.1.1; few = leb-true (length cs) 1024 fit.1.0 })
+    (λ cs fit. (omega (arith, fit.few), (le-leb (length cs) 1024 fit.few, (refl, each_fits cs fit.each))))
+
+-- ---- the message
+
+abbrev made : List Hash → List Hash → List ChangeParts → MessageParts
+made heads wants changes = record { heads = heads; wants = wants; changes = changes }
+
+abbrev spell_changes : MessageParts → List ℕ
+spell_changes m = spelling_of_changes m.changes ++ []
+
+abbrev spell_wants : MessageParts → List ℕ
+spell_wants m = spelling_of_hashes m.wants ++ spell_changes m
+
+abbrev spell_lists : MessageParts → List ℕ
+spell_lists m = spelling_of_hashes m.heads ++ spell_wants m
+
+abbrev ChangesFit : List Hash → List Hash → MessageParts → Type 0
+ChangesFit heads wants m = FitsChanges m.changes × (m ≡ made heads wants m.changes)
+
+abbrev WantsFit : List Hash → MessageParts → Type 0
+WantsFit heads m = AreHashes m.wants × ChangesFit heads m.wants m
+
+abbrev ListsFit : MessageParts → Type 0
+ListsFit m = AreHashes m.heads × WantsFit m.heads m
+
+abbrev changes_behind : List Hash → List Hash → Reads SyncError MessageParts
+changes_behind heads wants = and_then changes_at (λ changes. give (made heads wants changes))
+
+abbrev wants_behind : List Hash → Reads SyncError MessageParts
+wants_behind heads = and_then hashes_at (λ wants. changes_behind heads wants)
+
+lists_field : IsField BadMessage (and_then hashes_at wants_behind) spell_lists ListsFit
+lists_field =
+    then_field BadMessage hashes_at wants_behind spelling_of_hashes AreHashes
+    (λ (m : MessageParts). m.heads) spell_wants WantsFit
+    hashes_field
+    (λ heads is. then_field BadMessage hashes_at (λ wants. changes_behind heads wants) spelling_of_hashes AreHashes
+    (λ (m : MessageParts). m.wants) spell_changes (ChangesFit heads)
+    hashes_field
+    (λ wants are. then_field BadMessage changes_at (λ changes. give (made heads wants changes)) spelling_of_changes FitsChanges
+    (λ (m : MessageParts). m.changes) (λ _. []) (λ changes m. m ≡ made heads wants changes)
+    changes_field
+    (λ changes fit. give_field BadMessage (made heads wants changes))
+    (λ changes m e. ap (λ (x : MessageParts). x.changes) e))
+    (λ wants m fit. ap (λ (x : MessageParts). x.wants) fit.1))
+    (λ heads m fit. ap (λ (x : MessageParts). x.heads) fit.1.1)
+
+pub parts_field : IsField BadMessage parts_at message_spelling IsMessage
+unfolding parts_at message_spelling
+parts_field =
+    as_field BadMessage parts_at (λ m. (1 ∷ []) ++ spell_lists m) message_spelling (λ m. Unit {0} × ListsFit m) IsMessage
+    (then_field BadMessage version_at (λ _. and_then hashes_at wants_behind) (λ _. 1 ∷ []) (λ _. Unit {0})
+    (λ (m : MessageParts). tt) spell_lists (λ _ m. ListsFit m)
+    version_field
+    (λ x fit. lists_field)
+    (λ x m fit. refl))
+    (λ m fit. ap (λ (b : List ℕ). 1 ∷ (spelling_of_hashes m.heads ++ (spelling_of_hashes m.wants ++ b))) (append-nil (spelling_of_changes m.changes)))
+    (λ m fit. record { heads = fit.1.0; wants = fit.1.1.0; changes = fit.1.1.1.0.each; few = fit.1.1.1.0.few })
+    (λ m is. (tt, (is.heads, (is.wants, (record { each = is.changes; few = is.few }, refl)))))

@@ -1,0 +1,89 @@
+-- The laws of the whole: the bytes of a message are read as it, and what is read is a message that the bytes spell.
+use Rattle.std.proofs.Common.{◌≡◌, ℕ, Bool, true, false, cond, eqb, List, [], ◌++◌, length, Result, Ok, Err, refl, sym, ap, ◌∙◌, ◌∷◌, append-nil, append_assoc, eqb-true}
+use Rattle.std.specs.Prelude.{◌↔◌}
+use Rattle.std.specs.Int.{w32, to_be_bytes}
+use Rattle.std.specs.List.{flat_map}
+use Rattle.std.proofs.lemmas.List.{nil_from_length}
+use Rattle.tp_codec.proofs.Fields.{AreBytes}
+use Rattle.tp_opid.specs.declared.hash.Hash.{Hash}
+use Rattle.tp_change.specs.declared.parts.ChangeParts.{ChangeParts}
+use Rattle.tp_sync.specs.declared.error.SyncError.{SyncError}
+use Rattle.tp_sync.specs.declared.error.SyncError.TheVariants.{BadMessage, BadChange}
+use Rattle.tp_sync.specs.Message.{MessageParts, IsMessage}
+use Rattle.tp_sync.specs.Spelling.{entry, spelling_of_hashes, message_spelling}
+use Rattle.tp_sync.specs.Reading.{parts_at, ended, message_at}
+use Rattle.tp_sync.proofs.MessageFields.{parts_field}
+
+ended_ok : {X : Type 0} (r : Result (X × List ℕ) SyncError) (m : X) → ended r ≡ Ok m → r ≡ Ok (m, [])
+unfolding ended
+ended_ok {X} (Ok x) m e = by_test (eqb (length x.1) 0) refl e
+  where
+    by_test : (b : Bool) → eqb (length x.1) 0 ≡ b → (let t : Result X SyncError = cond b (Ok x.0) (Err BadMessage) in t) ≡ Ok m → (let t : Result (X × List ℕ) SyncError = Ok x in t) ≡ Ok (m, [])
+    by_test true h e =
+        let m-is : x.0 ≡ m = cc in
+        let none : x.1 ≡ [] = nil_from_length x.1 (eqb-true _ _ h) in
+        ap (λ (p : X × List ℕ). Ok p) (ap (λ (q : X). (q, x.1)) m-is ∙ ap (λ (q : List ℕ). (m, q)) none)
+    by_test false h e = absurd cc
+ended_ok (Err d) m e = absurd cc
+
+ended_of_ok : {X : Type 0} (r : Result (X × List ℕ) SyncError) (m : X) → r ≡ Ok (m, []) → ended r ≡ Ok m
+unfolding ended
+ended_of_ok r m e = rw e refl
+
+-- What is read is a message, and the bytes spell it.
+pub message_takes : (bytes : List ℕ) (m : MessageParts) → AreBytes bytes → message_at bytes ≡ Ok m → IsMessage m × (bytes ≡ message_spelling m)
+unfolding message_at
+message_takes bytes m fits e =
+    let t = parts_field.takes bytes m [] fits (ended_ok (parts_at bytes) m e) in
+    (t.1, t.0 ∙ append-nil (message_spelling m))
+
+-- The bytes of a message are read as it.
+pub message_again : (m : MessageParts) → IsMessage m → message_at (message_spelling m) ≡ Ok m
+unfolding message_at
+message_again m is =
+    ended_of_ok (parts_at (message_spelling m)) m (ap parts_at (sym (append-nil (message_spelling m))) ∙ parts_field.again m [] is)
+
+pub one_spelling_is : (m n : MessageParts) → IsMessage m → IsMessage n → message_spelling m ≡ message_spelling n → m ≡ n
+one_spelling_is m n is also same =
+    let read : (let r : Result MessageParts SyncError = Ok m in r) ≡ Ok n = sym (message_again m is) ∙ ap message_at same ∙ message_again n also in
+    cc
+
+pub spelled_alone : (bytes : List ℕ) (m : MessageParts) → AreBytes bytes → (message_at bytes ≡ Ok m) ↔ (IsMessage m × (bytes ≡ message_spelling m))
+spelled_alone bytes m fits = (message_takes bytes m fits, λ p. ap message_at p.1 ∙ message_again m p.0)
+
+ended_bad : {X : Type 0} (r : Result (X × List ℕ) SyncError) → ended r ≡ Err BadChange → r ≡ Err BadChange
+unfolding ended
+ended_bad {X} (Ok x) e = absurd (by_test (eqb (length x.1) 0) e)
+  where
+    by_test : (b : Bool) → (let t : Result X SyncError = cond b (Ok x.0) (Err BadMessage) in t) ≡ Err BadChange → ⊥
+    by_test true e = cc
+    by_test false e = cc
+ended_bad (Err d) e = let same : d ≡ BadChange = cc in ap (λ (f : SyncError). Err f) same
+
+ended_of_err : {X : Type 0} (r : Result (X × List ℕ) SyncError) (e : SyncError) → r ≡ Err e → ended r ≡ Err e
+unfolding ended
+ended_of_err r e h = rw h refl
+
+-- Bytes that are no change's stay so, whatever follows.
+pub bad_change_stays : (bytes more : List ℕ) → AreBytes bytes → message_at bytes ≡ Err BadChange → message_at (bytes ++ more) ≡ Err BadChange
+unfolding message_at
+bad_change_stays bytes more fits h =
+    ended_of_err (parts_at (bytes ++ more)) BadChange (parts_field.stays bytes more BadChange fits (ended_bad (parts_at bytes) h) (λ same. cc))
+
+pub bad_change_bars : (bytes more : List ℕ) (m : MessageParts) → AreBytes bytes → message_at bytes ≡ Err BadChange → IsMessage m → bytes ++ more ≡ message_spelling m → ⊥
+bad_change_bars bytes more m fits h is same =
+    let stays = bad_change_stays bytes more fits h in
+    let read : message_at (bytes ++ more) ≡ Ok m = ap message_at same ∙ message_again m is in
+    cc
+
+regroup : (hs ws n cs : List ℕ) → ((((1 ∷ []) ++ hs) ++ ws) ++ n) ++ cs ≡ 1 ∷ (hs ++ (ws ++ (n ++ cs)))
+regroup hs ws n cs = simp append_assoc
+
+-- What is written field by field is the bytes of the message.
+pub written : (m : MessageParts) (heads wants : List Hash) (changes : List ChangeParts) (a b d e bytes : List ℕ)
+    → heads ≡ m.heads → wants ≡ m.wants → changes ≡ m.changes
+    → a ≡ 1 ∷ [] → b ≡ a ++ spelling_of_hashes heads → d ≡ b ++ spelling_of_hashes wants → e ≡ d ++ to_be_bytes w32 (length changes) → bytes ≡ e ++ flat_map entry changes
+    → bytes ≡ message_spelling m
+unfolding message_spelling
+written m heads wants changes a b d e bytes hs ws cs one two three four five =
+    rw (five, four, three, two, one, hs, ws, cs) (regroup (spelling_of_hashes m.heads) (spelling_of_hashes m.wants) (to_be_bytes w32 (length m.changes)) (flat_map entry m.changes))

@@ -1,0 +1,31 @@
+use Rattle.std.proofs.Common.{inr, subst}
+use Rattle.tp_sync.specs.declared.error.SyncError.{SyncError}
+use Rattle.tp_sync.specs.declared.exchanging.Exchanged.{Exchanged}
+use Rattle.tp_sync.specs.State.{SyncParts, fresh}
+use Rattle.tp_sync.specs.Exchange.{Exchanges, Passes, Replies, ReplyFails, Stops, side}
+use Rattle.tp_sync.proofs.ExchangeLaws.{if_err, if_ok}
+use Rattle.tp_sync.proofs.exchanging.exchange_from.Goals as goal
+
+pub returns-in-Ok-clause-ok : goal.returns-in-Ok-clause-ok
+returns-in-Ok-clause-ok g c =
+    let a = c.args.a.now in
+    let b = c.args.b.now in
+    let asked = side c.speak.new.to c.speak.new.theirs in
+    let first : Passes (side a fresh) c.speak.new.ours (side b fresh) asked c.in-Ok._begun.applied =
+    subst (λ (s : SyncParts). Passes (side a s) c.speak.new.ours (side b fresh) asked c.in-Ok._begun.applied) c.requires.ours
+    (subst (λ (t : SyncParts). Passes (side a c.args.ours.now) c.speak.new.ours (side b t) asked c.in-Ok._begun.applied) c.requires.theirs c.in-Ok.ensures.passes) in
+    if_ok (λ (r : Exchanged). Replies (side a c.speak.new.ours) asked c.reply.new.a c.reply.new.b r.into_a r.into_b r.cut)
+    (λ (r : Exchanged). Exchanges a b c.reply.new.a c.reply.new.b r.into_a r.into_b r.cut)
+    c.reply.result (λ r w. record { told = c.speak.new.ours; asked = asked; begun = c.in-Ok._begun.applied; first = first; replies = w }) c.reply.ensures.ok
+
+pub returns-in-Ok-clause-err : goal.returns-in-Ok-clause-err
+returns-in-Ok-clause-err g c =
+    let a = c.args.a.now in
+    let b = c.args.b.now in
+    let asked = side c.speak.new.to c.speak.new.theirs in
+    let first : Passes (side a fresh) c.speak.new.ours (side b fresh) asked c.in-Ok._begun.applied =
+    subst (λ (s : SyncParts). Passes (side a s) c.speak.new.ours (side b fresh) asked c.in-Ok._begun.applied) c.requires.ours
+    (subst (λ (t : SyncParts). Passes (side a c.args.ours.now) c.speak.new.ours (side b t) asked c.in-Ok._begun.applied) c.requires.theirs c.in-Ok.ensures.passes) in
+    if_err (λ (e : SyncError). ReplyFails (side a c.speak.new.ours) asked c.reply.new.a c.reply.new.b e)
+    (λ (e : SyncError). Stops a b c.reply.new.a c.reply.new.b e)
+    c.reply.result (λ e w. inr (record { told = c.speak.new.ours; asked = asked; begun = c.in-Ok._begun.applied; first = first; fails = w })) c.reply.ensures.err

@@ -1,0 +1,5 @@
+use Rattle.tp_sync.proofs.UnionLaws.{not_due_held, twins_of}
+use Rattle.tp_sync.proofs.laws.what_lacks_is_due.Goals as goal
+
+pub returns : goal.returns
+returns a C D wants c sound apart i e = not_due_held C D wants c sound (twins_of D C apart) i e

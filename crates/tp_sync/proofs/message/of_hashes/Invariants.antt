@@ -1,0 +1,7 @@
+use Rattle.std.proofs.Common.{take}
+use Rattle.std.specs.List.{AllByRecursion}
+use Rattle.tp_change.specs.Limits.{IsHash}
+use Rattle.tp_sync.proofs.message.of_hashes.Given as goal
+
+abbrev pub invariant-loop-hash : goal.invariant-loop-hash
+invariant-loop-hash l = AllByRecursion IsHash (take l.hash-index l.hashes)

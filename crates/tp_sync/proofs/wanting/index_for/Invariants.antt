@@ -1,0 +1,7 @@
+use Rattle.std.proofs.Common.{◌-◌, drop, length}
+use Rattle.tp_list.specs.Rising.{IsBelowAll}
+use Rattle.tp_opid.specs.Order.{hash_cmp}
+use Rattle.tp_sync.proofs.wanting.index_for.Given as goal
+
+abbrev pub invariant-loop-passed : goal.invariant-loop-passed
+invariant-loop-passed l = IsBelowAll hash_cmp l.fn.hash (drop (length l.hashes - l.passed) l.hashes)

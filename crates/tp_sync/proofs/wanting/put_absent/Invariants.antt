@@ -1,0 +1,6 @@
+use Rattle.std.proofs.Common.{take}
+use Rattle.tp_sync.specs.Wanting.{HasPut}
+use Rattle.tp_sync.proofs.wanting.put_absent.Given as goal
+
+abbrev pub invariant-loop-hash : goal.invariant-loop-hash
+invariant-loop-hash g l = HasPut l.document.applied l.document.waiting l.initial.found.items (take l.hash-index l.hashes) l.found.items

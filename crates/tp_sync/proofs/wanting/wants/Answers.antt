@@ -1,0 +1,19 @@
+use Rattle.std.proofs.Common.{◌∙◌, ◌++◌, List, take, filter, ap}
+use Rattle.std.specs.List.{flat_map}
+use Rattle.tp_list.specs.Rising.{rising}
+use Rattle.tp_opid.specs.declared.hash.Hash.{Hash}
+use Rattle.tp_opid.specs.Order.{hash_cmp}
+use Rattle.tp_change.specs.declared.parts.ChangeParts.{ChangeParts}
+use Rattle.tp_sync.specs.declared.limits.TheConstants.{MAX_HASHES}
+use Rattle.tp_sync.specs.Wanting.{is_absent}
+use Rattle.tp_sync.proofs.WantLaws.{wanted_is}
+use Rattle.tp_sync.proofs.wanting.wants.Goals as goal
+
+pub returns-clause-wants : goal.returns-clause-wants
+returns-clause-wants g c =
+    let C : List ChangeParts = c.args.document.now.applied in
+    let W : List ChangeParts = c.args.document.now.waiting in
+    let all : List Hash → List Hash = λ l. take MAX_HASHES (rising hash_cmp (filter (is_absent C W) (l ++ flat_map (λ (d : ChangeParts). d.deps) W))) in
+    c.truncate.ensures.items
+    ∙ ap (take MAX_HASHES) (wanted_is C W c.declared.result.now c.in-Ok.missing.items c.put_absent.new.found.items c.in-Ok.ensures.there c.in_ok-put_absent.ensures)
+    ∙ ap all c.declared.ensures

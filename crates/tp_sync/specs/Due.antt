@@ -1,0 +1,84 @@
+-- Which changes are due to another peer, and which of them a message carries.
+use Rattle.std.specs.Prelude.{◌≡◌, ◌⊎◌, ℕ, ◌+◌, List, [], ◌∷◌, ◌++◌, length, drop, filter, Bool, true, false, ◌||◌, ◌&&◌, not, cond, nat_lt, nat_le, Option, Some, None}
+use Rattle.std.specs.List.{slice_get}
+use Rattle.tp_opid.specs.declared.hash.Hash.{Hash}
+use Rattle.tp_change.specs.declared.parts.ChangeParts.{ChangeParts}
+use Rattle.tp_change.specs.ChangeHash.{hash_of}
+use Rattle.tp_change.specs.Spelling.{spelling}
+use Rattle.tp_graph.specs.Named.{names, has}
+use Rattle.tp_graph.specs.Past.{past}
+use Rattle.tp_graph.specs.Heads.{heads}
+use Rattle.tp_sync.specs.declared.limits.TheConstants.{MAX_CHANGES, FULL_BYTES}
+use Rattle.tp_sync.specs.State.{SyncParts}
+
+-- c is due to a peer that declared the heads `theirs` and wants the hashes `wants`: it is wanted, or it isn't in the
+-- past of those of the heads that C has.
+abbrev pub is_due : List ChangeParts → List Hash → List Hash → ChangeParts → Bool
+is_due C theirs wants c = names wants c || not (has (past C theirs) (hash_of c))
+
+-- the changes of D that are due; nothing is due to a peer that declared no heads yet
+abbrev pub due_of : List ChangeParts → Option (List Hash) → List Hash → List ChangeParts → List ChangeParts
+due_of C None wants D = []
+due_of C (Some theirs) wants D = filter (is_due C theirs wants) D
+
+-- the changes of C that are due, in applied order
+abbrev pub due : List ChangeParts → SyncParts → List ChangeParts
+due C s = due_of C s.theirs s.wants C
+
+-- The other declared the very heads of C, and nothing is due to it.
+pub record IsEven (C : List ChangeParts) (s : SyncParts) : Type 0 where
+  pub theirs : s.theirs ≡ Some (heads C)
+  pub none : due C s ≡ []
+
+-- those that stand at the place n or behind it
+abbrev pub due_from : List ChangeParts → SyncParts → ℕ → List ChangeParts
+due_from C s n = due_of C s.theirs s.wants (drop n C)
+
+-- the list has a member
+abbrev pub is_any : List ChangeParts → Bool
+is_any [] = false
+is_any (c ∷ C) = true
+
+-- the place from which a message takes changes: the next one, or the first where nothing is due from the next one on
+abbrev pub begins_at : List ChangeParts → SyncParts → ℕ
+begins_at C s = cond (is_any (due_from C s s.next)) s.next 0
+
+-- something is due, and nothing from the next place on
+abbrev pub begins_again : List ChangeParts → SyncParts → Bool
+begins_again C s = is_any (due C s) && not (is_any (due_from C s s.next))
+
+-- a message with so many changes, of so many bytes, takes no further one
+abbrev pub is_laden : ℕ → ℕ → Bool
+is_laden count bytes = nat_le MAX_CHANGES count || nat_le FULL_BYTES bytes
+
+-- the changes that a message takes, one after another, where it has so many, of so many bytes
+abbrev pub take_due : ℕ → ℕ → List ChangeParts → List ChangeParts
+take_due count bytes [] = []
+take_due count bytes (c ∷ D) = cond (is_laden count bytes) [] (c ∷ take_due (count + 1) (bytes + length (spelling c)) D)
+
+-- the changes that a message carries
+abbrev pub carried : List ChangeParts → SyncParts → List ChangeParts
+carried C s = take_due 0 0 (due_from C s (begins_at C s))
+
+-- a message carries fewer changes than are due
+abbrev pub leaves_out : List ChangeParts → SyncParts → Bool
+leaves_out C s = nat_lt (length (carried C s)) (length (due C s))
+
+-- The place n in C is the one behind the last of the changes.
+pub record IsBehind (C changes : List ChangeParts) (n : ℕ) : Type 0 where
+  pub before : List ChangeParts
+  pub last : ChangeParts
+  pub place : ℕ
+  pub ends : changes ≡ before ++ last ∷ []
+  pub stands : slice_get C place ≡ Some last
+  pub behind : n ≡ place + 1
+
+-- The next place moved behind the last of the changes, or stayed where there is none.
+abbrev pub MovesOn : List ChangeParts → List ChangeParts → ℕ → ℕ → Type 0
+MovesOn C changes old new = ((changes ≡ []) × (new ≡ old)) ⊎ IsBehind C changes new
+
+-- The one list stands in the other without a gap.
+pub record IsPiece (part whole : List ChangeParts) : Type 0 where
+  pub before : List ChangeParts
+  pub behind : List ChangeParts
+  pub joined : whole ≡ before ++ (part ++ behind)

@@ -1,0 +1,13 @@
+pub mod SyncError
+pub mod Message
+pub mod State
+pub mod Due
+pub mod Room
+pub mod Wanting
+pub mod Answer
+pub mod Receiving
+pub mod Exchange
+pub mod Spelling
+pub mod Reading
+pub mod Gives
+pub mod Lists

@@ -1,0 +1,77 @@
+-- Reading the bytes of a message from left to right, field by field, up to the first fault: BadChange where the bytes
+-- of a change are no change's, and BadMessage for all else.
+use Rattle.std.specs.Prelude.{ℕ, ◌==◌, nat_le, List, length, Option, None, Result, Ok, Err, if◌then◌else◌}
+use Rattle.std.specs.Int.{w32}
+use Rattle.tp_codec.specs.Prefix.{byte_at, bytes_at, number_at}
+use Rattle.tp_codec.specs.Reading.{Reads, ◌>>=◌, ◌>>◌, give, fail, or_fail, require, repeat_at}
+use Rattle.tp_opid.specs.declared.hash.Hash.{Hash}
+use Rattle.tp_change.specs.declared.error.ChangeError.{ChangeError}
+use Rattle.tp_change.specs.declared.parts.ChangeParts.{ChangeParts}
+use Rattle.tp_change.specs.Reading.{rises, next_before, change_at}
+use Rattle.tp_sync.specs.declared.limits.TheConstants.{MAX_HASHES, MAX_CHANGES}
+use Rattle.tp_sync.specs.declared.error.SyncError.{SyncError}
+use Rattle.tp_sync.specs.declared.error.SyncError.TheVariants.{BadMessage, BadChange}
+use Rattle.tp_sync.specs.Message.{MessageParts}
+
+-- the version byte is 1
+unfoldable pub version_at : Reads SyncError (Unit {0})
+version_at = do
+  version ← or_fail BadMessage byte_at
+  require (version == 1) BadMessage
+
+-- 32 bytes, above the hash before
+unfoldable pub hash_at : Option Hash → Reads SyncError Hash
+hash_at before = do
+  bytes ← or_fail BadMessage (bytes_at 32)
+  require (rises before (record { 0 = bytes })) BadMessage
+  give (record { 0 = bytes })
+
+-- a count, and so many hashes
+unfoldable pub hashes_at : Reads SyncError (List Hash)
+hashes_at = do
+  count ← or_fail BadMessage (number_at w32)
+  require (nat_le count MAX_HASHES) BadMessage
+  repeat_at hash_at next_before count None
+
+-- the change that bytes are
+unfoldable pub decoded : Result ChangeParts ChangeError → Reads SyncError ChangeParts
+decoded (Ok c) = give c
+decoded (Err e) = fail BadChange
+
+-- a length, and a change of so many bytes
+unfoldable pub entry_at : Reads SyncError ChangeParts
+entry_at = do
+  len ← or_fail BadMessage (number_at w32)
+  bytes ← or_fail BadMessage (bytes_at len)
+  decoded (change_at bytes)
+
+-- one change after another is read in the same way
+abbrev pub each_entry : Unit {0} → Reads SyncError ChangeParts
+each_entry s = entry_at
+
+abbrev pub stay : Unit {0} → ChangeParts → Unit {0}
+stay s c = s
+
+-- a count, and so many changes
+unfoldable pub changes_at : Reads SyncError (List ChangeParts)
+changes_at = do
+  count ← or_fail BadMessage (number_at w32)
+  require (nat_le count MAX_CHANGES) BadMessage
+  repeat_at each_entry stay count tt
+
+unfoldable pub parts_at : Reads SyncError MessageParts
+parts_at = do
+  version_at
+  heads ← hashes_at
+  wants ← hashes_at
+  changes ← changes_at
+  give (record { heads = heads; wants = wants; changes = changes })
+
+-- Nothing follows.
+unfoldable pub ended : {X : Type 0} → Result (X × List ℕ) SyncError → Result X SyncError
+ended (Ok x) = if length x.1 == 0 then Ok x.0 else Err BadMessage
+ended (Err e) = Err e
+
+-- the message that the bytes are, or the first fault
+unfoldable pub message_at : List ℕ → Result MessageParts SyncError
+message_at bytes = ended (parts_at bytes)

@@ -1,0 +1,24 @@
+-- The bytes of a message, version 1: all numbers big-endian.
+use Rattle.std.specs.Prelude.{ℕ, List, ◌∷◌, ◌++◌, length}
+use Rattle.std.specs.Int.{w32, to_be_bytes}
+use Rattle.std.specs.List.{flat_map}
+use Rattle.tp_opid.specs.declared.hash.Hash.{Hash}
+use Rattle.tp_change.specs.declared.parts.ChangeParts.{ChangeParts}
+use Rattle.tp_change.specs.Spelling.{spelling}
+use Rattle.tp_sync.specs.Message.{MessageParts}
+
+-- a count of 4 bytes, and 32 bytes for each hash
+abbrev pub spelling_of_hashes : List Hash → List ℕ
+spelling_of_hashes hashes = to_be_bytes w32 (length hashes) ++ flat_map (λ (h : Hash). h.0) hashes
+
+-- a byte length of 4 bytes, and the bytes of a change
+abbrev pub entry : ChangeParts → List ℕ
+entry c = to_be_bytes w32 (length (spelling c)) ++ spelling c
+
+-- a count of 4 bytes, and the changes behind their lengths
+abbrev pub spelling_of_changes : List ChangeParts → List ℕ
+spelling_of_changes changes = to_be_bytes w32 (length changes) ++ flat_map entry changes
+
+-- the bytes of a message
+unfoldable pub message_spelling : MessageParts → List ℕ
+message_spelling m = 1 ∷ (spelling_of_hashes m.heads ++ (spelling_of_hashes m.wants ++ spelling_of_changes m.changes))

@@ -1,0 +1,30 @@
+-- Which changes a document wants of another peer.
+use Rattle.std.specs.Prelude.{◌≡◌, ◌⊎◌, List, [], ◌++◌, take, filter, Bool, true, ◌||◌, not, Option}
+use Rattle.std.specs.List.{flat_map}
+use Rattle.std.specs.Option.{unwrap_or}
+use Rattle.tp_list.specs.Members.{In}
+use Rattle.tp_list.specs.Rising.{IsRising, rising}
+use Rattle.tp_opid.specs.declared.hash.Hash.{Hash}
+use Rattle.tp_opid.specs.Order.{hash_cmp}
+use Rattle.tp_change.specs.declared.parts.ChangeParts.{ChangeParts}
+use Rattle.tp_graph.specs.Named.{has}
+use Rattle.tp_sync.specs.declared.limits.TheConstants.{MAX_HASHES}
+
+-- the hashes that were heard of: the heads that the other declared, and the dependencies of the changes that wait
+abbrev pub heard_of : List ChangeParts → Option (List Hash) → List Hash
+heard_of W theirs = unwrap_or theirs [] ++ flat_map (λ (c : ChangeParts). c.deps) W
+
+-- the hash is neither that of an applied nor of a waiting change
+abbrev pub is_absent : List ChangeParts → List ChangeParts → Hash → Bool
+is_absent C W h = not (has C h || has W h)
+
+-- the hashes of the changes that are wanted where C is applied and W waits: all that were heard of and are absent, rising,
+-- the least 65,535 of them
+abbrev pub wanted : List ChangeParts → List ChangeParts → Option (List Hash) → List Hash
+wanted C W theirs = take MAX_HASHES (rising hash_cmp (filter (is_absent C W) (heard_of W theirs)))
+
+-- What a rising list has once those of the hashes were put into it that are absent.
+pub record HasPut (C W : List ChangeParts) (old hashes new : List Hash) : Type 0 where
+  pub rises : IsRising hash_cmp new
+  pub there : (h : Hash) → In h new → In h old ⊎ (In h hashes × (is_absent C W h ≡ true))
+  pub back : (h : Hash) → In h old ⊎ (In h hashes × (is_absent C W h ≡ true)) → In h new

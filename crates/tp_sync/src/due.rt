@@ -1,0 +1,253 @@
+//! Which changes are due to another peer, and which of them a message carries.
+
+ghost use Rattle.std.specs.Prelude.{◌≡◌, ◌↔◌, ◌+◌, ◌<◌, ◌^◌, ◌∷◌, ◌++◌, ◌&&◌, [], cond, length, nat_lt, drop, filter, not, false, Some, IfOk, IsTrue, OnOk, IsOkUnless};
+ghost use Rattle.std.specs.List.{list_any};
+ghost use Rattle.tp_change.specs.Spelling.{spelling};
+ghost use Rattle.tp_graph.specs.Marks.{pick};
+ghost use Rattle.tp_graph.specs.Named.{has};
+ghost use Rattle.tp_sync.specs.Due as of_due;
+ghost use Rattle.tp_sync.specs.Due.{carried, leaves_out, take_due, IsEven, MovesOn};
+ghost use Rattle.tp_sync.specs.declared.error.SyncError.TheVariants.{OutOfMemory};
+
+use crate::error::SyncError;
+use crate::limits::{FULL_BYTES, MAX_CHANGES};
+use crate::state::SyncState;
+use std::alloc::Global;
+use tp_change::Change;
+use tp_document::Document;
+use tp_graph::same_hashes;
+use tp_list::Items;
+use tp_opid::Hash;
+use tp_rga::Sequence;
+
+// The changes that a message has taken so far.
+#[derive(Drop)]
+struct Taken {
+    // Copies of them, in applied order.
+    changes: Vec<Change>,
+    // How many bytes they have.
+    bytes: usize,
+    // The place behind the last of them, or the place from which they were to be taken, where there is none.
+    next: usize,
+}
+
+impl Taken {
+    // Whether the message takes no further change.
+    fn is_laden(&self) -> bool
+        ensures { result ≡ of_due.is_laden (length self.now.changes.items) self.now.bytes }
+    {
+        self.changes.len() >= MAX_CHANGES || self.bytes >= FULL_BYTES
+    }
+
+    // Whether it took fewer changes than so many.
+    fn is_short_of(&self, count: usize) -> bool
+        ensures { result ≡ nat_lt (length self.now.changes.items) count }
+    {
+        self.changes.len() < count
+    }
+
+    // Takes a copy of the change at the place.
+    fn take(&mut self, change: &Change, place: usize) -> Result<(), SyncError>
+        requires room { self.old.bytes < FULL_BYTES }
+        requires place { place + 1 < 2 ^ 64 }
+        ensures changes { OnOk result
+            (self.new.changes.items ≡ self.old.changes.items ++ change.now ∷ []) }
+        ensures bytes { OnOk result
+            (self.new.bytes ≡ self.old.bytes + length (spelling change.now)) }
+        ensures next { OnOk result (self.new.next ≡ place + 1) }
+        ensures err { IsOkUnless result OutOfMemory }
+    {
+        let _hash = change.hash();
+        match change.copy() {
+            Ok(copied) => self.changes.push(copied)?,
+            Err(_) => return Err(SyncError::OutOfMemory),
+        }
+        self.bytes += change.encoded_len();
+        self.next = place + 1;
+        Ok(())
+    }
+}
+
+// Takes the changes that are marked, from the place on, until the message takes no further one. At first there is room
+// for so many.
+fn take_from(
+    alloc: Global,
+    applied: &[Change],
+    marks: &[bool],
+    from: usize,
+    next: usize,
+    room: usize,
+) -> Result<Taken, SyncError>
+    requires { length marks.now ≡ length applied.now }
+    ensures changes { IfOk result (λ t. t.changes.items
+        ≡ take_due 0 0 (pick (drop from marks.now) (drop from applied.now))) }
+    ensures next { IfOk result (λ t. MovesOn applied.now t.changes.items next t.next) }
+    ensures err { IsOkUnless result OutOfMemory }
+{
+    let mut taken = Taken {
+        changes: Vec::with_capacity(alloc, room)?,
+        bytes: 0,
+        next,
+    };
+    for place in from..applied.len() {
+        if taken.is_laden() {
+            return Ok(taken);
+        }
+        if marks[place] {
+            taken.take(&applied[place], place)?;
+        }
+    }
+    Ok(taken)
+}
+
+// How many of the marks are set.
+fn count(marks: &[bool]) -> usize
+    ensures { result ≡ length (filter (λ b. b) marks.now) }
+{
+    marks.iter().filter(|mark| **mark).count()
+}
+
+// Whether a mark is set from the place on.
+fn is_any_from(marks: &[bool], place: usize) -> bool
+    ensures { result ≡ list_any (λ b. b) (drop place marks.now) }
+{
+    for i in place..marks.len() {
+        if marks[i] {
+            return true;
+        }
+    }
+    false
+}
+
+// The place from which changes are taken: the next one, where something is due from there on, and else the first.
+fn first_place(goes_on: bool, next: usize) -> usize
+    ensures { result ≡ cond goes_on next 0 }
+{
+    if goes_on { next } else { 0 }
+}
+
+// Whether something is due, and nothing from the next place on.
+fn begins_again(due: usize, goes_on: bool) -> bool
+    ensures { result ≡ (nat_lt 0 due && not goes_on) }
+{
+    0 < due && !goes_on
+}
+
+/// Whether the hashes are the ones that were kept.
+pub(crate) fn are(kept: &Option<Items<Hash>>, hashes: &[Hash]) -> bool
+    ensures { IsTrue result ↔ (kept.now ≡ Some hashes.now) }
+{
+    match kept {
+        Some(kept) => same_hashes(kept.as_slice(), hashes),
+        None => false,
+    }
+}
+
+// Whether an applied change has one of the hashes.
+fn has_any<S: Sequence>(document: &Document<S>, hashes: &[Hash]) -> bool
+    ensures { result ≡ list_any (λ h. has document.now.applied h) hashes.now }
+{
+    hashes.iter().any(|hash| document.contains(hash))
+}
+
+/// Whether the other declared the very heads that are there, and nothing is due to it: it wants no change that is
+/// there. No pass over the changes.
+pub(crate) fn is_even<S: Sequence>(document: &Document<S>, state: &SyncState) -> bool
+    ensures { IsTrue result ↔ IsEven document.now.applied state.now }
+{
+    let _changes = document.changes();
+    are(&state.theirs, document.heads()) && !has_any(document, state.wants.as_slice())
+}
+
+/// What a message carries of the changes that are due, and how far it gets.
+#[derive(Drop)]
+pub(crate) struct Load {
+    /// Copies of the changes that it carries, in applied order.
+    pub(crate) changes: Vec<Change>,
+    /// The place from which the next message takes changes.
+    pub(crate) next: usize,
+    /// Whether it begins again with the first that is due.
+    pub(crate) again: bool,
+    /// Whether it leaves out changes that are due.
+    pub(crate) cut: bool,
+}
+
+impl Load {
+    // Nothing.
+    fn nothing(alloc: Global, next: usize) -> Load
+        ensures changes { result.changes.items ≡ [] }
+        ensures next { result.next ≡ next }
+        ensures again { result.again ≡ false }
+        ensures cut { result.cut ≡ false }
+    {
+        Load {
+            changes: Vec::new(alloc),
+            next,
+            again: false,
+            cut: false,
+        }
+    }
+}
+
+// What the next message to a peer that declared these heads carries.
+fn load_declared<S: Sequence>(
+    alloc: Global,
+    document: &Document<S>,
+    theirs: &[Hash],
+    state: &SyncState,
+) -> Result<Load, SyncError>
+    requires { state.now.theirs ≡ Some theirs.now }
+    ensures changes { IfOk result
+        (λ l. l.changes.items ≡ carried document.now.applied state.now) }
+    ensures next { IfOk result (λ l. MovesOn document.now.applied l.changes.items
+        state.now.next l.next) }
+    ensures again { IfOk result
+        (λ l. l.again ≡ of_due.begins_again document.now.applied state.now) }
+    ensures cut { IfOk result (λ l. l.cut ≡ leaves_out document.now.applied state.now) }
+    ensures err { IsOkUnless result OutOfMemory }
+{
+    let applied = document.changes();
+    let marks = match document.marks_since(theirs, state.wants.as_slice()) {
+        Ok(marks) => marks,
+        Err(_) => return Err(SyncError::OutOfMemory),
+    };
+    let next = state.next;
+    let goes_on = is_any_from(&marks, next);
+    let from = first_place(goes_on, next);
+    let due = count(&marks);
+    let taken = take_from(alloc, applied, &marks, from, next, due.min(MAX_CHANGES))?;
+    let cut = taken.is_short_of(due);
+    Ok(Load {
+        changes: taken.changes,
+        next: taken.next,
+        again: begins_again(due, goes_on),
+        cut,
+    })
+}
+
+/// What the next message to the other carries: nothing where the other declared no heads yet, or where they are the
+/// heads that are there and nothing is wanted. Else one pass over the changes, of which only those that are carried are
+/// copied.
+pub(crate) fn load_for<S: Sequence>(
+    alloc: Global,
+    document: &Document<S>,
+    state: &SyncState,
+) -> Result<Load, SyncError>
+    ensures changes { IfOk result
+        (λ l. l.changes.items ≡ carried document.now.applied state.now) }
+    ensures next { IfOk result (λ l. MovesOn document.now.applied l.changes.items
+        state.now.next l.next) }
+    ensures again { IfOk result
+        (λ l. l.again ≡ of_due.begins_again document.now.applied state.now) }
+    ensures cut { IfOk result (λ l. l.cut ≡ leaves_out document.now.applied state.now) }
+    ensures err { IsOkUnless result OutOfMemory }
+{
+    let _changes = document.changes();
+    if is_even(document, state) {
+        return Ok(Load::nothing(alloc, state.next));
+    }
+    match &state.theirs {
+        Some(theirs) => load_declared(alloc, document, theirs.as_slice(), state),
+        None => Ok(Load::nothing(alloc, state.next)),
+    }
+}

@@ -1,0 +1,112 @@
+//! Making the next message to another peer.
+
+ghost use Rattle.std.specs.Prelude.{◌≡◌, ◌↔◌, ◌<◌, ◌≤◌, ◌⊎◌, length, Err, IfOk, IfErr, IfSome, IsTrue};
+ghost use Rattle.std.specs.List.{AllByRecursion};
+ghost use Rattle.std.specs.Option.{option_map};
+ghost use Rattle.tp_list.specs.Rising.{IsRising};
+ghost use Rattle.tp_opid.specs.Order.{hash_cmp};
+ghost use Rattle.tp_change.specs.Limits.{IsHash};
+ghost use Rattle.tp_graph.specs.Heads as head;
+ghost use Rattle.tp_document.specs.DocState.{AllChanges};
+ghost use Rattle.tp_sync.specs.Answer.{Answer, IsQuiet};
+ghost use Rattle.tp_sync.specs.Due.{leaves_out};
+ghost use Rattle.tp_sync.specs.declared.error.SyncError.TheVariants.{OutOfMemory, TooManyHeads};
+
+use crate::due::{are, is_even, load_for};
+use crate::error::SyncError;
+use crate::limits::{MAX_CHANGES, MAX_HASHES};
+use crate::message::Message;
+use crate::state::SyncState;
+use crate::wanting::wants;
+use std::alloc::Global;
+use tp_change::Change;
+use tp_document::Document;
+use tp_list::Items;
+use tp_opid::Hash;
+use tp_rga::Sequence;
+
+// Whether nothing is to be said.
+fn is_quiet<S: Sequence>(document: &Document<S>, state: &SyncState) -> bool
+    ensures { IsTrue result ↔ IsQuiet document.now.applied state.now }
+{
+    are(&state.told, document.heads()) && is_even(document, state)
+}
+
+/// A message for another peer.
+#[derive(Drop)]
+pub(crate) struct Sent {
+    /// The message.
+    pub(crate) message: Message,
+    /// Whether it leaves out changes that are due.
+    pub(crate) cut: bool,
+}
+
+/// The next message, as [`generate`] makes it, with whether it leaves out changes that are due.
+pub(crate) fn send<S: Sequence>(
+    alloc: Global,
+    document: &Document<S>,
+    state: &mut SyncState,
+) -> Result<Option<Sent>, SyncError>
+    ensures answer { IfOk result (λ sent. Answer document.now.applied document.now.waiting
+        state.old (option_map (λ s. s.message) sent) state.new) }
+    ensures cut { IfOk result (λ sent. IfSome sent
+        (λ s. s.cut ≡ leaves_out document.now.applied state.old)) }
+    ensures many { (result ≡ Err TooManyHeads)
+        ↔ (MAX_HASHES < length (head.heads document.now.applied)) }
+    ensures err { IfErr result
+        (λ e. ((e ≡ TooManyHeads) ⊎ (e ≡ OutOfMemory)) × (state.new ≡ state.old)) }
+{
+    let heads = document.heads();
+    if heads.len() > MAX_HASHES {
+        return Err(SyncError::TooManyHeads);
+    }
+    if is_quiet(document, state) {
+        return Ok(None);
+    }
+    let _changes = document.changes();
+    let load = load_for(alloc, document, state)?;
+    let wants = wants(document, state)?;
+    let told = Vec::from_slice(alloc, heads)?;
+    let heads = Vec::from_slice(alloc, heads)?;
+    let message = Message::new(heads, wants, load.changes);
+    state.tell(told, load.next, load.again);
+    Ok(Some(Sent {
+        message,
+        cut: load.cut,
+    }))
+}
+
+/// The next message to another peer, as Automerge's call `generate_sync_message`: the document's heads; the hashes that
+/// it wants, which are those of the other's heads and of the dependencies of waiting changes that are neither applied nor
+/// waiting, the least 65,535 of them; and changes that are due. `None` where the heads were told, the other declared the
+/// same, and nothing is due; the state stays then.
+///
+/// Nothing is due before the other declared heads. Then those of the applied changes are that the other wants, or that
+/// aren't in the past of those of its heads that are applied here. Whether they were sent before makes no difference:
+/// nothing that was sent counts as received, so a lost message is made up for. The message takes them in applied order,
+/// from behind the place up to which the one before took them, or from the first where nothing is due from there on,
+/// until it has 1,024 of them or 1,048,576 bytes of them.
+///
+/// `TooManyHeads` exactly where the document has more than 65,535 heads; the only other refusal is `OutOfMemory`. A
+/// refusal leaves the state as it was.
+///
+/// Cost: where the other's heads are the document's, a comparison of them and a look-up for each hash that it wants. Else
+/// one pass over the applied changes, with a byte for each; only those that are sent are copied.
+pub fn generate<S: Sequence>(
+    alloc: Global,
+    document: &Document<S>,
+    state: &mut SyncState,
+) -> Result<Option<Message>, SyncError>
+    ensures answer { IfOk result (λ message. Answer document.now.applied document.now.waiting
+        state.old message state.new) }
+    ensures many { (result ≡ Err TooManyHeads)
+        ↔ (MAX_HASHES < length (head.heads document.now.applied)) }
+    ensures err { IfErr result
+        (λ e. ((e ≡ TooManyHeads) ⊎ (e ≡ OutOfMemory)) × (state.new ≡ state.old)) }
+{
+    match send(alloc, document, state) {
+        Ok(Some(sent)) => Ok(Some(sent.message)),
+        Ok(None) => Ok(None),
+        Err(error) => Err(error),
+    }
+}

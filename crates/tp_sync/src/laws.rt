@@ -1,0 +1,67 @@
+//! Laws of syncing, each the contract of a function that does nothing.
+
+ghost use Rattle.std.specs.Prelude.{◌≡◌, [], ◌∷◌, ◌++◌, List, true, false, length};
+ghost use Rattle.tp_list.specs.Members.{In, SameMembers};
+ghost use Rattle.tp_opid.specs.declared.hash.Hash.{Hash};
+ghost use Rattle.tp_change.specs.declared.parts.ChangeParts.{ChangeParts};
+ghost use Rattle.tp_change.specs.ChangeHash.{hash_of};
+ghost use Rattle.tp_graph.specs.Heads.{heads};
+ghost use Rattle.tp_graph.specs.Named.{has, HashesApart};
+ghost use Rattle.tp_graph.specs.Sound.{Sound};
+ghost use Rattle.tp_receive.specs.declared.intake.Applied.{Applied};
+ghost use Rattle.tp_document.specs.DocState.{DocState};
+ghost use Rattle.tp_sync.specs.Message.{MessageParts};
+ghost use Rattle.tp_sync.specs.State.{SyncParts};
+ghost use Rattle.tp_sync.specs.Due.{carried, due, is_any, is_due, leaves_out, IsPiece};
+ghost use Rattle.tp_sync.specs.Answer.{Says};
+ghost use Rattle.tp_sync.specs.Room.{HasRoom, size_of};
+ghost use Rattle.tp_sync.specs.Exchange.{Exchanges, RefusesKnownAlone};
+
+/// A message carries a piece of what is due, in applied order and without a gap.
+pub fn a_message_carries_a_piece()
+    ensures { (C : List ChangeParts) (s : SyncParts) → IsPiece (carried C s) (due C s) }
+{}
+
+/// A message carries something where something is due.
+pub fn a_message_carries_something()
+    ensures { (C : List ChangeParts) (s : SyncParts) → is_any (due C s) ≡ true
+        → is_any (carried C s) ≡ true }
+{}
+
+/// A message takes a change only where those before it are fewer than 1,024, and have fewer than 1,048,576 bytes.
+pub fn a_message_stays_within_its_limits()
+    ensures { (C : List ChangeParts) (s : SyncParts)
+        → (before : List ChangeParts) (c : ChangeParts) (behind : List ChangeParts)
+        → carried C s ≡ before ++ c ∷ behind → HasRoom (length before) (size_of before) }
+{}
+
+/// Where a message leaves out nothing, it carries all that is due.
+pub fn all_that_is_due_is_carried()
+    ensures { (C : List ChangeParts) (s : SyncParts) → leaves_out C s ≡ false
+        → carried C s ≡ due C s }
+{}
+
+/// A message that was made takes nothing away from what is due: if it is lost, what it carried is due still.
+pub fn what_was_sent_stays_due()
+    ensures { (C W : List ChangeParts) (s t : SyncParts) (m : MessageParts) → Says C W s m t
+        → due C t ≡ due C s }
+{}
+
+/// Who declared all its heads has each change that isn't due to it, where equal hashes mean equal changes: nothing that it
+/// lacks is held back.
+pub fn what_lacks_is_due()
+    ensures { (C D : List ChangeParts) (wants : List Hash) (c : ChangeParts) → Sound D
+        → HashesApart (D ++ C) → In c C → is_due C (heads D) wants c ≡ false
+        → has D (hash_of c) ≡ true }
+{}
+
+/// An exchange that left out nothing, and in which nothing was refused but as `Known`, between documents in which nothing
+/// waited leaves both with the union of their changes, where equal hashes mean equal changes.
+pub fn an_exchange_leaves_the_union()
+    ensures { (a b a' b' : DocState) (into_a into_b : Applied) → Sound a.applied
+        → Sound b.applied → HashesApart (a.applied ++ b.applied)
+        → a.waiting ≡ [] → b.waiting ≡ [] → Exchanges a b a' b' into_a into_b false
+        → RefusesKnownAlone into_a → RefusesKnownAlone into_b
+        → SameMembers a'.applied (a.applied ++ b.applied)
+        × SameMembers b'.applied (a.applied ++ b.applied) }
+{}

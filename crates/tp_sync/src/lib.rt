@@ -1,0 +1,29 @@
+//! Peers tell each other what they have, and send what the other lacks.
+//!
+//! It is after Automerge's sync protocol, without its filters: each message declares the sender's heads, asks for the
+//! changes that it heard of and lacks, and carries changes that are due to the other, dependencies before dependents. What
+//! is due follows from what the other declared and wants, and from nothing that was sent, so messages may be lost, come
+//! twice or late.
+#![tactic(auto)]
+
+mod due;
+mod error;
+mod exchanging;
+mod generating;
+pub mod laws;
+pub mod layout;
+mod limits;
+mod message;
+mod reading;
+mod receiving;
+mod state;
+mod wanting;
+mod writing;
+
+pub use error::SyncError;
+pub use exchanging::{Exchanged, exchange};
+pub use generating::generate;
+pub use limits::{FULL_BYTES, MAX_CHANGES, MAX_HASHES};
+pub use message::Message;
+pub use receiving::{receive, receive_with};
+pub use state::SyncState;

@@ -1,0 +1,10 @@
+//! The limits of a message. Definitions and contracts name the same constants.
+
+/// The most heads of a message, and the most hashes that it wants.
+pub const MAX_HASHES: usize = 65_535;
+
+/// The most changes of a message.
+pub const MAX_CHANGES: usize = 1_024;
+
+/// A message whose changes have so many bytes takes no further one.
+pub const FULL_BYTES: usize = 1_048_576;

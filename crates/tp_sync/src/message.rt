@@ -1,0 +1,96 @@
+//! Messages.
+
+ghost use Rattle.std.specs.Prelude.{◌≡◌, ◌≤◌, length};
+ghost use Rattle.std.specs.List.{AllByRecursion};
+ghost use Rattle.tp_list.specs.Rising.{IsRising};
+ghost use Rattle.tp_opid.specs.Order.{hash_cmp};
+ghost use Rattle.tp_change.specs.Limits.{IsHash};
+ghost use Rattle.tp_document.specs.DocState.{AllChanges};
+
+use crate::limits::{MAX_CHANGES, MAX_HASHES};
+use std::marker::Model;
+use tp_change::Change;
+use tp_opid::Hash;
+
+/// A message: the heads of the sender, the hashes of the changes that it wants, and changes that it sends, as
+/// Automerge's sync messages have them.
+///
+/// It is within its limits: at most 65,535 heads and as many wants, each strictly rising, and at most 1,024 changes. It
+/// is made by [`decode`](Message::decode) and by [`generate`](crate::generate) alone.
+#[derive(Drop)]
+pub struct Message {
+    pub(crate) heads: Vec<Hash>,
+    pub(crate) wants: Vec<Hash>,
+    pub(crate) changes: Vec<Change>,
+}
+
+impl Model for Message {
+    ghost use Rattle.tp_sync.specs.Message.{MessageParts, IsMessage};
+
+    ghost Value = { MessageParts };
+
+    ghost view = { λ m. record { heads = m.heads.items; wants = m.wants.items; changes = m.changes.items } };
+
+    ghost invariant = { λ m. IsMessage (record { heads = m.heads.items; wants = m.wants.items; changes = m.changes.items }) };
+}
+
+// What the type of a hash says: it has 32 bytes. Answers their number.
+fn of_hash(hash: Hash) -> usize
+    ensures { IsHash hash }
+{
+    let bytes = hash.0;
+    bytes.len()
+}
+
+// What the type of hashes says: each has 32 bytes.
+fn of_hashes(hashes: &[Hash])
+    ensures { AllByRecursion IsHash hashes.now }
+{
+    for hash in hashes {
+        let _bytes = of_hash(*hash);
+    }
+}
+
+impl Message {
+    ghost use Rattle.tp_sync.specs.Message.{IsMessage};
+
+    /// A message of its parts, which are within the limits.
+    pub(crate) fn new(heads: Vec<Hash>, wants: Vec<Hash>, changes: Vec<Change>) -> Message
+        requires heads { IsRising hash_cmp heads.items × (length heads.items ≤ MAX_HASHES) }
+        requires wants { IsRising hash_cmp wants.items × (length wants.items ≤ MAX_HASHES) }
+        requires changes { AllChanges changes.items × (length changes.items ≤ MAX_CHANGES) }
+        ensures heads { result.heads ≡ heads.items }
+        ensures wants { result.wants ≡ wants.items }
+        ensures changes { result.changes ≡ changes.items }
+    {
+        of_hashes(&heads);
+        of_hashes(&wants);
+        Message {
+            heads,
+            wants,
+            changes,
+        }
+    }
+
+    /// The heads of the sender, rising.
+    pub fn heads(&self) -> &[Hash]
+        ensures heads { result.now ≡ self.now.heads }
+        ensures limits { IsMessage self.now }
+    {
+        self.heads.as_slice()
+    }
+
+    /// The hashes of the changes that the sender wants, rising.
+    pub fn wants(&self) -> &[Hash]
+        ensures { result.now ≡ self.now.wants }
+    {
+        self.wants.as_slice()
+    }
+
+    /// The changes that are sent.
+    pub fn changes(&self) -> &[Change]
+        ensures { result.now ≡ self.now.changes }
+    {
+        self.changes.as_slice()
+    }
+}

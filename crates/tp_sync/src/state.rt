@@ -1,0 +1,99 @@
+//! What is known of another peer.
+
+ghost use Rattle.std.specs.Prelude.{◌≡◌, [], Some, None, unwrap_or, if◌then◌else◌, MatchOption};
+ghost use Rattle.tp_sync.specs.State.{fresh};
+
+use std::alloc::Global;
+use std::marker::Model;
+use tp_list::Items;
+use tp_opid::Hash;
+
+/// What a peer knows of another one to which it sends changes, as Automerge's `sync::State`: the heads that the other
+/// declared last and the hashes that it wanted then, and what it was told.
+///
+/// Nothing that was sent counts as received: what is due to the other follows from what it declared and wants alone.
+#[derive(Drop)]
+pub struct SyncState {
+    pub(crate) theirs: Option<Items<Hash>>,
+    pub(crate) wants: Items<Hash>,
+    pub(crate) told: Option<Items<Hash>>,
+    pub(crate) next: usize,
+    pub(crate) again: bool,
+}
+
+impl Model for SyncState {
+    ghost use Rattle.tp_sync.specs.State.{SyncParts};
+
+    ghost Value = { SyncParts };
+
+    ghost view = { λ s. record { theirs = s.theirs; wants = s.wants; told = s.told; next = s.next; again = s.again } };
+}
+
+impl SyncState {
+    /// The state at first: nothing was heard and nothing was told. No memory.
+    pub fn new(alloc: Global) -> SyncState
+        ensures { result ≡ fresh }
+    {
+        SyncState {
+            theirs: None,
+            wants: Items::new(Vec::new(alloc)),
+            told: None,
+            next: 0,
+            again: false,
+        }
+    }
+
+    /// Whether something was due when the last message was made, and the message took it from the first change again,
+    /// since nothing that was due stood behind what the ones before had taken.
+    pub fn again(&self) -> bool
+        ensures { result ≡ self.now.again }
+    {
+        self.again
+    }
+
+    /// The heads that the other declared last, rising; `None` where none was heard yet.
+    pub fn theirs(&self) -> Option<&[Hash]>
+        ensures { MatchOption result (self.now.theirs ≡ None)
+            (λ heads. self.now.theirs ≡ Some heads.now) }
+    {
+        match &self.theirs {
+            Some(heads) => Some(heads.as_slice()),
+            None => None,
+        }
+    }
+
+    /// The heads that the other declared last, or none where none was heard yet.
+    pub(crate) fn declared(&self) -> &[Hash]
+        ensures { result.now ≡ unwrap_or self.now.theirs [] }
+    {
+        match &self.theirs {
+            Some(heads) => heads.as_slice(),
+            None => &[],
+        }
+    }
+
+    /// Notes what a message tells the other: the heads, and how far its changes got.
+    pub(crate) fn tell(&mut self, heads: Vec<Hash>, next: usize, again: bool)
+        ensures { self.new ≡ record self.old { told = Some heads.items; next = next; again = again } }
+    {
+        self.told = Some(Items::new(heads));
+        self.next = next;
+        self.again = again;
+    }
+
+    /// Takes up the heads that the other declared and the hashes that it wants. What it was told counts no longer where
+    /// it sent changes: so it is told what they led to.
+    pub(crate) fn hear(&mut self, heads: Vec<Hash>, wants: Vec<Hash>, sent_changes: bool)
+        ensures { self.new ≡ record self.old {
+          theirs = Some heads.items;
+          wants = wants.items;
+          told = (if sent_changes then None else self.old.told);
+        } }
+    {
+        self.theirs = Some(Items::new(heads));
+        self.wants = Items::new(wants);
+        if sent_changes {
+            self.told = None;
+        }
+    }
+}

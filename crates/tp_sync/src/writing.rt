@@ -1,0 +1,92 @@
+//! The bytes of a message, written from first to last.
+
+ghost use Rattle.std.specs.Prelude.{◌≡◌, ◌<◌, ◌^◌, ◌++◌, length, IfOk, OnOk, IsOkUnless};
+ghost use Rattle.std.specs.List.{flat_map};
+ghost use Rattle.tp_opid.specs.declared.hash.Hash.{Hash};
+ghost use Rattle.tp_sync.specs.declared.error.SyncError.TheVariants.{OutOfMemory};
+ghost use Rattle.tp_sync.specs.Message.{IsMessage};
+ghost use Rattle.tp_sync.specs.Spelling.{entry, spelling_of_hashes, message_spelling};
+
+use crate::error::SyncError;
+use crate::message::Message;
+use std::alloc::AllocError;
+use tp_change::Change;
+use tp_opid::Hash;
+
+// How many bytes the changes have with their lengths, or `usize::MAX`.
+fn entries_len(changes: &[Change]) -> usize {
+    let mut total: usize = 0;
+    for change in changes {
+        total = total.saturating_add(change.encoded_len().saturating_add(4));
+    }
+    total
+}
+
+// Puts the hashes, one after another.
+fn put_each(out: &mut Vec<u8>, hashes: &[Hash]) -> Result<(), AllocError>
+    ensures { OnOk result
+        (out.new.items ≡ out.old.items ++ flat_map (λ (h : Hash). h.0) hashes.now) }
+{
+    for hash in hashes {
+        out.extend_from_slice(&hash.0)?;
+    }
+    Ok(())
+}
+
+// Puts how many hashes there are, and the hashes.
+fn put_hashes(out: &mut Vec<u8>, hashes: &[Hash]) -> Result<(), AllocError>
+    requires { length hashes.now < 2 ^ 32 }
+    ensures { OnOk result (out.new.items ≡ out.old.items ++ spelling_of_hashes hashes.now) }
+{
+    out.extend_from_slice(&(hashes.len() as u32).to_be_bytes())?;
+    put_each(out, hashes)
+}
+
+// The bytes with those of a change and their length behind them.
+fn with_change(mut out: Vec<u8>, change: &Change) -> Result<Vec<u8>, SyncError>
+    ensures bytes { IfOk result (λ v. v.items ≡ out.items ++ entry change.now) }
+    ensures err { IsOkUnless result OutOfMemory }
+{
+    let _hash = change.hash();
+    let len = change.encoded_len() as u32;
+    out.extend_from_slice(&len.to_be_bytes())?;
+    match change.encode_behind(out) {
+        Ok(out) => Ok(out),
+        Err(_) => Err(SyncError::OutOfMemory),
+    }
+}
+
+// The bytes with those of the changes and their lengths behind them.
+fn with_changes(out: Vec<u8>, changes: &[Change]) -> Result<Vec<u8>, SyncError>
+    ensures bytes { IfOk result (λ v. v.items ≡ out.items ++ flat_map entry changes.now) }
+    ensures err { IsOkUnless result OutOfMemory }
+{
+    let mut whole = out;
+    for change in changes {
+        whole = with_change(whole, change)?;
+    }
+    Ok(whole)
+}
+
+impl Message {
+    /// The bytes of the message, as docs/FORMATS.md lays them out. They are written once, into memory that is reserved
+    /// once. The only refusal is `OutOfMemory`: a message is always within its limits.
+    pub fn encode(&self) -> Result<Vec<u8>, SyncError>
+        ensures bytes { IfOk result
+            (λ v. IsMessage self.now × (v.items ≡ message_spelling self.now)) }
+        ensures err { IsOkUnless result OutOfMemory }
+    {
+        let heads = self.heads();
+        let wants = self.wants();
+        let changes = self.changes();
+        let hashes = 32 * (heads.len() + wants.len());
+        let len = entries_len(changes).saturating_add(13 + hashes);
+        let mut out = Vec::with_capacity(*self.changes.allocator(), len)?;
+        out.push(1)?;
+        put_hashes(&mut out, heads)?;
+        put_hashes(&mut out, wants)?;
+        out.extend_from_slice(&(changes.len() as u32).to_be_bytes())?;
+        let whole = with_changes(out, changes)?;
+        Ok(whole)
+    }
+}
