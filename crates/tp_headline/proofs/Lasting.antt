@@ -1,0 +1,94 @@
+-- What lasts from one moment of a world to a later one.
+use Rattle.std.proofs.Common.{◌≡◌, ℕ, List, [], ◌++◌, true, false, refl, sym, ap, ◌∙◌, subst, append_assoc, append-nil}
+use Rattle.tp_list.specs.Members.{In, AllIn}
+use Rattle.tp_list.proofs.Members.{In-left}
+use Rattle.tp_change.specs.declared.parts.ChangeParts.{ChangeParts}
+use Rattle.tp_text.specs.Text.{IsTextOf}
+use Rattle.tp_graph.specs.Named.{has_all}
+use Rattle.tp_graph.specs.Past.{past}
+use Rattle.tp_graph.specs.Sound.{Sound}
+use Rattle.tp_graph.proofs.NamedLaws.{has_all-more}
+use Rattle.tp_graph.proofs.SoundLaws.{Sound-before}
+use Rattle.tp_receive.specs.Receiving.{Begins}
+use Rattle.tp_peer.specs.PeerData.{PeerData}
+use Rattle.tp_headline.specs.World.{ReadRecord, World, HasPeer, seen}
+use Rattle.tp_headline.specs.Follows.{HoldsFrom}
+use Rattle.tp_headline.specs.Carried.{Carried, IsCarried, IsFaithful}
+
+-- From w to w' the document is the same, and what was made and used is so still.
+pub record Grows (w w' : World) : Type 0 where
+  pub id : w'.id ≡ w.id
+  pub made : Begins w.made w'.made
+  pub used : AllIn w.used w'.used
+
+-- And each peer's list only grew, and what was read is so still.
+pub record Lasts (w w' : World) : Type 0 where
+  pub grows : Grows w w'
+  pub lists : (n : ℕ) (p : PeerData) → HasPeer w n p → HoldsFrom w' n p.applied
+  pub reads : (more : List ReadRecord) × (w'.reads ≡ w.reads ++ more)
+
+-- w goes on as w', which is carried
+pub record Carries (w w' : World) : Type 0 where
+  pub lasts : Lasts w w'
+  pub carried : Carried w'
+
+pub begins_still : (C : List ChangeParts) → Begins C C
+begins_still C = ([], sym (append-nil C))
+
+pub begins_on : (C D E : List ChangeParts) → Begins C D → Begins D E → Begins C E
+begins_on C D E d e = (d.0 ++ e.0, e.1 ∙ ap (λ l. l ++ e.0) d.1 ∙ append_assoc C d.0 e.0)
+
+pub begins-In : (C D : List ChangeParts) → Begins C D → AllIn C D
+begins-In C D b c i = subst (λ l. In c l) (sym b.1) (In-left c C b.0 i)
+
+pub lasts_still : (w : World) → Lasts w w
+lasts_still w = record {
+  grows = record { id = refl; made = begins_still w.made; used = λ a i. i };
+  lists = λ n p h. record { peer = p; stands = h; begins = begins_still p.applied };
+  reads = ([], sym (append-nil w.reads));
+}
+
+pub lasts_on : (w m w' : World) → Lasts w m → Lasts m w' → Lasts w w'
+lasts_on w m w' first next = record {
+  grows = record {
+    id = next.grows.id ∙ first.grows.id;
+    made = begins_on w.made m.made w'.made first.grows.made next.grows.made;
+    used = λ a i. next.grows.used a (first.grows.used a i);
+  };
+  lists = λ n p h.
+      let one = first.lists n p h in
+      let two = next.lists n one.peer one.stands in
+      record { peer = two.peer; stands = two.stands; begins = begins_on p.applied one.peer.applied two.peer.applied one.begins two.begins };
+  reads = (first.reads.0 ++ next.reads.0, next.reads.1 ∙ ap (λ l. l ++ next.reads.0) first.reads.1 ∙ append_assoc w.reads first.reads.0 next.reads.0);
+}
+
+-- what a read saw stays the same
+pub seen_stays : (w w' : World) (r : ReadRecord) → has_all w.made r.heads ≡ true → Begins w.made w'.made → Sound w'.made → seen w' r ≡ seen w r
+seen_stays w w' r known made sound =
+    ap (λ C. past C r.heads) made.1 ∙ Sound-before w.made made.0 r.heads known (subst Sound made.1 sound)
+
+-- a read stays faithful
+pub faithful_stays : (w w' : World) (r : ReadRecord) → Lasts w w' → Sound w'.made → IsFaithful w r → IsFaithful w' r
+faithful_stays w w' r lasts sound h =
+    let same = seen_stays w w' r h.known lasts.grows.made sound in
+    let on = lasts.lists r.peer h.peer h.stands in
+    record {
+      known = has_all-more w.made w'.made r.heads (begins-In w.made w'.made lasts.grows.made) h.known;
+      text = subst (λ C. IsTextOf C r.text) (sym same) h.text;
+      peer = on.peer;
+      stands = on.stands;
+      held = λ c i. begins-In h.peer.applied on.peer.applied on.begins c (h.held c (subst (λ C. In c C) same i));
+    }
+
+-- A peer that stays as it is stays carried, where its actor made nothing new.
+pub carried_stays : (w w' : World) (p : PeerData) → Grows w w' → (p.stopped ≡ false → (c : ChangeParts) → In c w'.made → c.actor ≡ p.actor → In c w.made) → IsCarried w p → IsCarried w' p
+carried_stays w w' p grows own h = record {
+  id = h.id ∙ sym grows.id;
+  history = h.history;
+  applied = λ c i. begins-In w.made w'.made grows.made c (h.applied c i);
+  waiting = λ c i. begins-In w.made w'.made grows.made c (h.waiting c i);
+  used = grows.used p.actor h.used;
+  quiet = h.quiet;
+  live = λ runs. record { journal = (h.live runs).journal; own = λ c i by. (h.live runs).own c (own runs c i by) by };
+  dead = h.dead;
+}

@@ -1,0 +1,12 @@
+pub mod PlaceLaws
+pub mod CallLaws
+pub mod Lasting
+pub mod PeerMoves
+pub mod EditMoves
+pub mod CrashMoves
+pub mod EventLaws
+pub mod OneList
+pub mod FollowLaws
+pub mod RunLaws
+pub mod CrashLaws
+pub mod MayLaws

@@ -1,0 +1,210 @@
+-- A peer of a world joins, or changes.
+use Rattle.std.proofs.Common.{◌≡◌, ◌⊎◌, inl, inr, ℕ, List, [], ◌∷◌, ◌++◌, slice_set, false, Some, refl, sym, ap, ◌∙◌, subst, append-nil}
+use Rattle.std.specs.List.{slice_get}
+use Rattle.tp_list.specs.Members.{In, AllIn}
+use Rattle.tp_list.proofs.Members.{In-left, In-append, In-last}
+use Rattle.tp_opid.specs.declared.actor.Actor.{Actor}
+use Rattle.tp_change.specs.declared.parts.ChangeParts.{ChangeParts}
+use Rattle.tp_document.specs.DocState.{AllChanges}
+use Rattle.tp_graph.specs.Sound.{Sound}
+use Rattle.tp_journal.specs.Layout.{IsDocId}
+use Rattle.tp_journal.specs.Recovery.{IsHistory}
+use Rattle.tp_receive.specs.Receiving.{Begins}
+use Rattle.tp_peer.specs.PeerData.{PeerData, opened}
+use Rattle.tp_headline.specs.World.{World, HasPeer, with_new_peer, with_used}
+use Rattle.tp_headline.specs.Carried.{Carried, IsCarried, LivesApart}
+use Rattle.tp_headline.proofs.PlaceLaws.{slice_get-set_same, slice_get-set, slice_get-set_either, slice_get-left, slice_get-push}
+use Rattle.tp_headline.proofs.Lasting.{Carries, Grows, Lasts, begins_still, carried_stays, faithful_stays}
+
+-- ---- actors
+
+-- nothing else changes where an actor is named
+pub actor_is_used : (w : World) (actor : Actor) → Carried w → Carries w (with_used w actor)
+actor_is_used w actor h =
+    let w' = with_used w actor in
+    let more : AllIn w.used w'.used = λ a i. In-left a w.used (actor ∷ []) i in
+    let grows : Grows w w' = record { id = refl; made = begins_still w.made; used = more } in
+    let lasts : Lasts w w' = record {
+      grows = grows;
+      lists = λ n p i. record { peer = p; stands = i; begins = begins_still p.applied };
+      reads = ([], sym (append-nil w.reads));
+    } in
+    record {
+      lasts = lasts;
+      carried = record {
+        is_id = h.is_id;
+        sound = h.sound;
+        limits = h.limits;
+        used = λ c i. more c.actor (h.used c i);
+        peers = λ n p i. carried_stays w w' p grows (λ runs c j by. j) (h.peers n p i);
+        lives = h.lives;
+        reads = λ r i. faithful_stays w w' r lasts h.sound (h.reads r i);
+      };
+    }
+
+-- ---- a peer joins
+
+-- a peer joins under an actor that wasn't named, with changes that were made
+pub peer_joins : (w : World) (actor : Actor) (C : List ChangeParts) → Carried w → (In actor w.used → ⊥) → IsHistory C → AllIn C w.made
+    → Carries w (with_used (with_new_peer w (opened w.id actor C 0)) actor)
+peer_joins w actor C h fresh history made =
+    let p = opened w.id actor C 0 in
+    let w' = with_used (with_new_peer w p) actor in
+    let more : AllIn w.used w'.used = λ a i. In-left a w.used (actor ∷ []) i in
+    let grows : Grows w w' = record { id = refl; made = begins_still w.made; used = more } in
+    let lasts : Lasts w w' = record {
+      grows = grows;
+      lists = λ n q i. record { peer = q; stands = slice_get-left w.peers (p ∷ []) n q i; begins = begins_still q.applied };
+      reads = ([], sym (append-nil w.reads));
+    } in
+    let new : IsCarried w' p = record {
+      id = refl;
+      history = history;
+      applied = made;
+      waiting = λ c i. absurd i;
+      used = In-last actor w.used;
+      quiet = refl;
+      live = λ runs. record { journal = refl; own = λ c i by. absurd (fresh (subst (λ a. In a w.used) by (h.used c i))) };
+      dead = λ stopped. cc;
+    } in
+    record {
+      lasts = lasts;
+      carried = record {
+        is_id = h.is_id;
+        sound = h.sound;
+        limits = h.limits;
+        used = λ c i. more c.actor (h.used c i);
+        peers = λ n q i. elim (slice_get-push w.peers p q n i) [
+          | inl last ↦ subst (λ x. IsCarried w' x) (sym last.1) new
+          | inr old ↦ carried_stays w w' q grows (λ runs c j by. j) (h.peers n q old)
+        ];
+        lives = λ n m q s i j run_q run_s same. elim (slice_get-push w.peers p q n i) [
+          | inl last_q ↦ elim (slice_get-push w.peers p s m j) [
+            | inl last_s ↦ last_q.0 ∙ sym last_s.0
+            | inr old_s ↦ absurd (fresh (subst (λ a. In a w.used) (sym same ∙ ap (λ (x : PeerData). x.actor) last_q.1) (h.peers m s old_s).used))
+          ]
+          | inr old_q ↦ elim (slice_get-push w.peers p s m j) [
+            | inl last_s ↦ absurd (fresh (subst (λ a. In a w.used) (same ∙ ap (λ (x : PeerData). x.actor) last_s.1) (h.peers n q old_q).used))
+            | inr old_s ↦ h.lives n m q s old_q old_s run_q run_s same
+          ]
+        ];
+        reads = λ r i. faithful_stays w w' r lasts h.sound (h.reads r i);
+      };
+    }
+
+-- ---- a peer changes
+
+-- From w to w' the peer numbered n came to be p', and changes were made.
+pub record Moves (w w' : World) (n : ℕ) (p' : PeerData) (new : List ChangeParts) : Type 0 where
+  pub id : w'.id ≡ w.id
+  pub peers : w'.peers ≡ slice_set w.peers n p'
+  pub made : w'.made ≡ w.made ++ new
+  pub used : AllIn w.used w'.used
+  pub reads : w'.reads ≡ w.reads
+
+pub moves_grow : (w w' : World) (n : ℕ) (p' : PeerData) (new : List ChangeParts) → Moves w w' n p' new → Grows w w'
+moves_grow w w' n p' new moves = record { id = moves.id; made = (new, moves.made); used = moves.used }
+
+-- The changes were made by the peer p, which runs.
+pub record AreBy (p : PeerData) (new : List ChangeParts) : Type 0 where
+  pub runs : (c : ChangeParts) → In c new → p.stopped ≡ false
+  pub actor : (c : ChangeParts) → In c new → c.actor ≡ p.actor
+  pub limits : AllChanges new
+
+-- A running peer p' lives the life of p, or a new one.
+abbrev pub LivesOn : World → PeerData → PeerData → Type 0
+LivesOn w p p' = p'.stopped ≡ false → ((p.stopped ≡ false) × (p'.actor ≡ p.actor)) ⊎ (In p'.actor w.used → ⊥)
+
+-- What is known where a peer changes: the world before is carried, and so is the peer afterwards, whose list only grew;
+-- and what was made with it fits, by that peer alone.
+pub record Changes (w w' : World) (n : ℕ) (p p' : PeerData) (new : List ChangeParts) : Type 0 where
+  pub old : Carried w
+  pub stands : HasPeer w n p
+  pub moves : Moves w w' n p' new
+  pub begins : Begins p.applied p'.applied
+  pub sound : Sound (w.made ++ new)
+  pub by : AreBy p new
+  pub carried : IsCarried w' p'
+  pub life : LivesOn w p p'
+
+old_or_new : (w w' : World) (n : ℕ) (p' : PeerData) (new : List ChangeParts) → Moves w w' n p' new → (m : ℕ) (q : PeerData) → HasPeer w' m q
+    → ((m ≡ n) × (q ≡ p')) ⊎ ((m ≡ n → ⊥) × HasPeer w m q)
+old_or_new w w' n p' new moves m q i = slice_get-set w.peers n m p' q (subst (λ l. slice_get l m ≡ Some q) moves.peers i)
+
+made_before : (w w' : World) (n : ℕ) (p' : PeerData) (new : List ChangeParts) → Moves w w' n p' new → (c : ChangeParts) → In c w'.made → In c w.made ⊎ In c new
+made_before w w' n p' new moves c i = In-append c w.made new (subst (λ l. In c l) moves.made i)
+
+lasts_changed : (w w' : World) (n : ℕ) (p p' : PeerData) (new : List ChangeParts) → Changes w w' n p p' new → Lasts w w'
+lasts_changed w w' n p p' new c =
+    let moves = c.moves in
+    record {
+      grows = moves_grow w w' n p' new moves;
+      lists = λ m q i. elim (slice_get-set_either w.peers n m p p' q c.stands i) [
+        | inl same ↦ record {
+          peer = p';
+          stands = subst (λ k. HasPeer w' k p') (sym same.0) (subst (λ l. slice_get l n ≡ Some p') (sym moves.peers) (slice_get-set_same w.peers n p p' c.stands));
+          begins = subst (λ (x : PeerData). Begins x.applied p'.applied) (sym same.1) c.begins;
+        }
+        | inr other ↦ record { peer = q; stands = subst (λ l. slice_get l m ≡ Some q) (sym moves.peers) other; begins = begins_still q.applied }
+      ];
+      reads = ([], moves.reads ∙ sym (append-nil w.reads));
+    }
+
+-- another running peer made nothing of the new
+others_own : (w w' : World) (n : ℕ) (p p' : PeerData) (new : List ChangeParts) → Changes w w' n p p' new → (m : ℕ) (q : PeerData) → (m ≡ n → ⊥) → HasPeer w m q → q.stopped ≡ false
+    → (d : ChangeParts) → In d w'.made → d.actor ≡ q.actor → In d w.made
+others_own w w' n p p' new c m q other i runs d j mine = elim (made_before w w' n p' new c.moves d j) [
+  | inl old ↦ old
+  | inr fresh ↦ absurd (other (c.old.lives m n q p i c.stands runs (c.by.runs d fresh) (sym mine ∙ c.by.actor d fresh)))
+]
+
+-- the peer that changed and another running one don't have one actor
+not_the_other : (w w' : World) (n : ℕ) (p p' : PeerData) (new : List ChangeParts) → Changes w w' n p p' new → (m : ℕ) (q : PeerData) → (m ≡ n → ⊥) → HasPeer w m q → p'.stopped ≡ false
+    → q.stopped ≡ false → q.actor ≡ p'.actor → ⊥
+not_the_other w w' n p p' new c m q other i runs runs_q same = elim (c.life runs) [
+  | inl on ↦ other (c.old.lives m n q p i c.stands runs_q on.0 (same ∙ on.1))
+  | inr fresh ↦ fresh (subst (λ a. In a w.used) same (c.old.peers m q i).used)
+]
+
+running_as : (q p' : PeerData) → q ≡ p' → q.stopped ≡ false → p'.stopped ≡ false
+running_as q p' is runs = subst (λ (x : PeerData). x.stopped ≡ false) is runs
+
+actor_as : (q p' : PeerData) → q ≡ p' → q.actor ≡ p'.actor
+actor_as q p' is = ap (λ (x : PeerData). x.actor) is
+
+lives_changed : (w w' : World) (n : ℕ) (p p' : PeerData) (new : List ChangeParts) → Changes w w' n p p' new → LivesApart w'
+lives_changed w w' n p p' new c k m q s i j run_q run_s same = elim (old_or_new w w' n p' new c.moves k q i) [
+  | inl this_q ↦ elim (old_or_new w w' n p' new c.moves m s j) [
+    | inl this_s ↦ this_q.0 ∙ sym this_s.0
+    | inr old_s ↦ absurd (not_the_other w w' n p p' new c m s old_s.0 old_s.1 (running_as q p' this_q.1 run_q) run_s (sym same ∙ actor_as q p' this_q.1))
+  ]
+  | inr old_q ↦ elim (old_or_new w w' n p' new c.moves m s j) [
+    | inl this_s ↦ absurd (not_the_other w w' n p p' new c k q old_q.0 old_q.1 (running_as s p' this_s.1 run_s) run_q (same ∙ actor_as s p' this_s.1))
+    | inr old_s ↦ c.old.lives k m q s old_q.1 old_s.1 run_q run_s same
+  ]
+]
+
+pub peer_changes : (w w' : World) (n : ℕ) (p p' : PeerData) (new : List ChangeParts) → Changes w w' n p p' new → Carries w w'
+peer_changes w w' n p p' new c =
+    let h = c.old in
+    let moves = c.moves in
+    let sound : Sound w'.made = subst Sound (sym moves.made) c.sound in
+    let lasts = lasts_changed w w' n p p' new c in
+    record {
+      lasts = lasts;
+      carried = record {
+        is_id = subst IsDocId (sym moves.id) h.is_id;
+        sound = sound;
+        limits = λ d i. elim (made_before w w' n p' new moves d i) [ inl old ↦ h.limits d old | inr fresh ↦ c.by.limits d fresh ];
+        used = λ d i. elim (made_before w w' n p' new moves d i) [
+          | inl old ↦ moves.used d.actor (h.used d old)
+          | inr fresh ↦ subst (λ a. In a w'.used) (sym (c.by.actor d fresh)) (moves.used p.actor (h.peers n p c.stands).used)
+        ];
+        peers = λ m q i. elim (old_or_new w w' n p' new moves m q i) [
+          | inl this ↦ subst (λ x. IsCarried w' x) (sym this.1) c.carried
+          | inr old ↦ carried_stays w w' q lasts.grows (others_own w w' n p p' new c m q old.0 old.1) (h.peers m q old.1)
+        ];
+        lives = lives_changed w w' n p p' new c;
+        reads = λ r i. faithful_stays w w' r lasts sound (h.reads r (subst (λ l. In r l) moves.reads i));
+      };
+    }

@@ -1,0 +1,58 @@
+-- What lasts while a world goes on.
+use Rattle.std.specs.Prelude.{◌≡◌, ℕ, List, [], ◌∷◌, ◌++◌, true, Some}
+use Rattle.tp_list.specs.Members.{In, SameMembers}
+use Rattle.tp_opid.specs.declared.hash.Hash.{Hash}
+use Rattle.tp_change.specs.declared.parts.ChangeParts.{ChangeParts}
+use Rattle.tp_change.specs.ChangeHash.{hash_of}
+use Rattle.tp_edit.specs.declared.splice.Splice.{Splice}
+use Rattle.tp_graph.specs.Named.{has_all}
+use Rattle.tp_graph.specs.Past.{past}
+use Rattle.tp_receive.specs.Receiving.{Begins}
+use Rattle.tp_peer.specs.PeerData.{PeerData}
+use Rattle.tp_headline.specs.Event as event
+use Rattle.tp_headline.specs.Happening.{Next}
+use Rattle.tp_headline.specs.Reply.{Reply, Edited, Text}
+use Rattle.tp_headline.specs.Running.{GoesOn}
+use Rattle.tp_headline.specs.World.{ReadRecord, World, HasPeer, seen}
+
+-- The peer numbered n holds the changes C and, behind them, maybe more.
+pub record HoldsFrom (w : World) (n : ℕ) (C : List ChangeParts) : Type 0 where
+  pub peer : PeerData
+  pub stands : HasPeer w n peer
+  pub begins : Begins C peer.applied
+
+-- From w to w' a text was read at the peer numbered n, and what it saw are just the changes C.
+pub record Saw (w w' : World) (n : ℕ) (text : List ℕ) (C : List ChangeParts) : Type 0 where
+  pub read : ReadRecord
+  pub last : w'.reads ≡ w.reads ++ read ∷ []
+  pub peer : read.peer ≡ n
+  pub says : read.text ≡ text
+  pub saw : SameMembers (seen w' read) C
+
+-- Whatever happens from w on, each Read of the peer numbered n sees the change c.
+abbrev pub ShowsFromNowOn : World → ℕ → ChangeParts → Type 0
+ShowsFromNowOn w n c =
+    (events : List event.Event) (replies : List Reply) (m w' : World) (text : List ℕ) → GoesOn w events replies m
+    → Next m (event.Read n) (Text text) w' → (C : List ChangeParts) × Saw m w' n text C × In c C
+
+-- What follows on a world w, whatever happens from then on, over crashes and restarts too.
+pub record Follows (w : World) : Type 0 where
+  -- a Read sees what the peer holds at that moment, and a ReadAt the past of the heads given
+  pub sees : (n : ℕ) (p : PeerData) (text : List ℕ) (w' : World) → HasPeer w n p → Next w (event.Read n) (Text text) w'
+      → Saw w w' n text p.applied
+  pub sees_at : (n : ℕ) (p : PeerData) (hashes : List Hash) (text : List ℕ) (w' : World) → HasPeer w n p
+      → Next w (event.ReadAt n hashes) (Text text) w' → Saw w w' n text (past p.applied hashes)
+  -- a read is never lost, and what it saw stays the same
+  pub stays : (events : List event.Event) (replies : List Reply) (w' : World) (r : ReadRecord) → GoesOn w events replies w'
+      → In r w.reads → In r w'.reads × (seen w' r ≡ seen w r)
+  -- each peer's list only grows at its end
+  pub lists : (events : List event.Event) (replies : List Reply) (w' : World) (n : ℕ) (p : PeerData)
+      → GoesOn w events replies w' → HasPeer w n p → HoldsFrom w' n p.applied
+  -- a change whose edit was answered is shown at that peer for ever
+  pub edits : (n : ℕ) (splices : List Splice) (time : ℕ) (message : List ℕ) (h : Hash) (w' : World)
+      → Next w (event.Edit n splices time message) (Edited (Some h)) w'
+      → (c : ChangeParts) × (hash_of c ≡ h) × ShowsFromNowOn w' n c
+  -- and so is each change that was seen at the peer
+  pub reads : (r : ReadRecord) → In r w.reads → (c : ChangeParts) → In c (seen w r) → ShowsFromNowOn w r.peer c
+  -- what a read saw has all that it depends on
+  pub closed : (r : ReadRecord) → In r w.reads → (c : ChangeParts) → In c (seen w r) → has_all (seen w r) c.deps ≡ true

@@ -1,0 +1,13 @@
+pub mod WorldError
+pub mod Call
+pub mod Event
+pub mod Reply
+pub mod World
+pub mod Refusing
+pub mod Calling
+pub mod Crashing
+pub mod Happening
+pub mod Running
+pub mod Headline
+pub mod Follows
+pub mod Carried

@@ -1,0 +1,62 @@
+-- A world of peers that edit one document.
+use Rattle.std.specs.Prelude.{◌≡◌, ℕ, List, [], ◌∷◌, ◌++◌, length, drop, slice_set, Some}
+use Rattle.std.specs.List.{slice_get}
+use Rattle.tp_opid.specs.declared.actor.Actor.{Actor}
+use Rattle.tp_opid.specs.declared.doc_id.DocId.{DocId}
+use Rattle.tp_opid.specs.declared.hash.Hash.{Hash}
+use Rattle.tp_change.specs.declared.parts.ChangeParts.{ChangeParts}
+use Rattle.tp_graph.specs.Past.{past}
+use Rattle.tp_peer.specs.PeerData.{PeerData}
+
+-- A read: the number of the peer, the heads at which the text was read, and its characters.
+pub record ReadRecord : Type 0 where
+  pub peer : ℕ
+  pub heads : List Hash
+  pub text : List ℕ
+
+-- The identifier of the document; the peers, each at its number; the changes that were made, in the order in which they
+-- were; the actors that were named; and the reads, in their order.
+pub record World : Type 0 where
+  pub id : DocId
+  pub peers : List PeerData
+  pub made : List ChangeParts
+  pub used : List Actor
+  pub reads : List ReadRecord
+
+-- a world in which nothing happened yet
+abbrev pub beginning : DocId → World
+beginning id = record { id = id; peers = []; made = []; used = []; reads = [] }
+
+-- The peer numbered n is p.
+abbrev pub HasPeer : World → ℕ → PeerData → Type 0
+HasPeer w n p = slice_get w.peers n ≡ Some p
+
+-- the changes that a read saw: the past of its heads
+abbrev pub seen : World → ReadRecord → List ChangeParts
+seen w r = past w.made r.heads
+
+-- ---- how a world changes
+
+-- the peer p joins as the last
+abbrev pub with_new_peer : World → PeerData → World
+with_new_peer w p = record w { peers = w.peers ++ p ∷ [] }
+
+-- the peer numbered n is p from now on
+abbrev pub with_peer : World → ℕ → PeerData → World
+with_peer w n p = record w { peers = slice_set w.peers n p }
+
+-- changes were made
+abbrev pub with_made : World → List ChangeParts → World
+with_made w new = record w { made = w.made ++ new }
+
+-- the actor is used from now on
+abbrev pub with_used : World → Actor → World
+with_used w actor = record w { used = w.used ++ actor ∷ [] }
+
+-- the text was read at the heads, at the peer numbered n
+abbrev pub with_read : World → ℕ → List Hash → List ℕ → World
+with_read w n heads text = record w { reads = w.reads ++ record { peer = n; heads = heads; text = text } ∷ [] }
+
+-- the changes that are applied in the peer p' beyond those of p
+abbrev pub gained : PeerData → PeerData → List ChangeParts
+gained p p' = drop (length p.applied) p'.applied
