@@ -3,6 +3,7 @@
 use crate::lists::hashes;
 use crate::world::World;
 use tp_document::{Cursor, DocError};
+use tp_rga::Sequence;
 use tp_runner::{Fault, Shelf, Words, count, put_id, refusal};
 
 // Gives a cursor its name, and answers the element that it stands at, or why there is none.
@@ -23,7 +24,7 @@ fn keep(
 }
 
 // `cursor NAME DOCUMENT PLACE`.
-fn cursor(world: &mut World, words: &mut Words) -> Result<String, Fault> {
+fn cursor<S: Sequence>(world: &mut World<S>, words: &mut Words) -> Result<String, Fault> {
     let name = words.next()?;
     let document = world.documents.get(words.next()?)?;
     let answer = document.cursor(count(words.next()?)?);
@@ -31,7 +32,7 @@ fn cursor(world: &mut World, words: &mut Words) -> Result<String, Fault> {
 }
 
 // `cursor_at NAME DOCUMENT PLACE HASHES`.
-fn cursor_at(world: &mut World, words: &mut Words) -> Result<String, Fault> {
+fn cursor_at<S: Sequence>(world: &mut World<S>, words: &mut Words) -> Result<String, Fault> {
     let name = words.next()?;
     let document = world.documents.get(words.next()?)?;
     let at = count(words.next()?)?;
@@ -41,7 +42,11 @@ fn cursor_at(world: &mut World, words: &mut Words) -> Result<String, Fault> {
 }
 
 /// Makes a call that makes a cursor; `None` where the word is none of these.
-pub fn call(world: &mut World, word: &str, words: &mut Words) -> Option<Result<String, Fault>> {
+pub fn call<S: Sequence>(
+    world: &mut World<S>,
+    word: &str,
+    words: &mut Words,
+) -> Option<Result<String, Fault>> {
     match word {
         "cursor" => Some(cursor(world, words)),
         "cursor_at" => Some(cursor_at(world, words)),

@@ -1,16 +1,20 @@
 //! Calls that make documents, or put changes into them.
 
 use crate::lists::hashes;
-use crate::world::{Doc, World};
+use crate::world::World;
 use std::alloc::Global;
 use tp_change::{Change, ChangeParts, Record};
 use tp_document::{DocError, Document};
 use tp_list::{Items, Text};
 use tp_opid::{Actor, DocId, Place};
+use tp_rga::Sequence;
 use tp_runner::{Fault, Shelf, Words, actor_of, copy, count, done, refusal, text};
 
 // `document NAME [BYTE]`: a document with no changes, whose identifier is that byte, 7 if none is given, sixteen times.
-fn make(documents: &mut Shelf<Doc>, words: &mut Words) -> Result<String, Fault> {
+fn make<S: Sequence>(
+    documents: &mut Shelf<Document<S>>,
+    words: &mut Words,
+) -> Result<String, Fault> {
     let alloc = documents.alloc();
     let name = words.next()?;
     let byte = words.take().unwrap_or("7");
@@ -20,10 +24,10 @@ fn make(documents: &mut Shelf<Doc>, words: &mut Words) -> Result<String, Fault> 
 }
 
 // Gives a document its name, or answers why there is none.
-fn keep(
-    documents: &mut Shelf<Doc>,
+fn keep<S: Sequence>(
+    documents: &mut Shelf<Document<S>>,
     name: &str,
-    made: Result<Doc, DocError>,
+    made: Result<Document<S>, DocError>,
 ) -> Result<String, Fault> {
     match made {
         Ok(document) => {
@@ -35,14 +39,17 @@ fn keep(
 }
 
 // `fork NEW DOCUMENT`.
-fn fork(documents: &mut Shelf<Doc>, words: &mut Words) -> Result<String, Fault> {
+fn fork<S: Sequence>(
+    documents: &mut Shelf<Document<S>>,
+    words: &mut Words,
+) -> Result<String, Fault> {
     let name = words.next()?;
     let made = documents.get(words.next()?)?.fork();
     keep(documents, name, made)
 }
 
 // `fork_at NEW DOCUMENT HASHES`.
-fn fork_at(world: &mut World, words: &mut Words) -> Result<String, Fault> {
+fn fork_at<S: Sequence>(world: &mut World<S>, words: &mut Words) -> Result<String, Fault> {
     let name = words.next()?;
     let on = words.next()?;
     let at = hashes(world, words.next()?)?;
@@ -51,9 +58,9 @@ fn fork_at(world: &mut World, words: &mut Words) -> Result<String, Fault> {
 }
 
 // `name NAME DOCUMENT PLACE`: names an applied change, by its place in applied order.
-fn name(
+fn name<S: Sequence>(
     changes: &mut Shelf<Change>,
-    documents: &Shelf<Doc>,
+    documents: &Shelf<Document<S>>,
     words: &mut Words,
 ) -> Result<String, Fault> {
     let name = words.next()?;
@@ -108,7 +115,10 @@ fn range(word: &str) -> Result<(usize, usize), Fault> {
 
 // `branches DOCUMENT FROM..TO TEXT`: enters the first changes of the actors with the numbers from `FROM` up to, but
 // without, `TO`, each of which inserts the text.
-fn branches(documents: &mut Shelf<Doc>, words: &mut Words) -> Result<String, Fault> {
+fn branches<S: Sequence>(
+    documents: &mut Shelf<Document<S>>,
+    words: &mut Words,
+) -> Result<String, Fault> {
     let alloc = documents.alloc();
     let document = documents.get_mut(words.next()?)?;
     let (from, to) = range(words.next()?)?;
@@ -121,14 +131,17 @@ fn branches(documents: &mut Shelf<Doc>, words: &mut Words) -> Result<String, Fau
 }
 
 // `forget DOCUMENT`: drops what waits.
-fn forget(documents: &mut Shelf<Doc>, words: &mut Words) -> Result<String, Fault> {
+fn forget<S: Sequence>(
+    documents: &mut Shelf<Document<S>>,
+    words: &mut Words,
+) -> Result<String, Fault> {
     documents.get_mut(words.next()?)?.forget_pending();
     done(documents.alloc())
 }
 
 // `enter DOCUMENT CHANGE`: `ready`, and then `enter`.
-fn enter(
-    documents: &mut Shelf<Doc>,
+fn enter<S: Sequence>(
+    documents: &mut Shelf<Document<S>>,
     changes: &Shelf<Change>,
     words: &mut Words,
 ) -> Result<String, Fault> {
@@ -138,7 +151,11 @@ fn enter(
     entered(alloc, document, change)
 }
 
-fn entered(alloc: Global, document: &mut Doc, change: Change) -> Result<String, Fault> {
+fn entered<S: Sequence>(
+    alloc: Global,
+    document: &mut Document<S>,
+    change: Change,
+) -> Result<String, Fault> {
     match document.ready(&change) {
         Ok(()) => {
             document.enter(change);
@@ -149,7 +166,11 @@ fn entered(alloc: Global, document: &mut Doc, change: Change) -> Result<String, 
 }
 
 /// Makes a call that makes a document or puts changes into one; `None` where the word is none of these.
-pub fn call(world: &mut World, word: &str, words: &mut Words) -> Option<Result<String, Fault>> {
+pub fn call<S: Sequence>(
+    world: &mut World<S>,
+    word: &str,
+    words: &mut Words,
+) -> Option<Result<String, Fault>> {
     Some(match word {
         "document" => make(&mut world.documents, words),
         "name" => name(&mut world.changes, &world.documents, words),

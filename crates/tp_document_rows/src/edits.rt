@@ -1,10 +1,11 @@
 //! Calls that edit a document.
 
-use crate::world::{Doc, World};
+use crate::world::World;
 use std::alloc::Global;
 use tp_change::Change;
-use tp_document::DocError;
+use tp_document::{DocError, Document};
 use tp_opid::{Actor, Hash};
+use tp_rga::Sequence;
 use tp_runner::{
     Fault, OwnedSplice, Shelf, Words, actor, copy, done, lent, number, refusal, splices, text,
 };
@@ -53,9 +54,9 @@ fn request_of(alloc: Global, head: Head, words: &[String]) -> Result<Request, Fa
     })
 }
 
-fn edited(
+fn edited<S: Sequence>(
     alloc: Global,
-    document: &mut Doc,
+    document: &mut Document<S>,
     asked: &Request,
 ) -> Result<Result<Option<Hash>, DocError>, Fault> {
     let splices = lent(alloc, &asked.splices)?;
@@ -63,9 +64,9 @@ fn edited(
 }
 
 // Names the change that was entered last.
-fn name_last(
+fn name_last<S: Sequence>(
     changes: &mut Shelf<Change>,
-    document: &Doc,
+    document: &Document<S>,
     name: Option<&str>,
 ) -> Result<String, Fault> {
     if let Some(name) = name {
@@ -77,9 +78,9 @@ fn name_last(
 }
 
 // `edit DOCUMENT ACTOR [as=NAME] ..`: `ok` where a change was entered, `nothing` where none was asked for.
-fn edit(
+fn edit<S: Sequence>(
     changes: &mut Shelf<Change>,
-    document: &mut Doc,
+    document: &mut Document<S>,
     words: &mut Words,
 ) -> Result<String, Fault> {
     let alloc = changes.alloc();
@@ -92,9 +93,9 @@ fn edit(
     }
 }
 
-fn made(
+fn made<S: Sequence>(
     alloc: Global,
-    document: &Doc,
+    document: &Document<S>,
     asked: &Request,
 ) -> Result<Result<Option<Change>, DocError>, Fault> {
     let splices = lent(alloc, &asked.splices)?;
@@ -102,10 +103,10 @@ fn made(
 }
 
 // `make_edit NAME DOCUMENT ACTOR ..`: the change that the edit would enter.
-fn make_edit(
+fn make_edit<S: Sequence>(
     changes: &mut Shelf<Change>,
     name: &str,
-    document: &Doc,
+    document: &Document<S>,
     words: &mut Words,
 ) -> Result<String, Fault> {
     let alloc = changes.alloc();
@@ -122,7 +123,11 @@ fn make_edit(
 }
 
 // Makes the call.
-fn call_on(world: &mut World, word: &str, words: &mut Words) -> Result<String, Fault> {
+fn call_on<S: Sequence>(
+    world: &mut World<S>,
+    word: &str,
+    words: &mut Words,
+) -> Result<String, Fault> {
     let first = words.next()?;
     if word == "edit" {
         let document = world.documents.get_mut(first)?;
@@ -133,7 +138,11 @@ fn call_on(world: &mut World, word: &str, words: &mut Words) -> Result<String, F
 }
 
 /// Makes a call that edits a document; `None` where the word is none of these.
-pub fn call(world: &mut World, word: &str, words: &mut Words) -> Option<Result<String, Fault>> {
+pub fn call<S: Sequence>(
+    world: &mut World<S>,
+    word: &str,
+    words: &mut Words,
+) -> Option<Result<String, Fault>> {
     match word {
         "edit" | "make_edit" => Some(call_on(world, word, words)),
         _ => None,

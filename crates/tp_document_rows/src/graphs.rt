@@ -4,6 +4,7 @@ use crate::world::World;
 use std::alloc::Global;
 use tp_change::Change;
 use tp_graph::Graph;
+use tp_rga::Sequence;
 use tp_runner::{Fault, Shelf, Words, actor, copy, count, done, hashes, names, names_of, refusal};
 
 // `graph NAME`: a graph with no changes.
@@ -77,13 +78,21 @@ fn change(
     }
 }
 
-fn change_named(world: &mut World, word: &str, words: &mut Words) -> Result<String, Fault> {
+fn change_named<S: Sequence>(
+    world: &mut World<S>,
+    word: &str,
+    words: &mut Words,
+) -> Result<String, Fault> {
     let graph = world.graphs.get_mut(words.next()?)?;
     change(graph, &world.changes, word, words.next()?)
 }
 
 /// Makes a call that makes or changes a graph; `None` where the word is none of these.
-pub fn call(world: &mut World, word: &str, words: &mut Words) -> Option<Result<String, Fault>> {
+pub fn call<S: Sequence>(
+    world: &mut World<S>,
+    word: &str,
+    words: &mut Words,
+) -> Option<Result<String, Fault>> {
     match word {
         "graph" => Some(make(&mut world.graphs, words)),
         "add" | "hold" | "enter_waiting" | "release" => Some(change_named(world, word, words)),

@@ -1,9 +1,10 @@
 //! Calls that read a document.
 
 use crate::lists::hashes;
-use crate::world::{Doc, World};
+use crate::world::World;
 use std::alloc::Global;
-use tp_document::DocError;
+use tp_document::{DocError, Document};
+use tp_rga::Sequence;
 use tp_runner::{Fault, Words, count, done, names, names_of, quoted, refusal};
 
 fn answer_text(alloc: Global, answer: Result<String, DocError>) -> Result<String, Fault> {
@@ -14,24 +15,32 @@ fn answer_text(alloc: Global, answer: Result<String, DocError>) -> Result<String
 }
 
 /// The text of a document, or the refusal.
-pub fn text_of(alloc: Global, document: &Doc) -> Result<String, Fault> {
+pub fn text_of<S: Sequence>(alloc: Global, document: &Document<S>) -> Result<String, Fault> {
     answer_text(alloc, document.text())
 }
 
 // `text_at DOCUMENT HASHES`.
-fn text_at(document: &Doc, world: &World, words: &mut Words) -> Result<String, Fault> {
+fn text_at<S: Sequence>(
+    document: &Document<S>,
+    world: &World<S>,
+    words: &mut Words,
+) -> Result<String, Fault> {
     let at = hashes(world, words.next()?)?;
     answer_text(world.alloc, document.text_at(&at))
 }
 
 // `len DOCUMENT`.
-fn len(alloc: Global, document: &Doc) -> Result<String, Fault> {
+fn len<S: Sequence>(alloc: Global, document: &Document<S>) -> Result<String, Fault> {
     let len = document.len();
     Ok(format!(in alloc; "{len}")?)
 }
 
 // `char_at DOCUMENT PLACE`.
-fn char_at(alloc: Global, document: &Doc, words: &mut Words) -> Result<String, Fault> {
+fn char_at<S: Sequence>(
+    alloc: Global,
+    document: &Document<S>,
+    words: &mut Words,
+) -> Result<String, Fault> {
     match document.char_at(count(words.next()?)?) {
         Some(ch) => Ok(format!(in alloc; "{ch}")?),
         None => Ok(String::from_str(alloc, "none")?),
@@ -39,7 +48,11 @@ fn char_at(alloc: Global, document: &Doc, words: &mut Words) -> Result<String, F
 }
 
 // `position DOCUMENT CURSOR`.
-fn position(document: &Doc, world: &World, words: &mut Words) -> Result<String, Fault> {
+fn position<S: Sequence>(
+    document: &Document<S>,
+    world: &World<S>,
+    words: &mut Words,
+) -> Result<String, Fault> {
     match document.cursor_position(world.cursors.get(words.next()?)?) {
         Ok(at) => Ok(format!(in world.alloc; "{at}")?),
         Err(error) => refusal(world.alloc, error),
@@ -47,7 +60,11 @@ fn position(document: &Doc, world: &World, words: &mut Words) -> Result<String, 
 }
 
 // `check DOCUMENT CHANGE`.
-fn check(document: &Doc, world: &World, words: &mut Words) -> Result<String, Fault> {
+fn check<S: Sequence>(
+    document: &Document<S>,
+    world: &World<S>,
+    words: &mut Words,
+) -> Result<String, Fault> {
     match document.check(world.changes.get(words.next()?)?) {
         Ok(()) => done(world.alloc),
         Err(error) => refusal(world.alloc, error),
@@ -55,7 +72,7 @@ fn check(document: &Doc, world: &World, words: &mut Words) -> Result<String, Fau
 }
 
 // `missing DOCUMENT`.
-fn missing(document: &Doc, world: &World) -> Result<String, Fault> {
+fn missing<S: Sequence>(document: &Document<S>, world: &World<S>) -> Result<String, Fault> {
     match document.missing() {
         Ok(hashes) => names(&world.changes, &hashes),
         Err(error) => refusal(world.alloc, error),
@@ -63,7 +80,11 @@ fn missing(document: &Doc, world: &World) -> Result<String, Fault> {
 }
 
 // `since DOCUMENT HASHES`.
-fn since(document: &Doc, world: &World, words: &mut Words) -> Result<String, Fault> {
+fn since<S: Sequence>(
+    document: &Document<S>,
+    world: &World<S>,
+    words: &mut Words,
+) -> Result<String, Fault> {
     let at = hashes(world, words.next()?)?;
     match document.changes_since(&at) {
         Ok(changes) => names_of(&world.changes, &changes),
@@ -72,7 +93,12 @@ fn since(document: &Doc, world: &World, words: &mut Words) -> Result<String, Fau
 }
 
 /// Makes a call `WORD DOCUMENT ..` that reads the document.
-pub fn call(document: &Doc, world: &World, word: &str, words: &mut Words) -> Result<String, Fault> {
+pub fn call<S: Sequence>(
+    document: &Document<S>,
+    world: &World<S>,
+    word: &str,
+    words: &mut Words,
+) -> Result<String, Fault> {
     match word {
         "text" => text_of(world.alloc, document),
         "text_at" => text_at(document, world, words),

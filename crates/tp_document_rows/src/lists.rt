@@ -1,12 +1,14 @@
 //! Lists in brackets, of what documents have: of hashes, and of changes.
 
-use crate::world::{Doc, World};
+use crate::world::World;
 use tp_change::Change;
+use tp_document::Document;
 use tp_opid::Hash;
+use tp_rga::Sequence;
 use tp_runner::{Fault, Shelf, copy, count, inside, push_hashes};
 
 // Adds the heads of a document.
-fn push_heads(hashes: &mut Vec<Hash>, document: &Doc) -> Result<(), Fault> {
+fn push_heads<S: Sequence>(hashes: &mut Vec<Hash>, document: &Document<S>) -> Result<(), Fault> {
     for hash in document.heads() {
         hashes.push(*hash)?;
     }
@@ -14,7 +16,11 @@ fn push_heads(hashes: &mut Vec<Hash>, document: &Doc) -> Result<(), Fault> {
 }
 
 // Adds the hashes that an item stands for.
-fn push_item(world: &World, hashes: &mut Vec<Hash>, item: &str) -> Result<(), Fault> {
+fn push_item<S: Sequence>(
+    world: &World<S>,
+    hashes: &mut Vec<Hash>,
+    item: &str,
+) -> Result<(), Fault> {
     match item.strip_prefix("heads:") {
         Some(name) => push_heads(hashes, world.documents.get(name)?),
         None => push_hashes(&world.changes, hashes, item),
@@ -23,7 +29,7 @@ fn push_item(world: &World, hashes: &mut Vec<Hash>, item: &str) -> Result<(), Fa
 
 /// Hashes: `[]`, or items in brackets, parted by commas. An item is the name of a change, `unknown`, `rising:N` for N
 /// hashes of no change, or `heads:NAME` for those of a document.
-pub fn hashes(world: &World, word: &str) -> Result<Vec<Hash>, Fault> {
+pub fn hashes<S: Sequence>(world: &World<S>, word: &str) -> Result<Vec<Hash>, Fault> {
     let mut hashes = Vec::new(world.alloc);
     let inside = inside(word)?;
     if !inside.is_empty() {
@@ -78,7 +84,11 @@ fn push_places(changes: &mut Vec<Change>, there: &[Change], range: &str) -> Resu
 }
 
 // Adds copies of the changes that an item stands for.
-fn push_changes(world: &World, changes: &mut Vec<Change>, item: &str) -> Result<(), Fault> {
+fn push_changes<S: Sequence>(
+    world: &World<S>,
+    changes: &mut Vec<Change>,
+    item: &str,
+) -> Result<(), Fault> {
     match item.split_once(':') {
         Some((name, range)) => push_places(changes, world.documents.get(name)?.changes(), range),
         None => push_named(changes, &world.changes, item),
@@ -92,7 +102,7 @@ fn push_named(changes: &mut Vec<Change>, named: &Shelf<Change>, name: &str) -> R
 
 /// Copies of changes: `[]`, or items in brackets, parted by commas. An item is the name of a change, or `NAME:3..5`
 /// for a document's applied changes at the places 3 and 4, or `NAME:5..3` for these the other way round.
-pub fn changes(world: &World, word: &str) -> Result<Vec<Change>, Fault> {
+pub fn changes<S: Sequence>(world: &World<S>, word: &str) -> Result<Vec<Change>, Fault> {
     let mut changes = Vec::new(world.alloc);
     let inside = inside(word)?;
     if !inside.is_empty() {

@@ -1,5 +1,6 @@
 //! Runs rows of data on graphs, documents and receiving: calls, and the answers that the rules give.
-//! `tp_document_rows FILE..` prints each row that answers otherwise, and how many rows each file has.
+//! `tp_document_rows FILE..` prints each row that answers otherwise, and how many rows each file has. It runs them all
+//! twice: first with the texts in plain sequences, and then in sequences of blocks.
 #![tactic(auto)]
 
 mod cursors;
@@ -16,8 +17,15 @@ mod world;
 
 use crate::world::World;
 use std::process::ExitCode;
+use tp_posindex::BlockSequence;
+use tp_rga::PlainSequence;
 
 fn main(rt: HostRuntime) -> ExitCode {
-    let world = World::new(rt.alloc());
-    ExitCode::from(tp_runner::run(&rt, world))
+    let plain: World<PlainSequence> = World::new(rt.alloc());
+    let status = tp_runner::run(&rt, plain);
+    if status != 0 {
+        return ExitCode::from(status);
+    }
+    let blocks: World<BlockSequence> = World::new(rt.alloc());
+    ExitCode::from(tp_runner::run(&rt, blocks))
 }

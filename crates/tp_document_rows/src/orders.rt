@@ -2,11 +2,12 @@
 
 use crate::history::text_of;
 use crate::lists::changes;
-use crate::world::{Doc, World};
+use crate::world::World;
 use std::alloc::Global;
 use tp_change::Change;
 use tp_document::{Applied, DocError, Document};
 use tp_opid::DocId;
+use tp_rga::Sequence;
 use tp_runner::{Fault, Words, copy, refusal};
 
 fn copies(alloc: Global, all: &[Change]) -> Result<Vec<Change>, Fault> {
@@ -47,9 +48,9 @@ fn order_count(changes: usize) -> Result<usize, Fault> {
     }
 }
 
-fn apply_one(
+fn apply_one<S: Sequence>(
     alloc: Global,
-    document: &mut Doc,
+    document: &mut Document<S>,
     change: Change,
 ) -> Result<Result<Applied, DocError>, Fault> {
     let mut one = Vec::new(alloc);
@@ -58,7 +59,11 @@ fn apply_one(
 }
 
 // The text of a document that received the changes one by one.
-fn text_one_by_one(alloc: Global, document: &mut Doc, came: Vec<Change>) -> Result<String, Fault> {
+fn text_one_by_one<S: Sequence>(
+    alloc: Global,
+    document: &mut Document<S>,
+    came: Vec<Change>,
+) -> Result<String, Fault> {
     for change in came {
         if let Err(error) = apply_one(alloc, document, change)? {
             return refusal(alloc, error);
@@ -68,7 +73,11 @@ fn text_one_by_one(alloc: Global, document: &mut Doc, came: Vec<Change>) -> Resu
 }
 
 // The text of a document that received the changes as one list.
-fn text_at_once(alloc: Global, document: &mut Doc, came: Vec<Change>) -> Result<String, Fault> {
+fn text_at_once<S: Sequence>(
+    alloc: Global,
+    document: &mut Document<S>,
+    came: Vec<Change>,
+) -> Result<String, Fault> {
     match document.apply(came) {
         Ok(_) => text_of(alloc, document),
         Err(error) => refusal(alloc, error),
@@ -76,14 +85,14 @@ fn text_at_once(alloc: Global, document: &mut Doc, came: Vec<Change>) -> Result<
 }
 
 // The text of a new document that received the changes in their order number `turn`, as one list or one by one.
-fn text_in_order(
+fn text_in_order<S: Sequence>(
     alloc: Global,
     all: &[Change],
     turn: usize,
     at_once: bool,
 ) -> Result<String, Fault> {
     let came = ordered(alloc, all, turn)?;
-    let mut document: Doc = Document::new(alloc, DocId([7; 16]));
+    let mut document: Document<S> = Document::new(alloc, DocId([7; 16]));
     if at_once {
         text_at_once(alloc, &mut document, came)
     } else {
@@ -92,27 +101,27 @@ fn text_in_order(
 }
 
 // The text that differs from the first in the order number `turn`, if one does.
-fn other_text(
+fn other_text<S: Sequence>(
     alloc: Global,
     all: &[Change],
     turn: usize,
     first: &str,
 ) -> Result<Option<String>, Fault> {
-    let by_one = text_in_order(alloc, all, turn, false)?;
+    let by_one = text_in_order::<S>(alloc, all, turn, false)?;
     if by_one.as_str() != first {
         return Ok(Some(by_one));
     }
-    let at_once = text_in_order(alloc, all, turn, true)?;
+    let at_once = text_in_order::<S>(alloc, all, turn, true)?;
     if at_once.as_str() != first {
         return Ok(Some(at_once));
     }
     Ok(None)
 }
 
-fn in_all_orders(alloc: Global, all: &[Change], first: &str) -> Result<String, Fault> {
+fn in_all_orders<S: Sequence>(alloc: Global, all: &[Change], first: &str) -> Result<String, Fault> {
     let count = order_count(all.len())?;
     for turn in 0..count {
-        if let Some(other) = other_text(alloc, all, turn, first)? {
+        if let Some(other) = other_text::<S>(alloc, all, turn, first)? {
             return Ok(format!(in alloc; "{first} and {other}")?);
         }
     }
@@ -121,8 +130,8 @@ fn in_all_orders(alloc: Global, all: &[Change], first: &str) -> Result<String, F
 
 /// `orders CHANGES`: the text of new documents that receive the changes, in each order of theirs, one by one and as one
 /// list; `TEXT and TEXT` are the first two that differ.
-pub fn call(world: &World, words: &mut Words) -> Result<String, Fault> {
+pub fn call<S: Sequence>(world: &World<S>, words: &mut Words) -> Result<String, Fault> {
     let all = changes(world, words.next()?)?;
-    let first = text_in_order(world.alloc, &all, 0, true)?;
-    in_all_orders(world.alloc, &all, first.as_str())
+    let first = text_in_order::<S>(world.alloc, &all, 0, true)?;
+    in_all_orders::<S>(world.alloc, &all, first.as_str())
 }

@@ -2,14 +2,15 @@
 
 use crate::keepers::Few;
 use crate::lists::changes;
-use crate::world::{Doc, World};
+use crate::world::World;
 use std::alloc::Global;
 use std::fmt::Display;
 use tp_change::Change;
-use tp_document::{Applied, DocError};
+use tp_document::{Applied, DocError, Document};
 use tp_graph::{Graph, GraphError};
 use tp_opid::Hash;
 use tp_receive::{ReceiveError, receive};
+use tp_rga::Sequence;
 use tp_runner::{Fault, Shelf, Words, count, put_name, put_names, refusal};
 
 /// More refusals than this are printed as their number.
@@ -72,8 +73,8 @@ fn receive_some(
 }
 
 // A document receives, with a keeper where a number is given.
-fn apply_some(
-    document: &mut Doc,
+fn apply_some<S: Sequence>(
+    document: &mut Document<S>,
     left: Option<usize>,
     came: Vec<Change>,
 ) -> Result<Applied, DocError> {
@@ -85,7 +86,11 @@ fn apply_some(
 
 // `apply ON CHANGES`, where a graph receives with a keeper that never refuses, or `apply_with KEPT ON CHANGES`: the
 // keeper keeps so many changes and refuses those behind them.
-fn apply(world: &mut World, left: Option<usize>, words: &mut Words) -> Result<String, Fault> {
+fn apply<S: Sequence>(
+    world: &mut World<S>,
+    left: Option<usize>,
+    words: &mut Words,
+) -> Result<String, Fault> {
     let on = words.next()?;
     let came = changes(world, words.next()?)?;
     if let Ok(graph) = world.graphs.get_mut(on) {
@@ -97,14 +102,18 @@ fn apply(world: &mut World, left: Option<usize>, words: &mut Words) -> Result<St
 }
 
 // `merge INTO FROM`, or `merge_with KEPT INTO FROM`.
-fn merge(world: &mut World, left: Option<usize>, words: &mut Words) -> Result<String, Fault> {
+fn merge<S: Sequence>(
+    world: &mut World<S>,
+    left: Option<usize>,
+    words: &mut Words,
+) -> Result<String, Fault> {
     let answer = merge_named(&mut world.documents, left, words.next()?, words.next()?)?;
     reply(&world.changes, answer)
 }
 
 // Takes out the document that receives, so that the other one can be lent beside it.
-fn merge_named(
-    documents: &mut Shelf<Doc>,
+fn merge_named<S: Sequence>(
+    documents: &mut Shelf<Document<S>>,
     left: Option<usize>,
     into: &str,
     from: &str,
@@ -118,14 +127,22 @@ fn merge_named(
     answer
 }
 
-fn merge_some(into: &mut Doc, left: Option<usize>, from: &Doc) -> Result<Applied, DocError> {
+fn merge_some<S: Sequence>(
+    into: &mut Document<S>,
+    left: Option<usize>,
+    from: &Document<S>,
+) -> Result<Applied, DocError> {
     match left {
         Some(left) => into.merge_with(from, &mut Few { left }),
         None => into.merge(from),
     }
 }
 
-fn call_with(world: &mut World, word: &str, words: &mut Words) -> Result<String, Fault> {
+fn call_with<S: Sequence>(
+    world: &mut World<S>,
+    word: &str,
+    words: &mut Words,
+) -> Result<String, Fault> {
     let left = count(words.next()?)?;
     if word == "apply_with" {
         apply(world, Some(left), words)
@@ -135,7 +152,11 @@ fn call_with(world: &mut World, word: &str, words: &mut Words) -> Result<String,
 }
 
 /// Makes a call that receives changes; `None` where the word is none of these.
-pub fn call(world: &mut World, word: &str, words: &mut Words) -> Option<Result<String, Fault>> {
+pub fn call<S: Sequence>(
+    world: &mut World<S>,
+    word: &str,
+    words: &mut Words,
+) -> Option<Result<String, Fault>> {
     Some(match word {
         "apply" => apply(world, None, words),
         "merge" => merge(world, None, words),

@@ -5,30 +5,27 @@ use std::alloc::Global;
 use tp_change::Change;
 use tp_document::{Cursor, Document};
 use tp_graph::Graph;
-use tp_rga::PlainSequence;
+use tp_rga::Sequence;
 use tp_runner::{Calls, Fault, Shelf, Words, call_on_fields};
 
-/// A document of the rows.
-pub type Doc = Document<PlainSequence>;
-
-/// What the rows of an example have made so far.
+/// What the rows of an example have made so far, with texts kept in sequences of one kind.
 #[derive(Drop)]
-pub struct World {
+pub struct World<S: Sequence> {
     /// Where all of it lies.
     pub alloc: Global,
     /// Changes.
     pub changes: Shelf<Change>,
     /// Documents.
-    pub documents: Shelf<Doc>,
+    pub documents: Shelf<Document<S>>,
     /// Graphs.
     pub graphs: Shelf<Graph>,
     /// Cursors.
     pub cursors: Shelf<Cursor>,
 }
 
-impl World {
+impl<S: Sequence> World<S> {
     /// Nothing made yet.
-    pub fn new(alloc: Global) -> World {
+    pub fn new(alloc: Global) -> World<S> {
         World {
             alloc,
             changes: Shelf::new(alloc),
@@ -40,7 +37,11 @@ impl World {
 }
 
 // Makes a call that makes or changes a document or a graph.
-fn change(world: &mut World, word: &str, words: &mut Words) -> Option<Result<String, Fault>> {
+fn change<S: Sequence>(
+    world: &mut World<S>,
+    word: &str,
+    words: &mut Words,
+) -> Option<Result<String, Fault>> {
     if let Some(answer) = documents::call(world, word, words) {
         return Some(answer);
     }
@@ -57,7 +58,7 @@ fn change(world: &mut World, word: &str, words: &mut Words) -> Option<Result<Str
 }
 
 // Makes a call that changes nothing.
-fn look(world: &World, word: &str, words: &mut Words) -> Result<String, Fault> {
+fn look<S: Sequence>(world: &World<S>, word: &str, words: &mut Words) -> Result<String, Fault> {
     if let Some(answer) = errors::call(world.alloc, word, words) {
         return answer;
     }
@@ -71,7 +72,7 @@ fn look(world: &World, word: &str, words: &mut Words) -> Result<String, Fault> {
     graphs::look(world.graphs.get(on)?, &world.changes, word, words)
 }
 
-impl Calls for World {
+impl<S: Sequence> Calls for World<S> {
     fn call(&mut self, words: &mut Words) -> Result<String, Fault> {
         let word = words.next()?;
         if let Some(answer) = call_on_fields(&mut self.changes, word, words) {

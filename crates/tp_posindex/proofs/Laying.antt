@@ -43,7 +43,7 @@ Once-insert (j ∷ ks) (suc i) k once new = (
   Once-insert ks i k once.1 (λ h. new (inr h)),
 )
 
-length-inserted : {X : Type 0} (xs : List X) (i : ℕ) (x : X) → length (insert xs i x) ≡ suc (length xs)
+pub length-inserted : {X : Type 0} (xs : List X) (i : ℕ) (x : X) → length (insert xs i x) ≡ suc (length xs)
 length-inserted xs zero x = refl
 length-inserted [] (suc i) x = refl
 length-inserted (y ∷ xs) (suc i) x = ap suc (length-inserted xs i x)
@@ -287,14 +287,6 @@ pub count_read : (pool : List (List ℕ)) (order visible home : List ℕ) (flags
 count_read pool order visible home flags p v kept lt read =
     let many = length-laid pool order in
     read ∙ ap (λ z. get_or z p v) kept.counted ∙ get_or-of_map (count_of flags) (laid pool order) p v [] (omega arith)
-
--- it is at most 128
-pub count_few : (pool : List (List ℕ)) (order visible home : List ℕ) (flags : List Bool) (p v : ℕ) → IsLaid pool order visible home flags → p < length order → v ≡ get_or visible p v → v ≤ 128
-count_few pool order visible home flags p v kept lt read =
-    let bs = laid pool order in
-    let is = count_read pool order visible home flags p v kept lt read in
-    let most = kept.sized.few (block_at bs p) (In-block bs p (let many = length-laid pool order in omega arith)) in
-    let le = count-le flags (block_at bs p) in omega arith
 
 -- the home of the next number
 home_of : {pool : List (List ℕ)} {order visible home : List ℕ} {flags : List Bool} → IsLaid pool order visible home flags → (k h : ℕ) → k < length flags → get_or (home ++ h ∷ []) k 0 ≡ get_or home k 0

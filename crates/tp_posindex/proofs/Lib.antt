@@ -1,6 +1,9 @@
 pub mod Joining
 pub mod Laying
+pub mod Grouping
+pub mod Keeping
 pub mod Rooms
 pub mod Seeking
 pub mod Sequencing
+pub mod ByActor
 pub mod Linking

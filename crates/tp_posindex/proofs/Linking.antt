@@ -1,6 +1,6 @@
 -- The index: what an element more leaves of it, and what a look-up finds.
-use Rattle.tp_list.proofs.Members.{In-left, In-push, In-last, In-index, In-get_or, In-middle}
-use Rattle.std.proofs.Common.{◌≡◌, ◌⊎◌, inl, inr, ℕ, zero, suc, ◌+◌, ◌<◌, ◌≤◌, Bool, true, false, cond, Option, None, Some, List, [], ◌∷◌, ◌++◌, length, take, drop, get_or, map, position, refl, sym, ap, ◌∙◌, subst, arith, length-append}
+use Rattle.tp_list.proofs.Members.{In-index, In-get_or, In-middle}
+use Rattle.std.proofs.Common.{◌≡◌, ◌⊎◌, inl, inr, ℕ, zero, suc, ◌+◌, ◌<◌, ◌≤◌, true, false, Option, None, Some, List, [], ◌∷◌, ◌++◌, length, take, drop, get_or, insert, map, position, refl, sym, ap, ◌∙◌, subst, arith, length-append}
 use Rattle.tp_list.specs.Members.{In}
 use Rattle.tp_opid.specs.declared.actor.Actor.{Actor}
 use Rattle.tp_opid.specs.declared.op_id.OpId.{OpId}
@@ -12,7 +12,10 @@ use Rattle.tp_posindex.specs.declared.links.Link.{Link}
 use Rattle.tp_posindex.specs.declared.links.Latest.{Latest}
 use Rattle.tp_posindex.specs.Blocked.{blank, element_at}
 use Rattle.tp_posindex.specs.Indexed.{actor_at, counter_at, no_link, link_at, noted, IsLink, IsIndexed}
-use Rattle.tp_posindex.proofs.Laying.{get_or-prefix, get_or-last}
+use Rattle.tp_posindex.specs.Actors.{latest_at, IsPlaceOf}
+use Rattle.tp_posindex.proofs.Joining.{In-insert, In-inserted, In-insert_still}
+use Rattle.tp_posindex.proofs.Laying.{get_or-prefix, get_or-last, get_or-any}
+use Rattle.tp_posindex.proofs.ByActor.{noted-actor, noted-number, none_of_place, AreByActor-noted, AreByActor-insert}
 
 -- ---- an element more
 
@@ -61,41 +64,6 @@ links_more E e links l many linked new k lt =
       | inr is ↦ subst (IsLink (E ++ e ∷ []) k) (sym (get_or-last links l k no_link (is ∙ sym many))) (subst (λ n. IsLink (E ++ e ∷ []) n l) (sym is) new)
     ]
 
--- what is noted keeps its actor
-noted-actor : (a : Actor) (n : ℕ) (x : Latest) → (noted a n x).actor ≡ x.actor
-noted-actor a n x = elim (same_actor x.actor a) as (λ b. (cond b (let y : Latest = record { actor = x.actor; number = n } in y) x).actor ≡ x.actor) [ true ↦ refl | false ↦ refl ]
-
--- and has the new number where it is the actor's
-noted-number : (a : Actor) (n : ℕ) (x : Latest) (b : Bool) → same_actor x.actor a ≡ b → (noted a n x).number ≡ cond b n x.number
-noted-number a n x b e = ap (λ (v : Bool). (cond v (let y : Latest = record { actor = x.actor; number = n } in y) x).number) e ∙ elim b as (λ v. (cond v (let y : Latest = record { actor = x.actor; number = n } in y) x).number ≡ cond v n x.number) [ true ↦ refl | false ↦ refl ]
-
--- what is noted of the actor, and of another
-pub noted-yes : (a : Actor) (n : ℕ) (x : Latest) → same_actor x.actor a ≡ true → noted a n x ≡ (let y : Latest = record { actor = x.actor; number = n } in y)
-noted-yes a n x e = ap (λ (v : Bool). cond v (let y : Latest = record { actor = x.actor; number = n } in y) x) e
-
-pub noted-no : (a : Actor) (n : ℕ) (x : Latest) → same_actor x.actor a ≡ false → noted a n x ≡ x
-noted-no a n x e = ap (λ (v : Bool). cond v (let y : Latest = record { actor = x.actor; number = n } in y) x) e
-
--- none of an actor
-pub none_of : (latest : List Latest) (id : OpId) (e : Insert) → e.id.actor ≡ id.actor → ((x : Latest) → In x latest → same_actor x.actor id.actor ≡ false) → (y : Latest) → In y latest → same_actor y.actor e.id.actor ≡ false
-none_of latest id e by none y i = ap (same_actor y.actor) by ∙ none y i
-
--- a whole list that was written
-pub written_all : {X : Type 0} (xs ys : List X) (n : ℕ) → length xs ≡ length ys → n ≡ length ys → take n (xs ++ drop (length xs) ys) ≡ xs
-written_all xs ys n e m = ap (λ z. take n (xs ++ z)) (drop_all (length xs) ys (omega arith)) ∙ prefix n xs (omega arith)
-  where
-    drop_all : {X : Type 0} (m : ℕ) (ys : List X) → m ≡ length ys → drop m ys ≡ []
-    drop_all zero [] h = refl
-    drop_all zero (y ∷ ys) h = absurd (omega arith)
-    drop_all (suc m) [] h = refl
-    drop_all (suc m) (y ∷ ys) h = drop_all m ys (omega arith)
-
-    prefix : {X : Type 0} (m : ℕ) (xs : List X) → m ≡ length xs → take m (xs ++ []) ≡ xs
-    prefix zero [] h = refl
-    prefix zero (x ∷ xs) h = absurd (omega arith)
-    prefix (suc m) [] h = refl
-    prefix (suc m) (x ∷ xs) h = ap (λ z. x ∷ z) (prefix m xs (omega arith))
-
 In-map : {X Y : Type 0} (f : X → Y) (xs : List X) (x : X) → In x xs → In (f x) (map f xs)
 In-map f [] x i = absurd i
 In-map f (y ∷ xs) x (inl e) = inl (ap f e)
@@ -134,6 +102,7 @@ IsIndexed-more E latest links e x l kept i by greater before_is jump_is =
       prior = λ j less same. (let t = there.0 in omega (arith, before_is), (let le = kept.last x i j less (sym (actor_prefix E e j less) ∙ same ∙ at_n ∙ sym by) in omega (arith, before_is)));
     } in
     record {
+      sorted = AreByActor-noted latest a n kept.sorted;
       many = length-append links (l ∷ []) ∙ ap (λ z. z + 1) kept.many ∙ sym (length-append E (e ∷ []));
       linked = links_more E e links l kept.many kept.linked new;
       rises = λ j k less lt same. elim (below_next k n (omega arith)) as (λ _. counter_at E' j < counter_at E' k) [
@@ -190,8 +159,9 @@ IsIndexed-more E latest links e x l kept i by greater before_is jump_is =
         ] refl
 
 -- an actor's first element
-pub IsIndexed-first : (E : List Insert) (latest : List Latest) (links : List Link) (e : Insert) (x : Latest) (l : Link) → IsIndexed E latest links → ((y : Latest) → In y latest → same_actor y.actor e.id.actor ≡ false) → x.actor ≡ e.id.actor → x.number ≡ length E → l.before ≡ length E → l.jump ≡ length E → IsIndexed (E ++ e ∷ []) (latest ++ x ∷ []) (links ++ l ∷ [])
-IsIndexed-first E latest links e x l kept none by at before_is jump_is =
+pub IsIndexed-first : (E : List Insert) (latest : List Latest) (links : List Link) (e : Insert) (x : Latest) (l : Link) (p : ℕ) → IsIndexed E latest links → IsPlaceOf latest e.id.actor p → x.actor ≡ e.id.actor → x.number ≡ length E → l.before ≡ length E → l.jump ≡ length E → IsIndexed (E ++ e ∷ []) (insert latest p x) (links ++ l ∷ [])
+IsIndexed-first E latest links e x l p kept place by at before_is jump_is =
+    let none : (y : Latest) → In y latest → same_actor y.actor e.id.actor ≡ false = none_of_place latest e.id.actor p place in
     let E' = E ++ e ∷ [] in
     let n = length E in
     let a = e.id.actor in
@@ -207,6 +177,7 @@ IsIndexed-first E latest links e x l kept none by at before_is jump_is =
       prior = λ j less same. absurd (nobody' j less (same ∙ at_n));
     } in
     record {
+      sorted = AreByActor-insert latest p x kept.sorted (subst (λ b. IsPlaceOf latest b p) (sym by) place);
       many = length-append links (l ∷ []) ∙ ap (λ z. z + 1) kept.many ∙ sym (length-append E (e ∷ []));
       linked = links_more E e links l kept.many kept.linked new;
       rises = λ j k less lt same. elim (below_next k n (omega arith)) as (λ _. counter_at E' j < counter_at E' k) [
@@ -216,22 +187,22 @@ IsIndexed-first E latest links e x l kept none by at before_is jump_is =
             let cj = counter_prefix E e j j_in in let ck = counter_prefix E e k inside in omega arith)
         | inr is ↦ absurd (let j_in : j < n = omega arith in nobody' j j_in (same ∙ ap (actor_at E') is ∙ at_n))
       ];
-      known = λ k lt. elim (below_next k n (omega arith)) as (λ _. (y : Latest) × In y (latest ++ x ∷ []) × (y.actor ≡ actor_at E' k)) [
-        | inl inside ↦ (let r = kept.known k inside in (r.0, In-left r.0 latest (x ∷ []) r.1, r.2 ∙ sym (actor_prefix E e k inside)))
-        | inr is ↦ (x, In-last x latest, by ∙ sym (ap (actor_at E') is ∙ at_n))
+      known = λ k lt. elim (below_next k n (omega arith)) as (λ _. (y : Latest) × In y (insert latest p x) × (y.actor ≡ actor_at E' k)) [
+        | inl inside ↦ (let r = kept.known k inside in (r.0, In-insert_still latest p x r.0 r.1, r.2 ∙ sym (actor_prefix E e k inside)))
+        | inr is ↦ (x, In-inserted latest p x, by ∙ sym (ap (actor_at E') is ∙ at_n))
       ];
-      there = λ y h. elim (In-push y latest x h) as (λ _. (y.number < length E') × (actor_at E' y.number ≡ y.actor)) [
-        | inl i ↦ (let old = kept.there y i in (let t = old.0 in omega arith, actor_prefix E e y.number old.0 ∙ old.1))
-        | inr is ↦ (
+      there = λ y h. elim (In-insert latest p x y h) as (λ _. (y.number < length E') × (actor_at E' y.number ≡ y.actor)) [
+        | inr i ↦ (let old = kept.there y i in (let t = old.0 in omega arith, actor_prefix E e y.number old.0 ∙ old.1))
+        | inl is ↦ (
             let num : y.number ≡ n = ap (λ (w : Latest). w.number) is ∙ at in
             (omega arith, actor_last E e y.number num ∙ sym (ap (λ (w : Latest). w.actor) is ∙ by)))
       ];
-      last = λ y h j lt same. elim (In-push y latest x h) as (λ _. j ≤ y.number) [
-        | inl i ↦ elim (below_next j n (omega arith)) as (λ _. j ≤ y.number) [
+      last = λ y h j lt same. elim (In-insert latest p x y h) as (λ _. j ≤ y.number) [
+        | inr i ↦ elim (below_next j n (omega arith)) as (λ _. j ≤ y.number) [
           | inl inside ↦ kept.last y i j inside (sym (actor_prefix E e j inside) ∙ same)
           | inr top ↦ absurd (same_actor-apart y.actor a (none y i) (sym same ∙ ap (actor_at E') top ∙ at_n))
         ]
-        | inr is ↦ (let num : y.number ≡ n = ap (λ (w : Latest). w.number) is ∙ at in omega arith)
+        | inl is ↦ (let num : y.number ≡ n = ap (λ (w : Latest). w.number) is ∙ at in omega arith)
       ];
     }
 
@@ -300,9 +271,18 @@ none_back E from at c same greater ahead none j le by =
 
 -- ---- what a look-up finds
 
+-- an entry that is read
+pub entry_read : (E : List Insert) (latest : List Latest) (links : List Link) (i : ℕ) (a : Actor) (x : Latest) → IsIndexed E latest links → (i < length latest) × ((latest_at latest i).actor ≡ a) → x ≡ get_or latest i x → In x latest × (x.actor ≡ a) × (x.number < length E)
+entry_read E latest links i a x kept found read =
+    let d : Latest = record { actor = record { 0 = [] }; number = 0 } in
+    let is : x ≡ latest_at latest i = read ∙ get_or-any latest i x d found.0 in
+    let inside : In x latest = subst (λ w. In w latest) (sym is) (In-get_or latest i d found.0) in
+    (inside, ap (λ (w : Latest). w.actor) is ∙ found.1, (kept.there x inside).0)
+
 -- an actor without elements has no such element
-pub look_nobody : (E : List Insert) (latest : List Latest) (links : List Link) (id : OpId) → IsIndexed E latest links → ((x : Latest) → In x latest → same_actor x.actor id.actor ≡ false) → position (λ (e : Insert). id_eq e.id id) E ≡ None
-look_nobody E latest links id kept none =
+pub look_nobody : (E : List Insert) (latest : List Latest) (links : List Link) (id : OpId) (i : ℕ) → IsIndexed E latest links → IsPlaceOf latest id.actor i → position (λ (e : Insert). id_eq e.id id) E ≡ None
+look_nobody E latest links id i kept place =
+    let none : (x : Latest) → In x latest → same_actor x.actor id.actor ≡ false = none_of_place latest id.actor i place in
     position_nowhere E id (λ j lt named.
     let r = kept.known j lt in same_actor-apart r.0.actor id.actor (none r.0 r.1) (r.2 ∙ id_actor E j id named))
 
@@ -328,6 +308,20 @@ look_found E latest links id x at kept i by lt same is =
         | inr le ↦ omega arith
       ]
     ]
+
+-- an element that has the identifier is the one
+pub look_guessed : (E : List Insert) (latest : List Latest) (links : List Link) (id : OpId) (at : ℕ) → IsIndexed E latest links → at < length E → id_eq (element_at E at).id id ≡ true → position (λ (e : Insert). id_eq e.id id) E ≡ Some at
+look_guessed E latest links id at kept lt named =
+    position_only E at id lt named (λ j short other.
+    let one : actor_at E j ≡ actor_at E at = id_actor E j id other ∙ sym (id_actor E at id named) in
+    let same : counter_at E j ≡ counter_at E at = id_counter E j id other ∙ sym (id_counter E at id named) in
+    elim (lt_or_le j at) as (λ _. j ≡ at) [
+      | inl less ↦ absurd (let r = kept.rises j at less lt one in omega arith)
+      | inr ge ↦ elim (lt_or_le at j) as (λ _. j ≡ at) [
+        | inl more ↦ absurd (let r = kept.rises at j more short (sym one) in omega arith)
+        | inr le ↦ omega arith
+      ]
+    ])
 
 -- it has a smaller one: there is none
 pub look_below : (E : List Insert) (latest : List Latest) (links : List Link) (id : OpId) (x : Latest) (at : ℕ) → IsIndexed E latest links → In x latest → x.actor ≡ id.actor → at < length E → actor_at E at ≡ actor_at E x.number → counter_at E at < id.counter → ((j : ℕ) → j ≤ x.number → actor_at E j ≡ actor_at E x.number → counter_at E j ≤ id.counter → j ≤ at) → position (λ (e : Insert). id_eq e.id id) E ≡ None

@@ -1,25 +1,11 @@
 -- Room for more numbers and blocks.
 use Rattle.std.proofs.Common.{◌≡◌, ℕ, ◌+◌, ◌-◌, ◌*◌, ◌≤◌, min, max, arith}
 
--- the least of four greater numbers is greater
-pub least_grows : (a b c d a' b' c' d' : ℕ) → a ≤ a' → b ≤ b' → c ≤ c' → d ≤ d' → min (min a b) (min c d) ≤ min (min a' b') (min c' d')
-least_grows a b c d a' b' c' d' h k l m =
-    let x : min a b ≤ min a' b' = omega (arith, h, k) in
-    let y : min c d ≤ min c' d' = omega (arith, l, m) in
-    both (min a b) (min c d) (min a' b') (min c' d') x y
-  where
-    both : (a b c d : ℕ) → a ≤ c → b ≤ d → min a b ≤ min c d
-    both a b c d h k = omega arith
-
 -- the least of three
 pub least_three : (a b c a' b' c' : ℕ) → a ≤ a' → b ≤ b' → c ≤ c' → min a (min b c) ≤ min a' (min b' c')
 least_three a b c a' b' c' h k l = omega arith
 
--- what is within four numbers is within the least
-pub least_above : (n a b c d : ℕ) → n ≤ a → n ≤ b → n ≤ c → n ≤ d → n ≤ min (min a b) (min c d)
-least_above n a b c d h k l m = omega arith
-
--- and within the least of three
+-- what is within three numbers is within the least
 pub three_above : (n a b c : ℕ) → n ≤ a → n ≤ b → n ≤ c → n ≤ min a (min b c)
 three_above n a b c h k l = omega arith
 
@@ -34,3 +20,7 @@ room_enough n blocks numbers each spare slots h k l = omega arith
 -- room within a number that is the same
 pub room_along : (a b c : ℕ) → a ≡ b → a ≤ c → b ≤ c
 room_along a b c e h = omega arith
+
+-- what is within room that is the same
+pub room_within : (n room room' : ℕ) → n ≤ room → room' ≡ room → n ≤ room'
+room_within n room room' h e = omega arith

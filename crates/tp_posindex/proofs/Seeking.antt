@@ -1,13 +1,12 @@
 -- The elements by number: look-ups, and the place where an insert goes.
 use Rattle.tp_list.proofs.Members.{In-get_or}
-use Rattle.tp_opid.specs.Tree.{IsThere, IsNew, HasReference, IsReferenceBelow, CanInsert}
+use Rattle.tp_opid.specs.Tree.{IsThere, IsNew, CanInsert}
 use Rattle.std.proofs.Common.{◌≡◌, ◌⊎◌, inl, inr, ℕ, zero, suc, ◌+◌, ◌-◌, ◌<◌, ◌≤◌, true, None, Some, List, [], ◌∷◌, ◌++◌, length, take, get_or, insert, map, position, refl, sym, ap, ◌∙◌, subst, arith, length-append}
 use Rattle.std.specs.List.{AllWithin, HoldsAt}
 use Rattle.std.proofs.lemmas.List.{length-map}
 use Rattle.tp_list.specs.Members.{In}
 use Rattle.tp_opid.specs.declared.op_id.OpId.{OpId}
-use Rattle.tp_opid.specs.declared.op_id.Place.{Place}
-use Rattle.tp_opid.specs.declared.op_id.Place.TheVariants.{Start, After}
+use Rattle.tp_opid.specs.declared.op_id.Place.TheVariants.{After}
 use Rattle.tp_opid.specs.Insert.{Insert}
 use Rattle.tp_opid.specs.Order.{Below}
 use Rattle.tp_opid.specs.Same.{id_eq}

@@ -6,6 +6,7 @@ use Rattle.tp_opid.specs.Insert.{Insert}
 use Rattle.tp_opid.specs.Same.{same_actor}
 use Rattle.tp_posindex.specs.declared.links.Link.{Link}
 use Rattle.tp_posindex.specs.declared.links.Latest.{Latest}
+use Rattle.tp_posindex.specs.Actors.{AreByActor}
 use Rattle.tp_posindex.specs.Blocked.{element_at}
 
 -- the actor and the counter of the element with a number
@@ -36,8 +37,9 @@ pub record IsLink (E : List Insert) (k : ℕ) (l : Link) : Type 0 where
   pub jump_by : actor_at E l.jump ≡ actor_at E k
   pub prior : (j : ℕ) → j < k → actor_at E j ≡ actor_at E k → (l.before < k) × (j ≤ l.before)
 
--- Each actor's counters rise; each element has its link, and each actor its latest element.
+-- Each actor's counters rise; each element has its link, and each actor its latest element, in the order of the actors.
 pub record IsIndexed (E : List Insert) (latest : List Latest) (links : List Link) : Type 0 where
+  pub sorted : AreByActor latest
   pub many : length links ≡ length E
   pub linked : (k : ℕ) → k < length E → IsLink E k (link_at links k)
   pub rises : (j k : ℕ) → j < k → k < length E → actor_at E j ≡ actor_at E k → counter_at E j < counter_at E k

@@ -1,6 +1,9 @@
 pub mod Layout
 pub mod BlockState
 pub mod Laid
+pub mod Kept
+pub mod Counted
 pub mod Blocked
 pub mod Came
+pub mod Actors
 pub mod Indexed

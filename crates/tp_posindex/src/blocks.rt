@@ -1,13 +1,15 @@
 //! The numbers of elements in blocks, in the order of the text, with a flag for each that is deleted.
 
-ghost use Rattle.std.specs.Prelude.{◌≡◌, ℕ, ◌+◌, ◌-◌, ◌^◌, ◌<◌, ◌≤◌, Bool, true, false, not, [], ◌∷◌, ◌++◌, length, take, drop, filter, insert, slice_set, vec_len, slice_get, slice_index_or, Some, MatchOption, IfSome, IfNone, IsOk, OnOk, OnErr};
+ghost use Rattle.std.specs.Prelude.{◌≡◌, ℕ, ◌+◌, ◌-◌, ◌^◌, ◌<◌, ◌≤◌, Bool, true, false, not, [], ◌∷◌, ◌++◌, length, take, drop, filter, insert, slice_set, vec_len, slice_index_or, IfSome, IfNone, IsOk, IsTrue, OnOk, OnErr};
 ghost use Rattle.std.specs.List.{All};
 ghost use Rattle.tp_list.specs.Members.{In};
 ghost use Rattle.tp_posindex.specs.Layout.{joined, block_at, index_at, IsGap, StandsAt, AreSized};
+ghost use Rattle.tp_posindex.specs.Kept.{AreIndexed};
 ghost use Rattle.tp_posindex.specs.Laid.{room_of, flag_of, flags_of, count_of, IsNumbered};
 
 use crate::block::{Block, HALF, MOST};
-use crate::numbers::{count_down, index_near, index_of, nth_counted, nth_down, total};
+use crate::counts::Counts;
+use crate::numbers::{count_down, index_of, nth_down};
 use std::alloc::{AllocError, Global};
 use std::marker::Model;
 
@@ -23,25 +25,29 @@ pub(crate) struct Spot {
 
 /// Numbers in blocks. Number `k` is the one that was put in as the `k`-th, from 0.
 ///
-/// `pool` has the blocks by their own numbers, `order` these in list order, `visible` for each block in list order how
-/// many flags are down, `home` for each number the block that holds it, and `spare` blocks to be opened. `recent` is
-/// the index in the order of the block that the latest number went to, and is looked at first.
+/// `pool` has the blocks by their own numbers, `order` these in list order, and `index` for each where it stands in the
+/// order; `lens` has for each block in list order how many numbers it holds, and `visible` how many of them have their
+/// flag down; `home` has for each number the block that holds it, and `spare` has blocks to be opened. `recent` is the
+/// spot that the latest number went to, and is looked at first.
 #[derive(Drop)]
 pub(crate) struct Blocks {
     alloc: Global,
     pool: Vec<Block>,
     spare: Vec<Block>,
     order: Vec<u32>,
-    visible: Vec<u32>,
+    index: Vec<u32>,
+    lens: Counts,
+    visible: Counts,
     home: Vec<u32>,
     deleted: Vec<bool>,
-    recent: usize,
+    recent: Spot,
 }
 
 impl Model for Blocks {
     ghost use Rattle.std.specs.Prelude.{◌-◌, min, length};
     ghost use Rattle.std.specs.Vec.{vec_len, vec_capacity};
     ghost use Rattle.tp_posindex.specs.Laid.{Layout, IsLaid, laid};
+    ghost use Rattle.tp_posindex.specs.Kept.{IsKept};
 
     ghost Value = { Layout };
 
@@ -50,13 +56,16 @@ impl Model for Blocks {
       flags = b.deleted.items;
       spare = min
           (min (vec_len b.spare) (vec_capacity b.pool - vec_len b.pool))
-          (min (vec_capacity b.order - vec_len b.order) (vec_capacity b.visible - vec_len b.visible));
+          (min
+          (min (vec_capacity b.order - vec_len b.order) (vec_capacity b.index - vec_len b.index))
+          (min b.lens.room b.visible.room));
       slots = min
           (4294967295 - vec_len b.deleted)
           (min (vec_capacity b.home - vec_len b.home) (vec_capacity b.deleted - vec_len b.deleted));
     } };
 
-    ghost invariant = { λ b. IsLaid b.pool.items b.order.items b.visible.items b.home.items b.deleted.items };
+    ghost invariant = { λ b.
+        IsKept b.pool.items b.order.items b.index.items b.lens.counts b.visible.counts b.home.items b.deleted.items };
 }
 
 impl Blocks {
@@ -70,10 +79,15 @@ impl Blocks {
             pool: Vec::new(alloc),
             spare: Vec::new(alloc),
             order: Vec::new(alloc),
-            visible: Vec::new(alloc),
+            index: Vec::new(alloc),
+            lens: Counts::new(alloc),
+            visible: Counts::new(alloc),
             home: Vec::new(alloc),
             deleted: Vec::new(alloc),
-            recent: 0,
+            recent: Spot {
+                block: 0,
+                offset: 0,
+            },
         }
     }
 
@@ -94,11 +108,25 @@ impl Blocks {
         self.home.reserve(n)?;
         self.deleted.reserve(n)?;
         let opened = n.min((numbers + n).div_ceil(HALF).saturating_sub(blocks));
-        self.pool.reserve(opened)?;
-        self.order.reserve(opened)?;
-        self.visible.reserve(opened)?;
-        fill(self.alloc, &mut self.spare, opened)?;
+        self.reserve_blocks(opened)?;
         Ok(())
+    }
+
+    /// Makes room for `n` more blocks.
+    fn reserve_blocks(&mut self, n: usize) -> Result<(), AllocError>
+        ensures blocks { self.new.blocks ≡ self.old.blocks }
+        ensures flags { self.new.flags ≡ self.old.flags }
+        ensures ok { OnOk result (n ≤ self.new.spare) }
+        ensures succeeds { n ≤ self.old.spare → IsOk result }
+        ensures spare { self.old.spare ≤ self.new.spare }
+        ensures slots { self.new.slots ≡ self.old.slots }
+    {
+        self.pool.reserve(n)?;
+        self.order.reserve(n)?;
+        self.index.reserve(n)?;
+        self.lens.reserve(n)?;
+        self.visible.reserve(n)?;
+        fill(self.alloc, &mut self.spare, n)
     }
 
     /// How many blocks there are. Every block holds from 1 to 128 numbers, and each of several at least 64.
@@ -114,6 +142,7 @@ impl Blocks {
     pub fn block(&self, block: usize) -> &[u32]
         requires { block < length self.now.blocks }
         ensures value { result.now ≡ block_at self.now.blocks block }
+        ensures few { length result.now ≤ MOST }
         ensures below { All (λ k. k < length self.now.flags) result.now }
         ensures fits { index_at self.now.blocks block (length result.now) < 2 ^ 64 }
     {
@@ -126,7 +155,7 @@ impl Blocks {
         requires { block < length self.now.blocks }
         ensures { result ≡ count_of self.now.flags (block_at self.now.blocks block) }
     {
-        self.visible[block] as usize
+        self.visible.get(block)
     }
 
     /// Whether a number's flag is up.
@@ -148,37 +177,51 @@ impl Blocks {
         self.block(spot.block)[spot.offset] as usize
     }
 
-    /// Where a number stands. It passes over the order of the blocks, unless the number stands in the block of the
-    /// latest insert, and over one block.
+    /// Where a number stands. It passes over one block, or none where it is the latest number.
     pub fn spot_of(&self, number: usize) -> Spot
         requires { number < length self.now.flags }
         ensures at { StandsAt self.now.blocks result.block result.offset number }
         ensures offset { result.offset < MOST }
     {
+        if self.is_at(self.recent, number) {
+            return self.recent;
+        }
         let home = self.home[number] as usize;
-        match index_near(&self.order, home, self.recent) {
-            Some(block) => match index_of(self.pool[home].numbers(), number) {
-                Some(offset) => Spot { block, offset },
-                None => unreachable!(),
+        match index_of(self.pool[home].numbers(), number) {
+            Some(offset) => Spot {
+                block: self.index[home] as usize,
+                offset,
             },
             None => unreachable!(),
         }
     }
 
-    /// The index in the whole list of the first number of a block. It adds up the lengths of the blocks before.
+    /// Whether a number stands at a spot.
+    fn is_at(&self, spot: Spot, number: usize) -> bool
+        ensures at { IsTrue result
+            → StandsAt self.now.blocks spot.block spot.offset number }
+        ensures offset { IsTrue result → spot.offset < MOST }
+    {
+        if spot.block >= self.order.len() {
+            return false;
+        }
+        match self.block(spot.block).get(spot.offset) {
+            Some(other) => *other as usize == number,
+            None => false,
+        }
+    }
+
+    /// The index in the whole list of the first number of a block. It passes over four bytes for each 128 blocks before,
+    /// and for up to 128 more.
     pub fn first_of(&self, block: usize) -> usize
         requires { block < length self.now.blocks }
         ensures { result ≡ index_at self.now.blocks block 0 }
     {
-        let mut first = 0;
-        for before in 0..block {
-            first += self.block(before).len();
-        }
-        first
+        self.lens.sum_before(block)
     }
 
-    /// Where the number at an index of the whole list stands, or `None` past its end. It passes over the lengths of the
-    /// blocks before.
+    /// Where the number at an index of the whole list stands, or `None` past its end. It passes over four bytes for each
+    /// 128 blocks before, and for up to 128 more.
     pub fn spot_at(&self, index: usize) -> Option<Spot>
         ensures found { IfSome result
             (λ s. (s.block < length self.now.blocks)
@@ -186,22 +229,12 @@ impl Blocks {
             × (index_at self.now.blocks s.block s.offset ≡ index)) }
         ensures none { IfNone result (length (joined self.now.blocks) ≤ index) }
     {
-        let mut left = index;
-        for block in 0..self.order.len() {
-            let len = self.block(block).len();
-            if left < len {
-                return Some(Spot {
-                    block,
-                    offset: left,
-                });
-            }
-            left -= len;
-        }
-        None
+        let (block, offset) = self.lens.find(index)?;
+        Some(Spot { block, offset })
     }
 
     /// Where the number stands whose flag is down and before which `i` others have theirs down, or `None` where fewer
-    /// have. It passes over the counts before it, and over one block.
+    /// have. It passes over four bytes for each 128 blocks before, and for up to 128 more, and over one block.
     pub fn nth_visible(&self, i: usize) -> Option<Spot>
         ensures found { IfSome result
             (λ s. (s.block < length self.now.blocks)
@@ -212,14 +245,15 @@ impl Blocks {
             (take (index_at self.now.blocks s.block s.offset) (joined self.now.blocks)) ≡ i)) }
         ensures none { IfNone result (count_of self.now.flags (joined self.now.blocks) ≤ i) }
     {
-        let (block, left) = nth_counted(&self.visible, i)?;
+        let (block, left) = self.visible.find(i)?;
         match nth_down(self.block(block), &self.deleted, left) {
             Some(offset) => Some(Spot { block, offset }),
             None => unreachable!(),
         }
     }
 
-    /// How many flags are down before a spot. It adds up the counts before it, and passes over one block.
+    /// How many flags are down before a spot. It passes over four bytes for each 128 blocks before, and for up to 128
+    /// more, and over one block.
     pub fn visible_before(&self, spot: Spot) -> usize
         requires block { spot.block < length self.now.blocks }
         requires offset { spot.offset ≤ length (block_at self.now.blocks spot.block) }
@@ -227,7 +261,7 @@ impl Blocks {
             (take (index_at self.now.blocks spot.block spot.offset) (joined self.now.blocks)) }
     {
         let numbers = self.block(spot.block);
-        total(&self.visible[..spot.block]) + count_down(&numbers[..spot.offset], &self.deleted)
+        self.visible.sum_before(spot.block) + count_down(&numbers[..spot.offset], &self.deleted)
     }
 
     /// Behind all numbers.
@@ -296,8 +330,9 @@ impl Blocks {
         let home = self.order[spot.block];
         let block = &mut self.pool[home as usize];
         block.put(spot.offset, number);
-        self.visible[spot.block] += 1;
-        self.recent = spot.block;
+        self.lens.raise(spot.block);
+        self.visible.raise(spot.block);
+        self.recent = spot;
         if self.home.push(home).is_err() || self.deleted.push(false).is_err() {
             unreachable!()
         }
@@ -326,13 +361,15 @@ impl Blocks {
         block.split(&mut half);
         let count = count_down(half.numbers(), &self.deleted) as u32;
         rename(&mut self.home, half.numbers(), back);
-        self.visible[index] -= count;
+        self.lens.split(index, HALF as u32);
+        self.visible.split(index, count);
         if self.pool.push(half).is_err()
             || self.order.insert(index + 1, back).is_err()
-            || self.visible.insert(index + 1, count).is_err()
+            || self.index.push(back).is_err()
         {
             unreachable!()
         }
+        renumber(&mut self.index, &self.order, index + 1);
     }
 
     /// Opens the first block, with the first number in it.
@@ -350,9 +387,11 @@ impl Blocks {
             unreachable!()
         };
         block.start(0);
+        self.lens.insert(0, 1);
+        self.visible.insert(0, 1);
         if self.pool.push(block).is_err()
             || self.order.push(0).is_err()
-            || self.visible.push(1).is_err()
+            || self.index.push(0).is_err()
             || self.home.push(0).is_err()
             || self.deleted.push(false).is_err()
         {
@@ -370,7 +409,7 @@ impl Blocks {
     {
         let spot = self.spot_of(number);
         self.deleted[number] = true;
-        self.visible[spot.block] -= 1;
+        self.visible.lower(spot.block, 1);
     }
 }
 
@@ -383,6 +422,20 @@ fn rename(home: &mut [u32], numbers: &[u32], block: u32)
 {
     for number in numbers {
         home[*number as usize] = block;
+    }
+}
+
+/// Says of each block from an index of the order on where it stands in the order.
+fn renumber(index: &mut [u32], order: &[u32], from: usize)
+    requires few { length order.now < 2 ^ 32 }
+    requires from { from ≤ length order.now }
+    requires ordered { IsNumbered (length index.old) order.now }
+    requires before { (p : ℕ) → p < from
+        → slice_index_or index.old (slice_index_or order.now p 0) 0 ≡ p }
+    ensures { AreIndexed order.now index.new }
+{
+    for p in from..order.len() {
+        index[order[p] as usize] = p as u32;
     }
 }
 

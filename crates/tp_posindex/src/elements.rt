@@ -3,8 +3,9 @@
 ghost use Rattle.std.specs.Prelude.{◌≡◌, ◌+◌, ◌^◌, ◌<◌, ◌≤◌, [], ◌∷◌, ◌++◌, length, position, IsOk, OnOk};
 ghost use Rattle.tp_opid.specs.Same.{id_eq};
 
+use crate::actors::find;
 use crate::links::{Latest, Link};
-use crate::lookup::{last_by, link_next, seek};
+use crate::lookup::{likely, link_next, seek};
 use std::alloc::{AllocError, Global};
 use std::marker::Model;
 use tp_opid::OpId;
@@ -15,10 +16,11 @@ const MOST_ELEMENTS: usize = 4_294_967_295;
 
 /// The elements in the order in which they came: the number of an element is how many came before it.
 ///
-/// Each element is linked to earlier ones of its actor, and a look-up goes back along these links from the actor's
-/// latest element: it takes as many steps as the logarithm of how many elements the actor has, and a pass over the
-/// actors. This holds while each actor's counters rise, as they do where changes enter behind their dependencies.
-/// Once one doesn't, a look-up passes over all elements.
+/// The latest element of each actor is kept in the order of the actors, and each element is linked to earlier ones of
+/// its actor. A look-up finds the actor's latest element, in as many comparisons as the logarithm of the number of
+/// actors; it is there at once if that is the one, makes up to 8 guesses else, and then goes back along the links, as
+/// many steps as the logarithm of how many elements the actor has. This holds while each actor's counters rise, as they
+/// do where changes enter behind their dependencies. Once one doesn't, a look-up passes over all elements.
 #[derive(Drop)]
 pub(crate) struct Elements {
     items: Vec<Insertion>,
@@ -95,8 +97,16 @@ impl Elements {
         if !self.rising {
             return self.items.iter().position(|e| e.id.is(id));
         }
-        let last = last_by(&self.latest, &id.actor)?;
-        let at = seek(&self.items, &self.links, last as usize, id.counter)?;
+        let Ok(entry) = find(&self.latest, &id.actor) else {
+            return None;
+        };
+        let last = self.latest[entry].number as usize;
+        let at = likely(&self.items, last, id.counter);
+        let e = &self.items[at];
+        if e.id.is(id) {
+            return Some(at);
+        }
+        let at = seek(&self.items, &self.links, last, id.counter)?;
         let e = &self.items[at];
         if e.id.counter == id.counter {
             Some(at)

@@ -5,9 +5,11 @@
 //! insert moves no element, and a read by position adds up the counts and looks into one block.
 #![tactic(auto)]
 
+mod actors;
 mod block;
 mod block_info;
 mod blocks;
+mod counts;
 mod elements;
 mod links;
 mod lookup;

@@ -1,42 +1,15 @@
 //! Look-ups of elements by identifier, back along the links of an actor's elements.
 
-ghost use Rattle.std.specs.Prelude.{◌≡◌, ◌⊎◌, ℕ, ◌+◌, ◌-◌, ◌<◌, ◌≤◌, true, false, List, [], ◌∷◌, ◌++◌, length, map, vec_len, vec_capacity, IfSome, IfNone};
-ghost use Rattle.tp_list.specs.Members.{In};
+ghost use Rattle.std.specs.Prelude.{◌≡◌, ◌⊎◌, ℕ, ◌+◌, ◌-◌, ◌<◌, ◌≤◌, true, List, [], ◌∷◌, ◌++◌, length, vec_len, vec_capacity, IfSome, IfNone};
 ghost use Rattle.tp_opid.specs.Insert.{Insert};
-ghost use Rattle.tp_opid.specs.Same.{same_actor};
 ghost use Rattle.tp_posindex.specs.declared.links.Latest.{Latest as Last};
-ghost use Rattle.tp_posindex.specs.Indexed.{actor_at, counter_at, link_at, noted, IsIndexed};
+ghost use Rattle.tp_posindex.specs.Actors.{latest_at, IsPlaceOf};
+ghost use Rattle.tp_posindex.specs.Indexed.{actor_at, counter_at, link_at, IsIndexed};
 
+use crate::actors::find;
 use crate::links::{Latest, Link};
-use tp_opid::{Actor, OpId};
+use tp_opid::OpId;
 use tp_rga::Insertion;
-
-/// The number of an actor's latest element, or `None` where it has none. One pass over the actors.
-pub(crate) fn last_by(latest: &[Latest], actor: &Actor) -> Option<u32>
-    ensures found { IfSome result
-        (λ m. (x : Last) × In x latest.now × (x.number ≡ m)
-        × (same_actor x.actor actor.now ≡ true)) }
-    ensures none { IfNone result ((x : Last) → In x latest.now
-        → same_actor x.actor actor.now ≡ false) }
-{
-    for entry in latest {
-        if entry.actor.is(actor) {
-            return Some(entry.number);
-        }
-    }
-    None
-}
-
-/// Notes an actor's latest element. One pass over the actors.
-fn note(latest: &mut [Latest], actor: &Actor, number: u32)
-    ensures { latest.new ≡ map (noted actor.now number) latest.old }
-{
-    for entry in latest.iter_mut() {
-        if entry.actor.is(actor) {
-            entry.number = number;
-        }
-    }
-}
 
 /// The link of the next element of an actor, whose latest so far is `last`.
 fn link_behind(links: &[Link], last: u32) -> Link
@@ -108,20 +81,69 @@ pub(crate) fn seek(items: &[Insertion], links: &[Link], from: usize, counter: u6
     }
 }
 
-/// Links the next element of an actor behind its latest, and says whether its counter is the greater. It takes no
-/// memory.
+/// How many guesses are made before a look-up goes back along links.
+const GUESSES: usize = 8;
+
+/// Where an element with the counter stands if the counters of the elements from `low` to `high` rise evenly.
+fn guess(items: &[Insertion], low: usize, high: usize, counter: u64) -> usize
+    requires low { low ≤ high }
+    requires high { high < length items.now }
+    ensures low { low ≤ result }
+    ensures high { result ≤ high }
+{
+    let first = &items[low];
+    let last = &items[high];
+    let low_counter = first.id.counter;
+    let high_counter = last.id.counter;
+    if counter <= low_counter {
+        return low;
+    }
+    if high_counter <= counter {
+        return high;
+    }
+    let share = (high - low) as u64;
+    let step = (counter - low_counter).saturating_mul(share) / (high_counter - low_counter);
+    low + step.min(share) as usize
+}
+
+/// Where, up to an element, one with the counter is likely to stand: by interpolation, as if the counters of all
+/// elements rose, which those of elements that were inserted one after another do. It looks at a few elements. The
+/// answer is a guess that the caller has to check.
+pub(crate) fn likely(items: &[Insertion], last: usize, counter: u64) -> usize
+    requires { last < length items.now }
+    ensures { result ≤ last }
+{
+    let mut low = 0;
+    let mut high = last;
+    for _ in 0..GUESSES {
+        let at = guess(items, low, high, counter);
+        let e = &items[at];
+        let found = e.id.counter;
+        if found < counter && at < high {
+            low = at + 1;
+        } else if counter < found && low < at {
+            high = at - 1;
+        } else {
+            return at;
+        }
+    }
+    low
+}
+
+/// Links the next element of an actor behind its latest, which the actor's entry names, and says whether its counter is
+/// the greater. It takes no memory.
 fn link_more(
     items: &[Insertion],
     latest: &mut Vec<Latest>,
     links: &mut Vec<Link>,
     id: &OpId,
-    last: u32,
+    entry: usize,
 ) -> bool
     requires few { length items.now < 4294967295 }
     requires room { vec_len links.old < vec_capacity links.old }
     requires indexed { IsIndexed items.now latest.old.items links.old.items }
-    requires last { (x : Last) × In x latest.old.items × (x.number ≡ last)
-        × (same_actor x.actor id.now.actor ≡ true) }
+    requires entry { entry < length latest.old.items }
+    requires actor { (latest_at latest.old.items entry).actor ≡ id.now.actor }
     ensures indexed { (e : Insert) → e.id ≡ id.now → result ≡ true
         → IsIndexed (items.now ++ e ∷ []) latest.new.items links.new.items }
     ensures latest_room { vec_capacity latest.old - vec_len latest.old
@@ -129,25 +151,32 @@ fn link_more(
     ensures links_room { vec_capacity links.old - vec_len links.old
         ≤ vec_capacity links.new - vec_len links.new + 1 }
 {
+    let last = latest[entry].number;
     let e = &items[last as usize];
     if id.counter <= e.id.counter {
         return false;
     }
     let link = link_behind(links, last);
-    note(latest, &id.actor, items.len() as u32);
+    latest[entry].number = items.len() as u32;
     if links.push(link).is_err() {
         unreachable!()
     }
     true
 }
 
-/// Links an actor's first element. It takes no memory.
-fn link_first(items: &[Insertion], latest: &mut Vec<Latest>, links: &mut Vec<Link>, id: &OpId)
+/// Links an actor's first element, and puts the actor's entry in where it belongs. It takes no memory.
+fn link_first(
+    items: &[Insertion],
+    latest: &mut Vec<Latest>,
+    links: &mut Vec<Link>,
+    id: &OpId,
+    entry: usize,
+)
     requires few { length items.now < 4294967295 }
     requires latest_room { vec_len latest.old < vec_capacity latest.old }
     requires links_room { vec_len links.old < vec_capacity links.old }
     requires indexed { IsIndexed items.now latest.old.items links.old.items }
-    requires none { (x : Last) → In x latest.old.items → same_actor x.actor id.now.actor ≡ false }
+    requires entry { IsPlaceOf latest.old.items id.now.actor entry }
     ensures indexed { (e : Insert) → e.id ≡ id.now
         → IsIndexed (items.now ++ e ∷ []) latest.new.items links.new.items }
     ensures latest_room { vec_capacity latest.old - vec_len latest.old
@@ -156,7 +185,7 @@ fn link_first(items: &[Insertion], latest: &mut Vec<Latest>, links: &mut Vec<Lin
         ≤ vec_capacity links.new - vec_len links.new + 1 }
 {
     let number = items.len() as u32;
-    let entry = Latest {
+    let first = Latest {
         actor: id.actor,
         number,
     };
@@ -165,7 +194,7 @@ fn link_first(items: &[Insertion], latest: &mut Vec<Latest>, links: &mut Vec<Lin
         jump: number,
         depth: 0,
     };
-    if latest.push(entry).is_err() || links.push(link).is_err() {
+    if latest.insert(entry, first).is_err() || links.push(link).is_err() {
         unreachable!()
     }
 }
@@ -188,10 +217,10 @@ pub(crate) fn link_next(
     ensures links_room { vec_capacity links.old - vec_len links.old
         ≤ vec_capacity links.new - vec_len links.new + 1 }
 {
-    match last_by(latest, &id.actor) {
-        Some(last) => link_more(items, latest, links, id, last),
-        None => {
-            link_first(items, latest, links, id);
+    match find(latest, &id.actor) {
+        Ok(entry) => link_more(items, latest, links, id, entry),
+        Err(entry) => {
+            link_first(items, latest, links, id, entry);
             true
         }
     }

@@ -11,20 +11,20 @@ pub index-requires-2 : goal.index-requires-2
 index-requires-2 c =
     let s = c.self.inside in
     let at : c.args.block < length s.order.items = omega (arith, length-laid s.pool.items s.order.items, ap (λ (v : Layout). length v.blocks) c.self.view_is) in
-    let within = order_within s.pool.items s.order.items c.args.block c.index.result.now c.self.invariant.ordered at c.index.ensures in
+    let within = order_within s.pool.items s.order.items c.args.block c.index.result.now c.self.invariant.blocks.ordered at c.index.ensures in
     omega (arith, within)
 
 pub returns-clause-value : goal.returns-clause-value
 returns-clause-value c =
     let s = c.self.inside in
     let at : c.args.block < length s.order.items = omega (arith, length-laid s.pool.items s.order.items, ap (λ (v : Layout). length v.blocks) c.self.view_is) in
-    c.numbers.ensures.value ∙ block_read s.pool.items s.order.items c.args.block c.index.result.now c.index-2.result.now c.self.invariant.ordered at c.index.ensures c.index-2.ensures ∙ ap (λ (v : Layout). block_at v.blocks c.args.block) c.self.view_is
+    c.numbers.ensures.value ∙ block_read s.pool.items s.order.items c.args.block c.index.result.now c.index-2.result.now c.self.invariant.blocks.ordered at c.index.ensures c.index-2.ensures ∙ ap (λ (v : Layout). block_at v.blocks c.args.block) c.self.view_is
 
 pub returns-clause-below : goal.returns-clause-below
 returns-clause-below c =
     let s = c.self.inside in
     let bs = c.args.self.now.blocks in
-    let numbered : IsNumbered (length c.args.self.now.flags) (joined bs) = subst (λ (v : Layout). IsNumbered (length v.flags) (joined v.blocks)) c.self.view_is c.self.invariant.numbered in
+    let numbered : IsNumbered (length c.args.self.now.flags) (joined bs) = subst (λ (v : Layout). IsNumbered (length v.flags) (joined v.blocks)) c.self.view_is c.self.invariant.blocks.numbered in
     let is = returns-clause-value c in
     λ k d lt. numbered.below _ (In-joined _ c.numbers.result.now bs (subst (λ (z : List ℕ). In z bs) (sym is) (In-block bs c.args.block c.requires)) (In-get_or c.numbers.result.now k d lt))
 
@@ -32,7 +32,7 @@ pub returns-clause-fits : goal.returns-clause-fits
 returns-clause-fits c =
     let s = c.self.inside in
     let bs = c.args.self.now.blocks in
-    let numbered : IsNumbered (length s.deleted.items) (joined bs) = subst (λ (v : Layout). IsNumbered (length s.deleted.items) (joined v.blocks)) c.self.view_is c.self.invariant.numbered in
+    let numbered : IsNumbered (length s.deleted.items) (joined bs) = subst (λ (v : Layout). IsNumbered (length s.deleted.items) (joined v.blocks)) c.self.view_is c.self.invariant.blocks.numbered in
     let is = ap length (returns-clause-value c) in
     let within = index_at-within bs c.args.block (length c.numbers.result.now) c.requires (omega (arith, is)) in
     omega (arith, within, numbered.many)

@@ -1,19 +1,20 @@
-use Rattle.std.proofs.Common.{◌≡◌, ◌<◌, ◌+◌, ◌^◌, suc, sym, ◌∙◌, ap, arith, length}
-use Rattle.tp_posindex.specs.Layout.{block_at, index_at}
-use Rattle.tp_posindex.proofs.Joining.{index_at-next}
+use Rattle.std.proofs.Common.{◌≡◌, map, sum, take, ◌∙◌, ap, subst, arith, length}
+use Rattle.std.proofs.lemmas.List.{length-map}
+use Rattle.tp_posindex.specs.Laid.{Layout}
+use Rattle.tp_posindex.specs.Layout.{joined}
+use Rattle.tp_posindex.proofs.Keeping.{lengths_before}
 use Rattle.tp_posindex.proofs.blocks.Blocks.first_of.Goals as goal
 
-pub overflow_add-first : goal.overflow_add-first
-overflow_add-first c =
-    let fits : index_at c.args.self.now.blocks c.loop-before.before (length c.block.result.now) < 2 ^ 64 = c.block.ensures.fits in
-    omega (arith, c.loop-before.invariant, fits)
+pub sum_before-requires : goal.sum_before-requires
+sum_before-requires c =
+    let s = c.self.inside in
+    let measured = subst (λ (v : Layout). s.lens.counts ≡ map length v.blocks) c.self.view_is c.self.invariant.measured in
+    let many = ap length measured ∙ length-map c.args.self.now.blocks length in
+    omega arith
 
-pub loop-before-preserved : goal.loop-before-preserved
-loop-before-preserved c =
-    let bs = c.args.self.now.blocks in
-    let p = c.loop-before.before in
-    let lt : p < length bs = omega arith in
-    let next = index_at-next bs p lt in
-    let size : length c.block.result.now ≡ length (block_at bs p) = ap length c.block.ensures.value in
-    let up : p + 1 ≡ suc p = omega arith in
-    (let sum : c.loop-before.first + length c.block.result.now ≡ index_at bs (suc p) 0 = omega (arith, c.loop-before.invariant) in sum) ∙ ap (λ n. index_at bs n 0) (sym up)
+pub returns : goal.returns
+returns c =
+    let s = c.self.inside in
+    let measured = subst (λ (v : Layout). s.lens.counts ≡ map length v.blocks) c.self.view_is c.self.invariant.measured in
+    let before : sum (take c.args.block s.lens.counts) ≡ length (joined (take c.args.block c.args.self.now.blocks)) = ap (λ z. sum (take c.args.block z)) measured ∙ lengths_before c.args.self.now.blocks c.args.block in
+    omega (arith, before, c.sum_before.ensures)

@@ -27,7 +27,7 @@ split-requires-clause-full c =
     let some : 0 < length s.order.items = grind (arith, nat_tests) in
     let many : length s.order.items ≡ length bs = sym (length-laid s.pool.items s.order.items) ∙ ap (λ (v : Layout). length v.blocks) c.self.view_is in
     let lt : p < length bs = gap_block bs p offset c.requires.gap (omega arith) in
-    let sized : AreSized bs = subst (λ (v : Layout). AreSized v.blocks) c.self.view_is c.self.invariant.sized in
+    let sized : AreSized bs = subst (λ (v : Layout). AreSized v.blocks) c.self.view_is c.self.invariant.blocks.sized in
     let few = sized.few (block_at bs p) (In-block bs p lt) in
     let full : length (block_at bs p) ≡ 128 = (let size = ap (λ (z : List ℕ). length z) c.block.ensures.value in let stop = c.if-block-lt-MOST.false in omega arith) in
     full
@@ -41,11 +41,11 @@ split-requires-clause-spare c =
     let some : 0 < length s.order.items = grind (arith, nat_tests) in
     let many : length s.order.items ≡ length bs = sym (length-laid s.pool.items s.order.items) ∙ ap (λ (v : Layout). length v.blocks) c.self.view_is in
     let lt : p < length bs = gap_block bs p offset c.requires.gap (omega arith) in
-    let sized : AreSized bs = subst (λ (v : Layout). AreSized v.blocks) c.self.view_is c.self.invariant.sized in
+    let sized : AreSized bs = subst (λ (v : Layout). AreSized v.blocks) c.self.view_is c.self.invariant.blocks.sized in
     let few = sized.few (block_at bs p) (In-block bs p lt) in
     let full : length (block_at bs p) ≡ 128 = (let size = ap (λ (z : List ℕ). length z) c.block.ensures.value in let stop = c.if-block-lt-MOST.false in omega arith) in
     let each = many_each bs p sized lt full in
-    let numbers : length (joined bs) ≡ length c.args.self.now.flags = subst (λ (v : Layout). length (joined v.blocks) ≡ length v.flags) c.self.view_is c.self.invariant.numbered.many in
+    let numbers : length (joined bs) ≡ length c.args.self.now.flags = subst (λ (v : Layout). length (joined v.blocks) ≡ length v.flags) c.self.view_is c.self.invariant.blocks.numbered.many in
     omega (arith, each, numbers, c.requires.room)
 
 pub put_in-requires-then-spot-le-HALF-clause-offset : goal.put_in-requires-then-spot-le-HALF-clause-offset
@@ -57,7 +57,7 @@ put_in-requires-then-spot-le-HALF-clause-offset c =
     let some : 0 < length s.order.items = grind (arith, nat_tests) in
     let many : length s.order.items ≡ length bs = sym (length-laid s.pool.items s.order.items) ∙ ap (λ (v : Layout). length v.blocks) c.self.view_is in
     let lt : p < length bs = gap_block bs p offset c.requires.gap (omega arith) in
-    let sized : AreSized bs = subst (λ (v : Layout). AreSized v.blocks) c.self.view_is c.self.invariant.sized in
+    let sized : AreSized bs = subst (λ (v : Layout). AreSized v.blocks) c.self.view_is c.self.invariant.blocks.sized in
     let few = sized.few (block_at bs p) (In-block bs p lt) in
     let full : length (block_at bs p) ≡ 128 = (let size = ap (λ (z : List ℕ). length z) c.block.ensures.value in let stop = c.if-block-lt-MOST.false in omega arith) in
     let n = length c.args.self.now.flags in
@@ -78,7 +78,7 @@ put_in-requires-then-spot-le-HALF-clause-few c =
     let some : 0 < length s.order.items = grind (arith, nat_tests) in
     let many : length s.order.items ≡ length bs = sym (length-laid s.pool.items s.order.items) ∙ ap (λ (v : Layout). length v.blocks) c.self.view_is in
     let lt : p < length bs = gap_block bs p offset c.requires.gap (omega arith) in
-    let sized : AreSized bs = subst (λ (v : Layout). AreSized v.blocks) c.self.view_is c.self.invariant.sized in
+    let sized : AreSized bs = subst (λ (v : Layout). AreSized v.blocks) c.self.view_is c.self.invariant.blocks.sized in
     let few = sized.few (block_at bs p) (In-block bs p lt) in
     let full : length (block_at bs p) ≡ 128 = (let size = ap (λ (z : List ℕ). length z) c.block.ensures.value in let stop = c.if-block-lt-MOST.false in omega arith) in
     let n = length c.args.self.now.flags in
@@ -99,7 +99,7 @@ put_in-requires-else-spot-le-HALF-clause-offset c =
     let some : 0 < length s.order.items = grind (arith, nat_tests) in
     let many : length s.order.items ≡ length bs = sym (length-laid s.pool.items s.order.items) ∙ ap (λ (v : Layout). length v.blocks) c.self.view_is in
     let lt : p < length bs = gap_block bs p offset c.requires.gap (omega arith) in
-    let sized : AreSized bs = subst (λ (v : Layout). AreSized v.blocks) c.self.view_is c.self.invariant.sized in
+    let sized : AreSized bs = subst (λ (v : Layout). AreSized v.blocks) c.self.view_is c.self.invariant.blocks.sized in
     let few = sized.few (block_at bs p) (In-block bs p lt) in
     let full : length (block_at bs p) ≡ 128 = (let size = ap (λ (z : List ℕ). length z) c.block.ensures.value in let stop = c.if-block-lt-MOST.false in omega arith) in
     let n = length c.args.self.now.flags in
@@ -121,7 +121,7 @@ put_in-requires-else-spot-le-HALF-clause-few c =
     let some : 0 < length s.order.items = grind (arith, nat_tests) in
     let many : length s.order.items ≡ length bs = sym (length-laid s.pool.items s.order.items) ∙ ap (λ (v : Layout). length v.blocks) c.self.view_is in
     let lt : p < length bs = gap_block bs p offset c.requires.gap (omega arith) in
-    let sized : AreSized bs = subst (λ (v : Layout). AreSized v.blocks) c.self.view_is c.self.invariant.sized in
+    let sized : AreSized bs = subst (λ (v : Layout). AreSized v.blocks) c.self.view_is c.self.invariant.blocks.sized in
     let few = sized.few (block_at bs p) (In-block bs p lt) in
     let full : length (block_at bs p) ≡ 128 = (let size = ap (λ (z : List ℕ). length z) c.block.ensures.value in let stop = c.if-block-lt-MOST.false in omega arith) in
     let n = length c.args.self.now.flags in
@@ -142,7 +142,7 @@ returns-then-spot-le-HALF-clause-joined c =
     let some : 0 < length s.order.items = grind (arith, nat_tests) in
     let many : length s.order.items ≡ length bs = sym (length-laid s.pool.items s.order.items) ∙ ap (λ (v : Layout). length v.blocks) c.self.view_is in
     let lt : p < length bs = gap_block bs p offset c.requires.gap (omega arith) in
-    let sized : AreSized bs = subst (λ (v : Layout). AreSized v.blocks) c.self.view_is c.self.invariant.sized in
+    let sized : AreSized bs = subst (λ (v : Layout). AreSized v.blocks) c.self.view_is c.self.invariant.blocks.sized in
     let few = sized.few (block_at bs p) (In-block bs p lt) in
     let full : length (block_at bs p) ≡ 128 = (let size = ap (λ (z : List ℕ). length z) c.block.ensures.value in let stop = c.if-block-lt-MOST.false in omega arith) in
     let n = length c.args.self.now.flags in
@@ -168,7 +168,7 @@ returns-else-spot-le-HALF-clause-joined c =
     let some : 0 < length s.order.items = grind (arith, nat_tests) in
     let many : length s.order.items ≡ length bs = sym (length-laid s.pool.items s.order.items) ∙ ap (λ (v : Layout). length v.blocks) c.self.view_is in
     let lt : p < length bs = gap_block bs p offset c.requires.gap (omega arith) in
-    let sized : AreSized bs = subst (λ (v : Layout). AreSized v.blocks) c.self.view_is c.self.invariant.sized in
+    let sized : AreSized bs = subst (λ (v : Layout). AreSized v.blocks) c.self.view_is c.self.invariant.blocks.sized in
     let few = sized.few (block_at bs p) (In-block bs p lt) in
     let full : length (block_at bs p) ≡ 128 = (let size = ap (λ (z : List ℕ). length z) c.block.ensures.value in let stop = c.if-block-lt-MOST.false in omega arith) in
     let n = length c.args.self.now.flags in

@@ -1,18 +1,27 @@
-use Rattle.std.proofs.Common.{◌≡◌, ◌<◌, ◌+◌, ◌-◌, suc, sym, ◌∙◌, ap, arith, length}
+use Rattle.std.proofs.Common.{◌≡◌, ◌<◌, map, sum, ◌∙◌, ap, subst, arith, length, take}
+use Rattle.std.proofs.lemmas.List.{length-map}
 use Rattle.tp_posindex.specs.Laid.{Layout}
-use Rattle.tp_posindex.specs.Layout.{block_at, index_at}
-use Rattle.tp_posindex.proofs.Joining.{index_at-next}
-use Rattle.tp_posindex.proofs.Laying.{length-laid}
+use Rattle.tp_posindex.specs.Layout.{joined}
+use Rattle.tp_posindex.proofs.Keeping.{lengths_before, lengths_all, length_kept}
 use Rattle.tp_posindex.proofs.blocks.Blocks.spot_at.Goals as goal
 
-pub loop-block-preserved : goal.loop-block-preserved
-loop-block-preserved c =
+pub returns-in_err-block-clause-none : goal.returns-in_err-block-clause-none
+returns-in_err-block-clause-none c =
     let s = c.self.inside in
     let bs = c.args.self.now.blocks in
-    let p = c.loop-block.block in
-    let many : length s.order.items ≡ length bs = sym (length-laid s.pool.items s.order.items) ∙ ap (λ (v : Layout). length v.blocks) c.self.view_is in
-    let lt : p < length bs = omega arith in
-    let next = index_at-next bs p lt in
-    let size : length c.block-len.result.now ≡ length (block_at bs p) = ap length c.block-len.ensures.value in
-    let up : p + 1 ≡ suc p = omega arith in
-    ap (λ n. index_at bs n (c.loop-block.left - length c.block-len.result.now)) up ∙ (omega (arith, c.loop-block.invariant))
+    let measured = subst (λ (v : Layout). s.lens.counts ≡ map length v.blocks) c.self.view_is c.self.invariant.measured in
+    let all : sum s.lens.counts ≡ length (joined bs) = ap sum measured ∙ lengths_all bs in
+    rw c.from_residual.ensures (omega (arith, all, c.in_err-block.ensures.none))
+
+pub returns-clause-found : goal.returns-clause-found
+returns-clause-found c =
+    let s = c.self.inside in
+    let bs = c.args.self.now.blocks in
+    let p = c.in_ok-block.block in
+    let found = c.in_ok-block.ensures.found in
+    let measured = subst (λ (v : Layout). s.lens.counts ≡ map length v.blocks) c.self.view_is c.self.invariant.measured in
+    let many = ap length measured ∙ length-map bs length in
+    let lt : p < length bs = omega (arith, found.0) in
+    let size = length_kept bs s.lens.counts p measured lt in
+    let before : sum (take p s.lens.counts) ≡ length (joined (take p bs)) = ap (λ z. sum (take p z)) measured ∙ lengths_before bs p in
+    (lt, omega (arith, found.2), omega (arith, found.1))

@@ -1,6 +1,0 @@
-use Rattle.std.proofs.Common.{◌≡◌, ◌+◌, take, sum}
-use Rattle.tp_posindex.proofs.numbers.nth_counted_from.Given as goal
-
--- what was passed is counted off
-abbrev pub invariant-loop-index : goal.invariant-loop-index
-invariant-loop-index l = sum (take l.index l.counts) + l.left ≡ sum (take l.from l.counts) + l.fn.left
