@@ -1,13 +1,11 @@
-//! Runs rows of data on changes and their bytes, splices, logs, errors and the program: calls, and the answers that the
-//! rules give. `tp_rows FILE..` prints each row that answers otherwise, and how many rows each file has.
+//! Runs rows of data on changes and their bytes, splices, logs and errors: calls, and the answers that the rules give.
+//! `tp_rows FILE..` prints each row that answers otherwise, and how many rows each file has.
 #![tactic(auto)]
 
 mod bytes;
 mod changes;
-mod command_lines;
 mod edits;
 mod errors;
-mod host;
 mod logs;
 mod world;
 

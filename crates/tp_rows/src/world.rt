@@ -1,6 +1,6 @@
 //! What the rows of an example have made so far, and what makes their calls.
 
-use crate::{bytes, changes, command_lines, edits, errors, logs};
+use crate::{bytes, changes, edits, errors, logs};
 use std::alloc::Global;
 use tp_change::Change;
 use tp_runner::{Calls, Fault, Shelf, Words, call_on_fields};
@@ -14,8 +14,6 @@ pub struct World {
     pub bytes: Shelf<Vec<u8>>,
     /// Changes.
     pub changes: Shelf<Change>,
-    /// What the last `run` printed: to the standard output, and to the standard error.
-    pub printed: (String, String),
 }
 
 impl World {
@@ -25,7 +23,6 @@ impl World {
             alloc,
             bytes: Shelf::new(alloc),
             changes: Shelf::new(alloc),
-            printed: (String::new(alloc), String::new(alloc)),
         }
     }
 }
@@ -54,9 +51,6 @@ impl Calls for World {
             return answer;
         }
         if let Some(answer) = changes::call(&mut self.changes, &mut self.bytes, word, words) {
-            return answer;
-        }
-        if let Some(answer) = command_lines::call(&mut self.printed, self.alloc, word, words) {
             return answer;
         }
         look(self, word, words)

@@ -1,5 +1,3 @@
 pub mod Links
 pub mod Entries
 pub mod Logs
-mod CommandLineLemmas
-mod ShowWords

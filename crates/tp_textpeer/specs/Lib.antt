@@ -2,5 +2,4 @@ pub mod ShowFault
 pub mod Log
 pub mod Chain
 pub mod Show
-pub mod CommandLine
 pub mod Refusal

@@ -10,7 +10,7 @@ use tp_change::ChangeError;
 /// A refusal as the program prints it, without a newline: `show: change N: NAME`, where N counts the changes from 0
 /// and NAME is the innermost refusal's name. Where the log isn't at fault it is `textpeer: Io` or
 /// `textpeer: OutOfMemory`.
-#[derive(Clone, Copy, Debug)]
+#[derive(Clone, Copy, Debug, PartialEq, Eq)]
 pub struct Refusal(pub ShowError);
 
 impl fmt::Display for Refusal {

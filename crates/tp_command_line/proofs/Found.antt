@@ -1,0 +1,155 @@
+-- What the parser's matches say of the subcommand that was found, and of its values.
+use Rattle.std.proofs.Common.{◌≡◌, ◌∙◌, ap, Bool, true, false, refl, sym, subst, List, [], ◌∷◌, Option, Some, None, codes}
+use Rattle.std.specs.Prelude.{IsErrAnd, IsSome, ℕ, Ok, Err, Result, find, if◌then◌else◌, option_map}
+use Rattle.std.specs.Str.{bytes_eq}
+use Rattle.std.proofs.lemmas.Slice.Eq.{bytes_eq-Decides}
+use Rattle.clap.specs.Simple.{Shape, built}
+use Rattle.std.specs.Borrow.{Bor}
+use Rattle.std.specs.Str.Parse.{ExplainsUnsignedError, HasUnsignedDigitsIfOk, ParsesUnsigned, digits_value, without_leading_plus}
+use Rattle.std.specs.declared.num.ParseIntError.{ParseIntError}
+use Rattle.clap.specs.Faults.{fault_of}
+use Rattle.clap.specs.Matches.{ReadsOne}
+use Rattle.clap.specs.Values.{Accepts}
+use Rattle.clap.specs.ValueTests.{accepts}
+use Rattle.clap.proofs.ValueTestLemmas.{accepts-Accepts}
+use Rattle.clap.proofs.WalkLemmas.{one_text-rows}
+use Rattle.clap.specs.Words.{App, HasKind, HasMatchesOf, Row, Text, found_of, is_simple, is_simple_and_free, one_text, rows_of, subcommand_name_of, subcommand_of, subcommand_rows_of}
+use Rattle.clap.specs.declared.parser.matches.ArgMatches.{ArgMatches}
+use Rattle.clap.specs.declared.parser.matches.Found.{Found}
+use Rattle.clap.specs.declared.parser.matches.ArgMatches.TheViews.{out-ArgMatches}
+use Rattle.clap.specs.declared.error.Error.{Error}
+use Rattle.tp_command_line.specs.CommandLine.{numbers, textpeer_app}
+use Rattle.tp_command_line.specs.LineError.{FailsAs, parser_fault}
+use Rattle.tp_command_line.specs.declared.command.Command.{Command}
+use Rattle.tp_command_line.specs.declared.error.LineError.{LineError}
+use Rattle.tp_command_line.specs.Values.{HasNumber, HasValue, IsNumber, IsUse}
+use Rattle.tp_command_line.proofs.Rows.{HasFirst, parser_named}
+use Rattle.tp_command_line.proofs.Uses.{IsUseOf, required_of, requires_value, use_of}
+
+-- ---- values
+
+pub value_of : (id : Text) (rows : List Row) → HasFirst id rows → HasValue id rows
+value_of id rows has = (has.value, has.first)
+
+-- a value that the parser of numbers takes is a number
+pub number_of : (id : Text) (rows : List Row) → HasFirst id rows → parser_named id ≡ numbers → (n : ℕ) × HasNumber id rows n
+number_of id rows has is =
+    let taken : Accepts false numbers has.value = accepts-Accepts false numbers has.value (ap (λ p. accepts false p has.value) (sym is) ∙ has.taken) in
+    (digits_value 10 (without_leading_plus has.value), (has.value, has.one, record { digits = taken.0; small = taken.1; value = refl }))
+
+-- a text that is known was given
+pub text_given : (o : Option (Bor Text)) (t : Text) → option_map (λ s. s.now) o ≡ Some t → IsSome o
+text_given None t e = absurd (cc)
+text_given (Some s) t e = refl
+
+-- how a number of 64 bits is read of a text
+abbrev pub ReadsNumber : List ℕ → Result ℕ ParseIntError → Type 0
+ReadsNumber text r = ParsesUnsigned 64 10 text r × ExplainsUnsignedError 10 text r × HasUnsignedDigitsIfOk text r
+
+-- a text that is a number is read as that number
+number_read : (text : Text) (n : ℕ) (r : Option ℕ) → IsNumber text n → ReadsOne ReadsNumber text r → r ≡ Some n
+number_read text n None number read = absurd (read.1.0 (number.digits, rw (← number.value) number.small))
+number_read text n (Some m) number read = ap Some (read.0.1 ∙ sym number.value)
+
+-- the number that an argument has is the one that is read
+pub number_found : (f : Found) (id : Text) (n : ℕ) (r : Option ℕ) → HasNumber id (rows_of f) n → ((t : List ℕ) → one_text f id ≡ Some t → ReadsOne ReadsNumber t r)
+    → r ≡ Some n
+number_found f id n r has read = number_read has.0 n r has.2 (read has.0 (one_text-rows f id ∙ has.1))
+
+-- what is in the two is one
+pub some_is : {X : Type 0} {x y : X} → Some x ≡ Some y → x ≡ y
+some_is {X} {x} {y} e = cc
+
+-- ---- the subcommand
+
+-- an argument that the subcommand with this name requires has a value
+pub named_value : (name id : Text) {found : Text} {rows : List Row} → found ≡ name → IsUse found rows → requires_value name id ≡ true → HasValue id rows
+named_value name id {found} {rows} is use_of_it needed = value_of id rows (required_of name id rows (subst (λ (x : Text). IsUse x rows) is use_of_it) needed)
+
+pub named_number : (name id : Text) {found : Text} {rows : List Row} → found ≡ name → IsUse found rows → requires_value name id ≡ true → parser_named id ≡ numbers
+    → (n : ℕ) × HasNumber id rows n
+named_number name id {found} {rows} is use_of_it needed number =
+    number_of id rows (required_of name id rows (subst (λ (x : Text). IsUse x rows) is use_of_it) needed) number
+
+-- no subcommand has the name
+abbrev NoneNamed : Text → List Shape → Type 0
+NoneNamed name [] = Unit {0}
+NoneNamed name (s ∷ shapes) = (name ≡ s.name → ⊥) × NoneNamed name shapes
+
+not_found : (name : Text) (shapes : List Shape) → NoneNamed name shapes → find (λ s. bytes_eq s.name name) shapes ≡ None
+not_found name [] none = refl
+not_found name (s ∷ shapes) none = go (bytes_eq s.name name) refl (not_found name shapes none.1)
+  where
+    go : (b : Bool) → bytes_eq s.name name ≡ b → find (λ s. bytes_eq s.name name) shapes ≡ None
+        → (if b then Some s else find (λ s. bytes_eq s.name name) shapes) ≡ None
+    go true same rest = absurd (none.0 (sym ((bytes_eq-Decides s.name name).0 same)))
+    go false same rest = rest
+
+-- the ten names are all
+pub no_other_name : (name : Text) (rows : List Row) → IsUse name rows → (name ≡ codes "new" → ⊥) → (name ≡ codes "edit" → ⊥) → (name ≡ codes "text" → ⊥)
+    → (name ≡ codes "heads" → ⊥) → (name ≡ codes "log" → ⊥) → (name ≡ codes "cursor" → ⊥) → (name ≡ codes "merge" → ⊥) → (name ≡ codes "save" → ⊥)
+    → (name ≡ codes "load" → ⊥) → (name ≡ codes "show" → ⊥) → ⊥
+no_other_name name rows found a b c d e f g h i j =
+    let none = not_found name (built textpeer_app).subs (a, (b, (c, (d, (e, (f, (g, (h, (i, (j, tt)))))))))) in
+    let bad : None ≡ Some found.shape = sym none ∙ found.named in
+    absurd (cc)
+
+-- the name that stands with the rows is the name
+name_of_rows : {X : Type 0} (name : X → Text) (rows : X → List Row) (found : Option X)
+    → option_map (λ p. p.0) (option_map (λ x. let row : Text × List Row = (name x, rows x) in row) found) ≡ option_map name found
+name_of_rows name rows None = refl
+name_of_rows name rows (Some x) = refl
+
+-- the name of the subcommand is that of its rows
+pub name_found : (m : ArgMatches) → option_map (λ p. p.0) (subcommand_rows_of m) ≡ subcommand_name_of m
+name_found m = name_of_rows _ _ (out-ArgMatches m).subcommand
+
+-- both parts of what was found
+pub pair_found : (found : Option (Text × List Row)) (name : Text) (rows : List Row) → option_map (λ p. p.0) found ≡ Some name
+    → option_map (λ p. p.1) found ≡ Some rows → found ≡ Some (name, rows)
+pair_found None name rows e f = absurd (cc)
+pair_found (Some p) name rows e f =
+    let first : p.0 ≡ name = cc in
+    let second : p.1 ≡ rows = cc in
+    rw (← first, ← second) refl
+
+-- what a parse of `textpeer` that succeeded says of the words and of its matches
+pub record Parsed (words : List Text) (m : ArgMatches) : Type 0 where
+  pub no_fault : fault_of textpeer_app words ≡ []
+  pub is_use : IsUseOf (subcommand_of textpeer_app words)
+  pub same : subcommand_rows_of m ≡ subcommand_of textpeer_app words
+
+pub parsed_of : (a : App) (words : List Text) (m : ArgMatches) → a ≡ textpeer_app → HasMatchesOf a words m
+    → (is_simple_and_free a ≡ true → fault_of a words ≡ []) → Parsed words m
+parsed_of a words m is has no_fault =
+    let none : fault_of textpeer_app words ≡ [] = ap (λ (x : App). fault_of x words) (sym is) ∙ no_fault (ap is_simple_and_free is) in
+    record {
+      no_fault = none;
+      is_use = use_of words none;
+      same = (has (ap is_simple is)).1 ∙ ap (λ (x : App). subcommand_of x words) is;
+    }
+
+-- the subcommand that the matches have is the one that was found, and its rows are a use of it
+pub use_found : (words : List Text) (m : ArgMatches) (o : Option (Bor Text × Bor ArgMatches)) (p : Bor Text × Bor ArgMatches) → Parsed words m → o ≡ Some p
+    → option_map (λ q. q.0.now) o ≡ subcommand_name_of m → option_map (λ q. rows_of (found_of q.1.now)) o ≡ option_map (λ q. q.1) (subcommand_rows_of m)
+    → (subcommand_of textpeer_app words ≡ Some (p.0.now, rows_of (found_of p.1.now))) × IsUse p.0.now (rows_of (found_of p.1.now))
+use_found words m o p parsed is named rowed =
+    let name_of : Option (Bor Text × Bor ArgMatches) → Option Text = option_map (λ q. q.0.now) in
+    let all_of : Option (Bor Text × Bor ArgMatches) → Option (List Row) = option_map (λ q. rows_of (found_of q.1.now)) in
+    let first : Option (Text × List Row) → Option Text = option_map (λ q. q.0) in
+    let second : Option (Text × List Row) → Option (List Row) = option_map (λ q. q.1) in
+    let name : Text = p.0.now in
+    let rows : List Row = rows_of (found_of p.1.now) in
+    let pair = pair_found (subcommand_rows_of m) name rows (name_found m ∙ (sym named ∙ ap name_of is)) (sym rowed ∙ ap all_of is) in
+    let found = sym parsed.same ∙ pair in
+    let both = sym parsed.is_use.2 ∙ found in
+    let as_name : IsUse name parsed.is_use.1 = subst (λ (x : Text). IsUse x parsed.is_use.1) (some_is (ap first both)) parsed.is_use.3 in
+    (found, subst (IsUse name) (some_is (ap second both)) as_name)
+
+-- an error is passed up as it is
+pub fails_as : (a : App) (words : List Text) (e : Error) (r : Result Command LineError) → a ≡ textpeer_app → IsErrAnd r (λ y. parser_fault y ≡ e)
+    → (is_simple_and_free a ≡ true → HasKind (fault_of a words) e) → FailsAs (fault_of textpeer_app words) r
+fails_as a words e (Ok command) is passed has = absurd passed
+fails_as a words e (Err y) is passed has =
+    let kinds : HasKind (fault_of textpeer_app words) e = subst (λ (x : App). HasKind (fault_of x words) e) is (has (ap is_simple_and_free is)) in
+    subst (HasKind (fault_of textpeer_app words)) (sym passed) kinds

@@ -1,0 +1,7 @@
+pub mod Rows
+pub mod Words
+pub mod Levels
+pub mod Uses
+pub mod Found
+pub mod ShowWords
+pub mod Subcommands

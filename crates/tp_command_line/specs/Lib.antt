@@ -1,0 +1,4 @@
+pub mod CommandLine
+pub mod Values
+pub mod CommandOf
+pub mod LineError

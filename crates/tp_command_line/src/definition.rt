@@ -1,0 +1,304 @@
+//! The definition of the command line, as clap takes it.
+
+ghost use Rattle.std.specs.Prelude.{◌≡◌, IfOk, false, codes};
+ghost use Rattle.clap.specs.Words.{Shape, app_of, rule_of, with_subcommand};
+ghost use Rattle.tp_command_line.specs.CommandLine.{mandatory, message_rule, numeric, option_rule, required_rule, several, time_rule};
+ghost use Rattle.tp_command_line.specs.CommandLine.{IsLeaf, bare_app, journals_app, textpeer_app};
+ghost use Rattle.tp_command_line.specs.CommandLine.{cursor_shape, edit_at_shape, edit_shape, heads_shape, load_shape, log_shape, merge_shape, new_shape, save_shape, show_shape, text_shape};
+
+use clap::{Arg, ArgAction, Command, value_parser};
+use std::alloc::{AllocError, Global};
+
+/// The definition of the program's command line.
+pub(crate) fn textpeer_command<'a>(alloc: Global) -> Result<Command<'a>, AllocError>
+    ensures { IfOk result (λ c. app_of c ≡ textpeer_app) }
+{
+    let journals = journal_commands(alloc)?;
+    let merged = with(journals, merge_command(alloc))?;
+    let saved = with(merged, save_command(alloc))?;
+    let loaded = with(saved, load_command(alloc))?;
+    with(loaded, show_command(alloc))
+}
+
+// The program with the commands on one journal alone.
+fn journal_commands<'a>(alloc: Global) -> Result<Command<'a>, AllocError>
+    ensures { IfOk result (λ c. app_of c ≡ journals_app) }
+{
+    let begun = with(program(alloc), new_command(alloc))?;
+    let edited = with(begun, edit_command(alloc))?;
+    let read = with(edited, text_command(alloc))?;
+    let headed = with(read, heads_command(alloc))?;
+    let logged = with(headed, log_command(alloc))?;
+    with(logged, cursor_command(alloc))
+}
+
+// The program with one more command.
+fn with<'a>(
+    program: Command<'a>,
+    command: Result<Command<'a>, AllocError>,
+) -> Result<Command<'a>, AllocError>
+    ensures { (s : Shape) → IfOk command.entry (IsLeaf s)
+        → IfOk result (λ c. app_of c ≡ with_subcommand (app_of program.entry) s) }
+{
+    program.subcommand(command?)
+}
+
+// The program with no command.
+fn program<'a>(alloc: Global) -> Command<'a>
+    ensures { app_of result ≡ bare_app }
+{
+    Command::new(alloc, "textpeer")
+        .version("0.1.0")
+        .about("Keeps a text in step between peers")
+        .disable_help_subcommand(true)
+        .subcommand_required(true)
+}
+
+// A value that has to be given, by its place.
+fn required<'a>(alloc: Global, id: &'a str, help: &'a str) -> Arg<'a>
+    ensures rule { rule_of result ≡ required_rule id.entry.now }
+    ensures local { result.global ≡ false }
+{
+    Arg::new(alloc, id)
+        .help(help)
+        .required(true)
+        .action(ArgAction::Set)
+}
+
+// The journal that a command is about.
+fn journal<'a>(alloc: Global) -> Arg<'a>
+    ensures rule { rule_of result ≡ required_rule (codes "FILE") }
+    ensures local { result.global ≡ false }
+{
+    required(alloc, "FILE", "a journal")
+}
+
+// An option with a value.
+fn option<'a>(alloc: Global, id: &'a str, value: &'a str, help: &'a str) -> Arg<'a>
+    ensures rule { rule_of result ≡ option_rule id.entry.now }
+    ensures local { result.global ≡ false }
+{
+    Arg::new(alloc, id)
+        .long(id)
+        .value_name(value)
+        .help(help)
+        .action(ArgAction::Set)
+}
+
+// The heads of a text.
+fn hashes<'a>(alloc: Global, help: &'a str) -> Arg<'a>
+    ensures rule { rule_of result ≡ several (codes "HASH") }
+    ensures local { result.global ≡ false }
+{
+    Arg::new(alloc, "HASH")
+        .help(help)
+        .num_args(1..)
+        .action(ArgAction::Append)
+}
+
+// The heads of an earlier text, which have to be given.
+fn earlier_heads<'a>(alloc: Global) -> Arg<'a>
+    ensures rule { rule_of result ≡ mandatory (several (codes "HASH")) }
+    ensures local { result.global ≡ false }
+{
+    hashes(alloc, "the heads of the earlier text").required(true)
+}
+
+// The key of the generator.
+fn key<'a>(alloc: Global) -> Arg<'a>
+    ensures rule { rule_of result ≡ option_rule (codes "key") }
+    ensures local { result.global ≡ false }
+{
+    option(
+        alloc,
+        "key",
+        "HEX",
+        "the key of the random numbers, in 64 hexadecimal digits; from /dev/urandom if left out",
+    )
+}
+
+// A place in a text, which is a number.
+fn position<'a>(alloc: Global) -> Arg<'a>
+    ensures rule { rule_of result ≡ numeric (required_rule (codes "AT")) }
+    ensures local { result.global ≡ false }
+{
+    required(
+        alloc,
+        "AT",
+        "the position of a character in the text at the heads, from 0",
+    )
+    .value_parser(value_parser!(u64))
+}
+
+// A number that has to be given by its name.
+fn count<'a>(alloc: Global, id: &'a str, help: &'a str) -> Arg<'a>
+    ensures rule { rule_of result ≡ mandatory (numeric (option_rule id.entry.now)) }
+    ensures local { result.global ≡ false }
+{
+    option(alloc, id, "N", help)
+        .value_parser(value_parser!(u64))
+        .required(true)
+}
+
+fn text<'a>(alloc: Global) -> Arg<'a>
+    ensures rule { rule_of result ≡ mandatory (option_rule (codes "text")) }
+    ensures local { result.global ≡ false }
+{
+    option(alloc, "text", "T", "the text that is inserted there").required(true)
+}
+
+fn time<'a>(alloc: Global) -> Arg<'a>
+    ensures rule { rule_of result ≡ time_rule }
+    ensures local { result.global ≡ false }
+{
+    option(alloc, "time", "N", "the time of the change")
+        .value_parser(value_parser!(u64))
+        .default_value("0")
+}
+
+fn message<'a>(alloc: Global) -> Arg<'a>
+    ensures rule { rule_of result ≡ message_rule }
+    ensures local { result.global ≡ false }
+{
+    option(
+        alloc,
+        "message",
+        "M",
+        "the message of the change; empty if left out",
+    )
+    .default_value("")
+    .hide_default_value(true)
+}
+
+fn new_command<'a>(alloc: Global) -> Result<Command<'a>, AllocError>
+    ensures { IfOk result (IsLeaf new_shape) }
+{
+    Command::new(alloc, "new")
+        .about("Begins a journal, and prints the identifier of its document")
+        .after_help("Example:\n  textpeer new notes.journal")
+        .arg(journal(alloc))?
+        .arg(key(alloc))
+}
+
+// `edit` with the place of the edit.
+fn edit_at<'a>(alloc: Global) -> Result<Command<'a>, AllocError>
+    ensures { IfOk result (IsLeaf edit_at_shape) }
+{
+    Command::new(alloc, "edit")
+        .about("Makes one change, and prints its hash, or `nothing` where it changes nothing")
+        .after_help("Example:\n  textpeer edit notes.journal --at 0 --del 0 --text 'Hello, world!'")
+        .arg(journal(alloc))?
+        .arg(count(alloc, "at", "the position, in characters from 0"))?
+        .arg(count(
+            alloc,
+            "del",
+            "how many characters are deleted from the position on",
+        ))
+}
+
+fn edit_command<'a>(alloc: Global) -> Result<Command<'a>, AllocError>
+    ensures { IfOk result (IsLeaf edit_shape) }
+{
+    edit_at(alloc)?
+        .arg(text(alloc))?
+        .arg(time(alloc))?
+        .arg(message(alloc))?
+        .arg(key(alloc))
+}
+
+fn text_command<'a>(alloc: Global) -> Result<Command<'a>, AllocError>
+    ensures { IfOk result (IsLeaf text_shape) }
+{
+    Command::new(alloc, "text")
+        .about("Prints the text, as it is now or at earlier heads")
+        .after_help("Example:\n  textpeer text notes.journal")
+        .arg(journal(alloc))?
+        .arg(hashes(
+            alloc,
+            "the heads at which the text is read; as it is now if left out",
+        ))
+}
+
+fn heads_command<'a>(alloc: Global) -> Result<Command<'a>, AllocError>
+    ensures { IfOk result (IsLeaf heads_shape) }
+{
+    Command::new(alloc, "heads")
+        .about("Prints the hashes of the changes on which no other depends")
+        .after_help("Example:\n  textpeer heads notes.journal")
+        .arg(journal(alloc))
+}
+
+fn log_command<'a>(alloc: Global) -> Result<Command<'a>, AllocError>
+    ensures { IfOk result (IsLeaf log_shape) }
+{
+    Command::new(alloc, "log")
+        .about(
+            "Prints a line for each change: hash, actor, sequence number, time, \
+             inserted and deleted characters, message",
+        )
+        .after_help("Example:\n  textpeer log notes.journal")
+        .arg(journal(alloc))
+}
+
+fn cursor_command<'a>(alloc: Global) -> Result<Command<'a>, AllocError>
+    ensures { IfOk result (IsLeaf cursor_shape) }
+{
+    Command::new(alloc, "cursor")
+        .about("Prints where a character of the text at earlier heads stands now")
+        .after_help("Example:\n  textpeer cursor notes.journal 3 $(textpeer heads notes.journal)")
+        .arg(journal(alloc))?
+        .arg(position(alloc))?
+        .arg(earlier_heads(alloc))
+}
+
+fn merge_command<'a>(alloc: Global) -> Result<Command<'a>, AllocError>
+    ensures { IfOk result (IsLeaf merge_shape) }
+{
+    Command::new(alloc, "merge")
+        .about("Takes the changes of another journal of the document, and prints how many entered")
+        .after_help("Example:\n  textpeer merge notes.journal copy.journal")
+        .arg(journal(alloc))?
+        .arg(required(
+            alloc,
+            "OTHER",
+            "the journal that has the changes; it isn't written",
+        ))?
+        .arg(key(alloc))
+}
+
+fn save_command<'a>(alloc: Global) -> Result<Command<'a>, AllocError>
+    ensures { IfOk result (IsLeaf save_shape) }
+{
+    Command::new(alloc, "save")
+        .about("Writes the document of a journal as a saved file")
+        .after_help("Example:\n  textpeer save notes.journal notes.saved")
+        .arg(journal(alloc))?
+        .arg(required(
+            alloc,
+            "OUT",
+            "the saved file, which is replaced if it is there",
+        ))
+}
+
+fn load_command<'a>(alloc: Global) -> Result<Command<'a>, AllocError>
+    ensures { IfOk result (IsLeaf load_shape) }
+{
+    Command::new(alloc, "load")
+        .about("Makes a journal of a saved file")
+        .after_help("Example:\n  textpeer load notes.saved notes.journal")
+        .arg(required(alloc, "SAVED", "a saved file"))?
+        .arg(journal(alloc))
+}
+
+fn show_command<'a>(alloc: Global) -> Result<Command<'a>, AllocError>
+    ensures { IfOk result (IsLeaf show_shape) }
+{
+    Command::new(alloc, "show")
+        .about("Prints the text that a log of changes makes")
+        .after_help("Example:\n  textpeer show changes.log")
+        .arg(required(
+            alloc,
+            "LOG",
+            "a log of changes: each a length of 4 bytes and the change's bytes",
+        ))
+}

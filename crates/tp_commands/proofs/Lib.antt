@@ -1,0 +1,3 @@
+pub mod HashLemmas
+pub mod Journals
+pub mod TextLines

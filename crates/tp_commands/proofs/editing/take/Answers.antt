@@ -1,0 +1,11 @@
+use Rattle.std.proofs.Common.{arith}
+use Rattle.tp_peer.specs.Appending.{journal_state}
+use Rattle.tp_peer.specs.Taking.{report_of}
+use Rattle.tp_commands.proofs.Journals.{takes_of}
+use Rattle.tp_commands.proofs.editing.take.Goals as goal
+
+pub returns : goal.returns
+returns g c =
+    takes_of (journal_state c.new.result 0) c.args.other.items c.args.actor c.args.peer c.in_ok-other.other c.merge.new.self
+    (report_of c.in_ok-taken.taken) c.len.result _
+    c.new.ensures c.in_ok-other.ensures c.in_ok-taken.ensures (omega (arith, c.in_ok-taken.taken.applied.ok.0)) c.stop.ensures.content

@@ -1,0 +1,141 @@
+//! Why a command was refused.
+
+ghost use Rattle.std.specs.Prelude.{◌≡◌};
+ghost use Rattle.tp_commands.specs.declared.error.CommandError.TheVariants.{OutOfMemory};
+ghost use Rattle.tp_commands.specs.CommandError.{code_of, refusal_of_bytes, refusal_of_document, refusal_of_hex, refusal_of_log, refusal_of_peer};
+
+use std::alloc::{AllocError, AllocFailed};
+use std::io;
+use std::io::ErrorKind;
+use thiserror::Error;
+use tp_document::DocError;
+use tp_opid::HexError;
+use tp_peer::PeerError;
+use tp_store::StoreError;
+use tp_textpeer::{Refusal, ShowError, ShowFault};
+
+/// Why a command was refused. Its `Display` is the line that the program prints of it, without the newline: `textpeer: `
+/// and the innermost refusal's name, or of a log what [`Refusal`] prints.
+#[derive(Clone, Copy, Debug, PartialEq, Eq, Error)]
+pub enum CommandError {
+    /// A hash or a key isn't 64 hexadecimal digits.
+    #[error("textpeer: BadHex")]
+    BadHex,
+    /// A file could not be opened, read or written, or the output could not be written.
+    #[error("textpeer: Io")]
+    Io,
+    /// A growth was refused.
+    #[error("textpeer: OutOfMemory")]
+    OutOfMemory,
+    /// A peer refused it. It is never `OutOfMemory`.
+    #[error("textpeer: {0}")]
+    Peer(PeerError),
+    /// A document refused it. It is never `OutOfMemory`.
+    #[error("textpeer: {0}")]
+    Doc(DocError),
+    /// The bytes of a saved file or a journal were refused. It is never `Io` or `OutOfMemory`.
+    #[error("textpeer: {0}")]
+    Store(StoreError),
+    /// A log was refused. It is never `Io` or `OutOfMemory`.
+    #[error("{0}")]
+    Show(Refusal),
+}
+
+impl CommandError {
+    /// The number of the refusal, from 1 in the order of the variants.
+    pub fn code(&self) -> u8
+        ensures { result ≡ code_of self.now }
+    {
+        match self {
+            CommandError::BadHex => 1,
+            CommandError::Io => 2,
+            CommandError::OutOfMemory => 3,
+            CommandError::Peer(_) => 4,
+            CommandError::Doc(_) => 5,
+            CommandError::Store(_) => 6,
+            CommandError::Show(_) => 7,
+        }
+    }
+}
+
+impl From<AllocError> for CommandError {
+    ghost from_gives = { λ _ e. e ≡ OutOfMemory };
+
+    fn from(_e: AllocError) -> CommandError {
+        CommandError::OutOfMemory
+    }
+}
+
+impl<T: Drop> From<AllocFailed<T>> for CommandError {
+    ghost from_gives = { λ _ e. e ≡ OutOfMemory };
+
+    fn from(_e: AllocFailed<T>) -> CommandError {
+        CommandError::OutOfMemory
+    }
+}
+
+impl From<io::Error> for CommandError {
+    fn from(error: io::Error) -> CommandError {
+        match error.kind() {
+            ErrorKind::OutOfMemory => CommandError::OutOfMemory,
+            _ => CommandError::Io,
+        }
+    }
+}
+
+impl From<HexError> for CommandError {
+    ghost from_gives = { λ error e. e ≡ refusal_of_hex error };
+
+    fn from(error: HexError) -> CommandError {
+        match error {
+            HexError::BadHex => CommandError::BadHex,
+            HexError::OutOfMemory => CommandError::OutOfMemory,
+        }
+    }
+}
+
+impl From<PeerError> for CommandError {
+    ghost from_gives = { λ error e. e ≡ refusal_of_peer error };
+
+    fn from(error: PeerError) -> CommandError {
+        match error {
+            PeerError::OutOfMemory => CommandError::OutOfMemory,
+            error => CommandError::Peer(error),
+        }
+    }
+}
+
+impl From<DocError> for CommandError {
+    ghost from_gives = { λ error e. e ≡ refusal_of_document error };
+
+    fn from(error: DocError) -> CommandError {
+        match error {
+            DocError::OutOfMemory => CommandError::OutOfMemory,
+            error => CommandError::Doc(error),
+        }
+    }
+}
+
+impl From<StoreError> for CommandError {
+    ghost from_gives = { λ error e. e ≡ refusal_of_bytes error };
+
+    fn from(error: StoreError) -> CommandError {
+        match error {
+            StoreError::Io => CommandError::Io,
+            StoreError::OutOfMemory => CommandError::OutOfMemory,
+            error => CommandError::Store(error),
+        }
+    }
+}
+
+impl From<ShowError> for CommandError {
+    ghost from_gives = { λ error e. e ≡ refusal_of_log error };
+
+    fn from(error: ShowError) -> CommandError {
+        match error.fault {
+            ShowFault::Io => CommandError::Io,
+            ShowFault::OutOfMemory => CommandError::OutOfMemory,
+            _ => CommandError::Show(Refusal(error)),
+        }
+    }
+}

@@ -1,0 +1,50 @@
+//! Hashes and keys from text, and the generator of random numbers.
+
+ghost use Rattle.std.specs.Prelude.{◌≡◌, IfOk};
+ghost use Rattle.tp_opid.specs.HexText.{IsHexOf};
+ghost use Rattle.tp_commands.specs.Keys.{AreHashes};
+
+use crate::error::CommandError;
+use rand_chacha::ChaCha20Rng;
+use rand_core::SeedableRng;
+use std::alloc::Global;
+use std::fs;
+use std::io::Read;
+use std::rt::Files;
+use tp_opid::Hash;
+
+/// The hashes that the texts are, in their order. The first text that isn't 64 hexadecimal digits is refused as `BadHex`.
+pub(crate) fn hashes_in(alloc: Global, texts: &[&str]) -> Result<Vec<Hash>, CommandError>
+    ensures { IfOk result (λ hashes. AreHashes texts.now hashes.items) }
+{
+    let mut hashes = Vec::with_capacity(alloc, texts.len())?;
+    for text in texts {
+        hashes.push(Hash::from_text(text)?)?;
+    }
+    Ok(hashes)
+}
+
+// The 32 bytes that 64 hexadecimal digits are.
+fn key_in(text: &str) -> Result<[u8; 32], CommandError>
+    ensures { IfOk result (λ key. IsHexOf text.now key) }
+{
+    let Hash(key) = Hash::from_text(text)?;
+    Ok(key)
+}
+
+// 32 bytes that nobody can guess.
+fn random_key<R: Files>(rt: &R) -> Result<[u8; 32], CommandError> {
+    let mut key = [0; 32];
+    let mut source = fs::open(rt, "/dev/urandom")?;
+    source.read_exact(&mut key)?;
+    Ok(key)
+}
+
+/// A generator of random numbers with the key, or with one that nobody can guess where none is given.
+pub(crate) fn generator<R: Files>(rt: &R, key: Option<&str>) -> Result<ChaCha20Rng, CommandError> {
+    let key = match key {
+        Some(text) => key_in(text)?,
+        None => random_key(rt)?,
+    };
+    Ok(ChaCha20Rng::from_seed(key))
+}

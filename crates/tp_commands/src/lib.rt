@@ -1,0 +1,15 @@
+//! What the commands of `textpeer` do, and the program but for its `main`.
+#![tactic(auto)]
+
+mod editing;
+mod error;
+mod files;
+mod keys;
+mod log;
+mod program;
+mod reading;
+mod running;
+
+pub use error::CommandError;
+pub use program::{run, run_words};
+pub use running::run_command;

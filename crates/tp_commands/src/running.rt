@@ -1,0 +1,254 @@
+//! Carrying out a command.
+
+ghost use Rattle.std.specs.Prelude.{◌≡◌, ◌≤◌, ◌⊎◌, ◌++◌, ℕ, List, [], codes, IfOk, IfErr, OnOk, IsOkAnd, MatchResult};
+ghost use Rattle.std.specs.Fmt.{decimal};
+ghost use Rattle.std.specs.Io.KnownBytes.{Appends, Keeps};
+ghost use Rattle.std.specs.String.{string_bytes};
+ghost use Rattle.hex.specs.Hex.{encode_lower};
+ghost use Rattle.tp_opid.specs.declared.doc_id.DocId.{DocId as Identifier};
+ghost use Rattle.tp_opid.specs.declared.hash.Hash.{Hash};
+ghost use Rattle.tp_commands.specs.Keys.{AreHashes};
+ghost use Rattle.tp_commands.specs.Output.{Prints};
+ghost use Rattle.tp_commands.specs.Reading.{AreHeadLines, IsCursorLine, IsTextLine, hash_line as hash_line_of, line};
+
+use crate::editing::{begin, edit, fill, reopen, take};
+use crate::error::CommandError;
+use crate::files::{journal_at, read_file, replace_file};
+use crate::keys::{generator, hashes_in};
+use crate::log::log_lines;
+use crate::reading::{cursor_line, hash_line, head_lines, saved, text_line};
+use std::io::{BufReader, Write};
+use std::rt::Files;
+use std::{fs, io};
+use tp_command_line::Command;
+use tp_edit::Splice;
+use tp_opid::{Actor, DocId};
+use tp_peer::{PeerSequence, fresh_actor};
+use tp_store::load;
+use tp_textpeer::show;
+
+pub(crate) const DONE: u8 = 0;
+
+pub(crate) const REFUSED: u8 = 1;
+
+/// Carries out a command, and returns the exit status: 0 where it was done, and all that it prints was written to `out`
+/// and flushed; 1 where it was refused, with one line on `err`, as [`CommandError`] prints it. A refusal writes nothing to
+/// `out`, but where `out` itself failed.
+pub fn run_command<R: Files + AllocGlobal, W: Write, E: Write>(
+    rt: &R,
+    command: Command,
+    out: &mut W,
+    err: &mut E,
+) -> u8
+    ensures status { result ≤ REFUSED }
+    ensures done { result ≡ DONE → Keeps (E.contents err.old) (E.contents err.new)
+        × Prints command.entry (W.contents out.old) (W.contents out.new) }
+{
+    ended(carry_out(rt, command, out), err)
+}
+
+/// The exit status of what was done or refused, once the refusal is printed.
+pub(crate) fn ended<E: Write>(done: Result<(), CommandError>, err: &mut E) -> u8
+    ensures status { MatchResult done (λ _. result ≡ DONE) (λ _. result ≡ REFUSED) }
+    ensures quiet { OnOk done (Keeps (E.contents err.old) (E.contents err.new)) }
+{
+    match done {
+        Ok(()) => DONE,
+        Err(error) => {
+            let _ = writeln!(err, "{error}");
+            REFUSED
+        }
+    }
+}
+
+// Writes a text and flushes the writer.
+fn write_out<W: Write>(out: &mut W, text: &str) -> io::Result<()>
+    ensures { OnOk result (Appends (W.contents out.old) (W.contents out.new) text.now) }
+{
+    out.write_all(text.as_bytes())?;
+    out.flush()
+}
+
+// Writes what a command prints, where it was done.
+fn put<W: Write>(out: &mut W, printed: Result<String, CommandError>) -> Result<(), CommandError>
+    ensures ok { OnOk result (IsOkAnd printed
+        (λ text. Appends (W.contents out.old) (W.contents out.new) (string_bytes text))) }
+    ensures err { IfErr result (λ e. (e ≡ CommandError.Io)
+        ⊎ Keeps (W.contents out.old) (W.contents out.new)) }
+{
+    match printed {
+        Ok(text) => match write_out(out, text.as_str()) {
+            Ok(()) => Ok(()),
+            Err(_) => Err(CommandError::Io),
+        },
+        Err(error) => Err(error),
+    }
+}
+
+// Carries out a command, and writes what it prints.
+fn carry_out<R: Files + AllocGlobal, W: Write>(
+    rt: &R,
+    command: Command,
+    out: &mut W,
+) -> Result<(), CommandError>
+    ensures prints { OnOk result (Prints command.entry (W.contents out.old) (W.contents out.new)) }
+    ensures err { IfErr result (λ e. (e ≡ CommandError.Io)
+        ⊎ Keeps (W.contents out.old) (W.contents out.new)) }
+{
+    match command {
+        Command::New { file, key } => put(out, new(rt, file, key)),
+        Command::Edit {
+            file,
+            at,
+            del,
+            text,
+            time,
+            message,
+            key,
+        } => {
+            let splice = Splice {
+                at: at as usize,
+                del: del as usize,
+                text,
+            };
+            put(out, edited(rt, file, splice, time, message, key))
+        }
+        Command::Text { file, heads } => put(out, text(rt, file, &heads)),
+        Command::Heads { file } => put(out, heads(rt, file)),
+        Command::Log { file } => put(out, log(rt, file)),
+        Command::Cursor { file, at, heads } => put(out, cursor(rt, file, at, &heads)),
+        Command::Merge { file, other, key } => put(out, merged(rt, file, other, key)),
+        Command::Save { file, out: path } => put(out, save_to(rt, file, path)),
+        Command::Load { saved, file } => put(out, load_from(rt, saved, file)),
+        Command::Show { log } => show_file(rt, log, out),
+    }
+}
+
+// Writes the text of the log at a path.
+fn show_file<R: Files + AllocGlobal, W: Write>(
+    rt: &R,
+    log: &str,
+    out: &mut W,
+) -> Result<(), CommandError>
+    ensures { IfErr result (λ e. (e ≡ CommandError.Io)
+        ⊎ Keeps (W.contents out.old) (W.contents out.new)) }
+{
+    let file = fs::open(rt, log)?;
+    let mut reader = BufReader::new(rt.alloc(), file)?;
+    match show(rt.alloc(), &mut reader, out) {
+        Ok(()) => Ok(()),
+        Err(error) => Err(CommandError::from(error)),
+    }
+}
+
+fn text<R: Files + AllocGlobal>(rt: &R, file: &str, heads: &[&str]) -> Result<String, CommandError>
+    ensures { IfOk result (λ l. (journal : List ℕ) × (hs : List Hash) × AreHashes heads.now hs
+        × IsTextLine journal hs (string_bytes l)) }
+{
+    let hashes = hashes_in(rt.alloc(), heads)?;
+    text_line(rt.alloc(), &read_file(rt, file)?, &hashes)
+}
+
+fn heads<R: Files + AllocGlobal>(rt: &R, file: &str) -> Result<String, CommandError>
+    ensures { IfOk result (λ l. (journal : List ℕ) × AreHeadLines journal (string_bytes l)) }
+{
+    head_lines(rt.alloc(), &read_file(rt, file)?)
+}
+
+fn log<R: Files + AllocGlobal>(rt: &R, file: &str) -> Result<String, CommandError> {
+    log_lines(rt.alloc(), &read_file(rt, file)?)
+}
+
+fn cursor<R: Files + AllocGlobal>(
+    rt: &R,
+    file: &str,
+    at: u64,
+    heads: &[&str],
+) -> Result<String, CommandError>
+    ensures { IfOk result (λ l. (journal : List ℕ) × (hs : List Hash) × AreHashes heads.now hs
+        × IsCursorLine journal at hs (string_bytes l)) }
+{
+    let hashes = hashes_in(rt.alloc(), heads)?;
+    cursor_line(rt.alloc(), &read_file(rt, file)?, at as usize, &hashes)
+}
+
+// The document identifier and then the actor are drawn.
+fn new<R: Files + AllocGlobal>(
+    rt: &R,
+    file: &str,
+    key: Option<&str>,
+) -> Result<String, CommandError>
+    ensures { IfOk result (λ l. (id : Identifier) × (string_bytes l ≡ line (encode_lower id.0))) }
+{
+    let mut generator = generator(rt, key)?;
+    let Actor(drawn) = fresh_actor(&mut generator);
+    let id = DocId(drawn);
+    let actor = fresh_actor(&mut generator);
+    let mut journal = begin(rt.alloc(), journal_at(rt, file, true)?, id, actor)?;
+    journal.sync()?;
+    let mut line = id.to_text(rt.alloc())?;
+    line.push('\n')?;
+    Ok(line)
+}
+
+fn edited<R: Files + AllocGlobal>(
+    rt: &R,
+    file: &str,
+    splice: Splice,
+    time: u64,
+    message: &str,
+    key: Option<&str>,
+) -> Result<String, CommandError>
+    ensures { IfOk result (λ l. ((h : Hash) × (string_bytes l ≡ hash_line_of h))
+        ⊎ (string_bytes l ≡ line (codes "nothing"))) }
+{
+    let actor = fresh_actor(&mut generator(rt, key)?);
+    let journal = journal_at(rt, file, false)?;
+    let (mut journal, made) = edit(rt.alloc(), journal, actor, splice, time, message)?;
+    journal.sync()?;
+    match made {
+        Some(hash) => hash_line(rt.alloc(), &hash),
+        None => Ok(String::from_str(rt.alloc(), "nothing\n")?),
+    }
+}
+
+fn merged<R: Files + AllocGlobal>(
+    rt: &R,
+    file: &str,
+    other: &str,
+    key: Option<&str>,
+) -> Result<String, CommandError>
+    ensures { IfOk result
+        (λ l. (count : ℕ) × (string_bytes l ≡ line (codes "applied " ++ decimal count))) }
+{
+    let mut generator = generator(rt, key)?;
+    let actor = fresh_actor(&mut generator);
+    let other_actor = fresh_actor(&mut generator);
+    let peer = reopen(rt.alloc(), journal_at(rt, file, false)?, actor)?;
+    let bytes = read_file(rt, other)?;
+    let (mut journal, count) = take(rt.alloc(), peer, bytes, other_actor)?;
+    journal.sync()?;
+    Ok(format!(in rt.alloc(); "applied {count}\n")?)
+}
+
+fn save_to<R: Files + AllocGlobal>(rt: &R, file: &str, out: &str) -> Result<String, CommandError>
+    ensures { IfOk result (λ l. string_bytes l ≡ []) }
+{
+    let bytes = saved(rt.alloc(), &read_file(rt, file)?)?;
+    replace_file(rt, rt.alloc(), out, &bytes)?;
+    Ok(String::new(rt.alloc()))
+}
+
+fn load_from<R: Files + AllocGlobal>(
+    rt: &R,
+    saved: &str,
+    file: &str,
+) -> Result<String, CommandError>
+    ensures { IfOk result (λ l. string_bytes l ≡ []) }
+{
+    let document = load::<PeerSequence>(rt.alloc(), &read_file(rt, saved)?)?;
+    let mut journal = journal_at(rt, file, true)?;
+    fill(rt.alloc(), &mut journal, &document)?;
+    journal.sync()?;
+    Ok(String::new(rt.alloc()))
+}
