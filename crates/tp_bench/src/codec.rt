@@ -1,13 +1,12 @@
 //! Decoding and encoding, beside the digest of the same bytes.
 
-use crate::made::{AUTHOR, change, refused, run_after};
-use crate::measure::{micros_since, report};
 use sha2::{Digest, Sha256};
 use std::alloc::Global;
 use std::rt::Clock;
 use std::time::Instant;
 use tp_change::{Change, Record};
 use tp_list::Text;
+use tp_measure::{AUTHOR, change, micros_since, refused, report, run_after};
 use tp_opid::{Hash, OpId, Place};
 
 const SMALL_ROUNDS: u64 = 100_000;
@@ -16,14 +15,17 @@ const LARGE_ROUNDS: u64 = 16;
 
 /// Over 100,000 changes of 60 bytes, and over 16 of 4 megabytes.
 pub fn run<R: Clock + Print + AllocGlobal>(rt: &R) -> anyhow::Result<()> {
-    let small = change(
-        rt.alloc(),
-        1,
-        1,
-        Vec::new(rt.alloc()),
-        run_after(rt.alloc(), Place::Start, "abcde")?,
-    )?;
-    measure_all(rt, "small", &small, SMALL_ROUNDS)?;
+    measure_small(rt)?;
+    measure_large(rt)
+}
+
+fn measure_small<R: Clock + Print + AllocGlobal>(rt: &R) -> anyhow::Result<()> {
+    let records = run_after(rt.alloc(), Place::Start, "abcde")?;
+    let small = change(rt.alloc(), 1, 1, Vec::new(rt.alloc()), records)?;
+    measure_all(rt, "small", &small, SMALL_ROUNDS)
+}
+
+fn measure_large<R: Clock + Print + AllocGlobal>(rt: &R) -> anyhow::Result<()> {
     let large = large_change(rt.alloc())?;
     measure_all(rt, "large", &large, LARGE_ROUNDS)
 }

@@ -1,12 +1,12 @@
 //! Receiving changes.
 
-use crate::graph::Branch;
-use crate::measure::micros_since;
 use anyhow::anyhow;
+use std::alloc::Global;
 use std::rt::Clock;
 use std::time::Instant;
 use tp_change::Change;
 use tp_document::Document;
+use tp_measure::{Branch, micros_since};
 use tp_opid::{Actor, DocId};
 use tp_rga::PlainSequence;
 
@@ -27,13 +27,24 @@ pub fn run_list<R: Clock + Print + AllocGlobal>(rt: &R) -> anyhow::Result<()> {
     Ok(println!(rt; "apply   100000 changes {micros:>8} micros")?)
 }
 
+// A chain of changes of one character; the last first, where that is asked for.
+fn chain(alloc: Global, count: u64, reverse: bool) -> anyhow::Result<Vec<Change>> {
+    let mut changes = Branch::new(Actor([7; 16])).next(alloc, count)?;
+    if reverse {
+        changes.reverse();
+    }
+    Ok(changes)
+}
+
+// Applies a chain of 1,024 changes, and prints what it took.
+fn report_apply<R: Clock + Print + AllocGlobal>(rt: &R, reverse: bool) -> anyhow::Result<()> {
+    let micros = apply(rt, chain(rt.alloc(), 1_024, reverse)?)?;
+    let order = if reverse { "reverse" } else { "ordered" };
+    Ok(println!(rt; "{order}   1024 changes {micros:>8} micros")?)
+}
+
 /// A chain of 1,024 changes of one character, in order, and the last first.
 pub fn run_reverse<R: Clock + Print + AllocGlobal>(rt: &R) -> anyhow::Result<()> {
-    let mut changes = Branch::new(Actor([7; 16])).next(rt.alloc(), 1_024)?;
-    let ordered = Branch::new(Actor([7; 16])).next(rt.alloc(), 1_024)?;
-    let micros = apply(rt, ordered)?;
-    println!(rt; "ordered   1024 changes {micros:>8} micros")?;
-    changes.reverse();
-    let micros = apply(rt, changes)?;
-    Ok(println!(rt; "reverse   1024 changes {micros:>8} micros")?)
+    report_apply(rt, false)?;
+    report_apply(rt, true)
 }

@@ -1,12 +1,11 @@
 //! Showing a log.
 
-use crate::made::{AUTHOR, change, refused, run_after};
-use crate::measure::{micros_since, report, report_memory};
 use anyhow::anyhow;
 use std::alloc::Global;
 use std::rt::{Clock, Files};
 use std::time::Instant;
 use tp_change::Change;
+use tp_measure::{AUTHOR, change, micros_since, refused, report, report_memory, run_after};
 use tp_opid::{Hash, OpId, Place};
 
 const TYPED: &str = "0123456789";
@@ -102,19 +101,25 @@ fn log_of<F: Fn(u64, u64) -> u64>(alloc: Global, count: u64, pick: F) -> anyhow:
     Ok(log.bytes)
 }
 
-fn measure<R: Files + Clock + Print + AllocGlobal>(
-    rt: &R,
-    name: &str,
-    log: &[u8],
-) -> anyhow::Result<()> {
-    let size = log.len();
+// Shows the log, and answers how many bytes the text has and what it took, in microseconds.
+fn shown<R: Clock + AllocGlobal>(rt: &R, log: &[u8]) -> anyhow::Result<(usize, u64)> {
     let start = Instant::now(rt)?;
     let mut reader = log;
     let mut out = Vec::new(rt.alloc());
     tp_textpeer::show(rt.alloc(), &mut reader, &mut out).map_err(|error| anyhow!(
         "refused: {error}"
     ))?;
-    report(rt, name, size as u64, micros_since(rt, &start)?)?;
-    println!(rt; "{size} bytes of log, {} bytes of text", out.len())?;
+    Ok((out.len(), micros_since(rt, &start)?))
+}
+
+fn measure<R: Files + Clock + Print + AllocGlobal>(
+    rt: &R,
+    name: &str,
+    log: &[u8],
+) -> anyhow::Result<()> {
+    let size = log.len();
+    let (text, micros) = shown(rt, log)?;
+    report(rt, name, size as u64, micros)?;
+    println!(rt; "{size} bytes of log, {text} bytes of text")?;
     report_memory(rt)
 }

@@ -1,14 +1,14 @@
 //! Journals and saved files.
 
-use crate::graph::Branch;
-use crate::measure::{micros_since, report_memory};
 use anyhow::anyhow;
+use std::alloc::Global;
 use std::fs;
 use std::rt::{Clock, Files};
 use std::time::Instant;
 use tp_change::Change;
 use tp_document::Document;
 use tp_journal::{FileJournal, Journal, header, put_record, record, recover};
+use tp_measure::{Branch, micros_since, report_memory};
 use tp_opid::{Actor, DocId};
 use tp_rga::PlainSequence;
 use tp_store::{StoreError, load, save};
@@ -41,6 +41,18 @@ fn append_all<R: Clock + AllocGlobal, J: Journal>(
     micros_since(rt, &start)
 }
 
+// Appends the records of a tenth of the changes, and prints what it took.
+fn append_tenth<R: Clock + Print + AllocGlobal, J: Journal>(
+    rt: &R,
+    journal: &mut J,
+    branch: &mut Branch,
+    number: u64,
+) -> anyhow::Result<()> {
+    let batch = branch.next(rt.alloc(), CHANGES / TENTHS)?;
+    let micros = append_all(rt, journal, &batch)?;
+    Ok(println!(rt; "journal-append tenth {number:>2} {micros:>8} micros")?)
+}
+
 // Appends 100,000 records of one character to a journal.
 fn append_tenths<R: Clock + Print + AllocGlobal, J: Journal>(
     rt: &R,
@@ -48,9 +60,7 @@ fn append_tenths<R: Clock + Print + AllocGlobal, J: Journal>(
 ) -> anyhow::Result<()> {
     let mut branch = Branch::new(Actor([7; 16]));
     for tenth in 0..TENTHS {
-        let batch = branch.next(rt.alloc(), CHANGES / TENTHS)?;
-        let micros = append_all(rt, journal, &batch)?;
-        println!(rt; "journal-append tenth {:>2} {micros:>8} micros", tenth + 1)?;
+        append_tenth(rt, journal, &mut branch, tenth + 1)?;
     }
     Ok(())
 }
@@ -81,45 +91,87 @@ fn recovered<R: Clock + AllocGlobal>(rt: &R, bytes: &[u8]) -> anyhow::Result<(Do
     Ok((recovered.document, micros))
 }
 
+// Recovers the journal, and prints what it took.
+fn report_recovered<R: Clock + Print + AllocGlobal>(
+    rt: &R,
+    tenths: u64,
+    bytes: &[u8],
+) -> anyhow::Result<()> {
+    let (_document, micros) = recovered(rt, bytes)?;
+    Ok(println!(rt; "journal-recover tenths {tenths:>2} {micros:>8} micros")?)
+}
+
+// The bytes with the records of a tenth of the changes behind them.
+fn with_tenth(alloc: Global, bytes: Vec<u8>, branch: &mut Branch) -> anyhow::Result<Vec<u8>> {
+    let batch = branch.next(alloc, CHANGES / TENTHS)?;
+    with_records(bytes, &batch)
+}
+
+// Recovers journals that grow by a tenth each, from a header.
+fn recover_tenths<R: Clock + Print + AllocGlobal>(rt: &R, header: Vec<u8>) -> anyhow::Result<()> {
+    let mut branch = Branch::new(Actor([7; 16]));
+    let mut bytes = header;
+    for tenth in 0..TENTHS {
+        bytes = with_tenth(rt.alloc(), bytes, &mut branch)?;
+        report_recovered(rt, tenth + 1, &bytes)?;
+    }
+    Ok(())
+}
+
 /// Journals of up to 100,000 records of one character, recovered.
 pub fn run_recover<R: Files + Clock + Print + AllocGlobal>(rt: &R) -> anyhow::Result<()> {
-    let mut branch = Branch::new(Actor([7; 16]));
-    let mut bytes = header(rt.alloc(), ID).map_err(failed)?;
-    for tenth in 0..TENTHS {
-        let batch = branch.next(rt.alloc(), CHANGES / TENTHS)?;
-        bytes = with_records(bytes, &batch)?;
-        let (_document, micros) = recovered(rt, &bytes)?;
-        println!(rt;
-            "journal-recover tenths {:>2} {micros:>8} micros",
-            tenth + 1
-        )?;
-    }
+    let begun = header(rt.alloc(), ID).map_err(failed)?;
+    recover_tenths(rt, begun)?;
     report_memory(rt)
 }
 
-// A document of 100,000 changes of one character.
+// The journal of 100,000 changes of one character.
+fn long_journal(alloc: Global) -> anyhow::Result<Vec<u8>> {
+    let changes = Branch::new(Actor([7; 16])).next(alloc, CHANGES)?;
+    let begun = header(alloc, ID).map_err(failed)?;
+    with_records(begun, &changes)
+}
+
+// The document of that journal.
 fn long_document<R: Clock + AllocGlobal>(rt: &R) -> anyhow::Result<Doc> {
-    let mut branch = Branch::new(Actor([7; 16]));
-    let begun = header(rt.alloc(), ID).map_err(failed)?;
-    let changes = branch.next(rt.alloc(), CHANGES)?;
-    let bytes = with_records(begun, &changes)?;
+    let bytes = long_journal(rt.alloc())?;
     let (document, _micros) = recovered(rt, &bytes)?;
     Ok(document)
 }
 
-/// A document of 100,000 changes of one character, saved and loaded.
-pub fn run_saved<R: Files + Clock + Print + AllocGlobal>(rt: &R) -> anyhow::Result<()> {
-    let document = long_document(rt)?;
+// Saves the document, and prints what it took.
+fn saved<R: Clock + Print + AllocGlobal>(rt: &R, document: &Doc) -> anyhow::Result<Vec<u8>> {
     let start = Instant::now(rt)?;
-    let bytes = save(rt.alloc(), &document).map_err(failed)?;
+    let bytes = save(rt.alloc(), document).map_err(failed)?;
     let micros = micros_since(rt, &start)?;
     println!(rt; "save {:>9} bytes {micros:>8} micros", bytes.len())?;
+    Ok(bytes)
+}
+
+// The document that the bytes keep, and what it took to load it, in microseconds.
+fn loaded<R: Clock + AllocGlobal>(rt: &R, bytes: &[u8]) -> anyhow::Result<(Doc, u64)> {
     let start = Instant::now(rt)?;
-    let loaded: Doc = load(rt.alloc(), &bytes).map_err(failed)?;
+    let document = load(rt.alloc(), bytes).map_err(failed)?;
     let micros = micros_since(rt, &start)?;
-    println!(rt;
-        "load {:>9} changes {micros:>6} micros",
-        loaded.changes().len()
-    )?;
+    Ok((document, micros))
+}
+
+// Loads the document, and prints what it took.
+fn report_loaded<R: Clock + Print + AllocGlobal>(rt: &R, bytes: &[u8]) -> anyhow::Result<()> {
+    let (document, micros) = loaded(rt, bytes)?;
+    let count = document.changes().len();
+    Ok(println!(rt; "load {count:>9} changes {micros:>6} micros")?)
+}
+
+// Saves and loads a document of 100,000 changes.
+fn save_and_load<R: Clock + Print + AllocGlobal>(rt: &R) -> anyhow::Result<()> {
+    let document = long_document(rt)?;
+    let bytes = saved(rt, &document)?;
+    report_loaded(rt, &bytes)
+}
+
+/// A document of 100,000 changes of one character, saved and loaded.
+pub fn run_saved<R: Files + Clock + Print + AllocGlobal>(rt: &R) -> anyhow::Result<()> {
+    save_and_load(rt)?;
     report_memory(rt)
 }

@@ -1,9 +1,9 @@
 //! The definition of the command line, as clap takes it.
 
-ghost use Rattle.std.specs.Prelude.{◌≡◌, IfOk, false, codes};
+ghost use Rattle.std.specs.Prelude.{◌≡◌, IfOk, [], false, codes};
 ghost use Rattle.clap.specs.Words.{Shape, app_of, rule_of, with_subcommand};
 ghost use Rattle.tp_command_line.specs.CommandLine.{mandatory, message_rule, numeric, option_rule, required_rule, several, time_rule};
-ghost use Rattle.tp_command_line.specs.CommandLine.{IsLeaf, bare_app, journals_app, textpeer_app};
+ghost use Rattle.tp_command_line.specs.CommandLine.{IsLeaf, bare_app, journals_app, textpeer_app, with_rules};
 ghost use Rattle.tp_command_line.specs.CommandLine.{cursor_shape, edit_at_shape, edit_shape, heads_shape, load_shape, log_shape, merge_shape, new_shape, save_shape, show_shape, text_shape};
 
 use clap::{Arg, ArgAction, Command, value_parser};
@@ -170,30 +170,43 @@ fn message<'a>(alloc: Global) -> Arg<'a>
     .hide_default_value(true)
 }
 
+// A command with what it does, and an example, and with no argument yet.
+fn named<'a>(alloc: Global, name: &'a str, about: &'a str, example: &'a str) -> Command<'a>
+    ensures { IsLeaf (with_rules name.entry.now []) result }
+{
+    Command::new(alloc, name).about(about).after_help(example)
+}
+
 fn new_command<'a>(alloc: Global) -> Result<Command<'a>, AllocError>
     ensures { IfOk result (IsLeaf new_shape) }
 {
-    Command::new(alloc, "new")
-        .about("Begins a journal, and prints the identifier of its document")
-        .after_help("Example:\n  textpeer new notes.journal")
-        .arg(journal(alloc))?
-        .arg(key(alloc))
+    named(
+        alloc,
+        "new",
+        "Begins a journal, and prints the identifier of its document",
+        "Example:\n  textpeer new notes.journal",
+    )
+    .arg(journal(alloc))?
+    .arg(key(alloc))
 }
 
 // `edit` with the place of the edit.
 fn edit_at<'a>(alloc: Global) -> Result<Command<'a>, AllocError>
     ensures { IfOk result (IsLeaf edit_at_shape) }
 {
-    Command::new(alloc, "edit")
-        .about("Makes one change, and prints its hash, or `nothing` where it changes nothing")
-        .after_help("Example:\n  textpeer edit notes.journal --at 0 --del 0 --text 'Hello, world!'")
-        .arg(journal(alloc))?
-        .arg(count(alloc, "at", "the position, in characters from 0"))?
-        .arg(count(
-            alloc,
-            "del",
-            "how many characters are deleted from the position on",
-        ))
+    named(
+        alloc,
+        "edit",
+        "Makes one change, and prints its hash, or `nothing` where it changes nothing",
+        "Example:\n  textpeer edit notes.journal --at 0 --del 0 --text 'Hello, world!'",
+    )
+    .arg(journal(alloc))?
+    .arg(count(alloc, "at", "the position, in characters from 0"))?
+    .arg(count(
+        alloc,
+        "del",
+        "how many characters are deleted from the position on",
+    ))
 }
 
 fn edit_command<'a>(alloc: Global) -> Result<Command<'a>, AllocError>
@@ -209,96 +222,118 @@ fn edit_command<'a>(alloc: Global) -> Result<Command<'a>, AllocError>
 fn text_command<'a>(alloc: Global) -> Result<Command<'a>, AllocError>
     ensures { IfOk result (IsLeaf text_shape) }
 {
-    Command::new(alloc, "text")
-        .about("Prints the text, as it is now or at earlier heads")
-        .after_help("Example:\n  textpeer text notes.journal")
-        .arg(journal(alloc))?
-        .arg(hashes(
-            alloc,
-            "the heads at which the text is read; as it is now if left out",
-        ))
+    named(
+        alloc,
+        "text",
+        "Prints the text, as it is now or at earlier heads",
+        "Example:\n  textpeer text notes.journal",
+    )
+    .arg(journal(alloc))?
+    .arg(hashes(
+        alloc,
+        "the heads at which the text is read; as it is now if left out",
+    ))
 }
 
 fn heads_command<'a>(alloc: Global) -> Result<Command<'a>, AllocError>
     ensures { IfOk result (IsLeaf heads_shape) }
 {
-    Command::new(alloc, "heads")
-        .about("Prints the hashes of the changes on which no other depends")
-        .after_help("Example:\n  textpeer heads notes.journal")
-        .arg(journal(alloc))
+    named(
+        alloc,
+        "heads",
+        "Prints the hashes of the changes on which no other depends",
+        "Example:\n  textpeer heads notes.journal",
+    )
+    .arg(journal(alloc))
 }
 
 fn log_command<'a>(alloc: Global) -> Result<Command<'a>, AllocError>
     ensures { IfOk result (IsLeaf log_shape) }
 {
-    Command::new(alloc, "log")
-        .about(
-            "Prints a line for each change: hash, actor, sequence number, time, \
+    named(
+        alloc,
+        "log",
+        "Prints a line for each change: hash, actor, sequence number, time, \
              inserted and deleted characters, message",
-        )
-        .after_help("Example:\n  textpeer log notes.journal")
-        .arg(journal(alloc))
+        "Example:\n  textpeer log notes.journal",
+    )
+    .arg(journal(alloc))
 }
 
 fn cursor_command<'a>(alloc: Global) -> Result<Command<'a>, AllocError>
     ensures { IfOk result (IsLeaf cursor_shape) }
 {
-    Command::new(alloc, "cursor")
-        .about("Prints where a character of the text at earlier heads stands now")
-        .after_help("Example:\n  textpeer cursor notes.journal 3 $(textpeer heads notes.journal)")
-        .arg(journal(alloc))?
-        .arg(position(alloc))?
-        .arg(earlier_heads(alloc))
+    named(
+        alloc,
+        "cursor",
+        "Prints where a character of the text at earlier heads stands now",
+        "Example:\n  textpeer cursor notes.journal 3 $(textpeer heads notes.journal)",
+    )
+    .arg(journal(alloc))?
+    .arg(position(alloc))?
+    .arg(earlier_heads(alloc))
 }
 
 fn merge_command<'a>(alloc: Global) -> Result<Command<'a>, AllocError>
     ensures { IfOk result (IsLeaf merge_shape) }
 {
-    Command::new(alloc, "merge")
-        .about("Takes the changes of another journal of the document, and prints how many entered")
-        .after_help("Example:\n  textpeer merge notes.journal copy.journal")
-        .arg(journal(alloc))?
-        .arg(required(
-            alloc,
-            "OTHER",
-            "the journal that has the changes; it isn't written",
-        ))?
-        .arg(key(alloc))
+    named(
+        alloc,
+        "merge",
+        "Takes the changes of another journal of the document, and prints how many entered",
+        "Example:\n  textpeer merge notes.journal copy.journal",
+    )
+    .arg(journal(alloc))?
+    .arg(required(
+        alloc,
+        "OTHER",
+        "the journal that has the changes; it isn't written",
+    ))?
+    .arg(key(alloc))
 }
 
 fn save_command<'a>(alloc: Global) -> Result<Command<'a>, AllocError>
     ensures { IfOk result (IsLeaf save_shape) }
 {
-    Command::new(alloc, "save")
-        .about("Writes the document of a journal as a saved file")
-        .after_help("Example:\n  textpeer save notes.journal notes.saved")
-        .arg(journal(alloc))?
-        .arg(required(
-            alloc,
-            "OUT",
-            "the saved file, which is replaced if it is there",
-        ))
+    named(
+        alloc,
+        "save",
+        "Writes the document of a journal as a saved file",
+        "Example:\n  textpeer save notes.journal notes.saved",
+    )
+    .arg(journal(alloc))?
+    .arg(required(
+        alloc,
+        "OUT",
+        "the saved file, which is replaced if it is there",
+    ))
 }
 
 fn load_command<'a>(alloc: Global) -> Result<Command<'a>, AllocError>
     ensures { IfOk result (IsLeaf load_shape) }
 {
-    Command::new(alloc, "load")
-        .about("Makes a journal of a saved file")
-        .after_help("Example:\n  textpeer load notes.saved notes.journal")
-        .arg(required(alloc, "SAVED", "a saved file"))?
-        .arg(journal(alloc))
+    named(
+        alloc,
+        "load",
+        "Makes a journal of a saved file",
+        "Example:\n  textpeer load notes.saved notes.journal",
+    )
+    .arg(required(alloc, "SAVED", "a saved file"))?
+    .arg(journal(alloc))
 }
 
 fn show_command<'a>(alloc: Global) -> Result<Command<'a>, AllocError>
     ensures { IfOk result (IsLeaf show_shape) }
 {
-    Command::new(alloc, "show")
-        .about("Prints the text that a log of changes makes")
-        .after_help("Example:\n  textpeer show changes.log")
-        .arg(required(
-            alloc,
-            "LOG",
-            "a log of changes: each a length of 4 bytes and the change's bytes",
-        ))
+    named(
+        alloc,
+        "show",
+        "Prints the text that a log of changes makes",
+        "Example:\n  textpeer show changes.log",
+    )
+    .arg(required(
+        alloc,
+        "LOG",
+        "a log of changes: each a length of 4 bytes and the change's bytes",
+    ))
 }

@@ -1,5 +1,7 @@
 pub mod CommandError
+pub mod Names
 pub mod Keys
 pub mod Reading
 pub mod Editing
 pub mod Output
+pub mod Words

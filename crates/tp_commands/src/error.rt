@@ -7,7 +7,6 @@ ghost use Rattle.tp_commands.specs.CommandError.{code_of, refusal_of_bytes, refu
 use std::alloc::{AllocError, AllocFailed};
 use std::io;
 use std::io::ErrorKind;
-use thiserror::Error;
 use tp_document::DocError;
 use tp_opid::HexError;
 use tp_peer::PeerError;
@@ -16,28 +15,21 @@ use tp_textpeer::{Refusal, ShowError, ShowFault};
 
 /// Why a command was refused. Its `Display` is the line that the program prints of it, without the newline: `textpeer: `
 /// and the innermost refusal's name, or of a log what [`Refusal`] prints.
-#[derive(Clone, Copy, Debug, PartialEq, Eq, Error)]
+#[derive(Clone, Copy, Debug, PartialEq, Eq)]
 pub enum CommandError {
     /// A hash or a key isn't 64 hexadecimal digits.
-    #[error("textpeer: BadHex")]
     BadHex,
     /// A file could not be opened, read or written, or the output could not be written.
-    #[error("textpeer: Io")]
     Io,
     /// A growth was refused.
-    #[error("textpeer: OutOfMemory")]
     OutOfMemory,
     /// A peer refused it. It is never `OutOfMemory`.
-    #[error("textpeer: {0}")]
     Peer(PeerError),
     /// A document refused it. It is never `OutOfMemory`.
-    #[error("textpeer: {0}")]
     Doc(DocError),
     /// The bytes of a saved file or a journal were refused. It is never `Io` or `OutOfMemory`.
-    #[error("textpeer: {0}")]
     Store(StoreError),
     /// A log was refused. It is never `Io` or `OutOfMemory`.
-    #[error("{0}")]
     Show(Refusal),
 }
 

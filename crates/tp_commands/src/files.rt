@@ -33,8 +33,20 @@ fn write_new<R: Files>(rt: &R, path: &str, bytes: &[u8]) -> Result<(), CommandEr
     Ok(())
 }
 
+// Writes a new file at the path `part`, which then takes the name of the other.
+fn write_and_rename<R: Files>(
+    rt: &R,
+    part: &str,
+    path: &str,
+    bytes: &[u8],
+) -> Result<(), CommandError> {
+    write_new(rt, part, bytes)?;
+    Ok(fs::rename(rt, part, path)?)
+}
+
 /// Makes the file at the path of these bytes, in place of one that is there. They are written to a file beside it, whose
-/// name ends with `.part`, which then takes its name: a crash leaves the file at the path as it was, or whole.
+/// name ends with `.part`, which then takes its name: a crash leaves the file at the path as it was, or whole. Where it is
+/// refused, the file beside it is removed, as far as that can be done.
 pub(crate) fn replace_file<R: Files>(
     rt: &R,
     alloc: Global,
@@ -42,11 +54,9 @@ pub(crate) fn replace_file<R: Files>(
     bytes: &[u8],
 ) -> Result<(), CommandError> {
     let part = format!(in alloc; "{path}.part")?;
-    match write_new(rt, part.as_str(), bytes) {
-        Ok(()) => Ok(fs::rename(rt, part.as_str(), path)?),
-        Err(error) => {
-            let _ = fs::remove_file(rt, part.as_str());
-            Err(error)
-        }
+    let replaced = write_and_rename(rt, part.as_str(), path, bytes);
+    if replaced.is_err() {
+        let _ = fs::remove_file(rt, part.as_str());
     }
+    replaced
 }

@@ -1,19 +1,26 @@
 //! The program, but for its `main`.
 
-ghost use Rattle.std.specs.Prelude.{◌≡◌, ◌≢◌, ◌≤◌, ◌⊎◌, [], map};
+ghost use Rattle.std.specs.Prelude.{◌≡◌, ◌≢◌, ◌≤◌, ◌⊎◌, [], map, IfErr};
+ghost use Rattle.std.specs.Io.KnownBytes.{Keeps};
 ghost use Rattle.clap.specs.Words.{fault_of, kind_of};
-ghost use Rattle.clap.specs.declared.error.kind.ErrorKind.TheVariants.{DisplayHelp, DisplayVersion, OutOfMemory};
+ghost use Rattle.clap.specs.declared.error.kind.ErrorKind.TheVariants.{OutOfMemory};
 ghost use Rattle.tp_command_line.specs.CommandLine.{textpeer_app};
 ghost use Rattle.tp_command_line.specs.LineError.{MayBeDone, parser_fault};
+ghost use Rattle.tp_commands.specs.declared.error.CommandError.{CommandError as Refusal};
+ghost use Rattle.tp_commands.specs.declared.error.CommandError.TheVariants.{Io};
+ghost use Rattle.tp_commands.specs.Output.{GrowsPart, IsLineOf};
+ghost use Rattle.tp_commands.specs.Words.{IsForHelp, WasDone, WasRefused};
 
 use crate::error::CommandError;
 use crate::running::{DONE, REFUSED, ended, run_command};
+use std::alloc::Global;
 use std::convert::AsStr;
 use std::fmt::Display;
-use std::io::{BufWriter, ErrorKind};
+use std::io::{ErrorKind, Write};
 use std::rt::{Env, Files};
 use std::{env, io};
 use tp_command_line::{LineError, line};
+use tp_textpeer::write_out;
 
 const MISUSED: u8 = 2;
 
@@ -63,39 +70,72 @@ pub fn run_words<R: Files + Print + Eprint + AllocGlobal, S: AsStr>(rt: &R, word
     ensures done { result ≡ DONE → MayBeDone (fault_of textpeer_app (map S.text words.now)) }
     ensures misused { result ≡ MISUSED → fault_of textpeer_app (map S.text words.now) ≢ [] }
 {
+    let errors = Errors { rt };
+    run_words_on(rt, words, &mut io::writer(rt), &mut io::writer(&errors))
+}
+
+/// The same as [`run_words`], with writers for the standard output and the standard error.
+pub fn run_words_on<R: Files + AllocGlobal, S: AsStr, W: Write, E: Write>(
+    rt: &R,
+    words: &[S],
+    out: &mut W,
+    err: &mut E,
+) -> u8
+    ensures status { result ≤ MISUSED }
+    // What was done prints nothing on the standard error.
+    ensures done { result ≡ DONE → Keeps (E.contents err.old) (E.contents err.new)
+        × WasDone (map S.text words.now) (W.contents out.old) (W.contents out.new) }
+    // Of what was refused one line stands there, or a beginning of it where writing it failed.
+    ensures refused { result ≡ REFUSED → (e : Refusal)
+        × GrowsPart (IsLineOf e) (E.contents err.old) (E.contents err.new)
+        × WasRefused (map S.text words.now) e (W.contents out.old) (W.contents out.new) }
+    // Words at fault print nothing on the standard output.
+    ensures misused { result ≡ MISUSED → (fault_of textpeer_app (map S.text words.now) ≢ [])
+        × Keeps (W.contents out.old) (W.contents out.new) }
+{
     match line(rt.alloc(), words) {
-        Ok(command) => {
-            let mut out = io::writer(rt);
-            let errors = Errors { rt };
-            run_command(rt, command, &mut out, &mut io::writer(&errors))
-        }
-        Err(fault) => explain(rt, &fault),
+        Ok(command) => run_command(rt, command, out, err),
+        Err(fault) => explain(rt.alloc(), &fault, out, err),
     }
 }
 
 // Prints why there is no command.
-fn explain<R: Print + Eprint>(rt: &R, fault: &LineError) -> u8
+fn explain<W: Write, E: Write>(alloc: Global, fault: &LineError, out: &mut W, err: &mut E) -> u8
     ensures status { result ≤ MISUSED }
-    ensures done { result ≡ DONE → (kind_of (parser_fault fault.now) ≡ DisplayHelp)
-        ⊎ (kind_of (parser_fault fault.now) ≡ DisplayVersion) }
-    ensures misused { result ≡ MISUSED → kind_of (parser_fault fault.now) ≢ OutOfMemory }
+    ensures done { result ≡ DONE → Keeps (E.contents err.old) (E.contents err.new)
+        × IsForHelp (kind_of (parser_fault fault.now)) }
+    ensures refused { result ≡ REFUSED → (e : Refusal)
+        × GrowsPart (IsLineOf e) (E.contents err.old) (E.contents err.new)
+        × (Keeps (W.contents out.old) (W.contents out.new)
+        ⊎ ((e ≡ Io) × IsForHelp (kind_of (parser_fault fault.now)))) }
+    ensures misused { result ≡ MISUSED → (kind_of (parser_fault fault.now) ≢ OutOfMemory)
+        × Keeps (W.contents out.old) (W.contents out.new) }
 {
     if fault.is_out_of_memory() {
-        return refused(rt, CommandError::OutOfMemory);
+        return ended(alloc, Err(CommandError::OutOfMemory), err);
     }
     if fault.is_request() {
-        return match rt.print(fault) {
-            Ok(()) => DONE,
-            Err(error) => refused(rt, CommandError::from(error)),
-        };
+        return ended(alloc, put_fault(alloc, fault, out), err);
     }
-    let _ = rt.eprint(fault);
+    let _ = put_fault(alloc, fault, err);
     MISUSED
 }
 
-fn refused<R: Eprint>(rt: &R, error: CommandError) -> u8
+// Prints the parser's text.
+fn put_fault<W: Write>(alloc: Global, fault: &LineError, out: &mut W) -> Result<(), CommandError>
+    ensures { IfErr result
+        (λ e. (e ≡ Io) ⊎ Keeps (W.contents out.old) (W.contents out.new)) }
+{
+    let text = format!(in alloc; "{fault}")?;
+    match write_out(out, text.as_str().as_bytes()) {
+        Ok(()) => Ok(()),
+        Err(_) => Err(CommandError::Io),
+    }
+}
+
+fn refused<R: Eprint + AllocGlobal>(rt: &R, error: CommandError) -> u8
     ensures { result ≡ REFUSED }
 {
     let errors = Errors { rt };
-    ended(Err(error), &mut io::writer(&errors))
+    ended(rt.alloc(), Err(error), &mut io::writer(&errors))
 }

@@ -7,8 +7,11 @@ ghost use Rattle.std.specs.String.{string_bytes};
 ghost use Rattle.hex.specs.Hex.{encode_lower};
 ghost use Rattle.tp_opid.specs.declared.doc_id.DocId.{DocId as Identifier};
 ghost use Rattle.tp_opid.specs.declared.hash.Hash.{Hash};
+ghost use Rattle.tp_textpeer.specs.Output.{AppendsPart};
+ghost use Rattle.tp_commands.specs.declared.error.CommandError.{CommandError as Refusal};
 ghost use Rattle.tp_commands.specs.Keys.{AreHashes};
-ghost use Rattle.tp_commands.specs.Output.{Prints};
+ghost use Rattle.tp_commands.specs.Names.{refusal_text};
+ghost use Rattle.tp_commands.specs.Output.{Grows, GrowsPart, IsLineOf, IsPrinted, IsShown, Leaves};
 ghost use Rattle.tp_commands.specs.Reading.{AreHeadLines, IsCursorLine, IsTextLine, hash_line as hash_line_of, line};
 
 use crate::editing::{begin, edit, fill, reopen, take};
@@ -17,6 +20,7 @@ use crate::files::{journal_at, read_file, replace_file};
 use crate::keys::{generator, hashes_in};
 use crate::log::log_lines;
 use crate::reading::{cursor_line, hash_line, head_lines, saved, text_line};
+use std::alloc::{AllocError, Global};
 use std::io::{BufReader, Write};
 use std::rt::Files;
 use std::{fs, io};
@@ -25,7 +29,7 @@ use tp_edit::Splice;
 use tp_opid::{Actor, DocId};
 use tp_peer::{PeerSequence, fresh_actor};
 use tp_store::load;
-use tp_textpeer::show;
+use tp_textpeer::{show, write_out};
 
 pub(crate) const DONE: u8 = 0;
 
@@ -33,7 +37,8 @@ pub(crate) const REFUSED: u8 = 1;
 
 /// Carries out a command, and returns the exit status: 0 where it was done, and all that it prints was written to `out`
 /// and flushed; 1 where it was refused, with one line on `err`, as [`CommandError`] prints it. A refusal writes nothing to
-/// `out`, but where `out` itself failed.
+/// `out`; where `out` itself failed, which is refused as `Io`, it has taken a beginning of what the command prints. Where
+/// `err` fails it has taken a beginning of the line.
 pub fn run_command<R: Files + AllocGlobal, W: Write, E: Write>(
     rt: &R,
     command: Command,
@@ -42,42 +47,58 @@ pub fn run_command<R: Files + AllocGlobal, W: Write, E: Write>(
 ) -> u8
     ensures status { result ≤ REFUSED }
     ensures done { result ≡ DONE → Keeps (E.contents err.old) (E.contents err.new)
-        × Prints command.entry (W.contents out.old) (W.contents out.new) }
+        × Grows (IsPrinted command.entry) (W.contents out.old) (W.contents out.new) }
+    ensures refused { result ≡ REFUSED → (e : Refusal)
+        × GrowsPart (IsLineOf e) (E.contents err.old) (E.contents err.new)
+        × Leaves (IsPrinted command.entry) e (W.contents out.old) (W.contents out.new) }
 {
-    ended(carry_out(rt, command, out), err)
+    ended(rt.alloc(), carry_out(rt, command, out), err)
 }
 
 /// The exit status of what was done or refused, once the refusal is printed.
-pub(crate) fn ended<E: Write>(done: Result<(), CommandError>, err: &mut E) -> u8
+pub(crate) fn ended<E: Write>(alloc: Global, done: Result<(), CommandError>, err: &mut E) -> u8
     ensures status { MatchResult done (λ _. result ≡ DONE) (λ _. result ≡ REFUSED) }
     ensures quiet { OnOk done (Keeps (E.contents err.old) (E.contents err.new)) }
+    ensures told { IfErr done
+        (λ e. GrowsPart (IsLineOf e) (E.contents err.old) (E.contents err.new)) }
 {
     match done {
         Ok(()) => DONE,
         Err(error) => {
-            let _ = writeln!(err, "{error}");
+            let _ = tell(alloc, error, err);
             REFUSED
         }
     }
 }
 
-// Writes a text and flushes the writer.
-fn write_out<W: Write>(out: &mut W, text: &str) -> io::Result<()>
-    ensures { OnOk result (Appends (W.contents out.old) (W.contents out.new) text.now) }
+// Writes the line of a refusal, or of `OutOfMemory` where there is no memory for that line.
+fn tell<E: Write>(alloc: Global, error: CommandError, err: &mut E) -> io::Result<()>
+    ensures whole { OnOk result (Grows (IsLineOf error) (E.contents err.old) (E.contents err.new)) }
+    ensures part { GrowsPart (IsLineOf error) (E.contents err.old) (E.contents err.new) }
 {
-    out.write_all(text.as_bytes())?;
-    out.flush()
+    match refusal_line(alloc, error) {
+        Ok(line) => write_out(err, line.as_str().as_bytes()),
+        Err(_) => write_out(err, b"textpeer: OutOfMemory\n"),
+    }
+}
+
+// The line of a refusal.
+fn refusal_line(alloc: Global, error: CommandError) -> Result<String, AllocError>
+    ensures { IfOk result (λ l. string_bytes l ≡ line (refusal_text error)) }
+{
+    format!(in alloc; "{error}\n")
 }
 
 // Writes what a command prints, where it was done.
 fn put<W: Write>(out: &mut W, printed: Result<String, CommandError>) -> Result<(), CommandError>
     ensures ok { OnOk result (IsOkAnd printed
         (λ text. Appends (W.contents out.old) (W.contents out.new) (string_bytes text))) }
-    ensures err { IfErr result (λ e. (e ≡ CommandError.Io)
-        ⊎ Keeps (W.contents out.old) (W.contents out.new)) }
+    ensures err { IfErr result (λ e. Keeps (W.contents out.old) (W.contents out.new)
+        ⊎ ((e ≡ CommandError.Io) × IsOkAnd printed
+        (λ text. AppendsPart (W.contents out.old) (W.contents out.new) (string_bytes text)))) }
 {
     match printed {
-        Ok(text) => match write_out(out, text.as_str()) {
+        Ok(text) => match write_out(out, text.as_str().as_bytes()) {
             Ok(()) => Ok(()),
             Err(_) => Err(CommandError::Io),
         },
@@ -91,9 +112,10 @@ fn carry_out<R: Files + AllocGlobal, W: Write>(
     command: Command,
     out: &mut W,
 ) -> Result<(), CommandError>
-    ensures prints { OnOk result (Prints command.entry (W.contents out.old) (W.contents out.new)) }
-    ensures err { IfErr result (λ e. (e ≡ CommandError.Io)
-        ⊎ Keeps (W.contents out.old) (W.contents out.new)) }
+    ensures prints { OnOk result
+        (Grows (IsPrinted command.entry) (W.contents out.old) (W.contents out.new)) }
+    ensures err { IfErr result (λ e. Leaves (IsPrinted command.entry) e
+        (W.contents out.old) (W.contents out.new)) }
 {
     match command {
         Command::New { file, key } => put(out, new(rt, file, key)),
@@ -130,8 +152,8 @@ fn show_file<R: Files + AllocGlobal, W: Write>(
     log: &str,
     out: &mut W,
 ) -> Result<(), CommandError>
-    ensures { IfErr result (λ e. (e ≡ CommandError.Io)
-        ⊎ Keeps (W.contents out.old) (W.contents out.new)) }
+    ensures ok { OnOk result (Grows IsShown (W.contents out.old) (W.contents out.new)) }
+    ensures err { IfErr result (λ e. Leaves IsShown e (W.contents out.old) (W.contents out.new)) }
 {
     let file = fs::open(rt, log)?;
     let mut reader = BufReader::new(rt.alloc(), file)?;

@@ -19,3 +19,4 @@ pub mod ExtentLaws
 pub mod EndLaws
 pub mod ClashLaws
 pub mod LawRules
+pub mod BeforeLaws

@@ -18,3 +18,4 @@ pub mod Lists
 pub mod Kept
 pub mod Answers
 pub mod Since
+pub mod Before

@@ -1,8 +1,10 @@
 //! What a change has to be behind the changes of its past: its numbers and its references.
 
-ghost use Rattle.std.specs.Prelude.{◌≡◌, ◌+◌, ◌<◌, ◌≤◌, ◌^◌, ◌++◌, ◌||◌};
+ghost use Rattle.std.specs.Prelude.{◌≡◌, ◌+◌, ◌<◌, ◌≤◌, ◌^◌, ◌++◌, ◌||◌, List, length};
+ghost use Rattle.tp_change.specs.declared.record.Record.{Record};
 ghost use Rattle.tp_change.specs.Elements as made;
 ghost use Rattle.tp_change.specs.Operations.{count_of, op_count, ops_of, ops_from};
+ghost use Rattle.tp_graph.specs.Before.{Tells, IsClear};
 ghost use Rattle.tp_graph.specs.ByActor.{IsMaker};
 ghost use Rattle.tp_graph.specs.Covers as cover;
 ghost use Rattle.tp_graph.specs.Ends.{end_named};
@@ -10,10 +12,14 @@ ghost use Rattle.tp_graph.specs.Parts.{picked, IsPartOf};
 ghost use Rattle.tp_graph.specs.Past.{past};
 
 use crate::applied::Applied;
+use crate::before::{Before, put};
 use crate::part::Part;
-use tp_change::{Change, Record};
+use tp_change::{Change, MAX_OPS, Record};
 use tp_list::char_count;
-use tp_opid::{Actor, Hash, OpId, Place};
+use tp_opid::{Hash, OpId, Place};
+
+// So many operations are few: marks for these cost next to nothing.
+const FEW: usize = 64;
 
 // Whether the records, the first of which has the given counter, insert at a counter.
 fn covers(records: &[Record], first: u64, counter: u64) -> bool
@@ -144,22 +150,18 @@ impl Applied {
         }
     }
 
-    // Whether a change of the past, or one of the actor's records, the first of which has the counter `first`,
-    // inserts the element with the identifier.
-    fn is_known(&self, part: &Part, actor: &Actor, first: u64, before: &[Record], id: &OpId) -> bool
+    // Whether a change of the past, or one of the records before, inserts the element with the identifier.
+    fn is_known(&self, part: &Part, before: &Before, id: &OpId) -> bool
         requires part { IsPartOf part.now self.now.changes }
-        requires counters { first + count_of before.now < 2 ^ 64 }
-        ensures { result
-            ≡ made.is_inserted (made.inserts_in (ops_from actor.now first before.now)
+        requires room { before.now.count ≤ length before.now.deletes.now }
+        ensures { (rs : List Record) → Tells before.now rs → result
+            ≡ made.is_inserted (made.inserts_in (ops_from before.now.actor before.now.first rs)
             ++ made.inserts (picked part.now self.now.changes)) id.now }
     {
-        if !actor.is(&id.actor) {
+        if !before.actor.is(&id.actor) {
             return self.is_inserted(part, id);
         }
-        if id.counter < first {
-            return self.is_inserted(part, id);
-        }
-        if covers(before, first, id.counter) {
+        if before.inserts_at(id.counter) {
             return true;
         }
         self.is_inserted(part, id)
@@ -167,33 +169,28 @@ impl Applied {
 
     // Whether the reference or the target of the record is inserted by a change of the past, or by one of the
     // records before it.
-    fn is_there(
-        &self,
-        part: &Part,
-        actor: &Actor,
-        first: u64,
-        before: &[Record],
-        entry: &Record,
-    ) -> bool
+    fn is_there(&self, part: &Part, before: &Before, entry: &Record) -> bool
         requires part { IsPartOf part.now self.now.changes }
-        requires counters { first + count_of before.now < 2 ^ 64 }
-        ensures { result
-            ≡ cover.is_there (made.inserts_in (ops_from actor.now first before.now)
+        requires room { before.now.count ≤ length before.now.deletes.now }
+        ensures { (rs : List Record) → Tells before.now rs → result
+            ≡ cover.is_there (made.inserts_in (ops_from before.now.actor before.now.first rs)
             ++ made.inserts (picked part.now self.now.changes)) entry.now }
     {
         match entry {
             Record::Insert { after, .. } => match after {
                 Place::Start => true,
-                Place::After(id) => self.is_known(part, actor, first, before, id),
+                Place::After(id) => self.is_known(part, before, id),
             },
-            Record::Delete { target } => self.is_known(part, actor, first, before, target),
+            Record::Delete { target } => self.is_known(part, before, target),
         }
     }
 
-    /// Whether each reference and each target of the change is inserted by a change of the past, or earlier in the
-    /// change.
-    pub(crate) fn refers(&self, part: &Part, change: &Change) -> bool
-        requires { IsPartOf part.now self.now.changes }
+    // Whether each reference and each target of the change is inserted by a change of the past, or earlier in the
+    // change. The marks are for the operations of the change.
+    fn refers_with(&self, part: &Part, change: &Change, deletes: &mut [bool]) -> bool
+        requires part { IsPartOf part.now self.now.changes }
+        requires room { op_count change.now ≤ length deletes.old }
+        requires clear { IsClear deletes.old }
         ensures { result ≡ made.refers (made.inserts (picked part.now self.now.changes))
             (ops_of change.now) }
     {
@@ -201,11 +198,56 @@ impl Applied {
         let actor = change.actor();
         let first = change.start();
         let records = change.records();
+        let mut count = 0;
         for i in 0..records.len() {
-            if !self.is_there(part, &actor, first, &records[..i], &records[i]) {
+            let before = Before {
+                actor,
+                first,
+                count,
+                deletes,
+            };
+            if !self.is_there(part, &before, &records[i]) {
                 return false;
             }
+            count = put(deletes, count, &records[i]);
         }
         true
+    }
+
+    // The same for a change of few operations.
+    fn refers_small(&self, part: &Part, change: &Change) -> bool
+        requires part { IsPartOf part.now self.now.changes }
+        requires few { op_count change.now ≤ FEW }
+        ensures { result ≡ made.refers (made.inserts (picked part.now self.now.changes))
+            (ops_of change.now) }
+    {
+        let mut deletes = [false; FEW];
+        self.refers_with(part, change, &mut deletes)
+    }
+
+    // The same for any change.
+    fn refers_large(&self, part: &Part, change: &Change) -> bool
+        requires { IsPartOf part.now self.now.changes }
+        ensures { result ≡ made.refers (made.inserts (picked part.now self.now.changes))
+            (ops_of change.now) }
+    {
+        let _hash = change.hash();
+        let mut deletes = [false; MAX_OPS];
+        self.refers_with(part, change, &mut deletes)
+    }
+
+    /// Whether each reference and each target of the change is inserted by a change of the past, or earlier in the
+    /// change. A reference to a record of the change itself is a look-up among marks, one for each operation, which
+    /// take no memory but room on the stack.
+    pub(crate) fn refers(&self, part: &Part, change: &Change) -> bool
+        requires { IsPartOf part.now self.now.changes }
+        ensures { result ≡ made.refers (made.inserts (picked part.now self.now.changes))
+            (ops_of change.now) }
+    {
+        if change.op_count() <= FEW {
+            self.refers_small(part, change)
+        } else {
+            self.refers_large(part, change)
+        }
     }
 }

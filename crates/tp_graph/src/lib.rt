@@ -6,6 +6,7 @@
 #![tactic(auto)]
 
 mod applied;
+mod before;
 mod by_actor;
 mod check;
 mod error;

@@ -1,5 +1,5 @@
 -- What a crash makes of a peer of a world.
-use Rattle.std.proofs.Common.{◌≡◌, ◌⊎◌, inl, inr, ℕ, ◌+◌, ◌≤◌, List, [], ◌∷◌, ◌++◌, length, take, drop, true, false, refl, sym, ap, ◌∙◌, subst, append-nil, arith}
+use Rattle.std.proofs.Common.{◌≡◌, ◌⊎◌, inl, inr, ℕ, ◌+◌, ◌<◌, ◌≤◌, List, [], ◌∷◌, ◌++◌, length, take, drop, true, false, refl, sym, ap, ◌∙◌, subst, append-nil, arith}
 use Rattle.std.proofs.lemmas.List.{take_all}
 use Rattle.std.proofs.Math.Seq.{drop-append_seam, take-append-add}
 use Rattle.tp_list.specs.Members.{In, AllIn}
@@ -15,7 +15,7 @@ use Rattle.tp_journal.proofs.CutLaws.{recovers_cut}
 use Rattle.tp_journal.proofs.RecoveryLaws.{recovers_once}
 use Rattle.tp_peer.specs.PeerData.{PeerData, opened}
 use Rattle.tp_headline.specs.Crashing.{ComesBack, kept_bytes, stopped_with}
-use Rattle.tp_headline.specs.Reply.{Reply, Peer, Edited, Merged, Reopened, Text, Refused, Inner}
+use Rattle.tp_headline.specs.Reply.{Reply, Peer, Edited, Merged, Wire, Quiet, Delivered, Reopened, Text, Refused, Inner}
 use Rattle.tp_headline.specs.World.{World, HasPeer, gained}
 use Rattle.tp_headline.specs.Carried.{Carried, IsCarried}
 use Rattle.tp_headline.proofs.Lasting.{Carries, Grows, begins-In}
@@ -29,6 +29,7 @@ pub record Recovered (p at : PeerData) (kept : ℕ) (new : List ChangeParts) : T
   pub others : List ChangeParts
   pub split : new ≡ whole ++ others
   pub within : length (records_of whole) ≤ kept
+  pub torn : (c : ChangeParts) (more : List ChangeParts) → others ≡ c ∷ more → kept < length (records_of (whole ++ c ∷ []))
   pub keep : ℕ
   pub recovers : Recovers (kept_bytes p at kept) p.id (p.applied ++ whole) keep
 
@@ -46,6 +47,7 @@ recovered_cut p at kept new is own appended history =
       others = cut.are_whole.others;
       split = cut.are_whole.split;
       within = cut.are_whole.within;
+      torn = cut.are_whole.torn;
       keep = length (journal p.id (p.applied ++ cut.whole));
       recovers = subst (λ b. Recovers b p.id (p.applied ++ cut.whole) (length (journal p.id (p.applied ++ cut.whole)))) (sym bytes) cut.recovers;
     }
@@ -59,6 +61,7 @@ recovered_as_it_was p kept keep r =
       others = [];
       split = refl;
       within = omega arith;
+      torn = λ c more e. absurd cc;
       keep = keep;
       recovers = subst (λ b. Recovers b p.id (p.applied ++ []) keep) (sym bytes) (subst (λ C. Recovers p.journal p.id C keep) (sym (append-nil p.applied)) r);
     }
@@ -107,6 +110,9 @@ is_back p p' bytes C keep actor (Inner error) r b =
 is_back p p' bytes C keep actor (Peer n) r b = absurd b
 is_back p p' bytes C keep actor (Edited made) r b = absurd b
 is_back p p' bytes C keep actor (Merged report) r b = absurd b
+is_back p p' bytes C keep actor (Wire n) r b = absurd b
+is_back p p' bytes C keep actor Quiet r b = absurd b
+is_back p p' bytes C keep actor (Delivered report same) r b = absurd b
 is_back p p' bytes C keep actor (Text text) r b = absurd b
 is_back p p' bytes C keep actor (Refused why) r b = absurd b
 

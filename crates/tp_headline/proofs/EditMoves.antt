@@ -25,6 +25,7 @@ use Rattle.tp_journal.proofs.HistoryLaws.{history_push}
 use Rattle.tp_peer.specs.PeerData.{PeerData}
 use Rattle.tp_peer.specs.PeerStep.{entered}
 use Rattle.tp_peer.proofs.KeepingLaws.{history_grows}
+use Rattle.tp_sync.specs.State.{SyncParts}
 use Rattle.tp_headline.specs.World.{World, HasPeer}
 use Rattle.tp_headline.specs.Carried.{Carried, IsCarried}
 use Rattle.tp_headline.proofs.CallLaws.{Took}
@@ -40,20 +41,38 @@ sound_still w h = subst Sound (sym (append-nil w.made)) h.sound
 
 -- ---- as it was
 
--- nothing was made, and the peer is as it was
-pub peer_stays : (w w' : World) (n : ℕ) (p : PeerData) → Carried w → HasPeer w n p → Moves w w' n p [] → Carries w w'
-peer_stays w w' n p h stands moves =
+-- what a peer knows of others makes no difference
+relinked_is_carried : (w : World) (p : PeerData) (links : List (ℕ × SyncParts)) → IsCarried w p → IsCarried w (record p { links = links })
+relinked_is_carried w p links q = record {
+  id = q.id;
+  history = q.history;
+  applied = q.applied;
+  waiting = q.waiting;
+  used = q.used;
+  quiet = q.quiet;
+  live = λ runs. let l = q.live runs in record { journal = l.journal; own = l.own };
+  dead = q.dead;
+}
+
+-- nothing was made, and the peer is as it was but for what it knows of others
+pub peer_relinks : (w w' : World) (n : ℕ) (p : PeerData) (links : List (ℕ × SyncParts)) → Carried w → HasPeer w n p → Moves w w' n (record p { links = links }) [] → Carries w w'
+peer_relinks w w' n p links h stands moves =
+    let p' : PeerData = record p { links = links } in
     let own : p.stopped ≡ false → (c : ChangeParts) → In c w'.made → c.actor ≡ p.actor → In c w.made = λ runs c i by. subst (λ l. In c l) (moves.made ∙ append-nil w.made) i in
-    peer_changes w w' n p p [] (record {
+    peer_changes w w' n p p' [] (record {
       old = h;
       stands = stands;
       moves = moves;
       begins = begins_still p.applied;
       sound = sound_still w h;
       by = by_none p;
-      carried = carried_stays w w' p (moves_grow w w' n p [] moves) own (h.peers n p stands);
+      carried = relinked_is_carried w' p links (carried_stays w w' p (moves_grow w w' n p' [] moves) own (h.peers n p stands));
       life = λ runs. inl (runs, refl);
     })
+
+-- nothing was made, and the peer is as it was
+pub peer_stays : (w w' : World) (n : ℕ) (p : PeerData) → Carried w → HasPeer w n p → Moves w w' n p [] → Carries w w'
+peer_stays w w' n p h stands moves = peer_relinks w w' n p p.links h stands moves
 
 -- ---- edits
 
@@ -121,7 +140,7 @@ edit_enters w w' n p asked c h stands moves runs who edited apart =
       life = λ on. inl (runs, refl);
     })
 
--- ---- merges
+-- ---- merges and messages
 
 absent_step : (b : Bool) (C D : List ChangeParts) (d c : ChangeParts) → (In c (absent C D) → In c D) → In c (cond b (absent C D) (d ∷ absent C D)) → In c (d ∷ D)
 absent_step true C D d c rest i = inr (rest i)
@@ -129,11 +148,15 @@ absent_step false C D d c rest (inl is) = inl is
 absent_step false C D d c rest (inr i) = inr (rest i)
 
 -- what is absent is of the list
-absent-In : (C D : List ChangeParts) → AllIn (absent C D) D
+pub absent-In : (C D : List ChangeParts) → AllIn (absent C D) D
 absent-In C [] c i = i
 absent-In C (d ∷ D) c i = absent_step (has C (hash_of d)) C D d c (absent-In C D c) i
 
--- all that waited and came was made
+-- all that waited and comes by a message was made
+pub message_was_made : (w : World) (p : PeerData) (K : List ChangeParts) → IsCarried w p → AllIn K w.made → AllIn (p.waiting ++ K) w.made
+message_was_made w p K hp all c i = elim (In-append c p.waiting K i) [ inl waits ↦ hp.waiting c waits | inr came ↦ all c came ]
+
+-- all that waited and comes by a merge was made
 pub came_was_made : (w : World) (p q : PeerData) → IsCarried w p → IsCarried w q → AllIn (p.waiting ++ absent p.applied q.applied) w.made
 came_was_made w p q hp hq c i = elim (In-append c p.waiting (absent p.applied q.applied) i) [
   | inl waits ↦ hp.waiting c waits
@@ -169,9 +192,9 @@ took_is_carried w w' p p' K t grows made limits came runs q =
       dead = λ stopped. never stopped (t.stopped ∙ runs);
     }
 
--- a merge
-pub merge_takes : (w w' : World) (n : ℕ) (p q p' : PeerData) → Carried w → HasPeer w n p → IsCarried w q → Moves w w' n p' [] → p.stopped ≡ false → Took p (absent p.applied q.applied) p' → Carries w w'
-merge_takes w w' n p q p' h stands other moves runs t =
+-- changes that were made are received
+pub peer_takes : (w w' : World) (n : ℕ) (p p' : PeerData) (K : List ChangeParts) → Carried w → HasPeer w n p → AllIn (p.waiting ++ K) w.made → Moves w w' n p' [] → p.stopped ≡ false → Took p K p' → Carries w w'
+peer_takes w w' n p p' K h stands came moves runs t =
     let this = h.peers n p stands in
     peer_changes w w' n p p' [] (record {
       old = h;
@@ -180,6 +203,6 @@ merge_takes w w' n p q p' h stands other moves runs t =
       begins = (t.new, t.grows.begins);
       sound = sound_still w h;
       by = by_none p;
-      carried = took_is_carried w w' p p' (absent p.applied q.applied) t (moves_grow w w' n p' [] moves) (moves.made ∙ append-nil w.made) h.limits (came_was_made w p q this other) runs this;
+      carried = took_is_carried w w' p p' K t (moves_grow w w' n p' [] moves) (moves.made ∙ append-nil w.made) h.limits came runs this;
       life = λ on. inl (runs, t.actor);
     })

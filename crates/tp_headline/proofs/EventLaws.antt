@@ -25,6 +25,7 @@ use Rattle.tp_journal.specs.Layout.{IsDocId, record_of, records_of}
 use Rattle.tp_journal.proofs.HistoryLaws.{history_none, history_push}
 use Rattle.tp_peer.specs.declared.error.PeerError.{PeerError}
 use Rattle.tp_peer.specs.declared.error.PeerError.TheVariants.{Stopped}
+use Rattle.tp_peer.specs.Laws.{changes_of}
 use Rattle.tp_peer.specs.PeerData.{PeerData, opened}
 use Rattle.tp_peer.specs.PeerStep as peer
 use Rattle.tp_peer.proofs.StepLaws.{step_cases}
@@ -32,25 +33,19 @@ use Rattle.tp_headline.specs.declared.error.WorldError.TheVariants as world
 use Rattle.tp_headline.specs.Call as call
 use Rattle.tp_headline.specs.Calling.{Calls, Steps}
 use Rattle.tp_headline.specs.Crashing.{ComesBack, kept_bytes, made_during}
-use Rattle.tp_headline.specs.Event.{Event, Start, Fork, Edit, Merge, Crash, Read, ReadAt}
+use Rattle.tp_headline.specs.Event.{Event, Start, Fork, Edit, Merge, Send, Deliver, DeliverBytes, Crash, Read, ReadAt}
 use Rattle.tp_headline.specs.Happening.{Forks, Happens, Next, Starts, with_answer}
 use Rattle.tp_headline.specs.Refusing.{MayHappen}
-use Rattle.tp_headline.specs.Reply.{Reply, Peer, Edited, Merged, Reopened, Text, Refused, Inner, PassesOn}
+use Rattle.tp_headline.specs.Reply.{Reply, Peer, Edited, Merged, Wire, Quiet, Delivered, Reopened, Text, Refused, Inner, PassesOn}
 use Rattle.tp_headline.specs.Running.{GoesOn}
-use Rattle.tp_headline.specs.World.{ReadRecord, World, HasPeer, beginning, gained, with_made, with_new_peer, with_peer, with_read, with_used}
+use Rattle.tp_headline.specs.World.{Entry, ReadRecord, World, HasEntry, HasPeer, beginning, gained, with_made, with_new_peer, with_peer, with_read, with_used}
 use Rattle.tp_headline.specs.Carried.{Carried, IsCarried, IsFaithful}
-use Rattle.tp_headline.proofs.CallLaws.{edit_leaves, merge_leaves}
+use Rattle.tp_headline.proofs.CallLaws.{Took, edit_leaves, merge_leaves, receive_leaves}
 use Rattle.tp_headline.proofs.CrashMoves.{Recovered, crash_returns, gained_back, nothing_left, one_cut, one_record, recovered_between, recovered_cut, whole-In}
-use Rattle.tp_headline.proofs.EditMoves.{by_edit, by_none, came_was_made, edit_enters, edit_is_sound, merge_takes, peer_stays, sound_still, took_history}
-use Rattle.tp_headline.proofs.Lasting.{Carries, Lasts, begins_still, carried_stays, faithful_stays, lasts_on, lasts_still}
-use Rattle.tp_headline.proofs.PeerMoves.{AreBy, Moves, actor_is_used, peer_joins}
-
--- nothing changed
-still : (w w' : World) → Carried w → w' ≡ w → Carries w w'
-still w w' h is = subst (λ x. Carries w x) (sym is) (record { lasts = lasts_still w; carried = h })
-
-becomes : (w w' m : World) → w' ≡ m → Carries w m → Carries w w'
-becomes w w' m is c = subst (λ x. Carries w x) (sym is) c
+use Rattle.tp_headline.proofs.EditMoves.{by_edit, by_none, came_was_made, edit_enters, edit_is_sound, message_was_made, peer_stays, peer_takes, sound_still, took_history}
+use Rattle.tp_headline.proofs.Lasting.{Carries, becomes, still, Lasts, begins_still, carried_stays, faithful_stays, lasts_on}
+use Rattle.tp_headline.proofs.MessageMoves.{delivered, entry_was_made, sent}
+use Rattle.tp_headline.proofs.PeerMoves.{AreBy, Moves, peer_moves, actor_is_used, peer_joins}
 
 -- ---- peers that join
 
@@ -59,6 +54,9 @@ started w actor (Peer n) w' h fresh s = becomes w w' (with_used (with_new_peer w
 started w actor (Inner error) w' h fresh s = becomes w w' (with_used w actor) s.1 (actor_is_used w actor h)
 started w actor (Edited made) w' h fresh s = absurd s
 started w actor (Merged report) w' h fresh s = absurd s
+started w actor (Wire n) w' h fresh s = absurd s
+started w actor Quiet w' h fresh s = absurd s
+started w actor (Delivered report same) w' h fresh s = absurd s
 started w actor Reopened w' h fresh s = absurd s
 started w actor (Text text) w' h fresh s = absurd s
 started w actor (Refused why) w' h fresh s = absurd s
@@ -71,6 +69,9 @@ forked w p actor (Peer n) w' h q fresh s =
 forked w p actor (Inner error) w' h q fresh s = becomes w w' (with_used w actor) s.1 (actor_is_used w actor h)
 forked w p actor (Edited made) w' h q fresh s = absurd s
 forked w p actor (Merged report) w' h q fresh s = absurd s
+forked w p actor (Wire n) w' h q fresh s = absurd s
+forked w p actor Quiet w' h q fresh s = absurd s
+forked w p actor (Delivered report same) w' h q fresh s = absurd s
 forked w p actor Reopened w' h q fresh s = absurd s
 forked w p actor (Text text) w' h q fresh s = absurd s
 forked w p actor (Refused why) w' h q fresh s = absurd s
@@ -79,7 +80,7 @@ forked w p actor (Refused why) w' h q fresh s = absurd s
 
 -- the moves of an edit
 edit_moves : (w : World) (n : ℕ) (p p' : PeerData) (new : List ChangeParts) → gained p p' ≡ new → Moves w (with_made (with_peer w n p') (gained p p')) n p' new
-edit_moves w n p p' new same = record { id = refl; peers = refl; made = ap (λ l. w.made ++ l) same; used = λ a i. i; reads = refl }
+edit_moves w n p p' new same = record { id = refl; peers = refl; made = ap (λ l. w.made ++ l) same; used = λ a i. i; wire = refl; reads = refl }
 
 edited : (w : World) (n : ℕ) (ss : List Splice) (time : ℕ) (message : List ℕ) (reply : Reply) (w' : World) → Carried w → MayHappen w (Edit n ss time message)
     → Happens w (Edit n ss time message) reply w' → Carries w w'
@@ -103,9 +104,6 @@ edited w n ss time message reply w' h may s =
 
 -- ---- merges
 
-merge_moves : (w : World) (n : ℕ) (p' : PeerData) → Moves w (with_peer w n p') n p' []
-merge_moves w n p' = record { id = refl; peers = refl; made = sym (append-nil w.made); used = λ a i. i; reads = refl }
-
 merged : (w : World) (into from : ℕ) (reply : Reply) (w' : World) → Carried w → MayHappen w (Merge into from) → Happens w (Merge into from) reply w' → Carries w w'
 merged w into from reply w' h may s =
     let other = s.0 in
@@ -114,14 +112,16 @@ merged w into from reply w' h may s =
     let runs : p.stopped ≡ false = may world.Stopped into p (inl refl) c.stands in
     becomes w w' (with_peer w into c.after) s.3
     (elim (merge_leaves p other c.answer c.after c.steps) [
-      | inl same ↦ subst (λ x. Carries w (with_peer w into x)) (sym same) (peer_stays w (with_peer w into p) into p h c.stands (merge_moves w into p))
-      | inr took ↦ merge_takes w (with_peer w into c.after) into p other c.after h c.stands (h.peers from other s.1) (merge_moves w into c.after) runs took
+      | inl same ↦ subst (λ x. Carries w (with_peer w into x)) (sym same) (peer_stays w (with_peer w into p) into p h c.stands (peer_moves w into p))
+      | inr took ↦
+          peer_takes w (with_peer w into c.after) into p c.after (absent p.applied other.applied) h c.stands (came_was_made w p other (h.peers into p c.stands) (h.peers from other s.1))
+          (peer_moves w into c.after) runs took
     ])
 
 -- ---- crashes
 
 crash_moves : (w : World) (n : ℕ) (p' : PeerData) (made : List ChangeParts) (actor : Actor) → Moves w (with_used (with_made (with_peer w n p') made) actor) n p' made
-crash_moves w n p' made actor = record { id = refl; peers = refl; made = refl; used = λ a i. In-left a w.used (actor ∷ []) i; reads = refl }
+crash_moves w n p' made actor = record { id = refl; peers = refl; made = refl; used = λ a i. In-left a w.used (actor ∷ []) i; wire = refl; reads = refl }
 
 -- the world after a crash in which these changes were recovered
 crashed_with : (w : World) (n : ℕ) (during : Option call.Call) (p at p' : PeerData) (kept : ℕ) (new : List ChangeParts) (actor : Actor) (reply : Reply) → Carried w → HasPeer w n p
@@ -188,6 +188,20 @@ crashed_in_edit w n ss time message kept actor reply p at p' answer h may stands
           (λ enough d i same. may world.HashClash c d (record { peer = p; stands = stands; runs = runs; edited = made.1 }, enough) i same)
     ]
 
+-- a crash while changes that were made were received
+crashed_in_taking : (w : World) (n : ℕ) (during : Option call.Call) (kept : ℕ) (actor : Actor) (reply : Reply) (p at p' : PeerData) (K : List ChangeParts)
+    → Carried w → HasPeer w n p → p.stopped ≡ false → (In actor w.used → ⊥) → ((l : List ChangeParts) → made_during during l ≡ []) → AllIn (p.waiting ++ K) w.made → Took p K at
+    → ComesBack p (kept_bytes p at kept) actor reply p'
+    → Carries w (with_used (with_made (with_peer w n p') (made_during during (gained p p'))) actor)
+crashed_in_taking w n during kept actor reply p at p' K h stands runs fresh none came took comes =
+    let q = h.peers n p stands in
+    let r = recovered_cut p at kept took.new (subst IsDocId (sym q.id) h.is_id) (q.live runs).journal took.journal (took_history w p at K took h.limits came q.history) in
+    let made = made_during during r.whole in
+    crashed_with w n during p at p' kept took.new actor reply h stands r comes fresh
+    (subst (λ l. Sound (w.made ++ l)) (sym (none r.whole)) (sound_still w h))
+    (subst (λ l. AreBy p l) (sym (none r.whole)) (by_none p))
+    (λ c i. In-left c w.made made (whole-In p at kept took.new r w.made (λ d j. came d (took.grows.came d j)) c i))
+
 crashed_in_merge : (w : World) (n from : ℕ) (kept : ℕ) (actor : Actor) (reply : Reply) (p other at p' : PeerData) (answer : peer.Reply)
     → Carried w → MayHappen w (Crash n (Some (call.Merge from)) kept actor) → HasPeer w n p → HasPeer w from other → Steps p (peer.Merge other) answer at
     → ComesBack p (kept_bytes p at kept) actor reply p'
@@ -196,15 +210,27 @@ crashed_in_merge w n from kept actor reply p other at p' answer h may stands the
     let during = Some (call.Merge from) in
     let fresh = may world.ActorUsed actor refl in
     let runs : p.stopped ≡ false = may world.Stopped n p (inl refl) stands in
-    let q = h.peers n p stands in
     elim (merge_leaves p other answer at steps) [
       | inl same ↦ crashed_between w n during p at p' kept actor reply h stands refl same comes fresh
       | inr took ↦
-          let K = absent p.applied other.applied in
-          let came = came_was_made w p other q (h.peers from other there) in
-          let r = recovered_cut p at kept took.new (subst IsDocId (sym q.id) h.is_id) (q.live runs).journal took.journal (took_history w p at K took h.limits came q.history) in
-          crashed_with w n during p at p' kept took.new actor reply h stands r comes fresh (sound_still w h) (by_none p)
-          (λ c i. In-left c w.made [] (whole-In p at kept took.new r w.made (λ d j. came d (took.grows.came d j)) c i))
+          crashed_in_taking w n during kept actor reply p at p' (absent p.applied other.applied) h stands runs fresh (λ l. refl)
+          (came_was_made w p other (h.peers n p stands) (h.peers from other there)) took comes
+    ]
+
+crashed_in_delivery : (w : World) (n entry : ℕ) (kept : ℕ) (actor : Actor) (reply : Reply) (p : PeerData) (e : Entry) (at p' : PeerData) (answer : peer.Reply)
+    → Carried w → MayHappen w (Crash n (Some (call.Deliver entry)) kept actor) → HasPeer w n p → HasEntry w entry e → Steps p (peer.Receive e.sender e.bytes) answer at
+    → ComesBack p (kept_bytes p at kept) actor reply p'
+    → Carries w (with_used (with_made (with_peer w n p') []) actor)
+crashed_in_delivery w n entry kept actor reply p e at p' answer h may stands there steps comes =
+    let during = Some (call.Deliver entry) in
+    let fresh = may world.ActorUsed actor refl in
+    let runs : p.stopped ≡ false = may world.Stopped n p (inl refl) stands in
+    elim (receive_leaves p e.sender e.bytes answer at steps) [
+      | inl same ↦ crashed_between w n during p at p' kept actor reply h stands refl same comes fresh
+      | inr took ↦
+          let K = took.0.changes in
+          crashed_in_taking w n during kept actor reply p at p' K h stands runs fresh (λ l. refl)
+          (message_was_made w p K (h.peers n p stands) (entry_was_made w entry e h there took.0 took.1)) took.2 comes
     ]
 
 crashed : (w : World) (n : ℕ) (during : Option call.Call) (kept : ℕ) (actor : Actor) (reply : Reply) (w' : World) → Carried w → MayHappen w (Crash n during kept actor)
@@ -224,6 +250,12 @@ crashed w n (Some (call.Merge from)) kept actor reply w' h may s =
     let is = might.2 in
     becomes w w' (with_used (with_made (with_peer w n c.after) []) actor) s.1
     (crashed_in_merge w n from kept actor reply c.before is.0 c.at c.after might.1 h may c.stands is.1 (subst (λ m. Steps c.before m might.1 c.at) is.2 might.3) c.back)
+crashed w n (Some (call.Deliver entry)) kept actor reply w' h may s =
+    let c = s.0 in
+    let might = c.might in
+    let is = might.2 in
+    becomes w w' (with_used (with_made (with_peer w n c.after) []) actor) s.1
+    (crashed_in_delivery w n entry kept actor reply c.before is.0 c.at c.after might.1 h may c.stands is.1 (subst (λ m. Steps c.before m might.1 c.at) is.2 might.3) c.back)
 
 -- ---- reads
 
@@ -234,28 +266,34 @@ not_text : (text : List ℕ) (error : PeerError) → Text text ≡ Inner error �
 not_text text error e = cc
 
 -- a call that wasn't refused as stopped ran
-pub runs_of_steps : (p : PeerData) (made : peer.Call) (answer : peer.Reply) (p' : PeerData) (reply : Reply) → Steps p made answer p' → PassesOn answer reply → (reply ≡ Inner Stopped → ⊥)
-    → peer.Runs p made answer p'
-runs_of_steps p made answer p' reply steps passed on = elim (step_cases p made answer p' steps.step) [
-  | inl stopped ↦ absurd (on (subst (λ x. PassesOn x reply) stopped.0 passed))
+pub runs_of_steps : (next : ℕ) (p : PeerData) (made : peer.Call) (answer : peer.Reply) (p' : PeerData) (reply : Reply) → Steps p made answer p' → PassesOn next answer reply
+    → (reply ≡ Inner Stopped → ⊥) → peer.Runs p made answer p'
+runs_of_steps next p made answer p' reply steps passed on = elim (step_cases p made answer p' steps.step) [
+  | inl stopped ↦ absurd (on (subst (λ x. PassesOn next x reply) stopped.0 passed))
   | inr runs ↦ runs.1
 ]
 
 -- the text of a read
-read_text : (p p' : PeerData) (answer : peer.Reply) (text : List ℕ) → peer.Runs p peer.Read answer p' → PassesOn answer (Text text) → IsTextOf p.applied text
-read_text p p' (peer.Text t) text h e = subst (λ x. IsTextOf p.applied x) (same_text t text e) h.0
-read_text p p' (peer.Made made) text h e = absurd h
-read_text p p' (peer.Merged report) text h e = absurd h
-read_text p p' (peer.Heads hashes) text h e = absurd h
-read_text p p' (peer.Refused error) text h e = absurd (not_text text error e)
+read_text : (next : ℕ) (p p' : PeerData) (answer : peer.Reply) (text : List ℕ) → peer.Runs p peer.Read answer p' → PassesOn next answer (Text text) → IsTextOf p.applied text
+read_text next p p' (peer.Text t) text h e = subst (λ x. IsTextOf p.applied x) (same_text t text e) h.0
+read_text next p p' (peer.Made made) text h e = absurd h
+read_text next p p' (peer.Merged report) text h e = absurd h
+read_text next p p' (peer.Received report same) text h e = absurd h
+read_text next p p' (peer.Generated made) text h e = absurd h
+read_text next p p' peer.Forgotten text h e = absurd h
+read_text next p p' (peer.Heads hashes) text h e = absurd h
+read_text next p p' (peer.Refused error) text h e = absurd (not_text text error e)
 
-read_at_text : (p p' : PeerData) (hashes : List Hash) (answer : peer.Reply) (text : List ℕ) → peer.Runs p (peer.ReadAt hashes) answer p' → PassesOn answer (Text text)
+read_at_text : (next : ℕ) (p p' : PeerData) (hashes : List Hash) (answer : peer.Reply) (text : List ℕ) → peer.Runs p (peer.ReadAt hashes) answer p' → PassesOn next answer (Text text)
     → (has_all p.applied hashes ≡ true) × IsTextOf (past p.applied hashes) text
-read_at_text p p' hashes (peer.Text t) text h e = (h.0, subst (λ x. IsTextOf (past p.applied hashes) x) (same_text t text e) h.1)
-read_at_text p p' hashes (peer.Made made) text h e = absurd h
-read_at_text p p' hashes (peer.Merged report) text h e = absurd h
-read_at_text p p' hashes (peer.Heads hs) text h e = absurd h
-read_at_text p p' hashes (peer.Refused error) text h e = absurd (not_text text error e)
+read_at_text next p p' hashes (peer.Text t) text h e = (h.0, subst (λ x. IsTextOf (past p.applied hashes) x) (same_text t text e) h.1)
+read_at_text next p p' hashes (peer.Made made) text h e = absurd h
+read_at_text next p p' hashes (peer.Merged report) text h e = absurd h
+read_at_text next p p' hashes (peer.Received report same) text h e = absurd h
+read_at_text next p p' hashes (peer.Generated made) text h e = absurd h
+read_at_text next p p' hashes peer.Forgotten text h e = absurd h
+read_at_text next p p' hashes (peer.Heads hs) text h e = absurd h
+read_at_text next p p' hashes (peer.Refused error) text h e = absurd (not_text text error e)
 
 -- a text was read at heads that the peer has
 was_read : (w : World) (n : ℕ) (p : PeerData) (H : List Hash) (text : List ℕ) → Carried w → HasPeer w n p → has_all p.applied H ≡ true → IsTextOf (past p.applied H) text
@@ -267,7 +305,7 @@ was_read w n p H text h stands known is =
     let same : SameMembers (past p.applied H) (past w.made H) =
     past-same p.applied w.made H q.history.sound h.sound known (λ c i. q.applied c (past-In p.applied H c i)) in
     let lasts : Lasts w w' = record {
-      grows = record { id = refl; made = begins_still w.made; used = λ a i. i };
+      grows = record { id = refl; made = begins_still w.made; used = λ a i. i; wire = λ m e i. i };
       lists = λ m r i. record { peer = r; stands = i; begins = begins_still r.applied };
       reads = (new ∷ [], refl);
     } in
@@ -287,6 +325,7 @@ was_read w n p H text h stands known is =
         used = h.used;
         peers = λ m r i. carried_stays w w' r lasts.grows (λ runs c j by. j) (h.peers m r i);
         lives = h.lives;
+        wire = h.wire;
         reads = λ r i. elim (In-push r w.reads new i) [
           | inl old ↦ faithful_stays w w' r lasts h.sound (h.reads r old)
           | inr is_new ↦ subst (λ x. IsFaithful w' x) (sym is_new) faithful
@@ -301,6 +340,9 @@ answered w n p H (Text text) h stands is = let t = is text refl in was_read w n 
 answered w n p H (Peer m) h stands is = still w w h refl
 answered w n p H (Edited made) h stands is = still w w h refl
 answered w n p H (Merged report) h stands is = still w w h refl
+answered w n p H (Wire m) h stands is = still w w h refl
+answered w n p H Quiet h stands is = still w w h refl
+answered w n p H (Delivered report same) h stands is = still w w h refl
 answered w n p H Reopened h stands is = still w w h refl
 answered w n p H (Refused why) h stands is = still w w h refl
 answered w n p H (Inner error) h stands is = still w w h refl
@@ -308,14 +350,16 @@ answered w n p H (Inner error) h stands is = still w w h refl
 -- what a call that gave a text says
 pub text_read : (w : World) (n : ℕ) (reply : Reply) (c : Calls w n peer.Read reply) (text : List ℕ) → reply ≡ Text text → IsTextOf c.before.applied text
 text_read w n reply c text is =
-    let passed = subst (λ x. PassesOn c.answer x) is c.passed in
-    read_text c.before c.after c.answer text (runs_of_steps c.before peer.Read c.answer c.after (Text text) c.steps passed (not_text text Stopped)) passed
+    let next = length w.wire in
+    let passed = subst (λ x. PassesOn next c.answer x) is c.passed in
+    read_text next c.before c.after c.answer text (runs_of_steps next c.before peer.Read c.answer c.after (Text text) c.steps passed (not_text text Stopped)) passed
 
 pub text_read_at : (w : World) (n : ℕ) (H : List Hash) (reply : Reply) (c : Calls w n (peer.ReadAt H) reply) (text : List ℕ) → reply ≡ Text text
     → (has_all c.before.applied H ≡ true) × IsTextOf (past c.before.applied H) text
 text_read_at w n H reply c text is =
-    let passed = subst (λ x. PassesOn c.answer x) is c.passed in
-    read_at_text c.before c.after H c.answer text (runs_of_steps c.before (peer.ReadAt H) c.answer c.after (Text text) c.steps passed (not_text text Stopped)) passed
+    let next = length w.wire in
+    let passed = subst (λ x. PassesOn next c.answer x) is c.passed in
+    read_at_text next c.before c.after H c.answer text (runs_of_steps next c.before (peer.ReadAt H) c.answer c.after (Text text) c.steps passed (not_text text Stopped)) passed
 
 read_all : (w : World) (n : ℕ) (reply : Reply) (w' : World) → Carried w → Happens w (Read n) reply w' → Carries w w'
 read_all w n reply w' h s =
@@ -337,6 +381,12 @@ happens_carries w (Start actor) reply w' h may s = started w actor reply w' h (m
 happens_carries w (Fork n actor) reply w' h may s = forked w s.0 actor reply w' h (h.peers n s.0 s.1) (may world.ActorUsed actor refl) s.2
 happens_carries w (Edit n ss time message) reply w' h may s = edited w n ss time message reply w' h may s
 happens_carries w (Merge into from) reply w' h may s = merged w into from reply w' h may s
+happens_carries w (Send from to) reply w' h may s = sent w from to reply w' h s
+happens_carries w (Deliver entry to) reply w' h may s =
+    delivered w to s.0.sender s.0.bytes reply w' h (λ p stands. may world.Stopped to p (inl refl) stands) (entry_was_made w entry s.0 h s.1) s.2
+happens_carries w (DeliverBytes to from bytes) reply w' h may s =
+    delivered w to from bytes reply w' h (λ p stands. may world.Stopped to p (inl refl) stands)
+    (λ message reads c i. may world.ForeignChange bytes refl c (subst (λ l. In c l) (sym (ap changes_of reads)) i)) s
 happens_carries w (Crash n during kept actor) reply w' h may s = crashed w n during kept actor reply w' h may s
 happens_carries w (Read n) reply w' h may s = read_all w n reply w' h s
 happens_carries w (ReadAt n H) reply w' h may s = read_at w n H reply w' h s
@@ -364,5 +414,6 @@ beginning_carried id is = record {
   used = λ c i. absurd i;
   peers = λ n p i. cc;
   lives = λ n m p q i. cc;
+  wire = λ e i. absurd i;
   reads = λ r i. absurd i;
 }

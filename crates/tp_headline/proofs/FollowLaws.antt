@@ -1,5 +1,5 @@
 -- What follows on a world that is carried.
-use Rattle.std.proofs.Common.{◌≡◌, inl, inr, ℕ, List, true, Some, None, refl, sym, ap, ◌∙◌, subst}
+use Rattle.std.proofs.Common.{◌≡◌, inl, inr, ℕ, List, length, true, Some, None, refl, sym, ap, ◌∙◌, subst}
 use Rattle.tp_list.specs.Members.{In}
 use Rattle.tp_list.proofs.Members.{In-left, In-last}
 use Rattle.tp_opid.specs.declared.hash.Hash.{Hash}
@@ -79,16 +79,19 @@ holds_shows w n p c h stands i events replies m w' text s next =
 -- ---- edits
 
 -- an edit that gave a hash entered the change
-edit_entered : (p p' : PeerData) (ss : List Splice) (time : ℕ) (message : List ℕ) (answer : peer.Reply) (h : Hash) → peer.Runs p (peer.Edit ss time message) answer p'
-    → PassesOn answer (Edited (Some h)) → (c : ChangeParts) × (hash_of c ≡ h) × In c p'.applied
-edit_entered p p' ss time message (peer.Made None) h runs e = absurd cc
-edit_entered p p' ss time message (peer.Made (Some g)) h runs e =
+edit_entered : (next : ℕ) (p p' : PeerData) (ss : List Splice) (time : ℕ) (message : List ℕ) (answer : peer.Reply) (h : Hash) → peer.Runs p (peer.Edit ss time message) answer p'
+    → PassesOn next answer (Edited (Some h)) → (c : ChangeParts) × (hash_of c ≡ h) × In c p'.applied
+edit_entered next p p' ss time message (peer.Made None) h runs e = absurd cc
+edit_entered next p p' ss time message (peer.Made (Some g)) h runs e =
     let same : g ≡ h = cc in
     (runs.0, sym runs.2 ∙ same, subst (λ (x : PeerData). In runs.0 x.applied) (sym runs.3) (In-last runs.0 p.applied))
-edit_entered p p' ss time message (peer.Merged report) h runs e = absurd runs
-edit_entered p p' ss time message (peer.Text t) h runs e = absurd runs
-edit_entered p p' ss time message (peer.Heads hs) h runs e = absurd runs
-edit_entered p p' ss time message (peer.Refused error) h runs e = absurd cc
+edit_entered next p p' ss time message (peer.Merged report) h runs e = absurd runs
+edit_entered next p p' ss time message (peer.Received report same) h runs e = absurd runs
+edit_entered next p p' ss time message (peer.Generated made) h runs e = absurd runs
+edit_entered next p p' ss time message peer.Forgotten h runs e = absurd runs
+edit_entered next p p' ss time message (peer.Text t) h runs e = absurd runs
+edit_entered next p p' ss time message (peer.Heads hs) h runs e = absurd runs
+edit_entered next p p' ss time message (peer.Refused error) h runs e = absurd cc
 
 edit_shows : (w : World) (n : ℕ) (ss : List Splice) (time : ℕ) (message : List ℕ) (h : Hash) (w' : World) → Carried w → Next w (event.Edit n ss time message) (Edited (Some h)) w'
     → (c : ChangeParts) × (hash_of c ≡ h) × ShowsFromNowOn w' n c
@@ -98,8 +101,8 @@ edit_shows w n ss time message h w' carried next = shown next where
   shown (inr does) =
       let s = does.happens in
       let c = s.0 in
-      let runs = runs_of_steps c.before (peer.Edit ss time message) c.answer c.after (Edited (Some h)) c.steps c.passed (λ e. cc) in
-      let made = edit_entered c.before c.after ss time message c.answer h runs c.passed in
+      let runs = runs_of_steps (length w.wire) c.before (peer.Edit ss time message) c.answer c.after (Edited (Some h)) c.steps c.passed (λ e. cc) in
+      let made = edit_entered (length w.wire) c.before c.after ss time message c.answer h runs c.passed in
       let stands : HasPeer w' n c.after = subst (λ x. HasPeer x n c.after) (sym s.1) (slice_get-set_same w.peers n c.before c.after c.stands) in
       (made.0, made.1, holds_shows w' n c.after made.0 (next_carries w (event.Edit n ss time message) (Edited (Some h)) w' carried next).carried stands made.2)
 
@@ -115,6 +118,7 @@ carried_follows w h = record {
         seen_stays w w' r (h.reads r i).known on.lasts.grows.made on.carried.sound,
       );
   lists = λ events replies w' n p s stands. (goes_on_carries events replies w w' h s).lasts.lists n p stands;
+  wire = λ events replies w' n e s there. (goes_on_carries events replies w w' h s).lasts.grows.wire n e there;
   edits = λ n ss time message hash w' next. edit_shows w n ss time message hash w' h next;
   reads = λ r i c j. let f = h.reads r i in holds_shows w r.peer f.peer c h f.stands (f.held c j);
   closed = λ r i c j. deps_there (seen w r) (sound_pasts w.made h.sound r.heads) c j;

@@ -11,15 +11,16 @@ use Rattle.tp_graph.proofs.NamedLaws.{has_all-more}
 use Rattle.tp_graph.proofs.SoundLaws.{Sound-before}
 use Rattle.tp_receive.specs.Receiving.{Begins}
 use Rattle.tp_peer.specs.PeerData.{PeerData}
-use Rattle.tp_headline.specs.World.{ReadRecord, World, HasPeer, seen}
+use Rattle.tp_headline.specs.World.{Entry, ReadRecord, World, HasEntry, HasPeer, seen}
 use Rattle.tp_headline.specs.Follows.{HoldsFrom}
-use Rattle.tp_headline.specs.Carried.{Carried, IsCarried, IsFaithful}
+use Rattle.tp_headline.specs.Carried.{Carried, IsCarried, IsFaithful, IsMessageOf}
 
--- From w to w' the document is the same, and what was made and used is so still.
+-- From w to w' the document is the same, what was made and used is so still, and each entry of the wire stays.
 pub record Grows (w w' : World) : Type 0 where
   pub id : w'.id ≡ w.id
   pub made : Begins w.made w'.made
   pub used : AllIn w.used w'.used
+  pub wire : (n : ℕ) (e : Entry) → HasEntry w n e → HasEntry w' n e
 
 -- And each peer's list only grew, and what was read is so still.
 pub record Lasts (w w' : World) : Type 0 where
@@ -43,7 +44,7 @@ begins-In C D b c i = subst (λ l. In c l) (sym b.1) (In-left c C b.0 i)
 
 pub lasts_still : (w : World) → Lasts w w
 lasts_still w = record {
-  grows = record { id = refl; made = begins_still w.made; used = λ a i. i };
+  grows = record { id = refl; made = begins_still w.made; used = λ a i. i; wire = λ n e i. i };
   lists = λ n p h. record { peer = p; stands = h; begins = begins_still p.applied };
   reads = ([], sym (append-nil w.reads));
 }
@@ -54,6 +55,7 @@ lasts_on w m w' first next = record {
     id = next.grows.id ∙ first.grows.id;
     made = begins_on w.made m.made w'.made first.grows.made next.grows.made;
     used = λ a i. next.grows.used a (first.grows.used a i);
+    wire = λ n e i. next.grows.wire n e (first.grows.wire n e i);
   };
   lists = λ n p h.
       let one = first.lists n p h in
@@ -61,6 +63,13 @@ lasts_on w m w' first next = record {
       record { peer = two.peer; stands = two.stands; begins = begins_on p.applied one.peer.applied two.peer.applied one.begins two.begins };
   reads = (first.reads.0 ++ next.reads.0, next.reads.1 ∙ ap (λ l. l ++ next.reads.0) first.reads.1 ∙ append_assoc w.reads first.reads.0 next.reads.0);
 }
+
+-- nothing changed
+pub still : (w w' : World) → Carried w → w' ≡ w → Carries w w'
+still w w' h is = subst (λ x. Carries w x) (sym is) (record { lasts = lasts_still w; carried = h })
+
+pub becomes : (w w' m : World) → w' ≡ m → Carries w m → Carries w w'
+becomes w w' m is c = subst (λ x. Carries w x) (sym is) c
 
 -- what a read saw stays the same
 pub seen_stays : (w w' : World) (r : ReadRecord) → has_all w.made r.heads ≡ true → Begins w.made w'.made → Sound w'.made → seen w' r ≡ seen w r
@@ -92,3 +101,7 @@ carried_stays w w' p grows own h = record {
   live = λ runs. record { journal = (h.live runs).journal; own = λ c i by. (h.live runs).own c (own runs c i by) by };
   dead = h.dead;
 }
+
+-- a message of changes that were made is one still
+pub message_stays : (C D : List ChangeParts) (bytes : List ℕ) → AllIn C D → IsMessageOf C bytes → IsMessageOf D bytes
+message_stays C D bytes all h = record { message = h.message; reads = h.reads; carries = λ c i. all c (h.carries c i) }

@@ -4,9 +4,12 @@ pub mod Lasting
 pub mod PeerMoves
 pub mod EditMoves
 pub mod CrashMoves
+pub mod MessageMoves
 pub mod EventLaws
 pub mod OneList
 pub mod FollowLaws
 pub mod RunLaws
 pub mod CrashLaws
 pub mod MayLaws
+pub mod ArrivalLaws
+pub mod BringingLaws

@@ -2,7 +2,7 @@
 use Rattle.std.proofs.Common.{◌≡◌, ◌⊎◌, inl, inr, ℕ, List, [], ◌∷◌, ◌++◌, slice_set, false, Some, refl, sym, ap, ◌∙◌, subst, append-nil}
 use Rattle.std.specs.List.{slice_get}
 use Rattle.tp_list.specs.Members.{In, AllIn}
-use Rattle.tp_list.proofs.Members.{In-left, In-append, In-last}
+use Rattle.tp_list.proofs.Members.{In-left, In-append, In-last, In-push}
 use Rattle.tp_opid.specs.declared.actor.Actor.{Actor}
 use Rattle.tp_change.specs.declared.parts.ChangeParts.{ChangeParts}
 use Rattle.tp_document.specs.DocState.{AllChanges}
@@ -11,10 +11,10 @@ use Rattle.tp_journal.specs.Layout.{IsDocId}
 use Rattle.tp_journal.specs.Recovery.{IsHistory}
 use Rattle.tp_receive.specs.Receiving.{Begins}
 use Rattle.tp_peer.specs.PeerData.{PeerData, opened}
-use Rattle.tp_headline.specs.World.{World, HasPeer, with_new_peer, with_used}
-use Rattle.tp_headline.specs.Carried.{Carried, IsCarried, LivesApart}
+use Rattle.tp_headline.specs.World.{Entry, World, HasPeer, with_entry, with_new_peer, with_peer, with_used}
+use Rattle.tp_headline.specs.Carried.{Carried, IsCarried, IsMessageOf, LivesApart}
 use Rattle.tp_headline.proofs.PlaceLaws.{slice_get-set_same, slice_get-set, slice_get-set_either, slice_get-left, slice_get-push}
-use Rattle.tp_headline.proofs.Lasting.{Carries, Grows, Lasts, begins_still, carried_stays, faithful_stays}
+use Rattle.tp_headline.proofs.Lasting.{Carries, Grows, Lasts, begins-In, begins_still, carried_stays, faithful_stays, message_stays}
 
 -- ---- actors
 
@@ -23,7 +23,7 @@ pub actor_is_used : (w : World) (actor : Actor) → Carried w → Carries w (wit
 actor_is_used w actor h =
     let w' = with_used w actor in
     let more : AllIn w.used w'.used = λ a i. In-left a w.used (actor ∷ []) i in
-    let grows : Grows w w' = record { id = refl; made = begins_still w.made; used = more } in
+    let grows : Grows w w' = record { id = refl; made = begins_still w.made; used = more; wire = λ n e i. i } in
     let lasts : Lasts w w' = record {
       grows = grows;
       lists = λ n p i. record { peer = p; stands = i; begins = begins_still p.applied };
@@ -38,6 +38,34 @@ actor_is_used w actor h =
         used = λ c i. more c.actor (h.used c i);
         peers = λ n p i. carried_stays w w' p grows (λ runs c j by. j) (h.peers n p i);
         lives = h.lives;
+        wire = h.wire;
+        reads = λ r i. faithful_stays w w' r lasts h.sound (h.reads r i);
+      };
+    }
+
+-- ---- the wire
+
+-- a message of changes that were made goes on the wire
+pub entry_is_sent : (w : World) (n : ℕ) (bytes : List ℕ) → Carried w → IsMessageOf w.made bytes → Carries w (with_entry w n bytes)
+entry_is_sent w n bytes h is =
+    let w' = with_entry w n bytes in
+    let new : Entry = record { sender = n; bytes = bytes } in
+    let grows : Grows w w' = record { id = refl; made = begins_still w.made; used = λ a i. i; wire = λ m e i. slice_get-left w.wire (new ∷ []) m e i } in
+    let lasts : Lasts w w' = record {
+      grows = grows;
+      lists = λ m p i. record { peer = p; stands = i; begins = begins_still p.applied };
+      reads = ([], sym (append-nil w.reads));
+    } in
+    record {
+      lasts = lasts;
+      carried = record {
+        is_id = h.is_id;
+        sound = h.sound;
+        limits = h.limits;
+        used = h.used;
+        peers = λ m p i. carried_stays w w' p grows (λ runs c j by. j) (h.peers m p i);
+        lives = h.lives;
+        wire = λ e i. elim (In-push e w.wire new i) [ inl old ↦ h.wire e old | inr last ↦ subst (λ (x : Entry). IsMessageOf w.made x.bytes) (sym last) is ];
         reads = λ r i. faithful_stays w w' r lasts h.sound (h.reads r i);
       };
     }
@@ -51,7 +79,7 @@ peer_joins w actor C h fresh history made =
     let p = opened w.id actor C 0 in
     let w' = with_used (with_new_peer w p) actor in
     let more : AllIn w.used w'.used = λ a i. In-left a w.used (actor ∷ []) i in
-    let grows : Grows w w' = record { id = refl; made = begins_still w.made; used = more } in
+    let grows : Grows w w' = record { id = refl; made = begins_still w.made; used = more; wire = λ n e i. i } in
     let lasts : Lasts w w' = record {
       grows = grows;
       lists = λ n q i. record { peer = q; stands = slice_get-left w.peers (p ∷ []) n q i; begins = begins_still q.applied };
@@ -88,6 +116,7 @@ peer_joins w actor C h fresh history made =
             | inr old_s ↦ h.lives n m q s old_q old_s run_q run_s same
           ]
         ];
+        wire = h.wire;
         reads = λ r i. faithful_stays w w' r lasts h.sound (h.reads r i);
       };
     }
@@ -100,10 +129,20 @@ pub record Moves (w w' : World) (n : ℕ) (p' : PeerData) (new : List ChangePart
   pub peers : w'.peers ≡ slice_set w.peers n p'
   pub made : w'.made ≡ w.made ++ new
   pub used : AllIn w.used w'.used
+  pub wire : w'.wire ≡ w.wire
   pub reads : w'.reads ≡ w.reads
 
+-- nothing was made
+pub peer_moves : (w : World) (n : ℕ) (p' : PeerData) → Moves w (with_peer w n p') n p' []
+peer_moves w n p' = record { id = refl; peers = refl; made = sym (append-nil w.made); used = λ a i. i; wire = refl; reads = refl }
+
 pub moves_grow : (w w' : World) (n : ℕ) (p' : PeerData) (new : List ChangeParts) → Moves w w' n p' new → Grows w w'
-moves_grow w w' n p' new moves = record { id = moves.id; made = (new, moves.made); used = moves.used }
+moves_grow w w' n p' new moves = record {
+  id = moves.id;
+  made = (new, moves.made);
+  used = moves.used;
+  wire = λ m e i. subst (λ l. slice_get l m ≡ Some e) (sym moves.wire) i;
+}
 
 -- The changes were made by the peer p, which runs.
 pub record AreBy (p : PeerData) (new : List ChangeParts) : Type 0 where
@@ -205,6 +244,7 @@ peer_changes w w' n p p' new c =
           | inr old ↦ carried_stays w w' q lasts.grows (others_own w w' n p p' new c m q old.0 old.1) (h.peers m q old.1)
         ];
         lives = lives_changed w w' n p p' new c;
+        wire = λ e i. message_stays w.made w'.made e.bytes (begins-In w.made w'.made lasts.grows.made) (h.wire e (subst (λ l. In e l) moves.wire i));
         reads = λ r i. faithful_stays w w' r lasts sound (h.reads r (subst (λ l. In r l) moves.reads i));
       };
     }

@@ -43,3 +43,8 @@ slice_get-push [] y q (suc m) e = absurd cc
 slice_get-push (a ∷ xs) y q zero e = inr e
 slice_get-push (a ∷ xs) y q (suc m) e =
     elim (slice_get-push xs y q m e) [ inl w ↦ inl (ap suc w.0, w.1) | inr w ↦ inr w ]
+
+-- the new one stands behind all others
+pub slice_get-last : {X : Type 0} (xs : List X) (y : X) → slice_get (xs ++ y ∷ []) (length xs) ≡ Some y
+slice_get-last [] y = refl
+slice_get-last (a ∷ xs) y = slice_get-last xs y

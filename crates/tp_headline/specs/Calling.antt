@@ -1,5 +1,5 @@
 -- Calls on the peers of a world. Their journals are in memory, so their devices never fail.
-use Rattle.std.specs.Prelude.{◌≡◌, ℕ, List}
+use Rattle.std.specs.Prelude.{◌≡◌, ℕ, List, length}
 use Rattle.tp_peer.specs.Appending.{JournalState, journal_state}
 use Rattle.tp_peer.specs.PeerData.{PeerData}
 use Rattle.tp_peer.specs.PeerStep as peer
@@ -22,4 +22,4 @@ pub record Calls (w : World) (n : ℕ) (call : peer.Call) (reply : Reply) : Type
   pub answer : peer.Reply
   pub after : PeerData
   pub steps : Steps before call answer after
-  pub passed : PassesOn answer reply
+  pub passed : PassesOn (length w.wire) answer reply

@@ -1,5 +1,5 @@
 -- What every world that a run reaches keeps, event by event.
-use Rattle.std.specs.Prelude.{◌≡◌, ℕ, List, true, false}
+use Rattle.std.specs.Prelude.{◌≡◌, ℕ, List, Ok, true, false}
 use Rattle.tp_list.specs.Members.{In, AllIn}
 use Rattle.tp_change.specs.declared.parts.ChangeParts.{ChangeParts}
 use Rattle.tp_document.specs.DocState.{AllChanges}
@@ -8,8 +8,10 @@ use Rattle.tp_graph.specs.Sound.{Sound}
 use Rattle.tp_journal.specs.Layout.{IsDocId, journal}
 use Rattle.tp_journal.specs.Recovery.{IsHistory, Recovers}
 use Rattle.tp_peer.specs.PeerData.{PeerData}
+use Rattle.tp_sync.specs.Message.{MessageParts}
+use Rattle.tp_sync.specs.Reading.{message_at}
 use Rattle.tp_text.specs.Text.{IsTextOf}
-use Rattle.tp_headline.specs.World.{ReadRecord, World, HasPeer, seen}
+use Rattle.tp_headline.specs.World.{Entry, ReadRecord, World, HasPeer, seen}
 
 -- A running peer has its changes in its journal, and holds each change that its actor made.
 pub record IsLive (made : List ChangeParts) (p : PeerData) : Type 0 where
@@ -28,6 +30,12 @@ pub record IsCarried (w : World) (p : PeerData) : Type 0 where
   pub live : p.stopped ≡ false → IsLive w.made p
   pub dead : p.stopped ≡ true → (keep : ℕ) × Recovers p.journal p.id p.applied keep
 
+-- The bytes are a message, and each change that it carries was made.
+pub record IsMessageOf (made : List ChangeParts) (bytes : List ℕ) : Type 0 where
+  pub message : MessageParts
+  pub reads : message_at bytes ≡ Ok message
+  pub carries : AllIn message.changes made
+
 -- A read's heads are known, its text is that of the changes that it saw, and its peer holds these.
 pub record IsFaithful (w : World) (r : ReadRecord) : Type 0 where
   pub known : has_all w.made r.heads ≡ true
@@ -42,7 +50,8 @@ LivesApart w =
     (n m : ℕ) (p q : PeerData) → HasPeer w n p → HasPeer w m q → p.stopped ≡ false → q.stopped ≡ false
     → p.actor ≡ q.actor → n ≡ m
 
--- The changes that were made are sound and by actors that are used, and each peer and each read is as it should be.
+-- The changes that were made are sound and by actors that are used, and each peer, each entry of the wire and each read is
+-- as it should be.
 pub record Carried (w : World) : Type 0 where
   pub is_id : IsDocId w.id
   pub sound : Sound w.made
@@ -50,4 +59,5 @@ pub record Carried (w : World) : Type 0 where
   pub used : (c : ChangeParts) → In c w.made → In c.actor w.used
   pub peers : (n : ℕ) (p : PeerData) → HasPeer w n p → IsCarried w p
   pub lives : LivesApart w
+  pub wire : (e : Entry) → In e w.wire → IsMessageOf w.made e.bytes
   pub reads : (r : ReadRecord) → In r w.reads → IsFaithful w r

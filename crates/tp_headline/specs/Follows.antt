@@ -13,7 +13,7 @@ use Rattle.tp_headline.specs.Event as event
 use Rattle.tp_headline.specs.Happening.{Next}
 use Rattle.tp_headline.specs.Reply.{Reply, Edited, Text}
 use Rattle.tp_headline.specs.Running.{GoesOn}
-use Rattle.tp_headline.specs.World.{ReadRecord, World, HasPeer, seen}
+use Rattle.tp_headline.specs.World.{Entry, ReadRecord, World, HasEntry, HasPeer, seen}
 
 -- The peer numbered n holds the changes C and, behind them, maybe more.
 pub record HoldsFrom (w : World) (n : ℕ) (C : List ChangeParts) : Type 0 where
@@ -48,6 +48,9 @@ pub record Follows (w : World) : Type 0 where
   -- each peer's list only grows at its end
   pub lists : (events : List event.Event) (replies : List Reply) (w' : World) (n : ℕ) (p : PeerData)
       → GoesOn w events replies w' → HasPeer w n p → HoldsFrom w' n p.applied
+  -- an entry of the wire stays there under its number, so it may be delivered at any time
+  pub wire : (events : List event.Event) (replies : List Reply) (w' : World) (n : ℕ) (e : Entry)
+      → GoesOn w events replies w' → HasEntry w n e → HasEntry w' n e
   -- a change whose edit was answered is shown at that peer for ever
   pub edits : (n : ℕ) (splices : List Splice) (time : ℕ) (message : List ℕ) (h : Hash) (w' : World)
       → Next w (event.Edit n splices time message) (Edited (Some h)) w'

@@ -1,5 +1,5 @@
 -- What an event does to a world.
-use Rattle.std.specs.Prelude.{◌≡◌, ◌⊎◌, ℕ, List, [], length}
+use Rattle.std.specs.Prelude.{◌≡◌, ◌⊎◌, ℕ, List, [], length, Some}
 use Rattle.tp_opid.specs.declared.actor.Actor.{Actor}
 use Rattle.tp_opid.specs.declared.hash.Hash.{Hash}
 use Rattle.tp_graph.specs.Heads.{heads}
@@ -10,10 +10,10 @@ use Rattle.tp_peer.specs.PeerStep as peer
 use Rattle.tp_headline.specs.declared.error.WorldError.{WorldError}
 use Rattle.tp_headline.specs.Calling.{Calls, in_memory}
 use Rattle.tp_headline.specs.Crashing.{Crashes, made_during}
-use Rattle.tp_headline.specs.Event.{Event, Start, Fork, Edit, Merge, Crash, Read, ReadAt}
+use Rattle.tp_headline.specs.Event.{Event, Start, Fork, Edit, Merge, Send, Deliver, DeliverBytes, Crash, Read, ReadAt}
 use Rattle.tp_headline.specs.Refusing.{MayHappen, IsRefusal}
 use Rattle.tp_headline.specs.Reply.{Reply, Peer, Text, Refused, Inner}
-use Rattle.tp_headline.specs.World.{World, HasPeer, with_new_peer, with_peer, with_made, with_used, with_read, gained}
+use Rattle.tp_headline.specs.World.{Entry, World, HasEntry, HasPeer, with_entry, with_new_peer, with_peer, with_made, with_used, with_read, gained}
 
 -- A peer with an empty document joins. The actor is used also where memory was refused.
 abbrev pub Starts : World → Actor → Reply → World → Type 0
@@ -32,6 +32,15 @@ Forks w p actor (Inner error) w' =
     opening.NotForked p actor (in_memory []) error (in_memory []) × (w' ≡ with_used w actor)
 Forks w p actor _ w' = ⊥
 
+-- the world after the peer numbered n was asked for a message: one that it made goes on the wire
+abbrev pub with_sent : World → ℕ → peer.Reply → World
+with_sent w n (peer.Generated (Some message)) = with_entry w n message.0
+with_sent w n _ = w
+
+-- The peer numbered n received the bytes on its link to the peer numbered `from`.
+abbrev pub Delivers : World → ℕ → ℕ → List ℕ → Reply → World → Type 0
+Delivers w n from bytes reply w' = (c : Calls w n (peer.Receive from bytes) reply) × (w' ≡ with_peer w n c.after)
+
 -- the world after the peer numbered n was read at the heads: a text is recorded, and a refusal isn't
 abbrev pub with_answer : World → ℕ → List Hash → Reply → World
 with_answer w n heads (Text text) = with_read w n heads text
@@ -47,6 +56,11 @@ Happens w (Edit n splices time message) reply w' =
 Happens w (Merge into from) reply w' =
     (other : PeerData) × HasPeer w from other × (c : Calls w into (peer.Merge other) reply)
     × (w' ≡ with_peer w into c.after)
+Happens w (Send from to) reply w' =
+    (c : Calls w from (peer.Generate to) reply) × (w' ≡ with_sent (with_peer w from c.after) from c.answer)
+Happens w (Deliver entry to) reply w' =
+    (e : Entry) × HasEntry w entry e × Delivers w to e.sender e.bytes reply w'
+Happens w (DeliverBytes to from bytes) reply w' = Delivers w to from bytes reply w'
 Happens w (Crash n during kept actor) reply w' =
     (c : Crashes w n during kept actor reply)
     × (w' ≡ with_used (with_made (with_peer w n c.after) (made_during during (gained c.before c.after))) actor)

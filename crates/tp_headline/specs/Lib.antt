@@ -11,3 +11,4 @@ pub mod Running
 pub mod Headline
 pub mod Follows
 pub mod Carried
+pub mod Arriving

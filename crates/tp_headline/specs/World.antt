@@ -14,22 +14,33 @@ pub record ReadRecord : Type 0 where
   pub heads : List Hash
   pub text : List ℕ
 
--- The identifier of the document; the peers, each at its number; the changes that were made, in the order in which they
--- were; the actors that were named; and the reads, in their order.
+-- An entry of the wire: the number of the peer that sent it, and its bytes. It stays there whatever happens to it, so it
+-- may be delivered never, once or many times, to any peer.
+pub record Entry : Type 0 where
+  pub sender : ℕ
+  pub bytes : List ℕ
+
+-- The identifier of the document; the peers, each at its number; the entries of the wire, each at its number; the changes
+-- that were made, in the order in which they were; the actors that were named; and the reads, in their order.
 pub record World : Type 0 where
   pub id : DocId
   pub peers : List PeerData
+  pub wire : List Entry
   pub made : List ChangeParts
   pub used : List Actor
   pub reads : List ReadRecord
 
 -- a world in which nothing happened yet
 abbrev pub beginning : DocId → World
-beginning id = record { id = id; peers = []; made = []; used = []; reads = [] }
+beginning id = record { id = id; peers = []; wire = []; made = []; used = []; reads = [] }
 
 -- The peer numbered n is p.
 abbrev pub HasPeer : World → ℕ → PeerData → Type 0
 HasPeer w n p = slice_get w.peers n ≡ Some p
+
+-- The entry numbered n of the wire is e.
+abbrev pub HasEntry : World → ℕ → Entry → Type 0
+HasEntry w n e = slice_get w.wire n ≡ Some e
 
 -- the changes that a read saw: the past of its heads
 abbrev pub seen : World → ReadRecord → List ChangeParts
@@ -44,6 +55,10 @@ with_new_peer w p = record w { peers = w.peers ++ p ∷ [] }
 -- the peer numbered n is p from now on
 abbrev pub with_peer : World → ℕ → PeerData → World
 with_peer w n p = record w { peers = slice_set w.peers n p }
+
+-- the peer numbered n sent the bytes
+abbrev pub with_entry : World → ℕ → List ℕ → World
+with_entry w n bytes = record w { wire = w.wire ++ record { sender = n; bytes = bytes } ∷ [] }
 
 -- changes were made
 abbrev pub with_made : World → List ChangeParts → World

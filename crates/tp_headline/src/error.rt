@@ -14,7 +14,7 @@ pub enum WorldError {
     /// The actor was named by an earlier event.
     #[error("ActorUsed")]
     ActorUsed,
-    /// Delivered bytes carry a change that no peer made.
+    /// Delivered bytes of any origin carry a change that no peer made.
     #[error("ForeignChange")]
     ForeignChange,
     /// The event would make a change with the hash of another one.

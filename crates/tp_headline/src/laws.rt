@@ -1,6 +1,6 @@
 //! The laws of a world, as functions without a body: what each says is its contract.
 
-ghost use Rattle.std.specs.Prelude.{◌≡◌, ◌⊎◌, ℕ, List, [], ◌∷◌, ◌++◌, length, false, Some};
+ghost use Rattle.std.specs.Prelude.{◌≡◌, ◌⊎◌, ℕ, Bool, List, [], ◌∷◌, ◌++◌, length, false, Some, Err};
 ghost use Rattle.tp_list.specs.Members.{In};
 ghost use Rattle.tp_opid.specs.declared.actor.Actor.{Actor};
 ghost use Rattle.tp_opid.specs.declared.doc_id.DocId.{DocId};
@@ -8,20 +8,29 @@ ghost use Rattle.tp_change.specs.declared.parts.ChangeParts.{ChangeParts};
 ghost use Rattle.tp_change.specs.ChangeHash.{hash_of};
 ghost use Rattle.tp_edit.specs.declared.splice.Splice.{Splice};
 ghost use Rattle.tp_journal.specs.Layout.{IsDocId};
-ghost use Rattle.tp_headline.specs.Carried.{Carried};
+ghost use Rattle.tp_graph.specs.Heads.{heads};
 ghost use Rattle.tp_graph.specs.Named.{has};
-ghost use Rattle.tp_peer.specs.PeerData.{opened};
+ghost use Rattle.tp_receive.specs.Receiving.{Begins};
+ghost use Rattle.tp_peer.specs.Laws.{changes_in};
+ghost use Rattle.tp_peer.specs.PeerData.{PeerData, opened};
+ghost use Rattle.tp_peer.specs.Links.{known_of};
 ghost use Rattle.tp_peer.specs.PeerStep.{entered};
+ghost use Rattle.tp_peer.specs.Taking.{Report};
+ghost use Rattle.tp_sync.specs.declared.error.SyncError.{SyncError};
+ghost use Rattle.tp_sync.specs.Due.{leaves_out};
+ghost use Rattle.tp_sync.specs.Reading.{message_at};
+ghost use Rattle.tp_headline.specs.Arriving.{HoldsAll, HoldsReady};
 ghost use Rattle.tp_headline.specs.Call as call;
-ghost use Rattle.tp_headline.specs.Crashing.{MakesWhole};
-ghost use Rattle.tp_headline.specs.Event.{Event, Crash, Edit, Start};
+ghost use Rattle.tp_headline.specs.Carried.{Carried, IsMessageOf};
+ghost use Rattle.tp_headline.specs.Crashing.{KeepsWhole, MakesWhole};
+ghost use Rattle.tp_headline.specs.Event.{Event, Crash, Deliver, DeliverBytes, Edit, Merge, Send, Start};
 ghost use Rattle.tp_headline.specs.Follows.{Follows};
 ghost use Rattle.tp_headline.specs.Happening.{Next};
 ghost use Rattle.tp_headline.specs.Headline.{Headline};
-ghost use Rattle.tp_headline.specs.Reply.{Edited, Peer, Reply};
-ghost use Rattle.tp_headline.specs.Refusing.{IsEditAt};
+ghost use Rattle.tp_headline.specs.Reply.{Delivered, Edited, Merged, Peer, Reply, Wire};
+ghost use Rattle.tp_headline.specs.Refusing.{IsEditAt, MayHappen};
 ghost use Rattle.tp_headline.specs.Running.{GoesOn, PassesThrough, Run};
-ghost use Rattle.tp_headline.specs.World.{World, beginning, with_made, with_new_peer, with_peer, with_used};
+ghost use Rattle.tp_headline.specs.World.{Entry, World, HasEntry, HasPeer, beginning, with_made, with_new_peer, with_peer, with_used};
 
 /// The headline: after every run, one list holds every element ever inserted, each once; every text that any peer ever
 /// read is that list kept to the elements that its seen changes insert and don't delete; and two reads under equal
@@ -38,14 +47,21 @@ pub fn what_was_shown_lasts()
         → Run id events replies w → Follows w }
 {}
 
-/// Every world that a run reaches is carried: what was made is sound, and each peer, each journal and each read is as
-/// it should be.
+/// Every world that a run reaches is carried: what was made is sound, and each peer, each journal, each entry of the
+/// wire and each read is as it should be.
 pub fn a_run_is_carried()
     ensures begins { (id : DocId) → IsDocId id → Carried (beginning id) }
     ensures goes_on { (w : World) (e : Event) (reply : Reply) (w' : World) → Carried w
         → Next w e reply w' → Carried w' }
     ensures runs { (id : DocId) (events : List Event) (replies : List Reply) (w : World)
         → IsDocId id → Run id events replies w → Carried w }
+{}
+
+/// After every run each entry of the wire is a message, and each change that it carries was made: so no delivery of an
+/// entry brings a change that nobody made, whatever happened to the peer that sent it.
+pub fn the_wire_carries_what_was_made()
+    ensures { (id : DocId) (events : List Event) (replies : List Reply) (w : World) → IsDocId id
+        → Run id events replies w → (e : Entry) → In e w.wire → IsMessageOf w.made e.bytes }
 {}
 
 /// Runs one after another are a run, and a run passes a moment after each of its events: what is promised of all runs
@@ -72,8 +88,22 @@ pub fn a_crash_within_an_edit()
         → (w'.made ≡ w.made) ⊎ MakesWhole w w' n splices time message kept }
 {}
 
+/// A crash within a merge or a delivery makes nothing. Some of the changes that waited and came had entered by then, and
+/// the peer comes back with what it had before and, behind it, just those of them whose records are whole.
+pub fn a_crash_while_receiving()
+    ensures merge { (w : World) (n from kept : ℕ) (actor : Actor) (reply : Reply) (w' : World)
+        (other : PeerData) → Carried w → HasPeer w from other
+        → Next w (Crash n (Some (call.Merge from)) kept actor) reply w'
+        → (w' ≡ w) ⊎ KeepsWhole w w' n other.applied kept }
+    ensures delivery { (w : World) (n entry kept : ℕ) (actor : Actor) (reply : Reply) (w' : World)
+        (e : Entry) → Carried w → HasEntry w entry e
+        → Next w (Crash n (Some (call.Deliver entry)) kept actor) reply w'
+        → (w' ≡ w) ⊎ KeepsWhole w w' n (changes_in e.bytes) kept }
+{}
+
 /// A peer may join under an actor that wasn't named, and an edit may happen whose change has a new hash: it enters and
-/// counts as made.
+/// counts as made. A running peer may be asked for a message to any peer, also to one that has stopped. Any entry of the
+/// wire may be delivered to any running peer, and so may bytes that are no message.
 pub fn what_may_happen()
     ensures start { (w : World) (actor : Actor) → (In actor w.used → ⊥)
         → Next w (Start actor) (Peer (length w.peers))
@@ -83,4 +113,40 @@ pub fn what_may_happen()
         → has w.made (hash_of c) ≡ false
         → Next w (Edit n splices time message) (Edited (Some (hash_of c)))
         (with_made (with_peer w n (entered e.peer c)) (c ∷ [])) }
+    ensures send { (w : World) (from to : ℕ) (p q : PeerData) → HasPeer w from p → HasPeer w to q
+        → p.stopped ≡ false → MayHappen w (Send from to) }
+    ensures deliver { (w : World) (n to : ℕ) (e : Entry) (p : PeerData) → HasEntry w n e
+        → HasPeer w to p → p.stopped ≡ false → MayHappen w (Deliver n to) }
+    ensures deliver_bytes { (w : World) (to from : ℕ) (bytes : List ℕ) (error : SyncError)
+        (p q : PeerData) → HasPeer w to p → HasPeer w from q → p.stopped ≡ false
+        → message_at bytes ≡ Err error → MayHappen w (DeliverBytes to from bytes) }
+{}
+
+/// Once a merge was answered, the peer that took holds every change that the other one holds, where it has a place left.
+pub fn a_merge_brings_all()
+    ensures { (w : World) (into from : ℕ) (report : Report) (w' : World) (other : PeerData)
+        → Carried w → HasPeer w from other → Next w (Merge into from) (Merged report) w'
+        → HoldsAll w' into other.applied }
+{}
+
+/// Once a delivery was answered, the peer holds each change that came whose dependencies it holds, where it has a place
+/// left: of what was made nothing that is ready stays out.
+pub fn a_delivery_brings_what_is_ready()
+    ensures { (w : World) (n to : ℕ) (report : Report) (same_heads : Bool) (w' : World)
+        (e : Entry) → Carried w → HasEntry w n e
+        → Next w (Deliver n to) (Delivered report same_heads) w'
+        → HoldsReady w' to (changes_in e.bytes) }
+{}
+
+/// A message brings all. Where the other peer had told the sender what it held, and the message leaves out nothing that
+/// is due, then however late it is delivered there, and whatever happens in between: once the delivery was answered, the
+/// other peer holds every change that the sender held when it made the message, where it has a place left.
+pub fn a_message_brings_all()
+    ensures { (w : World) (from to n : ℕ) (p q : PeerData) (D : List ChangeParts) (m : World)
+        (events : List Event) (replies : List Reply) (v : World) (report : Report)
+        (same_heads : Bool) (w' : World) → Carried w → HasPeer w from p → HasPeer w to q
+        → Begins D q.applied → (known_of p.links to).theirs ≡ Some (heads D)
+        → leaves_out p.applied (known_of p.links to) ≡ false
+        → Next w (Send from to) (Wire n) m → GoesOn m events replies v
+        → Next v (Deliver n to) (Delivered report same_heads) w' → HoldsAll w' to p.applied }
 {}

@@ -1,9 +1,11 @@
 //! What is promised of a world of peers that edit one text: one list holds every element ever inserted, each once, and
 //! every text that any peer ever read is a part of it.
 //!
-//! A world has peers, each with a document and a journal. Events happen in it in any order: peers join, edit, merge,
-//! are read, crash and come back. `Next` (specs/Happening) says what an event may reply and leave, and `Run`
-//! (specs/Running) what a schedule of events may. The crate has the definitions and the laws, and no code that runs.
+//! A world has peers, each with a document and a journal, and a wire with the messages that were sent. Events happen in
+//! it in any order: peers join, edit, merge, send messages, receive them, are read, crash and come back. A message is
+//! received never, once or many times, by any peer, and so are bytes of any origin. `Next` (specs/Happening) says what
+//! an event may reply and leave, and `Run` (specs/Running) what a schedule of events may. The crate has the definitions
+//! and the laws, and no code that runs.
 #![tactic(auto)]
 
 mod error;
@@ -11,6 +13,7 @@ mod laws;
 
 pub use error::WorldError;
 pub use laws::{
-    a_crash_within_an_edit, a_run_is_carried, an_edit_is_new, headline, runs_part_by_part,
-    what_may_happen, what_was_shown_lasts,
+    a_crash_while_receiving, a_crash_within_an_edit, a_delivery_brings_what_is_ready,
+    a_merge_brings_all, a_message_brings_all, a_run_is_carried, an_edit_is_new, headline,
+    runs_part_by_part, the_wire_carries_what_was_made, what_may_happen, what_was_shown_lasts,
 };

@@ -5,7 +5,7 @@ use Rattle.tp_document.specs.declared.error.DocError.{DocError}
 use Rattle.tp_document.specs.declared.error.DocError.TheVariants as doc
 use Rattle.tp_document.specs.Editing.{Asked, Edited, IsRefused}
 use Rattle.tp_peer.specs.declared.error.PeerError.{PeerError}
-use Rattle.tp_peer.specs.declared.error.PeerError.TheVariants.{ActorInUse, JournalFailed, Stopped, JournalNotEmpty, Doc, Store, OutOfMemory}
+use Rattle.tp_peer.specs.declared.error.PeerError.TheVariants.{JournalFailed, OutOfMemory}
 use Rattle.tp_peer.specs.PeerData.{PeerData}
 use Rattle.tp_peer.specs.PeerError.{refusal_of_document}
 use Rattle.tp_opid.specs.declared.hash.Hash.{Hash}
@@ -32,11 +32,7 @@ edit_refused p asked doc.NotKept h = absurd h
 pub entry_refused : (p : PeerData) (asked : Asked) (c : ChangeParts) (e : PeerError) (p' : PeerData) → Edited p.applied asked c → RefusesEntry p c e p' → RefusesEdit p asked e p'
 entry_refused p asked c JournalFailed p' edited h = (c, edited, h)
 entry_refused p asked c OutOfMemory p' edited h = h
-entry_refused p asked c ActorInUse p' edited h = absurd h
-entry_refused p asked c Stopped p' edited h = absurd h
-entry_refused p asked c JournalNotEmpty p' edited h = absurd h
-entry_refused p asked c (Doc e) p' edited h = absurd h
-entry_refused p asked c (Store e) p' edited h = absurd h
+entry_refused p asked c _ p' edited h = absurd h
 
 -- ---- texts at hashes
 

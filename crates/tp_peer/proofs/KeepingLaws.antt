@@ -1,12 +1,16 @@
 -- What a journal is once records were appended, and what enters a history.
-use Rattle.std.proofs.Common.{◌≡◌, inl, inr, List, [], ◌∷◌, ◌++◌, refl, sym, ap, ◌∙◌, subst, append_assoc, append-nil}
+use Rattle.std.proofs.Common.{◌≡◌, ℕ, suc, ◌+◌, ◌≤◌, inl, inr, List, [], ◌∷◌, ◌++◌, length, Bool, cond, refl, sym, ap, ◌∙◌, subst, append_assoc, append-nil, length-append, arith}
 use Rattle.tp_change.specs.declared.parts.ChangeParts.{ChangeParts}
 use Rattle.tp_change.specs.Limits.{IsChange}
 use Rattle.tp_document.specs.DocState.{AllChanges}
-use Rattle.tp_receive.specs.Intake.{Intake, Run}
+use Rattle.tp_graph.specs.GraphState.{most_waiting}
+use Rattle.tp_graph.specs.Named.{has_all}
+use Rattle.tp_receive.specs.Delivery.{delivery, slots, takes_slot, with_slots}
+use Rattle.tp_receive.specs.Intake.{Intake, Run, Turn, begin}
 use Rattle.tp_receive.specs.Receiving.{EntersAfter, Grows}
 use Rattle.tp_receive.specs.Replies.{KeepsAll}
 use Rattle.tp_receive.proofs.RunLaws.{progress}
+use Rattle.tp_receive.proofs.TurnLaws.{Run-keeps, TakesOut, Turn-cases}
 use Rattle.tp_list.specs.Members.{AllIn}
 use Rattle.tp_journal.specs.Layout.{record_of, records_of}
 use Rattle.tp_journal.specs.Recovery.{IsHistory}
@@ -43,14 +47,81 @@ history_grows (c ∷ new) C h e l =
     subst IsHistory (append_assoc C (c ∷ []) new)
     (history_grows new (C ++ c ∷ []) (history_push C c h (l c (inl refl)) e.0) e.1 (λ d i. l d (inr i)))
 
+-- ---- how many changes entered, and how many wait
+
+-- what entered, waits and is still to come is no more than so many
+abbrev AtMost : {S : Type 0} → ℕ → Intake S → Type 0
+AtMost most s = length s.applied + (length s.waiting + length s.coming) ≤ most
+
+AtMost-turn : {S : Type 0} (keeps : S → ChangeParts → S → Type 0) (most : ℕ) (s t : Intake S) → Turn keeps s t → AtMost most s → AtMost most t
+AtMost-turn {S} keeps most s t u few =
+    Turn-cases keeps (AtMost most) s t
+    (record {
+      entered = λ c V Q k out none keep. omega (arith, out.fewer, length-append s.applied (c ∷ []));
+      refused = λ c V Q e out caused final. omega (arith, out.fewer);
+      again = λ c Q slot out is lacks there. omega (arith, out.fewer);
+      held = λ c Q slot out is lacks new space. omega (arith, out.fewer, length-append s.waiting (c ∷ []));
+      dropped = λ c Q slot out is lacks new full. omega (arith, out.fewer);
+    })
+    u
+
+-- no more wait than may
+abbrev FewWait : {S : Type 0} → Intake S → Type 0
+FewWait s = length s.waiting ≤ most_waiting
+
+-- what is taken out makes none wait
+taken_out : (W V : List ChangeParts) (P Q : List (ChangeParts × Bool)) (c : ChangeParts) → TakesOut W P c V Q → length V ≤ length W
+taken_out W V P Q c out =
+    let fewer = out.fewer in
+    let few = out.few in
+    elim out.comes [
+      | inl same ↦ let l : slots Q ≡ slots P = ap slots same in omega arith
+      | inr next ↦ let l : length P ≡ suc (length Q) = ap length next.1 in omega arith
+    ]
+
+FewWait-turn : {S : Type 0} (keeps : S → ChangeParts → S → Type 0) (s t : Intake S) → Turn keeps s t → FewWait s → FewWait t
+FewWait-turn {S} keeps s t u few =
+    Turn-cases keeps FewWait s t
+    (record {
+      entered = λ c V Q k out none keep. let less = taken_out s.waiting V s.coming Q c out in omega arith;
+      refused = λ c V Q e out caused final. let less = taken_out s.waiting V s.coming Q c out in omega arith;
+      again = λ c Q slot out is lacks there. few;
+      held = λ c Q slot out is lacks new space. omega (arith, length-append s.waiting (c ∷ []));
+      dropped = λ c Q slot out is lacks new full. few;
+    })
+    u
+
+-- as many come as are in the list
+all_come : (C V K : List ChangeParts) → length (with_slots V (delivery C K)) ≡ length K
+all_come C V [] = refl
+all_come C V (c ∷ K) = ap suc (all_come (cond (has_all C c.deps) (C ++ c ∷ []) C) (cond (takes_slot V (c, has_all C c.deps)) (V ++ c ∷ []) V) K)
+
+run_few : {S : Type 0} (keeps : S → ChangeParts → S → Type 0) (k : S) (C W K new : List ChangeParts) (at : Intake S) → Run keeps (begin k C W K) at → at.applied ≡ C ++ new
+    → length new ≤ length W + length K
+run_few {S} keeps k C W K new at run is =
+    let most = length C + (length W + length K) in
+    let come = all_come C W K in
+    let few : AtMost most at = Run-keeps keeps (AtMost most) (AtMost-turn keeps most) (begin k C W K) at run (omega arith) in
+    let len : length at.applied ≡ length C + length new = ap length is ∙ length-append C new in
+    omega arith
+
 -- How far receiving the changes K came, and what was appended until then.
 pub record Advances (p : PeerData) (K : List ChangeParts) (at : Intake JournalState) : Type 0 where
   pub new : List ChangeParts
   pub grows : Grows p.applied (p.waiting ++ K) at.applied new
   pub waits : AllIn at.waiting (p.waiting ++ K)
   pub appended : AreAppended (journal_of p) new at.keeper
+  pub few : length new ≤ length p.waiting + length K
+  pub few_wait : length p.waiting ≤ most_waiting → length at.waiting ≤ most_waiting
 
 pub run_advances : (p : PeerData) (K : List ChangeParts) (at : Intake JournalState) → Run AppendsRecord (coming p K) at → Advances p K at
 run_advances p K at r =
     let g = progress AppendsRecord (journal_of p) p.applied p.waiting K at r in
-    record { new = g.new; grows = g.grows; waits = g.waits; appended = all_appended g.new (journal_of p) at.keeper g.kept }
+    record {
+      new = g.new;
+      grows = g.grows;
+      waits = g.waits;
+      appended = all_appended g.new (journal_of p) at.keeper g.kept;
+      few = run_few AppendsRecord (journal_of p) p.applied p.waiting K g.new at r g.grows.begins;
+      few_wait = λ h. Run-keeps AppendsRecord FewWait (FewWait-turn AppendsRecord) (coming p K) at r h;
+    }

@@ -1,3 +1,5 @@
+pub mod ReceivingLaws
+pub mod LinkLaws
 pub mod KeepingLaws
 pub mod AppendingLaws
 pub mod TakingLaws

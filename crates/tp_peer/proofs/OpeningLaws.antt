@@ -5,16 +5,11 @@ use Rattle.tp_opid.specs.declared.doc_id.DocId.{DocId}
 use Rattle.tp_change.specs.declared.parts.ChangeParts.{ChangeParts}
 use Rattle.tp_journal.specs.Layout.{journal}
 use Rattle.tp_peer.specs.declared.error.PeerError.{PeerError}
-use Rattle.tp_peer.specs.declared.error.PeerError.TheVariants.{ActorInUse, JournalFailed, Stopped, JournalNotEmpty, Doc, Store, OutOfMemory}
+use Rattle.tp_peer.specs.declared.error.PeerError.TheVariants.{ActorInUse}
 use Rattle.tp_peer.specs.Appending.{JournalState}
 use Rattle.tp_peer.specs.Opening.{NotBegun, NotCopied}
 
 -- a journal that wasn't begun is one to which nothing was copied
 pub not_copied : (id : DocId) (C : List ChangeParts) (actor : Actor) (k k' : JournalState) (e : PeerError) → NotBegun (journal id C) k e k' → NotCopied id C actor k e k'
 not_copied id C actor k k' ActorInUse h = absurd h
-not_copied id C actor k k' JournalFailed h = h
-not_copied id C actor k k' Stopped h = h
-not_copied id C actor k k' JournalNotEmpty h = h
-not_copied id C actor k k' (Doc e) h = h
-not_copied id C actor k k' (Store e) h = h
-not_copied id C actor k k' OutOfMemory h = h
+not_copied id C actor k k' e h = h

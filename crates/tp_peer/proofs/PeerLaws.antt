@@ -17,8 +17,7 @@ use Rattle.tp_peer.specs.Appending.{AppendsRecord, JournalState, journal_state}
 use Rattle.tp_peer.specs.PeerData.{HasJournal, IsPeer, PeerData}
 use Rattle.tp_peer.specs.Taking.{Report, TakesAll, TakesAndStops, TakesPart, coming, journal_of}
 use Rattle.tp_peer.specs.declared.error.PeerError.{PeerError}
-use Rattle.tp_peer.specs.declared.error.PeerError.TheVariants.{ActorInUse, JournalFailed, JournalNotEmpty, Doc, Store, OutOfMemory}
-use Rattle.tp_peer.specs.declared.error.PeerError.TheVariants as error
+use Rattle.tp_peer.specs.declared.error.PeerError.TheVariants.{JournalFailed, TooManyLinks, Doc, Sync, OutOfMemory}
 use Rattle.tp_edit.specs.declared.splice.Splice.{Splice}
 use Rattle.tp_document.specs.Editing.{Asked, asking}
 use Rattle.tp_graph.specs.Fit.{cause}
@@ -26,7 +25,7 @@ use Rattle.tp_change.specs.Limits.{IsChange}
 use Rattle.tp_receive.specs.Intake.{Intake, Next, Run, Turn, enter}
 use Rattle.tp_receive.specs.Replies.{LosesNone}
 use Rattle.tp_receive.proofs.TurnLaws.{Run-one, Run-then}
-use Rattle.tp_peer.specs.PeerStep.{Call, Edit, Heads, Made, Merge, Merged, PeerStep, Read, ReadAt, ReadHeads, Refused, RefusesEdit, RefusesMerge, Reply, Runs, Text}
+use Rattle.tp_peer.specs.PeerStep.{Call, Edit, Forget, Generate, Made, Merge, PeerStep, Read, ReadAt, ReadHeads, Receive, Refused, RefusesEdit, RefusesGenerate, RefusesMerge, RefusesReceive, Reply, Runs}
 use Rattle.tp_peer.specs.Laws.{IsComplete, IsPartial, IsTornAt, RecoversTorn}
 use Rattle.tp_peer.proofs.StepLaws.{journal_grows, running_journal, step_cases}
 use Rattle.tp_peer.proofs.KeepingLaws.{run_advances}
@@ -155,10 +154,7 @@ edit_actor p ss time message reply p' new s grown c i =
       refused (Doc e) r = none (ap (λ (q : PeerData). q.applied) r.2)
       refused OutOfMemory r = none (ap (λ (q : PeerData). q.applied) r)
       refused JournalFailed r = none (ap (λ (q : PeerData). q.applied) r.2.left)
-      refused ActorInUse r = absurd r
-      refused error.Stopped r = absurd r
-      refused JournalNotEmpty r = absurd r
-      refused (Store e) r = absurd r
+      refused _ r = absurd r
 
       one : (d : ChangeParts) → p'.applied ≡ p.applied ++ d ∷ [] → d.actor ≡ p.actor → c.actor ≡ p.actor
       one d e is =
@@ -171,9 +167,7 @@ edit_actor p ss time message reply p' new s grown c i =
       by (Made None) r = none (ap (λ (q : PeerData). q.applied) r.1)
       by (Made (Some h)) r = one r.0 (ap (λ (q : PeerData). q.applied) r.3) r.1.edit.actor
       by (Refused e) r = refused e r
-      by (Merged x) r = absurd r
-      by (Text t) r = absurd r
-      by (Heads hs) r = absurd r
+      by _ r = absurd r
 
 -- a refusal that changes nothing
 pub refusal_changes_nothing : (p : PeerData) (call : Call) (e : PeerError) (p' : PeerData) → PeerStep p call (Refused e) p' → (e ≡ OutOfMemory → ⊥) → (e ≡ JournalFailed → ⊥) → p' ≡ p
@@ -183,23 +177,33 @@ refusal_changes_nothing p call e p' s memory device =
       edit asked (Doc e) r memory device = r.2
       edit asked OutOfMemory r memory device = absurd (memory refl)
       edit asked JournalFailed r memory device = absurd (device refl)
-      edit asked ActorInUse r memory device = absurd r
-      edit asked error.Stopped r memory device = absurd r
-      edit asked JournalNotEmpty r memory device = absurd r
-      edit asked (Store e) r memory device = absurd r
+      edit asked _ r memory device = absurd r
 
       merge : (other : PeerData) (e : PeerError) → RefusesMerge p other e p' → (e ≡ OutOfMemory → ⊥) → (e ≡ JournalFailed → ⊥) → p' ≡ p
       merge other (Doc e) r memory device = r.1
       merge other OutOfMemory r memory device = absurd (memory refl)
       merge other JournalFailed r memory device = absurd (device refl)
-      merge other ActorInUse r memory device = absurd r
-      merge other error.Stopped r memory device = absurd r
-      merge other JournalNotEmpty r memory device = absurd r
-      merge other (Store e) r memory device = absurd r
+      merge other _ r memory device = absurd r
+
+      receive : (link : ℕ) (bytes : List ℕ) (e : PeerError) → RefusesReceive p link bytes e p' → (e ≡ OutOfMemory → ⊥) → (e ≡ JournalFailed → ⊥) → p' ≡ p
+      receive link bytes TooManyLinks r memory device = r.1
+      receive link bytes (Sync e) r memory device = r.2
+      receive link bytes OutOfMemory r memory device = absurd (memory refl)
+      receive link bytes JournalFailed r memory device = absurd (device refl)
+      receive link bytes _ r memory device = absurd r
+
+      generate : (link : ℕ) (e : PeerError) → RefusesGenerate p link e p' → p' ≡ p
+      generate link TooManyLinks r = r.1
+      generate link (Sync e) r = r.3
+      generate link OutOfMemory r = r.1
+      generate link _ r = absurd r
 
       by : (call : Call) (e : PeerError) → Runs p call (Refused e) p' → (e ≡ OutOfMemory → ⊥) → (e ≡ JournalFailed → ⊥) → p' ≡ p
       by (Edit ss t m) e r memory device = edit (asking p.actor ss t m) e r memory device
       by (Merge other) e r memory device = merge other e r memory device
       by Read e r memory device = r.1
       by (ReadAt H) e r memory device = r.1
+      by (Receive link bytes) e r memory device = receive link bytes e r memory device
+      by (Generate link) e r memory device = generate link e r
+      by (Forget link) e r memory device = absurd r
       by ReadHeads e r memory device = absurd r

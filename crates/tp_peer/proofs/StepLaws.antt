@@ -1,7 +1,7 @@
 -- What each step of a peer keeps.
-use Rattle.std.proofs.Common.{◌≡◌, ◌≢◌, ◌⊎◌, ℕ, inl, inr, List, [], ◌∷◌, ◌++◌, take, Bool, true, false, ◌||◌, Some, None, refl, sym, ap, ◌∙◌, subst, append_assoc, append-nil, arith}
-use Rattle.std.specs.Prelude.{MatchBool}
-use Rattle.tp_list.specs.Members.{In}
+use Rattle.std.proofs.Common.{◌≡◌, ◌≢◌, ◌⊎◌, ℕ, ◌≤◌, inl, inr, List, [], ◌∷◌, ◌++◌, take, Bool, true, false, ◌||◌, length, Option, Some, None, refl, sym, ap, ◌∙◌, subst, append_assoc, append-nil, arith}
+use Rattle.std.specs.Prelude.{◌==◌, MatchBool}
+use Rattle.tp_list.specs.Members.{AllIn, In}
 use Rattle.tp_opid.specs.declared.doc_id.DocId.{DocId}
 use Rattle.tp_opid.specs.declared.hash.Hash.{Hash}
 use Rattle.tp_list.proofs.Members.{In-left}
@@ -10,29 +10,37 @@ use Rattle.tp_change.specs.Limits.{IsChange}
 use Rattle.tp_document.specs.Editing.{Asked, asking}
 use Rattle.tp_document.specs.Merging.{absent}
 use Rattle.tp_graph.specs.Fit.{cause}
+use Rattle.tp_graph.specs.GraphState.{most_waiting}
 use Rattle.tp_receive.specs.Intake.{Intake}
 use Rattle.tp_journal.specs.Journal.{HasGrown}
 use Rattle.tp_journal.specs.Layout.{IsDocId, journal, record_of, records_of}
 use Rattle.tp_journal.specs.Recovery.{IsHistory}
 use Rattle.tp_journal.proofs.CutLaws.{journal-append}
 use Rattle.tp_peer.specs.declared.error.PeerError.{PeerError}
-use Rattle.tp_peer.specs.declared.error.PeerError.TheVariants.{ActorInUse, JournalFailed, JournalNotEmpty, Doc, Store, OutOfMemory}
+use Rattle.tp_peer.specs.declared.error.PeerError.TheVariants.{JournalFailed, TooManyLinks, Doc, Sync, OutOfMemory}
 use Rattle.tp_peer.specs.declared.error.PeerError.TheVariants as error
 use Rattle.tp_peer.specs.Appending.{JournalState}
 use Rattle.tp_peer.specs.PeerData.{HasJournal, IsPeer, IsTornRecord, PeerData}
-use Rattle.tp_peer.specs.PeerStep.{Call, Edit, Heads, Made, Merge, Merged, PeerStep, Read, ReadAt, ReadHeads, Refused, RefusesEdit, RefusesMerge, RefusesText, Reply, Runs, Text, entered, needs_stopped}
-use Rattle.tp_peer.specs.Taking.{StopsAt, TakesAndStops, reached}
-use Rattle.tp_peer.specs.Laws.{Appends, AreFew, Keeps, came}
+use Rattle.tp_peer.specs.PeerStep.{Call, Decodes, Edit, Forget, Forgotten, Generate, Generated, Heads, Hears, Made, Merge, Merged, PeerStep, Read, ReadAt, ReadHeads, Receive, Received, Refused, RefusesEdit, RefusesGenerate, RefusesMerge, RefusesReceive, RefusesText, Reply, Runs, Speaks, Text, entered, knowing, needs_stopped}
+use Rattle.tp_peer.specs.Taking.{Report, StopsAt, TakesAndStops, reached}
+use Rattle.tp_peer.specs.Laws.{Appends, AreFew, Keeps, MovesLinks, TouchesLink, came, changes_of, is_on}
+use Rattle.tp_peer.specs.Links.{known_of, with_link, without_link}
+use Rattle.tp_sync.specs.Message.{MessageParts}
+use Rattle.tp_sync.specs.State.{SyncParts, heard}
+use Rattle.tp_peer.proofs.LinkLaws.{moves_leave, other_with, other_without, stays}
 use Rattle.tp_peer.proofs.KeepingLaws.{Advances, history_grows, run_advances}
 
 -- ---- the kinds of steps
 
-few_none : (call : Call) → AreFew call []
-few_none (Edit splices time message) = omega arith
-few_none (Merge other) = tt
-few_none Read = refl
-few_none (ReadAt H) = refl
-few_none ReadHeads = refl
+few_none : (p : PeerData) (call : Call) → AreFew p call []
+few_none p (Edit splices time message) = omega arith
+few_none p (Merge other) = tt
+few_none p (Receive link bytes) = omega arith
+few_none p (Generate link) = refl
+few_none p (Forget link) = refl
+few_none p Read = refl
+few_none p (ReadAt H) = refl
+few_none p ReadHeads = refl
 
 -- nothing changed
 same_keeps : (p p' : PeerData) (call : Call) (reply : Reply) → reply ≢ Refused JournalFailed → p' ≡ p → Keeps p call reply p'
@@ -41,11 +49,14 @@ same_keeps p p' call reply other e = subst (λ (q : PeerData). Keeps p call repl
   actor = refl;
   new = [];
   applied = sym (append-nil p.applied);
-  few = few_none call;
+  few = few_none p call;
   fits = tt;
   limits = λ c i. absurd i;
   still = λ s. refl;
   waits = λ c i. In-left c p.waiting (came p call) i;
+  few_wait = λ h. h;
+  links = stays call p.links;
+  others = λ n h. refl;
   journal = inl (record { journal = sym (append-nil p.journal); failures = refl; goes_on = refl; answered = other });
 })
 
@@ -53,7 +64,7 @@ never : {A : Type 0} {b : Bool} → b ≡ false → b ≡ true → A
 never f t = cc
 
 -- one change entered by an edit
-pub edit_keeps : (p p' : PeerData) (call : Call) (reply : Reply) (c : ChangeParts) → reply ≢ Refused JournalFailed → AreFew call (c ∷ []) → p.stopped ≡ false
+pub edit_keeps : (p p' : PeerData) (call : Call) (reply : Reply) (c : ChangeParts) → reply ≢ Refused JournalFailed → AreFew p call (c ∷ []) → p.stopped ≡ false
     → cause p.applied c ≡ None → IsChange c → p' ≡ entered p c → Keeps p call reply p'
 edit_keeps p p' call reply c other few running fits limits e = subst (λ (q : PeerData). Keeps p call reply q) (sym e) (record {
   id = refl;
@@ -65,6 +76,9 @@ edit_keeps p p' call reply c other few running fits limits e = subst (λ (q : Pe
   limits = λ d i. elim i [ inl same ↦ subst IsChange (sym same) limits | inr none ↦ absurd none ];
   still = λ s. never running s;
   waits = λ d i. In-left d p.waiting (came p call) i;
+  few_wait = λ h. h;
+  links = stays call p.links;
+  others = λ n h. refl;
   journal = inl (record { journal = ap (λ l. p.journal ++ l) (sym (append-nil (record_of c))); failures = refl; goes_on = refl; answered = other });
 })
 
@@ -75,11 +89,14 @@ edit_tears p p' call c running fits s = record {
   actor = ap (λ (q : PeerData). q.actor) s.left;
   new = [];
   applied = ap (λ (q : PeerData). q.applied) s.left ∙ sym (append-nil p.applied);
-  few = few_none call;
+  few = few_none p call;
   fits = tt;
   limits = λ d i. absurd i;
   still = λ t. refl;
   waits = λ d i. In-left d p.waiting (came p call) (subst (In d) (ap (λ (q : PeerData). q.waiting) s.left) i);
+  few_wait = λ h. subst (λ (W : List ChangeParts). length W ≤ most_waiting) (sym (ap (λ (q : PeerData). q.waiting) s.left)) h;
+  links = subst (MovesLinks call p.links) (sym (ap (λ (q : PeerData). q.links) s.left)) (stays call p.links);
+  others = λ n h. ap (λ (q : PeerData). known_of q.links n) s.left;
   journal = inr (record {
     bytes = take s.tears.part.0 (record_of c);
     torn = record {
@@ -97,25 +114,42 @@ edit_tears p p' call c running fits s = record {
   });
 }
 
+-- what links stay, but for the one of a call
+abbrev KeepsOthers : Call → List (ℕ × SyncParts) → List (ℕ × SyncParts) → Type 0
+KeepsOthers call L L' = (n : ℕ) → is_on call n ≡ false → known_of L' n ≡ known_of L n
+
+-- the links L' are what the call left of L
+record LeavesLinks (call : Call) (L L' : List (ℕ × SyncParts)) : Type 0 where
+  moves : MovesLinks call L L'
+  others : KeepsOthers call L L'
+
+all_stay : (call : Call) (L : List (ℕ × SyncParts)) → LeavesLinks call L L
+all_stay call L = record { moves = stays call L; others = λ n h. refl }
+
 -- changes were received
-received_keeps : (p p' other : PeerData) (reply : Reply) (at : Intake JournalState) → reply ≢ Refused JournalFailed → p.stopped ≡ false → Advances p (absent p.applied other.applied) at → p' ≡ reached p at → Keeps p (Merge other) reply p'
-received_keeps p p' other reply at kept running a e = subst (λ (q : PeerData). Keeps p (Merge other) reply q) (sym e) (record {
+received_keeps : (p p' : PeerData) (call : Call) (K : List ChangeParts) (L : List (ℕ × SyncParts)) (reply : Reply) (at : Intake JournalState) → came p call ≡ K → reply ≢ Refused JournalFailed → p.stopped ≡ false
+    → (a : Advances p K at) → AreFew p call a.new → LeavesLinks call p.links L → p' ≡ record (reached p at) { links = L } → Keeps p call reply p'
+received_keeps p p' call K L reply at is kept running a few links e = subst (λ (q : PeerData). Keeps p call reply q) (sym e) (record {
   id = refl;
   actor = refl;
   new = a.new;
   applied = a.grows.begins;
-  few = tt;
+  few = few;
   fits = a.grows.fits;
   limits = a.appended.limits;
   still = λ s. never running s;
-  waits = a.waits;
+  waits = subst (λ (D : List ChangeParts). AllIn at.waiting (p.waiting ++ D)) (sym is) a.waits;
+  few_wait = a.few_wait;
+  links = links.moves;
+  others = links.others;
   journal = inl (record { journal = a.appended.content; failures = a.appended.failures; goes_on = refl; answered = kept });
 })
 
 -- changes were received until the device failed
-received_tears : (p p' other : PeerData) → p.stopped ≡ false → TakesAndStops p (absent p.applied other.applied) p' → Keeps p (Merge other) (Refused JournalFailed) p'
-received_tears p p' other running t =
-    let a = run_advances p (absent p.applied other.applied) t.at t.run in
+received_tears : (p p' : PeerData) (call : Call) (K : List ChangeParts) → came p call ≡ K → p.stopped ≡ false → (t : TakesAndStops p K p') → ((a : Advances p K t.at) → AreFew p call a.new)
+    → Keeps p call (Refused JournalFailed) p'
+received_tears p p' call K is running t few =
+    let a = run_advances p K t.at t.run in
     let s = t.stops in
     let part = s.tears.part in
     record {
@@ -123,11 +157,14 @@ received_tears p p' other running t =
       actor = ap (λ (q : PeerData). q.actor) s.left;
       new = a.new;
       applied = ap (λ (q : PeerData). q.applied) s.left ∙ a.grows.begins;
-      few = tt;
+      few = few a;
       fits = a.grows.fits;
       limits = a.appended.limits;
       still = λ z. never running z;
-      waits = λ d i. a.waits d (subst (In d) (ap (λ (q : PeerData). q.waiting) s.left) i);
+      waits = λ d i. subst (λ (D : List ChangeParts). AllIn t.at.waiting (p.waiting ++ D)) (sym is) a.waits d (subst (In d) (ap (λ (q : PeerData). q.waiting) s.left) i);
+      few_wait = λ h. subst (λ (W : List ChangeParts). length W ≤ most_waiting) (sym (ap (λ (q : PeerData). q.waiting) s.left)) (a.few_wait h);
+      links = subst (MovesLinks call p.links) (sym (ap (λ (q : PeerData). q.links) s.left)) (stays call p.links);
+      others = λ n h. ap (λ (q : PeerData). known_of q.links n) s.left;
       journal = inr (record {
         bytes = take part.0 (record_of t.change);
         torn = record {
@@ -145,35 +182,102 @@ received_tears p p' other running t =
       });
     }
 
+-- ---- messages
+
+-- what a message carries comes
+carries : (p : PeerData) (link : ℕ) (bytes : List ℕ) (m : MessageParts) → Decodes bytes m → came p (Receive link bytes) ≡ m.changes
+carries p link bytes m d = ap changes_of d.reads
+
+-- and enters with what waited at most
+few_enter : (p : PeerData) (link : ℕ) (bytes : List ℕ) (m : MessageParts) (at : Intake JournalState) → Decodes bytes m → (a : Advances p m.changes at) → AreFew p (Receive link bytes) a.new
+few_enter p link bytes m at d a = let few = a.few in let most = d.limits.few in omega arith
+
+-- the link alone is changed
+one_changes : (p : PeerData) (call : Call) (link : ℕ) (s : SyncParts) → TouchesLink p.links link (with_link p.links link s) → MovesLinks call p.links (with_link p.links link s) → ((n : ℕ) → is_on call n ≡ (link == n))
+    → LeavesLinks call p.links (with_link p.links link s)
+one_changes p call link s touches moves is = record { moves = moves; others = λ n h. other_with p.links link n s (sym (is n) ∙ h) }
+
+hears_keeps : (p p' : PeerData) (link : ℕ) (bytes : List ℕ) (r : Report) (same : Bool) → p.stopped ≡ false → Hears p link bytes r same p' → Keeps p (Receive link bytes) (Received r same) p'
+hears_keeps p p' link bytes r same running h =
+    let m = h.message in
+    let s = heard (known_of p.links link) m in
+    let at = h.takes.at in
+    let a = run_advances p m.changes at h.takes.received.run in
+    let touches : TouchesLink p.links link (with_link p.links link s) = inr (s, h.place, refl) in
+    received_keeps p p' (Receive link bytes) m.changes (with_link p.links link s) (Received r same) at (carries p link bytes m h.decodes) (λ x. cc) running
+    a (few_enter p link bytes m at h.decodes a) (one_changes p (Receive link bytes) link s touches touches (λ n. refl))
+    (h.left ∙ ap (λ (q : PeerData). knowing q link s) h.takes.left)
+
+receive_refused : (p p' : PeerData) (link : ℕ) (bytes : List ℕ) (e : PeerError) → p.stopped ≡ false → RefusesReceive p link bytes e p' → Keeps p (Receive link bytes) (Refused e) p'
+receive_refused p p' link bytes TooManyLinks running s = same_keeps p p' (Receive link bytes) (Refused TooManyLinks) (λ x. cc) s.1
+receive_refused p p' link bytes (Sync e) running s = same_keeps p p' (Receive link bytes) (Refused (Sync e)) (λ x. cc) s.2
+receive_refused p p' link bytes JournalFailed running s =
+    received_tears p p' (Receive link bytes) s.1.message.changes (carries p link bytes s.1.message s.1.decodes) running s.1.takes (few_enter p link bytes s.1.message s.1.takes.at s.1.decodes)
+receive_refused p p' link bytes OutOfMemory running s = elim s.1 [
+  | inl same ↦ same_keeps p p' (Receive link bytes) (Refused OutOfMemory) (λ x. cc) same
+  | inr h ↦
+      let a = run_advances p h.message.changes h.takes.at h.takes.run in
+      received_keeps p p' (Receive link bytes) h.message.changes p.links (Refused OutOfMemory) h.takes.at (carries p link bytes h.message h.decodes) (λ x. cc) running
+      a (few_enter p link bytes h.message h.takes.at h.decodes a) (all_stay (Receive link bytes) p.links) h.takes.left
+]
+receive_refused p p' link bytes _ running s = absurd s
+
+-- one link changed, and nothing else
+link_keeps : (p p' : PeerData) (call : Call) (reply : Reply) (L : List (ℕ × SyncParts)) → reply ≢ Refused JournalFailed → LeavesLinks call p.links L → p' ≡ record p { links = L } → Keeps p call reply p'
+link_keeps p p' call reply L other links e = subst (λ (q : PeerData). Keeps p call reply q) (sym e) (record {
+  id = refl;
+  actor = refl;
+  new = [];
+  applied = sym (append-nil p.applied);
+  few = few_none p call;
+  fits = tt;
+  limits = λ c i. absurd i;
+  still = λ s. refl;
+  waits = λ c i. In-left c p.waiting (came p call) i;
+  few_wait = λ h. h;
+  links = links.moves;
+  others = links.others;
+  journal = inl (record { journal = sym (append-nil p.journal); failures = refl; goes_on = refl; answered = other });
+})
+
+speaks_keeps : (p p' : PeerData) (link : ℕ) (sent : Option (List ℕ × Bool)) → Speaks p link sent p' → Keeps p (Generate link) (Generated sent) p'
+speaks_keeps p p' link None s = same_keeps p p' (Generate link) (Generated None) (λ x. cc) s.left
+speaks_keeps p p' link (Some sent) s =
+    let touches : TouchesLink p.links link (with_link p.links link s.state) = inr (s.state, s.place, refl) in
+    link_keeps p p' (Generate link) (Generated (Some sent)) (with_link p.links link s.state) (λ x. cc)
+    (one_changes p (Generate link) link s.state touches touches (λ n. refl)) s.left
+
+generate_refused : (p p' : PeerData) (link : ℕ) (e : PeerError) → RefusesGenerate p link e p' → Keeps p (Generate link) (Refused e) p'
+generate_refused p p' link TooManyLinks s = same_keeps p p' (Generate link) (Refused TooManyLinks) (λ x. cc) s.1
+generate_refused p p' link (Sync e) s = same_keeps p p' (Generate link) (Refused (Sync e)) (λ x. cc) s.3
+generate_refused p p' link OutOfMemory s = same_keeps p p' (Generate link) (Refused OutOfMemory) (λ x. cc) s.1
+generate_refused p p' link _ s = absurd s
+
+forgets_keeps : (p p' : PeerData) (link : ℕ) → p' ≡ record p { links = without_link p.links link } → Keeps p (Forget link) Forgotten p'
+forgets_keeps p p' link e =
+    link_keeps p p' (Forget link) Forgotten (without_link p.links link) (λ x. cc)
+    (record { moves = inr refl; others = λ n h. other_without p.links link n h }) e
+
 -- ---- all steps
 
 edit_refused : (p p' : PeerData) (call : Call) (asked : Asked) (e : PeerError) → p.stopped ≡ false → RefusesEdit p asked e p' → Keeps p call (Refused e) p'
 edit_refused p p' call asked (Doc e) running s = same_keeps p p' call (Refused (Doc e)) (λ x. cc) s.2
 edit_refused p p' call asked OutOfMemory running s = same_keeps p p' call (Refused OutOfMemory) (λ x. cc) s
 edit_refused p p' call asked JournalFailed running s = edit_tears p p' call s.0 running s.1.enters s.2
-edit_refused p p' call asked ActorInUse running s = absurd s
-edit_refused p p' call asked error.Stopped running s = absurd s
-edit_refused p p' call asked JournalNotEmpty running s = absurd s
-edit_refused p p' call asked (Store e) running s = absurd s
+edit_refused p p' call asked _ running s = absurd s
 
 merge_refused : (p p' other : PeerData) (e : PeerError) → p.stopped ≡ false → RefusesMerge p other e p' → Keeps p (Merge other) (Refused e) p'
 merge_refused p p' other (Doc e) running s = same_keeps p p' (Merge other) (Refused (Doc e)) (λ x. cc) s.1
 merge_refused p p' other OutOfMemory running s =
-    received_keeps p p' other (Refused OutOfMemory) s.1.at (λ x. cc) running (run_advances p (absent p.applied other.applied) s.1.at s.1.run) s.1.left
-merge_refused p p' other JournalFailed running s = received_tears p p' other running s.1
-merge_refused p p' other ActorInUse running s = absurd s
-merge_refused p p' other error.Stopped running s = absurd s
-merge_refused p p' other JournalNotEmpty running s = absurd s
-merge_refused p p' other (Store e) running s = absurd s
+    let K = absent p.applied other.applied in
+    received_keeps p p' (Merge other) K p.links (Refused OutOfMemory) s.1.at refl (λ x. cc) running (run_advances p K s.1.at s.1.run) tt (all_stay (Merge other) p.links) s.1.left
+merge_refused p p' other JournalFailed running s = received_tears p p' (Merge other) (absent p.applied other.applied) refl running s.1 (λ a. tt)
+merge_refused p p' other _ running s = absurd s
 
 text_refused : (p p' : PeerData) (call : Call) (H : List Hash) (e : PeerError) → RefusesText p H e → p' ≡ p → Keeps p call (Refused e) p'
 text_refused p p' call H (Doc e) s same = same_keeps p p' call (Refused (Doc e)) (λ x. cc) same
 text_refused p p' call H OutOfMemory s same = same_keeps p p' call (Refused OutOfMemory) (λ x. cc) same
-text_refused p p' call H JournalFailed s same = absurd s
-text_refused p p' call H ActorInUse s same = absurd s
-text_refused p p' call H error.Stopped s same = absurd s
-text_refused p p' call H JournalNotEmpty s same = absurd s
-text_refused p p' call H (Store e) s same = absurd s
+text_refused p p' call H _ s same = absurd s
 
 pub runs_keep : (p : PeerData) (call : Call) (reply : Reply) (p' : PeerData) → p.stopped ≡ false → Runs p call reply p' → Keeps p call reply p'
 runs_keep p (Edit ss t m) (Made None) p' running s = same_keeps p p' (Edit ss t m) (Made None) (λ x. cc) s.1
@@ -181,29 +285,20 @@ runs_keep p (Edit ss t m) (Made (Some h)) p' running s =
     edit_keeps p p' (Edit ss t m) (Made (Some h)) s.0 (λ x. cc) (omega arith) running s.1.enters s.1.limits s.3
 runs_keep p (Edit ss t m) (Refused e) p' running s = edit_refused p p' (Edit ss t m) (asking p.actor ss t m) e running s
 runs_keep p (Merge other) (Merged r) p' running s =
-    received_keeps p p' other (Merged r) s.1.at (λ x. cc) running (run_advances p (absent p.applied other.applied) s.1.at s.1.received.run) s.1.left
+    let K = absent p.applied other.applied in
+    received_keeps p p' (Merge other) K p.links (Merged r) s.1.at refl (λ x. cc) running (run_advances p K s.1.at s.1.received.run) tt (all_stay (Merge other) p.links) s.1.left
 runs_keep p (Merge other) (Refused e) p' running s = merge_refused p p' other e running s
 runs_keep p Read (Text t) p' running s = same_keeps p p' Read (Text t) (λ x. cc) s.1
 runs_keep p Read (Refused e) p' running s = same_keeps p p' Read (Refused e) (λ x. let e_is = s.0 in cc) s.1
 runs_keep p (ReadAt H) (Text t) p' running s = same_keeps p p' (ReadAt H) (Text t) (λ x. cc) s.2
 runs_keep p (ReadAt H) (Refused e) p' running s = text_refused p p' (ReadAt H) H e s.0 s.1
 runs_keep p ReadHeads (Heads hs) p' running s = same_keeps p p' ReadHeads (Heads hs) (λ x. cc) s.1
-runs_keep p (Edit ss t m) (Merged r) p' running s = absurd s
-runs_keep p (Edit ss t m) (Text u) p' running s = absurd s
-runs_keep p (Edit ss t m) (Heads hs) p' running s = absurd s
-runs_keep p (Merge other) (Made o) p' running s = absurd s
-runs_keep p (Merge other) (Text u) p' running s = absurd s
-runs_keep p (Merge other) (Heads hs) p' running s = absurd s
-runs_keep p Read (Made o) p' running s = absurd s
-runs_keep p Read (Merged r) p' running s = absurd s
-runs_keep p Read (Heads hs) p' running s = absurd s
-runs_keep p (ReadAt H) (Made o) p' running s = absurd s
-runs_keep p (ReadAt H) (Merged r) p' running s = absurd s
-runs_keep p (ReadAt H) (Heads hs) p' running s = absurd s
-runs_keep p ReadHeads (Made o) p' running s = absurd s
-runs_keep p ReadHeads (Merged r) p' running s = absurd s
-runs_keep p ReadHeads (Text u) p' running s = absurd s
-runs_keep p ReadHeads (Refused e) p' running s = absurd s
+runs_keep p (Receive link bytes) (Received r same) p' running s = hears_keeps p p' link bytes r same running s
+runs_keep p (Receive link bytes) (Refused e) p' running s = receive_refused p p' link bytes e running s
+runs_keep p (Generate link) (Generated sent) p' running s = speaks_keeps p p' link sent s
+runs_keep p (Generate link) (Refused e) p' running s = generate_refused p p' link e s
+runs_keep p (Forget link) Forgotten p' running s = forgets_keeps p p' link s
+runs_keep p _ _ p' running s = absurd s
 
 -- a test that chose between two facts
 cases_chosen : {A B : Type 0} (b : Bool) → MatchBool b A B → ((b ≡ true) × A) ⊎ ((b ≡ false) × B)
@@ -217,6 +312,9 @@ neither true b h = absurd cc
 running_of : (p : PeerData) (call : Call) → needs_stopped p call ≡ false → p.stopped ≡ false
 running_of p (Edit ss t m) h = h
 running_of p (Merge other) h = neither p.stopped other.stopped h
+running_of p (Receive link bytes) h = h
+running_of p (Generate link) h = h
+running_of p (Forget link) h = h
 running_of p Read h = h
 running_of p (ReadAt H) h = h
 running_of p ReadHeads h = h
@@ -272,6 +370,8 @@ keeping_leaves_peer p call reply p' h k =
         | inr t ↦ subst (λ b. HasJournal b p'.id p'.applied p'.journal) (sym t.stopped)
             (t.bytes, t.torn, t.journal ∙ journal_grows p p' k.new t.bytes k.id k.applied (running_journal p.stopped p.id p.applied p.journal t.running h.kept))
       ];
+      few = k.few_wait h.few;
+      links = moves_leave call p.links p'.links k.links h.links;
     }
 
 pub step_leaves_peer : (p : PeerData) (call : Call) (reply : Reply) (p' : PeerData) → IsPeer p → PeerStep p call reply p' → IsPeer p'

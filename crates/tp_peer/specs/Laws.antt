@@ -1,9 +1,10 @@
 -- What the laws of peers say.
-use Rattle.std.specs.Prelude.{◌≡◌, ◌≢◌, ◌⊎◌, ℕ, ◌≤◌, List, [], ◌++◌, ◌∷◌, length, true, false, take, None}
+use Rattle.std.specs.Prelude.{◌≡◌, ◌≢◌, ◌⊎◌, ℕ, ◌==◌, ◌+◌, ◌≤◌, List, [], ◌++◌, ◌∷◌, length, Bool, true, false, take, None, Result, Ok, Err}
 use Rattle.tp_list.specs.Members.{AllIn}
 use Rattle.tp_change.specs.declared.parts.ChangeParts.{ChangeParts}
 use Rattle.tp_change.specs.Limits.{IsChange}
 use Rattle.tp_graph.specs.Fit.{cause}
+use Rattle.tp_graph.specs.GraphState.{most_waiting}
 use Rattle.tp_document.specs.DocState.{AllChanges}
 use Rattle.tp_document.specs.Merging.{absent}
 use Rattle.tp_receive.specs.Receiving.{Between, EntersAfter, Receives}
@@ -11,26 +12,57 @@ use Rattle.tp_receive.specs.Replies.{AllAccounted, AreRefused, LosesNone}
 use Rattle.tp_journal.specs.Journal.{HasGrown}
 use Rattle.tp_journal.specs.Laws.{RecoversCut}
 use Rattle.tp_journal.specs.Layout.{journal, record_of, records_of}
+use Rattle.tp_sync.specs.declared.error.SyncError.{SyncError}
+use Rattle.tp_sync.specs.declared.limits.TheConstants.{MAX_CHANGES}
+use Rattle.tp_sync.specs.Message.{MessageParts}
+use Rattle.tp_sync.specs.Reading.{message_at}
+use Rattle.tp_sync.specs.State.{SyncParts}
 use Rattle.tp_peer.specs.declared.error.PeerError.TheVariants.{JournalFailed}
+use Rattle.tp_peer.specs.Links.{is_one_too_many, known_of, with_link, without_link}
 use Rattle.tp_peer.specs.PeerData.{IsTornRecord, PeerData}
-use Rattle.tp_peer.specs.PeerStep.{Call, Edit, Merge, Read, ReadAt, ReadHeads, Reply, Refused}
+use Rattle.tp_peer.specs.PeerStep.{Call, Edit, Merge, Receive, Generate, Forget, Reply, Refused}
 use Rattle.tp_peer.specs.Taking.{Report}
+
+-- the changes of a message
+abbrev pub changes_of : Result MessageParts SyncError → List ChangeParts
+changes_of (Ok m) = m.changes
+changes_of (Err e) = []
+
+-- the changes that bytes carry: those of the message that they are, and else none
+abbrev pub changes_in : List ℕ → List ChangeParts
+changes_in bytes = changes_of (message_at bytes)
 
 -- the changes that come to a peer by a call
 abbrev pub came : PeerData → Call → List ChangeParts
 came p (Merge other) = absent p.applied other.applied
-came p (Edit splices time message) = []
-came p Read = []
-came p (ReadAt H) = []
-came p ReadHeads = []
+came p (Receive link bytes) = changes_in bytes
+came p _ = []
 
--- how many changes a call enters: one at most by an edit, any number by a merge, and else none
-abbrev pub AreFew : Call → List ChangeParts → Type 0
-AreFew (Edit splices time message) new = length new ≤ 1
-AreFew (Merge other) new = Unit {0}
-AreFew Read new = new ≡ []
-AreFew (ReadAt H) new = new ≡ []
-AreFew ReadHeads new = new ≡ []
+-- How many changes a call enters: one at most by an edit, any number by a merge, as many as waited and 1,024 more at
+-- most by a message, and else none.
+abbrev pub AreFew : PeerData → Call → List ChangeParts → Type 0
+AreFew p (Edit splices time message) new = length new ≤ 1
+AreFew p (Merge other) new = Unit {0}
+AreFew p (Receive link bytes) new = length new ≤ length p.waiting + MAX_CHANGES
+AreFew p _ new = new ≡ []
+
+-- The links stayed, or s is known on the one with the number.
+abbrev pub TouchesLink : List (ℕ × SyncParts) → ℕ → List (ℕ × SyncParts) → Type 0
+TouchesLink L link L' = (L' ≡ L) ⊎ ((s : SyncParts) × (is_one_too_many L link ≡ false) × (L' ≡ with_link L link s))
+
+-- What a call does to the links: one that comes with a number may change that link, and else they stay.
+abbrev pub MovesLinks : Call → List (ℕ × SyncParts) → List (ℕ × SyncParts) → Type 0
+MovesLinks (Receive link bytes) L L' = TouchesLink L link L'
+MovesLinks (Generate link) L L' = TouchesLink L link L'
+MovesLinks (Forget link) L L' = (L' ≡ L) ⊎ (L' ≡ without_link L link)
+MovesLinks _ L L' = L' ≡ L
+
+-- the call is on the link with the number
+abbrev pub is_on : Call → ℕ → Bool
+is_on (Receive link bytes) n = link == n
+is_on (Generate link) n = link == n
+is_on (Forget link) n = link == n
+is_on _ n = false
 
 -- The records of the new changes were appended, and nothing else.
 pub record Appends (p : PeerData) (new : List ChangeParts) (reply : Reply) (p' : PeerData) : Type 0 where
@@ -51,17 +83,21 @@ pub record Tears (p : PeerData) (new : List ChangeParts) (reply : Reply) (p' : P
   pub answered : reply ≡ Refused JournalFailed
 
 -- What each step keeps: who the peer is; its list, which grows at its end by changes that could enter; that what waits
--- waited or came; and its journal, which grows by their records.
+-- waited or came, and that at most 1,024 wait; its links but the one that the call is on; and its journal, which grows
+-- by the records of the new changes.
 pub record Keeps (p : PeerData) (call : Call) (reply : Reply) (p' : PeerData) : Type 0 where
   pub id : p'.id ≡ p.id
   pub actor : p'.actor ≡ p.actor
   pub new : List ChangeParts
   pub applied : p'.applied ≡ p.applied ++ new
-  pub few : AreFew call new
+  pub few : AreFew p call new
   pub fits : EntersAfter p.applied new
   pub limits : AllChanges new
   pub still : p.stopped ≡ true → new ≡ []
   pub waits : AllIn p'.waiting (p.waiting ++ came p call)
+  pub few_wait : length p.waiting ≤ most_waiting → length p'.waiting ≤ most_waiting
+  pub links : MovesLinks call p.links p'.links
+  pub others : (n : ℕ) → is_on call n ≡ false → known_of p'.links n ≡ known_of p.links n
   pub journal : Appends p new reply p' ⊎ Tears p new reply p'
 
 -- What receiving the changes K, all of them, comes to: a result, each reported cause is the cause now, and each change

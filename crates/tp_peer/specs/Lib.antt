@@ -1,8 +1,10 @@
 pub mod PeerError
 pub mod Appending
+pub mod Links
 pub mod PeerData
 pub mod Actors
 pub mod Taking
+pub mod Sent
 pub mod PeerStep
 pub mod Opening
 pub mod Laws

@@ -9,7 +9,7 @@ use Rattle.tp_journal.specs.Layout.{journal}
 use Rattle.tp_journal.specs.Recovery.{Recovers}
 use Rattle.tp_journal.specs.Refusals.{IsRefusal}
 use Rattle.tp_peer.specs.declared.error.PeerError.{PeerError}
-use Rattle.tp_peer.specs.declared.error.PeerError.TheVariants.{ActorInUse, JournalFailed, Stopped, JournalNotEmpty, Doc, Store, OutOfMemory}
+use Rattle.tp_peer.specs.declared.error.PeerError.TheVariants.{ActorInUse, JournalFailed, Stopped, JournalNotEmpty, Store, OutOfMemory}
 use Rattle.tp_peer.specs.Actors.{has_actor}
 use Rattle.tp_peer.specs.Appending.{JournalState}
 use Rattle.tp_peer.specs.PeerData.{PeerData, opened}
@@ -34,10 +34,7 @@ abbrev pub NotBegun : List ℕ → JournalState → PeerError → JournalState �
 NotBegun bytes k JournalNotEmpty k' = (IsUnused k.content → ⊥) × (k' ≡ k)
 NotBegun bytes k OutOfMemory k' = IsClearedOrSame k k'
 NotBegun bytes k JournalFailed k' = IsTornOrSame bytes k k'
-NotBegun bytes k ActorInUse k' = ⊥
-NotBegun bytes k Stopped k' = ⊥
-NotBegun bytes k (Doc e) k' = ⊥
-NotBegun bytes k (Store e) k' = ⊥
+NotBegun bytes k _ k' = ⊥
 
 -- ---- as a fork
 
@@ -83,6 +80,4 @@ NotReopened k actor ActorInUse k' = IsInUse k actor × (k' ≡ k)
 NotReopened k actor (Store e) k' = IsRefusal k.content e × (k' ≡ k)
 NotReopened k actor OutOfMemory k' = k' ≡ k
 NotReopened k actor JournalFailed k' = (k'.content ≡ k.content) × HasGrown k.failures k'.failures
-NotReopened k actor Stopped k' = ⊥
-NotReopened k actor JournalNotEmpty k' = ⊥
-NotReopened k actor (Doc e) k' = ⊥
+NotReopened k actor _ k' = ⊥

@@ -1,23 +1,27 @@
 -- What contracts see of a peer, and what every peer keeps.
-use Rattle.std.specs.Prelude.{◌≡◌, ℕ, List, [], ◌++◌, take, Bool, true, false, None}
+use Rattle.std.specs.Prelude.{◌≡◌, ℕ, ◌≤◌, List, [], ◌++◌, length, take, Bool, true, false, None}
 use Rattle.tp_opid.specs.declared.actor.Actor.{Actor}
 use Rattle.tp_opid.specs.declared.doc_id.DocId.{DocId}
 use Rattle.tp_change.specs.declared.parts.ChangeParts.{ChangeParts}
 use Rattle.tp_change.specs.Limits.{IsChange}
 use Rattle.tp_graph.specs.Fit.{cause}
 use Rattle.tp_document.specs.DocState.{DocState}
+use Rattle.tp_graph.specs.GraphState.{most_waiting}
 use Rattle.tp_journal.specs.Layout.{IsDocId, record_of, journal}
 use Rattle.tp_journal.specs.Recovery.{IsHistory}
+use Rattle.tp_sync.specs.State.{SyncParts}
 use Rattle.tp_peer.specs.Appending.{JournalState}
+use Rattle.tp_peer.specs.Links.{AreLinks}
 
 -- The identifier of its document and the actor of its edits; the changes that are applied, in the order in which they
--- entered; those that wait, in the order in which they came; the content of its journal, and how often the device of
--- that failed; and whether it has stopped.
+-- entered; those that wait, in the order in which they came; its links, in the order in which they were made; the
+-- content of its journal, and how often the device of that failed; and whether it has stopped.
 pub record PeerData : Type 0 where
   pub id : DocId
   pub actor : Actor
   pub applied : List ChangeParts
   pub waiting : List ChangeParts
+  pub links : List (ℕ × SyncParts)
   pub journal : List ℕ
   pub failures : ℕ
   pub stopped : Bool
@@ -35,18 +39,21 @@ abbrev pub HasJournal : Bool → DocId → List ChangeParts → List ℕ → Typ
 HasJournal false id C content = content ≡ journal id C
 HasJournal true id C content = (bytes : List ℕ) × IsTornRecord C bytes × (content ≡ journal id C ++ bytes)
 
--- What every peer keeps: its changes are a history, and its journal has them.
+-- What every peer keeps: its changes are a history, and its journal has them; at most 1,024 wait; and it has at most
+-- 1,024 links.
 pub record IsPeer (p : PeerData) : Type 0 where
   pub is_id : IsDocId p.id
   pub history : IsHistory p.applied
   pub kept : HasJournal p.stopped p.id p.applied p.journal
+  pub few : length p.waiting ≤ most_waiting
+  pub links : AreLinks p.links
 
--- a peer with these changes, none that waits, and their journal
+-- a peer with these changes, none that waits, no links, and the journal of the changes
 abbrev pub opened : DocId → Actor → List ChangeParts → ℕ → PeerData
 opened id actor C failures =
-    record { id = id; actor = actor; applied = C; waiting = []; journal = journal id C; failures = failures; stopped = false }
+    record { id = id; actor = actor; applied = C; waiting = []; links = []; journal = journal id C; failures = failures; stopped = false }
 
 -- what is seen of a peer, from its parts
-abbrev pub peer_data : Actor → DocState → JournalState → Bool → PeerData
-peer_data actor d k stopped =
-    record { id = d.id; actor = actor; applied = d.applied; waiting = d.waiting; journal = k.content; failures = k.failures; stopped = stopped }
+abbrev pub peer_data : Actor → DocState → List (ℕ × SyncParts) → JournalState → Bool → PeerData
+peer_data actor d links k stopped =
+    record { id = d.id; actor = actor; applied = d.applied; waiting = d.waiting; links = links; journal = k.content; failures = k.failures; stopped = stopped }

@@ -1,18 +1,22 @@
--- The numbers of the refusals, and what stands for the refusals of a document and of a journal.
-use Rattle.std.specs.Prelude.{ℕ}
+-- The numbers of the refusals, and what stands for the refusals of a document, of an exchange and of a journal.
+use Rattle.std.specs.Prelude.{ℕ, Bool, true, false}
 use Rattle.tp_document.specs.declared.error.DocError.{DocError}
 use Rattle.tp_document.specs.declared.error.DocError.TheVariants as doc
 use Rattle.tp_store.specs.declared.error.StoreError.{StoreError}
 use Rattle.tp_store.specs.declared.error.StoreError.TheVariants as store
+use Rattle.tp_sync.specs.declared.error.SyncError.{SyncError}
+use Rattle.tp_sync.specs.declared.error.SyncError.TheVariants as sync
 use Rattle.tp_peer.specs.declared.error.PeerError.{PeerError}
-use Rattle.tp_peer.specs.declared.error.PeerError.TheVariants.{ActorInUse, JournalFailed, Stopped, JournalNotEmpty, Doc, Store, OutOfMemory}
+use Rattle.tp_peer.specs.declared.error.PeerError.TheVariants.{ActorInUse, JournalFailed, Stopped, TooManyLinks, JournalNotEmpty, Doc, Sync, Store, OutOfMemory}
 
 abbrev pub code_of : PeerError → ℕ
 code_of ActorInUse = 1
 code_of JournalFailed = 2
 code_of Stopped = 3
+code_of TooManyLinks = 4
 code_of JournalNotEmpty = 5
 code_of (Doc e) = 6
+code_of (Sync e) = 7
 code_of (Store e) = 8
 code_of OutOfMemory = 9
 
@@ -32,6 +36,16 @@ refusal_of_document doc.TooLong = Doc doc.TooLong
 refusal_of_document doc.Full = Doc doc.Full
 refusal_of_document doc.NotKept = JournalFailed
 
+-- the refusal for one of an exchange, whose keeper is the journal
+abbrev pub refusal_of_sync : SyncError → PeerError
+refusal_of_sync sync.BadMessage = Sync sync.BadMessage
+refusal_of_sync sync.BadChange = Sync sync.BadChange
+refusal_of_sync sync.TooManyHeads = Sync sync.TooManyHeads
+refusal_of_sync sync.PendingFull = Sync sync.PendingFull
+refusal_of_sync sync.OutOfMemory = OutOfMemory
+refusal_of_sync sync.OtherDocument = Sync sync.OtherDocument
+refusal_of_sync sync.NotKept = JournalFailed
+
 -- the refusal for one of the journal, or of what it recovers to
 abbrev pub refusal_of_journal : StoreError → PeerError
 refusal_of_journal store.BadMagic = Store store.BadMagic
@@ -42,3 +56,8 @@ refusal_of_journal (store.Refused e) = Store (store.Refused e)
 refusal_of_journal store.Io = JournalFailed
 refusal_of_journal store.OutOfMemory = OutOfMemory
 refusal_of_journal store.NoHeader = Store store.NoHeader
+
+-- the refusal says that the device of the journal failed
+abbrev pub is_failed : PeerError → Bool
+is_failed JournalFailed = true
+is_failed _ = false

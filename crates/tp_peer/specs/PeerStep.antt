@@ -1,5 +1,5 @@
 -- The peer as a machine: what a call may answer, and what it leaves.
-use Rattle.std.specs.Prelude.{◌≡◌, ◌≢◌, ℕ, List, [], ◌∷◌, ◌++◌, Bool, true, false, ◌||◌, Option, Some, None, Result, Ok, Err, MatchBool}
+use Rattle.std.specs.Prelude.{◌≡◌, ◌≢◌, ◌⊎◌, ◌↔◌, ℕ, ◌<◌, ◌≤◌, List, [], ◌∷◌, ◌++◌, Bool, true, false, ◌||◌, Option, Some, None, Result, Ok, Err, length, IsTrue, MatchBool}
 use Rattle.tp_opid.specs.declared.hash.Hash.{Hash}
 use Rattle.tp_change.specs.declared.parts.ChangeParts.{ChangeParts}
 use Rattle.tp_change.specs.ChangeHash.{hash_of}
@@ -12,26 +12,44 @@ use Rattle.tp_document.specs.declared.error.DocError.{DocError}
 use Rattle.tp_document.specs.declared.error.DocError.TheVariants as doc
 use Rattle.tp_document.specs.Editing.{Asked, AsksNothing, Edited, IsRefused, asking}
 use Rattle.tp_document.specs.Merging.{absent}
+use Rattle.tp_receive.specs.Delivery.{is_full}
 use Rattle.tp_journal.specs.Layout.{record_of}
+use Rattle.tp_sync.specs.declared.error.SyncError.{SyncError}
+use Rattle.tp_sync.specs.declared.error.SyncError.TheVariants as sync
+use Rattle.tp_sync.specs.declared.limits.TheConstants.{MAX_HASHES}
+use Rattle.tp_sync.specs.Answer.{Answer, IsQuiet}
+use Rattle.tp_sync.specs.Message.{IsMessage, MessageParts}
+use Rattle.tp_sync.specs.Reading.{message_at}
+use Rattle.tp_sync.specs.Spelling.{message_spelling}
+use Rattle.tp_sync.specs.State.{SyncParts, heard}
 use Rattle.tp_peer.specs.declared.error.PeerError.{PeerError}
-use Rattle.tp_peer.specs.declared.error.PeerError.TheVariants.{ActorInUse, JournalFailed, Stopped, JournalNotEmpty, Doc, Store, OutOfMemory}
+use Rattle.tp_peer.specs.declared.error.PeerError.TheVariants.{JournalFailed, Stopped, TooManyLinks, Doc, Sync, OutOfMemory}
+use Rattle.tp_peer.specs.Links.{is_one_too_many, known_of, with_link, without_link}
 use Rattle.tp_peer.specs.PeerData.{PeerData}
 use Rattle.tp_peer.specs.Taking.{Report, StopsAt, TakesAll, TakesAndStops, TakesPart}
 
--- The calls on a peer: an edit by its splices, time and message; a merge from another peer; the text now, and at the
--- hashes; the heads.
+-- The calls on a peer: an edit by its splices, time and message; a merge from another peer; on the link with a number,
+-- bytes that come, the next message, and its end; the text now, and at the hashes; the heads.
 pub data Call : Type 0 where
   Edit : List Splice → ℕ → List ℕ → Call
   Merge : PeerData → Call
+  Receive : ℕ → List ℕ → Call
+  Generate : ℕ → Call
+  Forget : ℕ → Call
   Read : Call
   ReadAt : List Hash → Call
   ReadHeads : Call
 
--- The replies: the hash of the change that an edit made, if it made one; what a merge reports; the characters of a
--- text; heads; a refusal.
+-- The replies: the hash of the change that an edit made, if it made one; what a merge reports; what a message that came
+-- led to, and whether it declares the heads that the one before it declared; the bytes of a message, if there is
+-- anything to say, and whether it takes the changes that are due from the first again; that a link is gone; the
+-- characters of a text; heads; a refusal.
 pub data Reply : Type 0 where
   Made : Option Hash → Reply
   Merged : Report → Reply
+  Received : Report → Bool → Reply
+  Generated : Option (List ℕ × Bool) → Reply
+  Forgotten : Reply
   Text : List ℕ → Reply
   Heads : List Hash → Reply
   Refused : PeerError → Reply
@@ -51,11 +69,7 @@ entered p c = record p { applied = p.applied ++ c ∷ []; journal = p.journal ++
 abbrev pub RefusesEntry : PeerData → ChangeParts → PeerError → PeerData → Type 0
 RefusesEntry p c JournalFailed p' = StopsAt p c p'
 RefusesEntry p c OutOfMemory p' = p' ≡ p
-RefusesEntry p c ActorInUse p' = ⊥
-RefusesEntry p c Stopped p' = ⊥
-RefusesEntry p c JournalNotEmpty p' = ⊥
-RefusesEntry p c (Doc e) p' = ⊥
-RefusesEntry p c (Store e) p' = ⊥
+RefusesEntry p c _ p' = ⊥
 
 -- What an edit did: nothing where it asked nothing, and else its one change entered.
 abbrev pub Edits : PeerData → Asked → Option Hash → PeerData → Type 0
@@ -67,10 +81,7 @@ abbrev pub RefusesEdit : PeerData → Asked → PeerError → PeerData → Type 
 RefusesEdit p asked (Doc e) p' = IsRefused p.applied asked e × (e ≢ doc.OutOfMemory) × (p' ≡ p)
 RefusesEdit p asked JournalFailed p' = (c : ChangeParts) × Edited p.applied asked c × StopsAt p c p'
 RefusesEdit p asked OutOfMemory p' = p' ≡ p
-RefusesEdit p asked ActorInUse p' = ⊥
-RefusesEdit p asked Stopped p' = ⊥
-RefusesEdit p asked JournalNotEmpty p' = ⊥
-RefusesEdit p asked (Store e) p' = ⊥
+RefusesEdit p asked _ p' = ⊥
 
 -- ---- merges
 
@@ -87,10 +98,96 @@ abbrev pub RefusesMerge : PeerData → PeerData → PeerError → PeerData → T
 RefusesMerge p other (Doc e) p' = IsOther p other e × (p' ≡ p)
 RefusesMerge p other JournalFailed p' = (p.id ≡ other.id) × TakesAndStops p (absent p.applied other.applied) p'
 RefusesMerge p other OutOfMemory p' = (p.id ≡ other.id) × TakesPart p (absent p.applied other.applied) p'
-RefusesMerge p other ActorInUse p' = ⊥
-RefusesMerge p other Stopped p' = ⊥
-RefusesMerge p other JournalNotEmpty p' = ⊥
-RefusesMerge p other (Store e) p' = ⊥
+RefusesMerge p other _ p' = ⊥
+
+-- ---- messages that come
+
+-- The bytes are the message m, within its limits.
+pub record Decodes (bytes : List ℕ) (m : MessageParts) : Type 0 where
+  pub reads : message_at bytes ≡ Ok m
+  pub limits : IsMessage m
+
+-- why bytes are no message
+abbrev pub RefusesDecoding : List ℕ → PeerError → Type 0
+RefusesDecoding bytes OutOfMemory = Unit {0}
+RefusesDecoding bytes (Sync sync.BadMessage) = message_at bytes ≡ Err sync.BadMessage
+RefusesDecoding bytes (Sync sync.BadChange) = message_at bytes ≡ Err sync.BadChange
+RefusesDecoding bytes _ = ⊥
+
+-- the peer, where s is known on the link
+abbrev pub knowing : PeerData → ℕ → SyncParts → PeerData
+knowing p link s = record p { links = with_link p.links link s }
+
+-- What a receive did: the peer received the changes of the message, and knows on the link what the message tells.
+pub record Hears (p : PeerData) (link : ℕ) (bytes : List ℕ) (r : Report) (same_heads : Bool) (p' : PeerData) : Type 0 where
+  pub place : is_one_too_many p.links link ≡ false
+  pub message : MessageParts
+  pub decodes : Decodes bytes message
+  pub taken : PeerData
+  pub takes : TakesAll p message.changes r taken
+  pub same : IsTrue same_heads ↔ ((known_of p.links link).theirs ≡ Some message.heads)
+  pub left : p' ≡ knowing taken link (heard (known_of p.links link) message)
+
+-- Why the bytes are refused: they are no message, or more than 1,024 changes would wait.
+abbrev pub RefusesBytes : PeerData → List ℕ → SyncError → Type 0
+RefusesBytes p bytes sync.BadMessage = message_at bytes ≡ Err sync.BadMessage
+RefusesBytes p bytes sync.BadChange = message_at bytes ≡ Err sync.BadChange
+RefusesBytes p bytes sync.PendingFull = (m : MessageParts) × Decodes bytes m × (is_full p.applied p.waiting m.changes ≡ true)
+RefusesBytes p bytes _ = ⊥
+
+-- The device failed while a change of the message was appended: those before it entered.
+pub record HearsAndStops (p : PeerData) (bytes : List ℕ) (p' : PeerData) : Type 0 where
+  pub message : MessageParts
+  pub decodes : Decodes bytes message
+  pub space : is_full p.applied p.waiting message.changes ≡ false
+  pub takes : TakesAndStops p message.changes p'
+
+-- Memory was refused once a part of the changes of the message was received.
+pub record HearsPart (p : PeerData) (bytes : List ℕ) (p' : PeerData) : Type 0 where
+  pub message : MessageParts
+  pub decodes : Decodes bytes message
+  pub takes : TakesPart p message.changes p'
+
+-- What a refused receive leaves: the peer as it was, or a part of the changes received. The links are as they were.
+abbrev pub RefusesReceive : PeerData → ℕ → List ℕ → PeerError → PeerData → Type 0
+RefusesReceive p link bytes TooManyLinks p' = (is_one_too_many p.links link ≡ true) × (p' ≡ p)
+RefusesReceive p link bytes (Sync e) p' = (is_one_too_many p.links link ≡ false) × RefusesBytes p bytes e × (p' ≡ p)
+RefusesReceive p link bytes JournalFailed p' = (is_one_too_many p.links link ≡ false) × HearsAndStops p bytes p'
+RefusesReceive p link bytes OutOfMemory p' = (is_one_too_many p.links link ≡ false) × ((p' ≡ p) ⊎ HearsPart p bytes p')
+RefusesReceive p link bytes _ p' = ⊥
+
+-- ---- messages that are made
+
+-- What a generate did where there is something to say: the bytes spell the answer to what is known on the link, and
+-- what is known then stands there.
+pub record Sends (p : PeerData) (link : ℕ) (bytes : List ℕ) (again : Bool) (p' : PeerData) : Type 0 where
+  pub place : is_one_too_many p.links link ≡ false
+  pub message : MessageParts
+  pub state : SyncParts
+  pub answers : Answer p.applied p.waiting (known_of p.links link) (Some message) state
+  pub limits : IsMessage message
+  pub spelled : bytes ≡ message_spelling message
+  pub begins : again ≡ state.again
+  pub left : p' ≡ knowing p link state
+
+-- What it did where there is nothing to say: nothing. The link was there, since on a new one there is something to say.
+pub record IsSilent (p : PeerData) (link : ℕ) (p' : PeerData) : Type 0 where
+  pub place : is_one_too_many p.links link ≡ false
+  pub few : length (heads p.applied) ≤ MAX_HASHES
+  pub quiet : IsQuiet p.applied (known_of p.links link)
+  pub left : p' ≡ p
+
+abbrev pub Speaks : PeerData → ℕ → Option (List ℕ × Bool) → PeerData → Type 0
+Speaks p link None p' = IsSilent p link p'
+Speaks p link (Some sent) p' = Sends p link sent.0 sent.1 p'
+
+-- What a refused generate leaves: the peer as it was.
+abbrev pub RefusesGenerate : PeerData → ℕ → PeerError → PeerData → Type 0
+RefusesGenerate p link TooManyLinks p' = (is_one_too_many p.links link ≡ true) × (p' ≡ p)
+RefusesGenerate p link (Sync e) p' =
+    (is_one_too_many p.links link ≡ false) × (e ≡ sync.TooManyHeads) × (MAX_HASHES < length (heads p.applied)) × (p' ≡ p)
+RefusesGenerate p link OutOfMemory p' = (is_one_too_many p.links link ≡ false) × (p' ≡ p)
+RefusesGenerate p link _ p' = ⊥
 
 -- ---- reads
 
@@ -98,11 +195,7 @@ RefusesMerge p other (Store e) p' = ⊥
 abbrev pub RefusesText : PeerData → List Hash → PeerError → Type 0
 RefusesText p H (Doc e) = (e ≡ doc.UnknownHead) × (has_all p.applied H ≡ false)
 RefusesText p H OutOfMemory = has_all p.applied H ≡ true
-RefusesText p H ActorInUse = ⊥
-RefusesText p H JournalFailed = ⊥
-RefusesText p H Stopped = ⊥
-RefusesText p H JournalNotEmpty = ⊥
-RefusesText p H (Store e) = ⊥
+RefusesText p H _ = ⊥
 
 -- ---- all calls
 
@@ -112,6 +205,11 @@ Runs p (Edit splices time message) (Made made) p' = Edits p (asking p.actor spli
 Runs p (Edit splices time message) (Refused e) p' = RefusesEdit p (asking p.actor splices time message) e p'
 Runs p (Merge other) (Merged r) p' = Merges p other r p'
 Runs p (Merge other) (Refused e) p' = RefusesMerge p other e p'
+Runs p (Receive link bytes) (Received r same_heads) p' = Hears p link bytes r same_heads p'
+Runs p (Receive link bytes) (Refused e) p' = RefusesReceive p link bytes e p'
+Runs p (Generate link) (Generated sent) p' = Speaks p link sent p'
+Runs p (Generate link) (Refused e) p' = RefusesGenerate p link e p'
+Runs p (Forget link) Forgotten p' = p' ≡ record p { links = without_link p.links link }
 Runs p Read (Text t) p' = IsTextOf p.applied t × (p' ≡ p)
 Runs p Read (Refused e) p' = (e ≡ OutOfMemory) × (p' ≡ p)
 Runs p (ReadAt H) (Text t) p' = (has_all p.applied H ≡ true) × IsTextOf (past p.applied H) t × (p' ≡ p)
@@ -122,10 +220,7 @@ Runs _ _ _ _ = ⊥
 -- whether a peer that the call needs has stopped
 abbrev pub needs_stopped : PeerData → Call → Bool
 needs_stopped p (Merge other) = p.stopped || other.stopped
-needs_stopped p (Edit splices time message) = p.stopped
-needs_stopped p Read = p.stopped
-needs_stopped p (ReadAt H) = p.stopped
-needs_stopped p ReadHeads = p.stopped
+needs_stopped p _ = p.stopped
 
 -- From p on, the call may give the reply and leave p'. Where a peer that it needs has stopped it is refused so, and
 -- changes nothing.

@@ -17,16 +17,18 @@ ghost use Rattle.tp_peer.specs.Laws.{Keeps, IsComplete, IsPartial, IsTornAt, Rec
 use crate::peer::Peer;
 use tp_journal::MemJournal;
 
-/// A step keeps the identifier and the actor. The list of applied changes grows at its end, by one at most for an edit
-/// and by none for all but an edit and a merge, and the journal by just their records. What waits waited before or
-/// came. The device failed exactly where `JournalFailed` is answered: the peer has stopped then.
+/// A step keeps the identifier and the actor. The list of applied changes grows at its end, by one at most for an edit,
+/// by what waited and 1,024 more at most for a message that came, and by none for all but these two and a merge; and
+/// the journal grows by just their records. What waits waited before or came, and where at most 1,024 waited at most
+/// 1,024 wait. Each link stays but the one that the call is on. The device failed exactly where `JournalFailed` is
+/// answered: the peer has stopped then.
 pub fn a_step_keeps()
     ensures { (p : PeerData) (call : Call) (reply : Reply) (p' : PeerData)
         → PeerStep p call reply p' → Keeps p call reply p' }
 {}
 
 /// What every peer keeps is kept by each step: its changes are a history, and its journal is theirs, with a beginning
-/// of one record behind it where the peer has stopped.
+/// of one record behind it where the peer has stopped; at most 1,024 changes wait, and there are at most 1,024 links.
 pub fn a_step_leaves_a_peer()
     ensures { (p : PeerData) (call : Call) (reply : Reply) (p' : PeerData)
         → IsPeer p → PeerStep p call reply p' → IsPeer p' }

@@ -1,4 +1,4 @@
-//! A peer: a document with the journal that keeps its changes.
+//! A peer: a document with the journal that keeps its changes, and links to other peers.
 //!
 //! Each change is appended to the journal before it enters the document, so what a peer shows is kept, and a peer whose
 //! journal's device failed stops. Every call on a peer is one step of a machine, `PeerStep` in specs/PeerStep.
@@ -8,14 +8,19 @@ mod actors;
 mod appender;
 mod editing;
 mod error;
+mod exchanged;
 pub mod laws;
+mod links;
 mod merging;
 mod opening;
 mod peer;
 mod sequence;
+mod syncing;
 
 pub use actors::fresh_actor;
 pub use error::PeerError;
+pub use exchanged::{Outgoing, Received};
+pub use links::{Link, MAX_LINKS};
 pub use opening::Unopened;
 pub use peer::Peer;
 pub use sequence::PeerSequence;

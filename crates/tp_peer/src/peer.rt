@@ -9,6 +9,7 @@ ghost use Rattle.tp_journal.specs.Layout.{IsDocId, journal as journal_bytes};
 
 use crate::appender::Appender;
 use crate::error::PeerError;
+use crate::links::Links;
 use crate::sequence::PeerSequence;
 use std::alloc::Global;
 use std::marker::Model;
@@ -16,7 +17,7 @@ use tp_document::Document;
 use tp_journal::Journal;
 use tp_opid::{Actor, DocId, Hash};
 
-/// A document with the journal that keeps its changes, and the actor under which it is edited.
+/// A document with the journal that keeps its changes, the actor under which it is edited, and links to other peers.
 ///
 /// Each change is appended to the journal before it enters the document. Where the journal's device fails in a call,
 /// the peer stops: it answers `Stopped` to every call but [`stop`](Peer::stop), [`document`](Peer::document),
@@ -29,6 +30,7 @@ pub struct Peer<J: Journal> {
     pub(crate) alloc: Global,
     pub(crate) actor: Actor,
     pub(crate) document: Document<PeerSequence>,
+    pub(crate) links: Links,
     pub(crate) appender: Appender<J>,
     pub(crate) stopped: bool,
 }
@@ -38,9 +40,9 @@ impl<J: Journal> Model for Peer<J> {
 
     ghost Value = { PeerData };
 
-    ghost view = { λ p. peer_data p.actor p.document p.appender p.stopped };
+    ghost view = { λ p. peer_data p.actor p.document p.links.known p.appender p.stopped };
 
-    ghost invariant = { λ p. IsPeer (peer_data p.actor p.document p.appender p.stopped) };
+    ghost invariant = { λ p. IsPeer (peer_data p.actor p.document p.links.known p.appender p.stopped) };
 }
 
 // What the type of an identifier says: it has 16 bytes. Answers their number.
@@ -52,7 +54,7 @@ fn id_len(id: DocId) -> usize
 }
 
 impl<J: Journal> Peer<J> {
-    /// A peer that runs, on a journal that is the document's.
+    /// A peer that runs, with no links, on a journal that is the document's.
     pub(crate) fn new(
         alloc: Global,
         journal: J,
@@ -69,6 +71,7 @@ impl<J: Journal> Peer<J> {
             alloc,
             actor,
             document,
+            links: Links::new(alloc),
             appender: Appender::new(alloc, journal),
             stopped: false,
         }

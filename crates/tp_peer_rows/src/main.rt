@@ -5,6 +5,7 @@
 mod bytes;
 mod edits;
 mod faulty;
+mod links;
 mod peers;
 mod reads;
 mod world;

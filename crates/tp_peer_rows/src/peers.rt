@@ -99,8 +99,12 @@ fn stop(world: &mut World, words: &mut Words) -> Result<String, Fault> {
     Ok(format!(in world.alloc; "{len} bytes")?)
 }
 
-// What became of the changes: `entered [..] held [..]`, and how many were refused where some were.
-fn put_applied(changes: &Shelf<Change>, out: &mut String, applied: &Applied) -> Result<(), Fault> {
+/// What became of the changes: `entered [..] held [..]`, and each that was refused with why.
+pub fn put_applied(
+    changes: &Shelf<Change>,
+    out: &mut String,
+    applied: &Applied,
+) -> Result<(), Fault> {
     out.push_str("entered ")?;
     put_names(changes, out, &applied.applied)?;
     out.push_str(" held ")?;

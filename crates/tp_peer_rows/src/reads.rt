@@ -9,6 +9,7 @@ use tp_opid::Actor;
 use tp_peer::{PeerError, fresh_actor};
 use tp_runner::{Fault, Words, hashes, names, names_of, put_error, quoted, refusal};
 use tp_store::StoreError;
+use tp_sync::SyncError;
 
 fn answer_text(alloc: Global, answer: Result<String, PeerError>) -> Result<String, Fault> {
     match answer {
@@ -68,8 +69,10 @@ fn errors(alloc: Global) -> Result<String, Fault> {
         PeerError::ActorInUse,
         PeerError::JournalFailed,
         PeerError::Stopped,
+        PeerError::TooManyLinks,
         PeerError::JournalNotEmpty,
         PeerError::Doc(DocError::OutOfRange),
+        PeerError::Sync(SyncError::BadMessage),
         PeerError::Store(StoreError::BadMagic),
         PeerError::OutOfMemory,
     ] {

@@ -1,7 +1,7 @@
 //! What the rows of an example have made so far, and what makes their calls.
 
 use crate::faulty::FaultyJournal;
-use crate::{bytes, edits, peers, reads};
+use crate::{bytes, edits, links, peers, reads};
 use std::alloc::Global;
 use tp_change::Change;
 use tp_peer::Peer;
@@ -50,6 +50,9 @@ impl Calls for World {
         if let Some(answer) = edits::call(self, word, words) {
             return answer;
         }
+        if let Some(answer) = links::call(self, word, words) {
+            return answer;
+        }
         reads::call(self, word, words)
     }
 
@@ -60,6 +63,6 @@ impl Calls for World {
     }
 
     fn is_partial(&self, row: &str) -> bool {
-        row.starts_with("merge")
+        row.starts_with("merge") || row.starts_with("receive")
     }
 }

@@ -22,13 +22,9 @@ fn spelled_again(alloc: Global, change: &Change, bytes: &[u8]) -> Result<String,
 
 /// Bytes with others in the place of those from `at` on, as many.
 pub fn altered(alloc: Global, bytes: &[u8], at: usize, new: &[u8]) -> Result<Vec<u8>, Fault> {
-    let mut all = Vec::new(alloc);
-    for (i, byte) in bytes.iter().enumerate() {
-        let put = match i.checked_sub(at) {
-            Some(behind) => new.get(behind).copied().unwrap_or(*byte),
-            None => *byte,
-        };
-        all.push(put)?;
+    let mut all = Vec::from_slice(alloc, bytes)?;
+    for (byte, put) in all.iter_mut().skip(at).zip(new) {
+        *byte = *put;
     }
     Ok(all)
 }

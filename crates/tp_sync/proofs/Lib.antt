@@ -8,3 +8,4 @@ pub mod ExchangeLaws
 pub mod Refusals
 pub mod MessageFields
 pub mod WholeMessage
+pub mod FaultLaws

@@ -1,7 +1,8 @@
 //! Laws of the layout of messages, each as a function that does nothing and whose contract is the law.
 
-ghost use Rattle.std.specs.Prelude.{◌≡◌, ◌↔◌, ℕ, ◌<◌, List, ◌++◌, slice_index, Ok, Err};
-ghost use Rattle.tp_sync.specs.declared.error.SyncError.TheVariants.{BadChange};
+ghost use Rattle.std.specs.Prelude.{◌≡◌, ◌↔◌, ◌⊎◌, ℕ, ◌<◌, List, ◌++◌, slice_index, Ok, Err};
+ghost use Rattle.tp_sync.specs.declared.error.SyncError.{SyncError as Refusal};
+ghost use Rattle.tp_sync.specs.declared.error.SyncError.TheVariants.{BadChange, BadMessage};
 ghost use Rattle.tp_sync.specs.Message.{MessageParts, IsMessage};
 ghost use Rattle.tp_sync.specs.Reading.{message_at};
 ghost use Rattle.tp_sync.specs.Spelling.{message_spelling};
@@ -26,4 +27,10 @@ pub fn a_bad_change_stays()
     ensures barred { (bytes more : List ℕ) (m : MessageParts)
         → ((i : ℕ) → slice_index bytes i < 256) → message_at bytes ≡ Err BadChange → IsMessage m
         → bytes ++ more ≡ message_spelling m → ⊥ }
+{}
+
+/// Bytes that are no message are refused as `BadMessage` or as `BadChange` alone.
+pub fn two_faults_alone()
+    ensures { (bytes : List ℕ) (e : Refusal) → message_at bytes ≡ Err e
+        → (e ≡ BadMessage) ⊎ (e ≡ BadChange) }
 {}

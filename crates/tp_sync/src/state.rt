@@ -1,9 +1,12 @@
 //! What is known of another peer.
 
-ghost use Rattle.std.specs.Prelude.{◌≡◌, [], Some, None, unwrap_or, if◌then◌else◌, MatchOption};
+ghost use Rattle.std.specs.Prelude.{◌≡◌, ◌↔◌, [], Some, None, unwrap_or, if◌then◌else◌, IfOk, IsOkUnless, IsTrue, MatchOption};
 ghost use Rattle.tp_sync.specs.State.{fresh};
+ghost use Rattle.tp_sync.specs.declared.error.SyncError.TheVariants.{OutOfMemory};
 
-use std::alloc::Global;
+use crate::due::are;
+use crate::error::SyncError;
+use std::alloc::{AllocError, Global};
 use std::marker::Model;
 use tp_list::Items;
 use tp_opid::Hash;
@@ -29,6 +32,19 @@ impl Model for SyncState {
     ghost view = { λ s. record { theirs = s.theirs; wants = s.wants; told = s.told; next = s.next; again = s.again } };
 }
 
+// Equal hashes, if there are any.
+fn copy_of(alloc: Global, hashes: &Option<Items<Hash>>) -> Result<Option<Items<Hash>>, AllocError>
+    ensures { IfOk result (λ copy. copy ≡ hashes.now) }
+{
+    match hashes {
+        Some(hashes) => {
+            let copy = Vec::from_slice(alloc, hashes.as_slice())?;
+            Ok(Some(Items::new(copy)))
+        }
+        None => Ok(None),
+    }
+}
+
 impl SyncState {
     /// The state at first: nothing was heard and nothing was told. No memory.
     pub fn new(alloc: Global) -> SyncState
@@ -49,6 +65,30 @@ impl SyncState {
         ensures { result ≡ self.now.again }
     {
         self.again
+    }
+
+    /// An equal state. The only refusal is `OutOfMemory`.
+    pub fn copy(&self, alloc: Global) -> Result<SyncState, SyncError>
+        ensures same { IfOk result (λ copy. copy ≡ self.now) }
+        ensures err { IsOkUnless result OutOfMemory }
+    {
+        let theirs = copy_of(alloc, &self.theirs)?;
+        let wants = Vec::from_slice(alloc, self.wants.as_slice())?;
+        let told = copy_of(alloc, &self.told)?;
+        Ok(SyncState {
+            theirs,
+            wants: Items::new(wants),
+            told,
+            next: self.next,
+            again: self.again,
+        })
+    }
+
+    /// Whether the heads are those that the other declared last.
+    pub fn is_declared(&self, heads: &[Hash]) -> bool
+        ensures { IsTrue result ↔ (self.now.theirs ≡ Some heads.now) }
+    {
+        are(&self.theirs, heads)
     }
 
     /// The heads that the other declared last, rising; `None` where none was heard yet.

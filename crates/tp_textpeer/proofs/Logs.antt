@@ -9,7 +9,7 @@ use Rattle.tp_change.specs.declared.parts.ChangeParts.{ChangeParts}
 use Rattle.tp_change.specs.Limits.{IsChange}
 use Rattle.tp_change.proofs.SpellingLaws.{spelling_bounds}
 use Rattle.tp_textpeer.specs.declared.error.ShowFault.{ShowFault}
-use Rattle.tp_textpeer.specs.Log.{entry, log_of, link_fault, LinkedAfter, IsLog, IsFault, Stands, entry_at, fault_behind}
+use Rattle.tp_textpeer.specs.Log.{entry, log_of, link_fault, LinkedAfter, IsLog, IsFault, Stands, Ends, entry_at, fault_behind}
 use Rattle.tp_textpeer.proofs.Entries.{entry_again}
 
 log_of-push : (C : List ChangeParts) (c : ChangeParts) → log_of (C ++ c ∷ []) ≡ log_of C ++ entry c
@@ -48,14 +48,12 @@ pub Stands-none : (known : Option (List ℕ)) → Stands known known 0 []
 Stands-none known = record { count = refl; each = tt; linked = tt; bytes = consumed-nil known }
 
 -- all was read
-pub IsLog-ended : (whole left : Option (List ℕ)) (n : ℕ) (C : List ChangeParts) → Stands whole left n C → IsAtEnd left → IfSome whole (λ b. IsLog b C)
-IsLog-ended None left n C stands end = tt
-IsLog-ended (Some b) None n C stands end = absurd stands.bytes
-IsLog-ended (Some b) (Some x) n C stands end = record {
-  spelled = stands.bytes ∙ ap (λ l. log_of C ++ l) end ∙ append-nil (log_of C);
-  each = stands.each;
-  linked = stands.linked;
-}
+pub Stands-ended : (whole left after : Option (List ℕ)) (n : ℕ) (C : List ChangeParts) → Stands whole left n C → Ends left after → IsLog (log_of C) C × Consumes whole after (log_of C) × IsAtEnd after
+Stands-ended whole left after n C stands ends = (
+  record { spelled = refl; each = stands.each; linked = stands.linked },
+  subst (Consumes whole after) (append-nil (log_of C)) (consumed whole left after (log_of C) [] stands.bytes ends.0),
+  ends.1,
+)
 
 some_bytes : (c : ChangeParts) (more : List ℕ) → IsChange c → 0 < length (entry c ++ more)
 some_bytes c more is =

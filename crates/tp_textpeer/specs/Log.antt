@@ -1,7 +1,7 @@
 -- Logs: one actor's changes, each on the one before.
 use Rattle.std.specs.Prelude.{◌≡◌, ℕ, ◌+◌, ◌==◌, ◌<◌, nat_lt, ◌&&◌, Bool, true, false, cond, if◌then◌else◌, List, [], ◌∷◌, ◌++◌, length, take, drop, ◌≤◌, IfSome, Option, Some, None, Result, Ok, Err}
 use Rattle.std.specs.Int.{w32, from_be_bytes, to_be_bytes}
-use Rattle.std.specs.Io.KnownBytes.{Consumes}
+use Rattle.std.specs.Io.KnownBytes.{Consumes, IsAtEnd}
 use Rattle.std.specs.List.{flat_map, AllByRecursion}
 use Rattle.tp_opid.specs.declared.actor.Actor.{Actor}
 use Rattle.tp_opid.specs.declared.hash.Hash.{Hash}
@@ -118,6 +118,10 @@ pub record IsFault (bytes : List ℕ) (n : ℕ) (fault : ShowFault) : Type 0 whe
   pub linked : LinkedAfter [] good
   pub more : 0 < length rest
   pub wrong : fault_behind good (entry_at rest) ≡ Some fault
+
+-- Between the two nothing was read, and nothing is left.
+abbrev pub Ends : Option (List ℕ) → Option (List ℕ) → Type 0
+Ends before after = Consumes before after [] × IsAtEnd after
 
 -- Of the known bytes `whole`, `left` are left behind the n changes C of a log.
 pub record Stands (whole left : Option (List ℕ)) (n : ℕ) (C : List ChangeParts) : Type 0 where

@@ -1,11 +1,12 @@
 -- What showing a log does.
 use Rattle.std.specs.Prelude.{◌≡◌, ◌⊎◌, ℕ, List, [], ◌∷◌, ◌++◌, Option, IfSome, encode_utf8_all}
-use Rattle.std.specs.Io.KnownBytes.{Appends}
+use Rattle.std.specs.Io.KnownBytes.{Appends, Consumes, IsAtEnd}
 use Rattle.tp_change.specs.declared.parts.ChangeParts.{ChangeParts}
 use Rattle.tp_text.specs.Text.{IsTextOf}
 use Rattle.tp_textpeer.specs.declared.error.ShowError.{ShowError}
 use Rattle.tp_textpeer.specs.ShowFault.{IsOutside}
 use Rattle.tp_textpeer.specs.Log.{IsLog, IsFault}
+use Rattle.tp_textpeer.specs.Output.{AppendsPart}
 
 -- a text and a newline, as bytes
 abbrev pub line : List ℕ → List ℕ
@@ -17,9 +18,20 @@ pub record HasText (bytes : List ℕ) (t : List ℕ) : Type 0 where
   pub log : IsLog bytes changes
   pub text : IsTextOf changes t
 
--- The bytes are a log, and what the writer holds grew by its text and a newline.
-abbrev pub Shows : List ℕ → Option (List ℕ) → Option (List ℕ) → Type 0
-Shows bytes before after = (t : List ℕ) × HasText bytes t × Appends before after (line t)
+-- Between the two the reader gave a log whose text is t, and then it was at its end.
+pub record Gives (before after : Option (List ℕ)) (t : List ℕ) : Type 0 where
+  pub log : List ℕ
+  pub text : HasText log t
+  pub given : Consumes before after log
+  pub end : IsAtEnd after
+
+-- The reader gave a log, to its end, and what the writer holds grew by its text and a newline.
+abbrev pub Shows : (before after : Option (List ℕ)) → (old new : Option (List ℕ)) → Type 0
+Shows before after old new = (t : List ℕ) × Gives before after t × Appends old new (line t)
+
+-- The reader gave a log, to its end, and what the writer holds grew by a beginning of its text and a newline.
+abbrev pub ShowsPart : (before after : Option (List ℕ)) → (old new : Option (List ℕ)) → Type 0
+ShowsPart before after old new = (t : List ℕ) × Gives before after t × AppendsPart old new (line t)
 
 -- The refusal says that memory is short or a device failed, with 0 as the change; or else what is wrong with the bytes
 -- and at which change.

@@ -2,12 +2,12 @@
 
 ghost use Rattle.std.specs.Prelude.{◌≡◌, ◌⊎◌, ◌<◌, ◌≤◌, IfOk, IfErr, IfNone, IfSome, length};
 ghost use Rattle.std.specs.Int.{w32, from_be_bytes, to_be_bytes};
-ghost use Rattle.std.specs.Io.KnownBytes.{Consumes, IsAtEnd};
+ghost use Rattle.std.specs.Io.KnownBytes.{Consumes};
 ghost use Rattle.tp_change.specs.declared.limits.TheConstants.{MAX_BYTES};
 ghost use Rattle.tp_change.specs.Limits.{IsChange};
 ghost use Rattle.tp_change.specs.Spelling.{spelling};
 ghost use Rattle.tp_textpeer.specs.ShowFault.{IsOutside};
-ghost use Rattle.tp_textpeer.specs.Log.{entry, sized_entry_at, StartsBadly, ReadsLength};
+ghost use Rattle.tp_textpeer.specs.Log.{Ends, entry, sized_entry_at, StartsBadly, ReadsLength};
 
 use crate::error::ShowFault;
 use crate::input::read_up_to;
@@ -26,7 +26,8 @@ fn number_in(bytes: &[u8]) -> u32
 
 // The length of the next change, where there is one.
 fn next_len<R: Read>(reader: &mut R, buffer: &mut Vec<u8>) -> Result<Option<usize>, ShowFault>
-    ensures end { IfOk result (λ found. IfNone found (IsAtEnd (R.remaining reader.old))) }
+    ensures end { IfOk result
+        (λ found. IfNone found (Ends (R.remaining reader.old) (R.remaining reader.new))) }
     ensures some { IfOk result
         (λ found. IfSome found (λ n. ReadsLength (R.remaining reader.old)
         (R.remaining reader.new) n)) }
@@ -82,7 +83,8 @@ pub(crate) fn next_change<R: Read>(
     reader: &mut R,
     buffer: &mut Vec<u8>,
 ) -> Result<Option<Change>, ShowFault>
-    ensures end { IfOk result (λ found. IfNone found (IsAtEnd (R.remaining reader.old))) }
+    ensures end { IfOk result
+        (λ found. IfNone found (Ends (R.remaining reader.old) (R.remaining reader.new))) }
     ensures some { IfOk result
         (λ found. IfSome found (λ c. IsChange c
         × Consumes (R.remaining reader.old) (R.remaining reader.new) (entry c))) }

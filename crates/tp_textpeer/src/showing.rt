@@ -1,22 +1,22 @@
 //! The text of a log.
 
 ghost use Rattle.std.specs.Prelude.{◌≡◌, ◌⊎◌, ◌+◌, ◌<◌, ◌^◌, ℕ, List, [], ◌∷◌, ◌++◌, true, false, IfOk, IfErr, IfSome, OnOk, Option};
-ghost use Rattle.std.specs.Io.KnownBytes.{Appends, IsAtEnd, Keeps};
+ghost use Rattle.std.specs.Io.KnownBytes.{Consumes, IsAtEnd, Keeps};
 ghost use Rattle.std.specs.String.{string_bytes};
 ghost use Rattle.tp_change.specs.declared.parts.ChangeParts.{ChangeParts};
 ghost use Rattle.tp_rga.specs.Shown.{shown};
 ghost use Rattle.tp_text.specs.Text.{chars_of};
 ghost use Rattle.tp_textpeer.specs.declared.error.ShowFault.TheVariants.{Io};
 ghost use Rattle.tp_textpeer.specs.ShowFault.{IsOutside};
-ghost use Rattle.tp_textpeer.specs.Show.{line, HasText, Shows, Refuses};
-ghost use Rattle.tp_textpeer.specs.Log.{Stands, IsLog, IsFault};
+ghost use Rattle.tp_textpeer.specs.Show.{line, Gives, Shows, ShowsPart, Refuses};
+ghost use Rattle.tp_textpeer.specs.Log.{Stands, IsLog, IsFault, Ends, log_of};
 ghost use Rattle.tp_textpeer.specs.Chain.{Remembers, AllBelowCounter};
 
 use crate::chain::{Chain, admit};
 use crate::entry::next_change;
 use crate::error::{ShowError, ShowFault};
+use crate::output::write_out;
 use std::alloc::{AllocError, Global};
-use std::io;
 use std::io::{Read, Write};
 use tp_rga::{PlainSequence, Sequence};
 use tp_text::text;
@@ -42,7 +42,8 @@ fn step<S: Sequence, R: Read>(
         × Remembers (C ++ c ∷ []) (S.placed chain.new.sequence)
         (S.removals chain.new.sequence) chain.new.author chain.new.last chain.new.next) }
     ensures ended { IfOk result
-        (λ more. more ≡ false → IsAtEnd (R.remaining reader.old) × (chain.new ≡ chain.old)) }
+        (λ more. more ≡ false → Ends (R.remaining reader.old) (R.remaining reader.new)
+        × (chain.new ≡ chain.old)) }
     ensures err { IfErr result (λ f. IsOutside f ⊎ ((whole : Option (List ℕ)) (C : List ChangeParts)
         → Stands whole (R.remaining reader.old) count C
         → Remembers C (S.placed chain.old.sequence)
@@ -73,10 +74,11 @@ fn at_change(change: u64, fault: ShowFault) -> ShowError
 
 // What is kept of the changes of a whole log.
 fn read_log<S: Sequence, R: Read>(alloc: Global, reader: &mut R) -> Result<Chain<S>, ShowError>
-    ensures ok { IfOk result (λ chain. IfSome (R.remaining reader.old)
-        (λ bytes. (C : List ChangeParts) × IsLog bytes C
+    ensures ok { IfOk result (λ chain. (C : List ChangeParts) × IsLog (log_of C) C
+        × Consumes (R.remaining reader.old) (R.remaining reader.new) (log_of C)
+        × IsAtEnd (R.remaining reader.new)
         × Remembers C (S.placed chain.sequence)
-        (S.removals chain.sequence) chain.author chain.last chain.next)) }
+        (S.removals chain.sequence) chain.author chain.last chain.next) }
     ensures err { IfErr result (Refuses (R.remaining reader.old)) }
 {
     let mut chain = Chain {
@@ -108,8 +110,9 @@ fn line_of<S: Sequence>(alloc: Global, sequence: &S) -> Result<String, AllocErro
 
 // The text of a log, and a newline.
 fn text_of_log<S: Sequence, R: Read>(alloc: Global, reader: &mut R) -> Result<String, ShowError>
-    ensures ok { IfOk result (λ text. IfSome (R.remaining reader.old)
-        (λ bytes. (t : List ℕ) × HasText bytes t × (string_bytes text ≡ line t))) }
+    ensures ok { IfOk result
+        (λ text. (t : List ℕ) × Gives (R.remaining reader.old) (R.remaining reader.new) t
+        × (string_bytes text ≡ line t)) }
     ensures err { IfErr result (Refuses (R.remaining reader.old)) }
 {
     match read_log::<S, R>(alloc, reader) {
@@ -130,7 +133,8 @@ fn text_of_log<S: Sequence, R: Read>(alloc: Global, reader: &mut R) -> Result<St
 /// The refusal has the number of the change at which it stands, counted from 0. For each change these are judged in
 /// turn: its length and bytes (`Change`, with `Short` for a length of 0 and a length or a change that isn't whole, and
 /// `Limit` for a length past 4,194,304), `NotChain`, `BadSeq`, `BadStart`, `BadReference`. `OutOfMemory` and `Io` (the
-/// reader or the writer failed) say nothing of the log, and have the number 0. After `Io` the writer may hold a part.
+/// reader or the writer failed) say nothing of the log, and have the number 0. After `Io` the writer may hold a
+/// beginning of the text.
 ///
 /// The log is read once, change by change, and of each change only its elements are kept.
 pub fn show<R: Read, W: Write>(
@@ -138,30 +142,23 @@ pub fn show<R: Read, W: Write>(
     reader: &mut R,
     writer: &mut W,
 ) -> Result<(), ShowError>
-    // What is shown is the text of the changes whose log the reader had.
-    ensures shown { OnOk result (IfSome (R.remaining reader.old)
-        (λ bytes. Shows bytes (W.contents writer.old) (W.contents writer.new))) }
+    // What is shown is the text of the changes whose log the reader gave, to its end.
+    ensures shown { OnOk result (Shows (R.remaining reader.old) (R.remaining reader.new)
+        (W.contents writer.old) (W.contents writer.new)) }
     // What is refused isn't the log of any changes, and the refusal says why.
     ensures refused { IfErr result (Refuses (R.remaining reader.old)) }
     ensures only { IfSome (R.remaining reader.old)
         (λ bytes. (C : List ChangeParts) → IsLog bytes C → IfErr result (λ e. IsOutside e.fault)) }
-    // A refusal writes nothing, but where the writer itself failed.
-    ensures nothing { IfErr result
-        (λ e. (e.fault ≡ Io) ⊎ Keeps (W.contents writer.old) (W.contents writer.new)) }
+    // A refusal writes nothing, but for a beginning of the text where the reader gave a whole log and the writer failed.
+    ensures nothing { IfErr result (λ e. Keeps (W.contents writer.old) (W.contents writer.new)
+        ⊎ ((e.fault ≡ Io) × ShowsPart (R.remaining reader.old) (R.remaining reader.new)
+        (W.contents writer.old) (W.contents writer.new))) }
 {
     match text_of_log::<PlainSequence, R>(alloc, reader) {
-        Ok(text) => match write_out(writer, text.as_str()) {
+        Ok(text) => match write_out(writer, text.as_str().as_bytes()) {
             Ok(()) => Ok(()),
             Err(_) => Err(at_change(0, ShowFault::Io)),
         },
         Err(error) => Err(error),
     }
-}
-
-// Writes a text and flushes the writer.
-fn write_out<W: Write>(writer: &mut W, text: &str) -> io::Result<()>
-    ensures { OnOk result (Appends (W.contents writer.old) (W.contents writer.new) text.now) }
-{
-    writer.write_all(text.as_bytes())?;
-    writer.flush()
 }

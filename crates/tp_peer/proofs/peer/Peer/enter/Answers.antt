@@ -12,11 +12,11 @@ invariant_of-self g c =
     let change = c.args.change in
     let made = c.append_and_enter.new in
     let done = c.in-Ok.ensures in
-    let p : PeerData = peer_data s.actor s.document s.appender s.stopped in
-    let p' : PeerData = peer_data s.actor made.document made.appender s.stopped in
+    let p : PeerData = peer_data s.actor s.document s.links.known s.appender s.stopped in
+    let p' : PeerData = peer_data s.actor made.document s.links.known made.appender s.stopped in
     keeping_leaves_peer p (Edit [] 0 []) (Made None) p' c.self.invariant
     (edit_keeps p p' (Edit [] 0 []) (Made None) change (λ x. cc) (omega arith)
     (subst (λ (q : PeerData). q.stopped ≡ false) (sym c.self.view_is) c.requires.running)
     (subst (λ (q : PeerData). cause q.applied change ≡ None) (sym c.self.view_is) c.requires.enters)
     done.kept.limits
-    (entered_parts s.actor s.document made.document s.appender made.appender s.stopped change done.id done.waiting done.applied done.kept))
+    (entered_parts s.actor s.document made.document s.links.known s.appender made.appender s.stopped change done.id done.waiting done.applied done.kept))

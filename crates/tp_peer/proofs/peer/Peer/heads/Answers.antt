@@ -10,6 +10,6 @@ returns-then-self g c = step_stopped c.args.self.now ReadHeads (ap (λ (p : Peer
 pub returns : goal.returns
 returns g c =
     let s = c.self.inside in
-    let p : PeerData = peer_data s.actor s.document s.appender s.stopped in
+    let p : PeerData = peer_data s.actor s.document s.links.known s.appender s.stopped in
     subst (λ (q : PeerData). PeerStep q ReadHeads (Heads c.heads.result.now) q) c.self.view_is
     (step_runs p ReadHeads (Heads c.heads.result.now) p c.if-self.false (c.heads.ensures, refl))

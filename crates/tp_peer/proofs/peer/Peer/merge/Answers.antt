@@ -29,11 +29,11 @@ invariant_of-self g c =
     let s = c.self.inside in
     let o = c.other.inside in
     let new = c.merge_with.new in
-    let p : PeerData = peer_data s.actor s.document s.appender s.stopped in
-    let q : PeerData = peer_data o.actor o.document o.appender o.stopped in
-    let p' : PeerData = peer_data s.actor new.self new.keeper s.stopped in
+    let p : PeerData = peer_data s.actor s.document s.links.known s.appender s.stopped in
+    let q : PeerData = peer_data o.actor o.document o.links.known o.appender o.stopped in
+    let p' : PeerData = peer_data s.actor new.self s.links.known new.keeper s.stopped in
     let done : Merges p q (report_of c.in-Ok.applied) p' =
-    (c.in-Ok.ensures.other, took_all s.actor s.document new.self s.appender new.keeper s.stopped (absent s.document.applied o.document.applied) c.in-Ok.applied c.in-Ok.ensures.id c.in-Ok.ensures.space c.in-Ok.ensures.ok) in
+    (c.in-Ok.ensures.other, took_all s.actor s.document new.self s.links.known s.appender new.keeper s.stopped (absent s.document.applied o.document.applied) c.in-Ok.applied c.in-Ok.ensures.id c.in-Ok.ensures.space c.in-Ok.ensures.ok) in
     keeping_leaves_peer p (Merge q) (Merged (report_of c.in-Ok.applied)) p' c.self.invariant (runs_keep p (Merge q) (Merged (report_of c.in-Ok.applied)) p' c.if-self.false done)
 
 pub invariant_of-self-in-NotKept : goal.invariant_of-self-in-NotKept
@@ -41,12 +41,12 @@ invariant_of-self-in-NotKept g c =
     let s = c.self.inside in
     let o = c.other.inside in
     let new = c.merge_with.new in
-    let p : PeerData = peer_data s.actor s.document s.appender s.stopped in
-    let q : PeerData = peer_data o.actor o.document o.appender o.stopped in
+    let p : PeerData = peer_data s.actor s.document s.links.known s.appender s.stopped in
+    let q : PeerData = peer_data o.actor o.document o.links.known o.appender o.stopped in
     let K = absent s.document.applied o.document.applied in
-    let p' : PeerData = peer_data s.actor new.self new.keeper true in
+    let p' : PeerData = peer_data s.actor new.self s.links.known new.keeper true in
     let refused : RefusesMerge p q JournalFailed p' =
-    merge_stopped s.actor s.document new.self s.appender new.keeper s.stopped q c.in-Err.ensures.id
+    merge_stopped s.actor s.document new.self s.links.known s.appender new.keeper s.stopped q c.in-Err.ensures.id
     (subst (λ (e : DocError). IsOtherAlone {T = Applied} (Err e) s.document.id o.document.id) c.in-NotKept.is c.in-Err.ensures.other)
     (subst (λ (e : DocError). MergesPart AppendsRecord RefusesRecord s.appender new.keeper K s.document new.self e) c.in-NotKept.is c.in-Err.ensures.err) in
     keeping_leaves_peer p (Merge q) (Refused JournalFailed) p' c.self.invariant (runs_keep p (Merge q) (Refused JournalFailed) p' c.if-self.false refused)
@@ -56,11 +56,11 @@ invariant_of-self-in_default g c =
     let s = c.self.inside in
     let o = c.other.inside in
     let new = c.merge_with.new in
-    let p : PeerData = peer_data s.actor s.document s.appender s.stopped in
-    let q : PeerData = peer_data o.actor o.document o.appender o.stopped in
-    let p' : PeerData = peer_data s.actor new.self new.keeper s.stopped in
+    let p : PeerData = peer_data s.actor s.document s.links.known s.appender s.stopped in
+    let q : PeerData = peer_data o.actor o.document o.links.known o.appender o.stopped in
+    let p' : PeerData = peer_data s.actor new.self s.links.known new.keeper s.stopped in
     let refused : RefusesMerge p q (refusal_of_document c.in-Err.error) p' =
-    merge_refused s.actor s.document new.self s.appender new.keeper s.stopped q c.in-Err.error c.in-Err.ensures.id c.in_default.not-NotKept c.in-Err.ensures.other c.in-Err.ensures.err in
+    merge_refused s.actor s.document new.self s.links.known s.appender new.keeper s.stopped q c.in-Err.error c.in-Err.ensures.id c.in_default.not-NotKept c.in-Err.ensures.other c.in-Err.ensures.err in
     keeping_leaves_peer p (Merge q) (Refused (refusal_of_document c.in-Err.error)) p' c.self.invariant (runs_keep p (Merge q) (Refused (refusal_of_document c.in-Err.error)) p' c.if-self.false refused)
 
 pub returns-in-Ok : goal.returns-in-Ok
@@ -68,11 +68,11 @@ returns-in-Ok g c =
     let s = c.self.inside in
     let o = c.other.inside in
     let new = c.merge_with.new in
-    let p : PeerData = peer_data s.actor s.document s.appender s.stopped in
-    let q : PeerData = peer_data o.actor o.document o.appender o.stopped in
-    let p' : PeerData = peer_data s.actor new.self new.keeper s.stopped in
+    let p : PeerData = peer_data s.actor s.document s.links.known s.appender s.stopped in
+    let q : PeerData = peer_data o.actor o.document o.links.known o.appender o.stopped in
+    let p' : PeerData = peer_data s.actor new.self s.links.known new.keeper s.stopped in
     let done : Merges p q (report_of c.in-Ok.applied) p' =
-    (c.in-Ok.ensures.other, took_all s.actor s.document new.self s.appender new.keeper s.stopped (absent s.document.applied o.document.applied) c.in-Ok.applied c.in-Ok.ensures.id c.in-Ok.ensures.space c.in-Ok.ensures.ok) in
+    (c.in-Ok.ensures.other, took_all s.actor s.document new.self s.links.known s.appender new.keeper s.stopped (absent s.document.applied o.document.applied) c.in-Ok.applied c.in-Ok.ensures.id c.in-Ok.ensures.space c.in-Ok.ensures.ok) in
     let step : PeerStep p (Merge q) (Merged (report_of c.in-Ok.applied)) p' = step_runs p (Merge q) (Merged (report_of c.in-Ok.applied)) p' (none_stopped s.stopped o.stopped c.if-self.false c.if-other.false) done in
     let seen : PeerStep c.args.self.now (Merge c.args.other.now) (Merged (report_of c.in-Ok.applied)) p' =
     subst (λ (x : PeerData). PeerStep x (Merge c.args.other.now) (Merged (report_of c.in-Ok.applied)) p') c.self.view_is (subst (λ (y : PeerData). PeerStep p (Merge y) (Merged (report_of c.in-Ok.applied)) p') c.other.view_is step) in
@@ -83,12 +83,12 @@ returns-in-NotKept g c =
     let s = c.self.inside in
     let o = c.other.inside in
     let new = c.merge_with.new in
-    let p : PeerData = peer_data s.actor s.document s.appender s.stopped in
-    let q : PeerData = peer_data o.actor o.document o.appender o.stopped in
+    let p : PeerData = peer_data s.actor s.document s.links.known s.appender s.stopped in
+    let q : PeerData = peer_data o.actor o.document o.links.known o.appender o.stopped in
     let K = absent s.document.applied o.document.applied in
-    let p' : PeerData = peer_data s.actor new.self new.keeper true in
+    let p' : PeerData = peer_data s.actor new.self s.links.known new.keeper true in
     let refused : RefusesMerge p q JournalFailed p' =
-    merge_stopped s.actor s.document new.self s.appender new.keeper s.stopped q c.in-Err.ensures.id
+    merge_stopped s.actor s.document new.self s.links.known s.appender new.keeper s.stopped q c.in-Err.ensures.id
     (subst (λ (e : DocError). IsOtherAlone {T = Applied} (Err e) s.document.id o.document.id) c.in-NotKept.is c.in-Err.ensures.other)
     (subst (λ (e : DocError). MergesPart AppendsRecord RefusesRecord s.appender new.keeper K s.document new.self e) c.in-NotKept.is c.in-Err.ensures.err) in
     let step : PeerStep p (Merge q) (Refused JournalFailed) p' = step_runs p (Merge q) (Refused JournalFailed) p' (none_stopped s.stopped o.stopped c.if-self.false c.if-other.false) refused in
@@ -101,11 +101,11 @@ returns-in_default g c =
     let s = c.self.inside in
     let o = c.other.inside in
     let new = c.merge_with.new in
-    let p : PeerData = peer_data s.actor s.document s.appender s.stopped in
-    let q : PeerData = peer_data o.actor o.document o.appender o.stopped in
-    let p' : PeerData = peer_data s.actor new.self new.keeper s.stopped in
+    let p : PeerData = peer_data s.actor s.document s.links.known s.appender s.stopped in
+    let q : PeerData = peer_data o.actor o.document o.links.known o.appender o.stopped in
+    let p' : PeerData = peer_data s.actor new.self s.links.known new.keeper s.stopped in
     let refused : RefusesMerge p q (refusal_of_document c.in-Err.error) p' =
-    merge_refused s.actor s.document new.self s.appender new.keeper s.stopped q c.in-Err.error c.in-Err.ensures.id c.in_default.not-NotKept c.in-Err.ensures.other c.in-Err.ensures.err in
+    merge_refused s.actor s.document new.self s.links.known s.appender new.keeper s.stopped q c.in-Err.error c.in-Err.ensures.id c.in_default.not-NotKept c.in-Err.ensures.other c.in-Err.ensures.err in
     let step : PeerStep p (Merge q) (Refused (refusal_of_document c.in-Err.error)) p' = step_runs p (Merge q) (Refused (refusal_of_document c.in-Err.error)) p' (none_stopped s.stopped o.stopped c.if-self.false c.if-other.false) refused in
     let seen : PeerStep c.args.self.now (Merge c.args.other.now) (Refused (refusal_of_document c.in-Err.error)) p' =
     subst (λ (x : PeerData). PeerStep x (Merge c.args.other.now) (Refused (refusal_of_document c.in-Err.error)) p') c.self.view_is (subst (λ (y : PeerData). PeerStep p (Merge y) (Refused (refusal_of_document c.in-Err.error)) p') c.other.view_is step) in

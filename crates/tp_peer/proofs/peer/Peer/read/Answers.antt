@@ -13,12 +13,12 @@ returns-then-self g c = step_stopped c.args.self.now Read (ap (λ (p : PeerData)
 pub returns-in-Ok : goal.returns-in-Ok
 returns-in-Ok g c =
     let s = c.self.inside in
-    let p : PeerData = peer_data s.actor s.document s.appender s.stopped in
+    let p : PeerData = peer_data s.actor s.document s.links.known s.appender s.stopped in
     let text : Reply = Text (chars (string_bytes c.in-Ok.text)) in
     subst (λ (q : PeerData). PeerStep q Read text q) c.self.view_is (step_runs p Read text p c.if-self.false (c.in-Ok.ensures.text, refl))
 
 pub returns-in-Err : goal.returns-in-Err
 returns-in-Err g c =
     let s = c.self.inside in
-    let p : PeerData = peer_data s.actor s.document s.appender s.stopped in
+    let p : PeerData = peer_data s.actor s.document s.links.known s.appender s.stopped in
     subst (λ (q : PeerData). PeerStep q Read (Refused OutOfMemory) q) c.self.view_is (step_runs p Read (Refused OutOfMemory) p c.if-self.false (refl, refl))

@@ -16,7 +16,7 @@ returns-then-self g c = step_stopped c.args.self.now (ReadAt c.args.hashes.now) 
 pub returns-in-Ok : goal.returns-in-Ok
 returns-in-Ok g c =
     let s = c.self.inside in
-    let p : PeerData = peer_data s.actor s.document s.appender s.stopped in
+    let p : PeerData = peer_data s.actor s.document s.links.known s.appender s.stopped in
     let H = c.args.hashes.now in
     let text : Reply = Text (chars (string_bytes c.in-Ok.text)) in
     subst (λ (q : PeerData). PeerStep q (ReadAt H) text q) c.self.view_is
@@ -25,7 +25,7 @@ returns-in-Ok g c =
 pub returns-in-Err : goal.returns-in-Err
 returns-in-Err g c =
     let s = c.self.inside in
-    let p : PeerData = peer_data s.actor s.document s.appender s.stopped in
+    let p : PeerData = peer_data s.actor s.document s.links.known s.appender s.stopped in
     let H = c.args.hashes.now in
     let e = refusal_of_document c.in-Err.error in
     subst (λ (x : PeerError). PeerStep c.args.self.now (ReadAt H) (Refused x) c.args.self.now) (sym c.from.ensures)

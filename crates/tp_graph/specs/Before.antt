@@ -1,0 +1,20 @@
+-- What is marked of the records before a record of their change.
+use Rattle.std.specs.Prelude.{◌≡◌, ℕ, ◌+◌, ◌≤◌, List, get_or, Bool, false, ◌&&◌, nat_lt, not}
+use Rattle.tp_change.specs.declared.record.Record.{Record}
+use Rattle.tp_change.specs.Operations.{count_of}
+use Rattle.tp_graph.specs.declared.before.Before.{Before}
+use Rattle.tp_graph.specs.Covers.{covers}
+
+-- No mark is set.
+abbrev pub IsClear : List Bool → Type 0
+IsClear marks = (j : ℕ) → get_or marks j false ≡ false
+
+-- The records, the first of which has the counter n, have so many operations; of these the marked ones are deletes.
+pub record Marks (marks : List Bool) (n count : ℕ) (rs : List Record) : Type 0 where
+  pub counted : count ≡ count_of rs
+  pub each : (j : ℕ) → covers n rs (n + j) ≡ (nat_lt j count && not (get_or marks j false))
+  pub rest : (j : ℕ) → count ≤ j → get_or marks j false ≡ false
+
+-- The records are those that are told of.
+abbrev pub Tells : Before → List Record → Type 0
+Tells b rs = Marks b.deletes.now b.first b.count rs

@@ -1,0 +1,6 @@
+use Rattle.tp_headline.specs.World.{beginning}
+use Rattle.tp_headline.proofs.EventLaws.{beginning_carried, goes_on_carries}
+use Rattle.tp_headline.proofs.laws.the_wire_carries_what_was_made.Goals as goal
+
+pub returns : goal.returns
+returns c = λ id events replies w is s. (goes_on_carries events replies (beginning id) w (beginning_carried id is) s).carried.wire

@@ -1,0 +1,8 @@
+use Rattle.std.proofs.Common.{sym, subst}
+use Rattle.tp_peer.specs.declared.error.PeerError.{PeerError}
+use Rattle.tp_peer.specs.PeerStep.{RefusesDecoding}
+use Rattle.tp_peer.proofs.ReceivingLaws.{decoding_refused}
+use Rattle.tp_peer.proofs.syncing.message_of.Goals as goal
+
+pub returns-in-Err-clause-err : goal.returns-in-Err-clause-err
+returns-in-Err-clause-err c = subst (λ (e : PeerError). RefusesDecoding c.args.bytes.now e) (sym c.from.ensures) (decoding_refused c.args.bytes.now c.in-Err.error c.in-Err.ensures.exact)

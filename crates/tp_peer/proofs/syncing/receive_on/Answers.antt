@@ -1,0 +1,22 @@
+use Rattle.std.proofs.Common.{◌≡◌, ℕ, List, Some, false, ap, sym, subst, ◌∙◌}
+use Rattle.std.specs.Prelude.{◌↔◌, IsTrue}
+use Rattle.tp_sync.specs.State.{SyncParts, heard}
+use Rattle.tp_peer.specs.Links.{is_one_too_many, known_of, with_link}
+use Rattle.tp_peer.proofs.ReceivingLaws.{heard_all}
+use Rattle.tp_peer.proofs.syncing.receive_on.Goals as goal
+
+pub returns-in-Ok-clause-ok : goal.returns-in-Ok-clause-ok
+returns-in-Ok-clause-ok g c = λ actor.
+    let L : List (ℕ × SyncParts) = c.args.links.now.known in
+    let link : ℕ = c.args.link.0 in
+    let m = c.in_ok-message.message in
+    let kept : c.reserve.new.self.known ≡ L = c.in_ok-reserve.ensures.same in
+    let place : is_one_too_many L link ≡ false = sym c.is_full_for.ensures ∙ c.if-is_full_for.false in
+    let state : c.in_ok-state.state ≡ known_of L link = c.in_ok-state.ensures.known in
+    let same : IsTrue c.is_declared-same_heads.result ↔ ((known_of L link).theirs ≡ Some m.heads) =
+    subst (λ (s : SyncParts). IsTrue c.is_declared-same_heads.result ↔ (s.theirs ≡ Some m.heads)) state (rw c.heads.ensures.heads at c.is_declared-same_heads.ensures) in
+    let is : c.set.new.self.known ≡ with_link L link (heard (known_of L link) m) =
+    c.set.ensures ∙ ap (λ (M : List (ℕ × SyncParts)). with_link M link c.receive_with.new.state) kept
+    ∙ ap (λ (s : SyncParts). with_link L link s) (c.in-Ok.ensures.state ∙ ap (λ (s : SyncParts). heard s m) state) in
+    heard_all actor c.args.document.now c.receive_with.new.document L c.set.new.self.known c.args.appender.now c.receive_with.new.keeper link c.args.bytes.now m c.in-Ok.applied c.is_declared-same_heads.result place c.in_ok-message.ensures.ok
+    c.in-Ok.ensures.id c.in-Ok.ensures.full c.in-Ok.ensures.ok same is

@@ -1,0 +1,170 @@
+//! Messages from and to other peers, each on a link.
+
+ghost use Rattle.std.specs.Prelude.{false, IfOk, IfErr};
+ghost use Rattle.tp_opid.specs.declared.actor.Actor.{Actor as ActorOf};
+ghost use Rattle.tp_peer.specs.Appending.{JournalState};
+ghost use Rattle.tp_peer.specs.PeerData.{peer_data};
+ghost use Rattle.tp_peer.specs.PeerError.{is_failed};
+ghost use Rattle.tp_peer.specs.PeerStep.{PeerStep, Receive, Received as Reported, Generate, Generated, Forget, Forgotten, Decodes, Hears, RefusesDecoding, RefusesReceive, Speaks, RefusesGenerate, replied};
+ghost use Rattle.tp_peer.specs.Sent.{sent_of};
+ghost use Rattle.tp_peer.specs.Taking.{report_of};
+
+use crate::appender::Appender;
+use crate::error::PeerError;
+use crate::exchanged::{Outgoing, Received};
+use crate::links::{Link, Links};
+use crate::peer::Peer;
+use crate::sequence::PeerSequence;
+use std::alloc::Global;
+use tp_document::Document;
+use tp_journal::Journal;
+use tp_sync::{Message, generate, receive_with};
+
+// The message that the bytes are.
+fn message_of(alloc: Global, bytes: &[u8]) -> Result<Message, PeerError>
+    ensures ok { IfOk result (λ m. Decodes bytes.now m) }
+    ensures err { IfErr result (λ e. RefusesDecoding bytes.now e) }
+{
+    match Message::decode(alloc, bytes) {
+        Ok(message) => Ok(message),
+        Err(error) => Err(PeerError::from(error)),
+    }
+}
+
+// Receives the message of a link. All that can fail comes before its changes, and nothing after them.
+fn receive_on<J: Journal>(
+    alloc: Global,
+    document: &mut Document<PeerSequence>,
+    links: &mut Links,
+    appender: &mut Appender<J>,
+    link: Link,
+    bytes: &[u8],
+) -> Result<Received, PeerError>
+    ensures ok { (actor : ActorOf) → IfOk result
+        (λ r. Hears (peer_data actor document.old links.old.known appender.old false) link.0
+        bytes.now (report_of r.applied) r.same_heads
+        (peer_data actor document.new links.new.known appender.new false)) }
+    ensures err { (actor : ActorOf) → IfErr result
+        (λ e. RefusesReceive (peer_data actor document.old links.old.known appender.old false) link.0
+        bytes.now e
+        (peer_data actor document.new links.new.known appender.new (is_failed e))) }
+{
+    if links.is_full_for(link) {
+        return Err(PeerError::TooManyLinks);
+    }
+    let message = message_of(alloc, bytes)?;
+    let mut state = links.known(alloc, link)?;
+    links.reserve()?;
+    let same_heads = state.is_declared(message.heads());
+    match receive_with(document, &mut state, message, appender) {
+        Ok(applied) => {
+            links.set(link, state);
+            Ok(Received {
+                applied,
+                same_heads,
+            })
+        }
+        Err(error) => Err(PeerError::from(error)),
+    }
+}
+
+// Makes the next message of a link. What is known there changes only once the bytes are written.
+fn generate_on(
+    alloc: Global,
+    document: &Document<PeerSequence>,
+    links: &mut Links,
+    link: Link,
+) -> Result<Option<Outgoing>, PeerError>
+    ensures ok { (actor : ActorOf) (k : JournalState) → IfOk result
+        (λ sent. Speaks (peer_data actor document.now links.old.known k false) link.0 (sent_of sent)
+        (peer_data actor document.now links.new.known k false)) }
+    ensures err { (actor : ActorOf) (k : JournalState) → IfErr result
+        (λ e. RefusesGenerate (peer_data actor document.now links.old.known k false) link.0 e
+        (peer_data actor document.now links.new.known k false)) }
+{
+    if links.is_full_for(link) {
+        return Err(PeerError::TooManyLinks);
+    }
+    let mut state = links.known(alloc, link)?;
+    links.reserve()?;
+    match generate(alloc, document, &mut state) {
+        Ok(Some(message)) => match message.encode() {
+            Ok(bytes) => {
+                let again = state.again();
+                links.set(link, state);
+                Ok(Some(Outgoing { bytes, again }))
+            }
+            Err(error) => Err(PeerError::from(error)),
+        },
+        Ok(None) => Ok(None),
+        Err(error) => Err(PeerError::from(error)),
+    }
+}
+
+impl<J: Journal> Peer<J> {
+    /// Receives a message that came on a link, as Automerge's call `receive_sync_message`: its changes, as a merge
+    /// receives them, and then the heads that it declares and the hashes that it wants, which are known on the link from
+    /// then on. A link that isn't there is made.
+    ///
+    /// A message may come twice or late: what it carries is then refused as `Known`, and reported.
+    ///
+    /// It is refused as `Stopped`; then as `TooManyLinks` where the link would be a new one and there are 1,024; then as
+    /// `BadMessage` or `BadChange` of the exchange where the bytes are no message; then as `PendingFull` of it where more
+    /// than 1,024 changes would wait. `JournalFailed` where the device failed while a record was appended: what entered
+    /// before stays, and the peer has stopped. `OutOfMemory`, the only other refusal, leaves what had entered as well,
+    /// and of what waited nothing is lost. Each refusal leaves the links as they were.
+    ///
+    /// One pass over the bytes, one look-up for each change, and one append for each that enters.
+    pub fn receive_bytes(&mut self, link: Link, bytes: &[u8]) -> Result<Received, PeerError>
+        ensures { PeerStep self.old (Receive link.0 bytes.now)
+            (replied (λ r. Reported (report_of r.applied) r.same_heads) result) self.new }
+    {
+        if self.stopped {
+            return Err(PeerError::Stopped);
+        }
+        let alloc = self.alloc;
+        match receive_on(
+            alloc,
+            &mut self.document,
+            &mut self.links,
+            &mut self.appender,
+            link,
+            bytes,
+        ) {
+            Ok(received) => Ok(received),
+            Err(error) => {
+                self.stopped = error.is_failed();
+                Err(error)
+            }
+        }
+    }
+
+    /// The next message on a link, as Automerge's call `generate_sync_message`, or `None` where there is nothing to say:
+    /// see [`generate`](tp_sync::generate). A link that isn't there is made.
+    ///
+    /// It is refused as `Stopped`; then as `TooManyLinks` where the link would be a new one and there are 1,024; then as
+    /// `TooManyHeads` of the exchange where the document has more than 65,535 heads. The only other refusal is
+    /// `OutOfMemory`. Each leaves the peer as it was.
+    ///
+    /// The cost is that of `generate`, and of the bytes that are written.
+    pub fn generate_bytes(&mut self, link: Link) -> Result<Option<Outgoing>, PeerError>
+        ensures { PeerStep self.old (Generate link.0)
+            (replied (λ sent. Generated (sent_of sent)) result) self.new }
+    {
+        if self.stopped {
+            return Err(PeerError::Stopped);
+        }
+        generate_on(self.alloc, &self.document, &mut self.links, link)
+    }
+
+    /// Forgets all that is known on a link, which may be absent. The only refusal is `Stopped`. No memory.
+    pub fn forget_link(&mut self, link: Link) -> Result<(), PeerError>
+        ensures { PeerStep self.old (Forget link.0) (replied (λ _. Forgotten) result) self.new }
+    {
+        if self.stopped {
+            return Err(PeerError::Stopped);
+        }
+        self.links.forget(link);
+        Ok(())
+    }
+}

@@ -1,0 +1,17 @@
+-- What the laws of sessions say.
+use Rattle.std.specs.Prelude.{◌≡◌, Option, Some, None, Result, Ok, Err}
+use Rattle.tp_frame.specs.declared.frame.Frame.{Frame}
+use Rattle.tp_frame.specs.declared.frame.Frame.TheVariants.{Refusal}
+use Rattle.tp_session.specs.declared.turn.Turn.{Turn}
+use Rattle.tp_session.specs.declared.turn.Ended.{Ended}
+
+-- what is sent is a refusal, or nothing
+abbrev pub IsRefusalAtMost : Option Frame → Type 0
+IsRefusalAtMost None = Unit {0}
+IsRefusalAtMost (Some (Refusal code)) = Unit {0}
+IsRefusalAtMost (Some _) = ⊥
+
+-- The answer sends nothing but a refusal, and that beside an error.
+abbrev pub SaysNoMore : Result Turn Ended → Type 0
+SaysNoMore (Ok turn) = turn.send ≡ None
+SaysNoMore (Err ended) = IsRefusalAtMost ended.send

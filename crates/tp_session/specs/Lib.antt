@@ -1,0 +1,6 @@
+pub mod Reason
+pub mod NetError
+pub mod SessionData
+pub mod SessionStep
+pub mod Leading
+pub mod Laws

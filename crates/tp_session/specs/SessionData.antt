@@ -1,0 +1,34 @@
+-- What contracts see of a session.
+use Rattle.std.specs.Prelude.{ℕ, ◌+◌, ◌-◌, ◌^◌, min, Option, Some, None}
+use Rattle.tp_opid.specs.declared.doc_id.DocId.{DocId}
+use Rattle.tp_frame.specs.declared.frame.Frame.{Frame}
+use Rattle.tp_frame.specs.declared.frame.Frame.TheVariants.{Hello}
+use Rattle.tp_session.specs.declared.session.Role.{Role}
+use Rattle.tp_session.specs.declared.session.Role.TheVariants.{Client, Server}
+use Rattle.tp_session.specs.declared.session.Phase.{Phase}
+use Rattle.tp_session.specs.declared.session.Phase.TheVariants.{AwaitsHello}
+use Rattle.tp_session.specs.declared.session.TheConstants.{VERSION}
+
+-- Which side it is, the identifier of its document, how far it is, and how many changes were applied here.
+pub record SessionData : Type 0 where
+  pub role : Role
+  pub id : DocId
+  pub phase : Phase
+  pub applied : ℕ
+
+-- a session at its begin
+abbrev pub begun : Role → DocId → SessionData
+begun role id = record { role = role; id = id; phase = AwaitsHello; applied = 0 }
+
+-- the hello of a side that holds the document
+abbrev pub greeting : DocId → Frame
+greeting id = Hello VERSION id
+
+-- the frame with which a side begins
+abbrev pub first_of : Role → DocId → Option Frame
+first_of Client id = Some (greeting id)
+first_of Server id = None
+
+-- the session, with so many changes more, up to 2^64 - 1
+abbrev pub counting : SessionData → ℕ → SessionData
+counting s n = record s { applied = min (s.applied + n) (2 ^ 64 - 1) }

@@ -1,0 +1,62 @@
+//! A peer with one of its links, as the host of a session.
+
+ghost use Rattle.std.specs.Prelude.{◌≡◌};
+ghost use Rattle.tp_peer.specs.PeerStep.{PeerStep, Receive, Generate, Forget};
+ghost use Rattle.tp_session.specs.Leading.{GoesOn};
+
+use crate::host::Host;
+use tp_journal::Journal;
+use tp_peer::{Link, Outgoing, Peer, PeerError, Received};
+
+/// A peer that is lent, and the link on which it holds a session.
+#[derive(Drop)]
+pub struct LinkedPeer<'a, J: Journal> {
+    peer: &'a mut Peer<J>,
+    link: Link,
+}
+
+impl<'a, J: Journal> LinkedPeer<'a, J> {
+    /// The peer with the link, which need not be there.
+    pub fn new(peer: &'a mut Peer<J>, link: Link) -> LinkedPeer<'a, J>
+        ensures same_reference { result.peer.ghost_name ≡ peer.entry.ghost_name }
+        ensures peer { result.peer.now ≡ peer.old }
+        ensures link { result.link ≡ link }
+    {
+        LinkedPeer { peer, link }
+    }
+}
+
+impl<'a, J: Journal> Host for LinkedPeer<'a, J> {
+    ghost use Rattle.std.proofs.Common.{refl, ◌∙◌};
+    ghost use Rattle.tp_session.specs.Leading.{stays as stays_at, joins as joins_at};
+
+    ghost goes_on = { λ a b. (b.link.0 ≡ a.link.0) × (b.peer.ghost_name ≡ a.peer.ghost_name)
+        × GoesOn a.link.0 a.peer.now b.peer.now };
+
+    ghost receives = { λ a bytes reply b.
+        PeerStep a.peer.now (Receive a.link.0 bytes) reply b.peer.now };
+
+    ghost generates = { λ a reply b. PeerStep a.peer.now (Generate a.link.0) reply b.peer.now };
+
+    ghost forgets = { λ a reply b. PeerStep a.peer.now (Forget a.link.0) reply b.peer.now };
+
+    fn receive(&mut self, bytes: &[u8]) -> Result<Received, PeerError> {
+        self.peer.receive_bytes(self.link, bytes)
+    }
+
+    fn generate(&mut self) -> Result<Option<Outgoing>, PeerError> {
+        self.peer.generate_bytes(self.link)
+    }
+
+    fn forget(&mut self) -> Result<(), PeerError> {
+        self.peer.forget_link(self.link)
+    }
+
+    ghost stays = { λ h. (refl, refl, stays_at h.link.0 h.peer.now) };
+
+    ghost joins = { λ a b c first then. (
+      then.0 ∙ first.0,
+      then.1 ∙ first.1,
+      joins_at a.link.0 b.link.0 a.peer.now b.peer.now c.peer.now first.0 first.2 then.2,
+    ) };
+}

@@ -1,0 +1,280 @@
+//! The session: what a side answers to each frame.
+
+ghost use Rattle.std.specs.Prelude.{◌≡◌, length, Err, None, Some};
+ghost use Rattle.tp_frame.specs.declared.frame.Frame.TheVariants.{Hello, Sync, Done, Refusal};
+ghost use Rattle.tp_peer.specs.Sent.{sent_of};
+ghost use Rattle.tp_session.specs.NetError.{error_of_fault};
+ghost use Rattle.tp_session.specs.SessionData.{begun, first_of, counting};
+ghost use Rattle.tp_session.specs.SessionStep.{SessionStep, Says, Fails, Tells, Sends, OnHello, OnSync, OnDone, OnRefusal};
+
+use crate::error::NetError;
+use crate::host::Host;
+use crate::turn::{Ended, Turn};
+use bytes::Bytes;
+use std::marker::Model;
+use tp_frame::{Frame, FrameError};
+use tp_opid::DocId;
+use tp_peer::{Outgoing, Received};
+
+/// The version of the protocol that a hello names.
+pub const VERSION: u8 = 1;
+
+/// Which side of a session it is.
+#[derive(Clone, Copy, Debug, PartialEq, Eq)]
+pub enum Role {
+    /// The side that connected. It sends the first frame, and the first message.
+    Client,
+    /// The side that was connected to.
+    Server,
+}
+
+/// How far a session is.
+#[derive(Clone, Copy, Debug, PartialEq, Eq)]
+pub enum Phase {
+    /// The other's hello hasn't come.
+    AwaitsHello,
+    /// Messages go to and fro.
+    Exchanges,
+    /// This side has said done.
+    SaidDone,
+    /// It has ended.
+    Over,
+}
+
+/// One side of a session.
+///
+/// Contracts see its role, its document's identifier, how far it is and how many changes were applied here, and
+/// [`on_frame`](Session::on_frame) is a `SessionStep`.
+#[derive(Debug, Drop)]
+pub struct Session {
+    role: Role,
+    id: DocId,
+    phase: Phase,
+    applied: u64,
+}
+
+impl Model for Session {
+    ghost use Rattle.tp_session.specs.SessionData.{SessionData};
+
+    ghost Value = { SessionData };
+
+    ghost view = { λ s. record { role = s.role; id = s.id; phase = s.phase; applied = s.applied } };
+}
+
+impl Session {
+    /// The side with the role of a session about the document, at its begin. No memory.
+    pub fn new(role: Role, id: DocId) -> Session
+        ensures { result ≡ begun role id }
+    {
+        Session {
+            role,
+            id,
+            phase: Phase::AwaitsHello,
+            applied: 0,
+        }
+    }
+
+    /// The frame with which the side begins: the client's hello. A server begins with none.
+    pub fn first(&self) -> Option<Frame>
+        ensures { result ≡ first_of self.now.role self.now.id }
+    {
+        match self.role {
+            Role::Client => Some(Frame::Hello {
+                version: VERSION,
+                id: self.id,
+            }),
+            Role::Server => None,
+        }
+    }
+
+    /// How far the session is.
+    pub fn phase(&self) -> Phase
+        ensures { result ≡ self.now.phase }
+    {
+        self.phase
+    }
+
+    /// How many changes were applied here in this session. Past 2^64 - 1 the number stays.
+    pub fn applied(&self) -> u64
+        ensures { result ≡ self.now.applied }
+    {
+        self.applied
+    }
+
+    // Goes on, and sends a frame.
+    fn say(&mut self, frame: Frame, phase: Phase) -> Result<Turn, Ended>
+        ensures { Says self.old frame phase result self.new }
+    {
+        self.phase = phase;
+        Ok(Turn {
+            send: Some(frame),
+            ended: false,
+        })
+    }
+
+    // Ends for an error, with the refusal that is due.
+    fn fail(&mut self, error: NetError) -> Result<Turn, Ended>
+        ensures { Fails self.old error result self.new }
+    {
+        self.phase = Phase::Over;
+        Err(Ended::new(error))
+    }
+
+    // Counts the changes that a message brought.
+    fn count(&mut self, received: &Received)
+        ensures { self.new ≡ counting self.old (length received.now.applied.applied.items) }
+    {
+        let more = received.applied.applied.len() as u64;
+        self.applied = self.applied.saturating_add(more);
+    }
+
+    // Sends a message that was made, or done in its place where it would be refused as the one before.
+    fn send(&mut self, sent: Outgoing, stale: bool) -> Result<Turn, Ended>
+        ensures { Sends self.old stale (sent.bytes.items, sent.again) result self.new }
+    {
+        if stale && sent.again {
+            return self.say(Frame::Done, Phase::SaidDone);
+        }
+        match Bytes::from_vec(sent.bytes) {
+            Ok(bytes) => self.say(Frame::Sync(bytes), Phase::Exchanges),
+            Err(_) => self.fail(NetError::OutOfMemory),
+        }
+    }
+
+    // Sends the host's next message, or done where it has none.
+    fn tell<H: Host>(&mut self, stale: bool, host: &mut H) -> Result<Turn, Ended>
+        ensures step { Tells H.generates self.old stale host.old result self.new host.new }
+        ensures host { H.goes_on host.old host.new }
+    {
+        match host.generate() {
+            Ok(Some(sent)) => self.send(sent, stale),
+            Ok(None) => self.say(Frame::Done, Phase::SaidDone),
+            Err(error) => self.fail(NetError::Peer(error)),
+        }
+    }
+
+    // A hello comes.
+    fn on_hello<H: Host>(&mut self, version: u8, id: DocId, host: &mut H) -> Result<Turn, Ended>
+        ensures step { OnHello H.generates self.old.phase self.old version id host.old
+            result self.new host.new }
+        ensures host { H.goes_on host.old host.new }
+    {
+        match self.phase {
+            Phase::AwaitsHello => {
+                if version != VERSION {
+                    return self.fail(NetError::Version);
+                }
+                if !self.id.is(&id) {
+                    return self.fail(NetError::OtherDocument);
+                }
+                match self.role {
+                    Role::Client => self.tell(false, host),
+                    Role::Server => {
+                        let id = self.id;
+                        self.say(
+                            Frame::Hello {
+                                version: VERSION,
+                                id,
+                            },
+                            Phase::Exchanges,
+                        )
+                    }
+                }
+            }
+            Phase::Exchanges | Phase::SaidDone => self.fail(NetError::Unexpected),
+            Phase::Over => late(),
+        }
+    }
+
+    // A message comes.
+    fn on_sync<H: Host>(&mut self, bytes: &[u8], host: &mut H) -> Result<Turn, Ended>
+        ensures step { OnSync H.receives H.generates self.old.phase self.old bytes.now host.old
+            result self.new host.new }
+        ensures host { H.goes_on host.old host.new }
+    {
+        match self.phase {
+            Phase::Exchanges => match host.receive(bytes) {
+                Ok(received) => {
+                    let stale = received.applied.applied.is_empty() && received.same_heads;
+                    self.count(&received);
+                    self.tell(stale, host)
+                }
+                Err(error) => self.fail(NetError::Peer(error)),
+            },
+            Phase::AwaitsHello | Phase::SaidDone => self.fail(NetError::Unexpected),
+            Phase::Over => late(),
+        }
+    }
+
+    // The other says done.
+    fn on_done(&mut self) -> Result<Turn, Ended>
+        ensures { OnDone self.old.phase self.old result self.new }
+    {
+        let send = match self.phase {
+            Phase::AwaitsHello => return self.fail(NetError::Unexpected),
+            Phase::Exchanges => Some(Frame::Done),
+            Phase::SaidDone => None,
+            Phase::Over => return late(),
+        };
+        self.phase = Phase::Over;
+        Ok(Turn { send, ended: true })
+    }
+
+    // A refusal comes.
+    fn on_refusal(&mut self, code: u8) -> Result<Turn, Ended>
+        ensures { OnRefusal self.old.phase self.old code result self.new }
+    {
+        match self.phase {
+            Phase::AwaitsHello | Phase::Exchanges | Phase::SaidDone => {
+                self.fail(NetError::RefusedByOther { code })
+            }
+            Phase::Over => late(),
+        }
+    }
+
+    /// Takes a frame of the other, and says what to send and whether the session has ended.
+    ///
+    /// The first frame has to be a hello: of another version it is refused as `Version`, and then of another document
+    /// as `OtherDocument`. A server answers it by its hello, and a client by the message that the host makes, or by
+    /// done where it makes none. A message is received by the host and answered by the next that it makes; by done
+    /// where it makes none, and where the message applied no change and declared the heads of the one before, while the
+    /// next begins again with what is due: the other refuses what it is sent. To done a side that hasn't said it says
+    /// done, and the session has ended. After its own done it takes done and a refusal alone. Every other frame is
+    /// refused as `Unexpected`, a refusal ends the session as `RefusedByOther`, and what the host refuses as `Peer`;
+    /// `OutOfMemory` where a frame can't be made of a message.
+    ///
+    /// Each `Err` ends the session, and has the refusal frame that is due. A session that has ended answers each frame
+    /// as `Unexpected`, and sends nothing.
+    ///
+    /// The cost is that of the host's calls. No byte of a message is copied.
+    pub fn on_frame<H: Host>(&mut self, frame: Frame, host: &mut H) -> Result<Turn, Ended>
+        ensures step { SessionStep H.receives H.generates self.old frame host.old
+            result self.new host.new }
+        ensures host { H.goes_on host.old host.new }
+    {
+        match frame {
+            Frame::Hello { version, id } => self.on_hello(version, id, host),
+            Frame::Sync(bytes) => self.on_sync(bytes.as_slice(), host),
+            Frame::Done => self.on_done(),
+            Frame::Refusal(code) => self.on_refusal(code),
+        }
+    }
+
+    /// Ends the session, as the other sent bytes that are no frame: `Frame`, with the refusal that is due. Where a
+    /// growth was refused it is `OutOfMemory`.
+    pub fn on_fault(&mut self, fault: FrameError) -> Result<Turn, Ended>
+        ensures { Fails self.old (error_of_fault fault) result self.new }
+    {
+        self.fail(NetError::from(fault))
+    }
+}
+
+// A frame comes after the end: nothing is sent.
+fn late() -> Result<Turn, Ended>
+    ensures { result ≡ Err (record { error = NetError.Unexpected; send = None }) }
+{
+    Err(Ended {
+        error: NetError::Unexpected,
+        send: None,
+    })
+}

@@ -1,0 +1,5 @@
+//! Sessions over hosts whose answers are fixed.
+#![tactic(auto)]
+
+#[cfg(test)]
+mod tests;

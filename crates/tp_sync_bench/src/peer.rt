@@ -1,0 +1,111 @@
+//! A peer with a document, and what it knows of two others.
+
+use anyhow::anyhow;
+use std::alloc::Global;
+use tp_document::{Applied, DocError, Document};
+use tp_edit::Splice;
+use tp_opid::{Actor, DocId};
+use tp_posindex::BlockSequence;
+use tp_sync::{Message, SyncError, SyncState, generate, receive};
+
+/// A neighbour of a peer in the ring.
+#[derive(Clone, Copy)]
+pub enum Link {
+    /// The one before it.
+    Before,
+    /// The one behind it.
+    Behind,
+}
+
+/// A peer in a ring.
+#[derive(Drop)]
+pub struct Peer {
+    alloc: Global,
+    actor: Actor,
+    document: Document<BlockSequence>,
+    before: SyncState,
+    behind: SyncState,
+}
+
+fn refused(error: SyncError) -> anyhow::Error {
+    anyhow!("refused: {error}")
+}
+
+fn not_edited(error: DocError) -> anyhow::Error {
+    anyhow!("not edited: {error}")
+}
+
+impl Peer {
+    /// A peer without changes, which knows nothing of others.
+    pub fn new(alloc: Global, number: u8) -> Peer {
+        Peer {
+            alloc,
+            actor: Actor([number; 16]),
+            document: Document::new(alloc, DocId([7; 16])),
+            before: SyncState::new(alloc),
+            behind: SyncState::new(alloc),
+        }
+    }
+
+    /// How many changes it has.
+    pub fn change_count(&self) -> usize {
+        self.document.changes().len()
+    }
+
+    /// Types so many characters at the end of the text, each a change.
+    pub fn write(&mut self, changes: usize) -> anyhow::Result<()> {
+        for _ in 0..changes {
+            self.type_one()?;
+        }
+        Ok(())
+    }
+
+    fn type_one(&mut self) -> anyhow::Result<()> {
+        let splice = Splice {
+            at: self.document.len(),
+            del: 0,
+            text: "x",
+        };
+        self.document
+            .edit(self.actor, &[splice], 0, "")
+            .map_err(not_edited)?;
+        Ok(())
+    }
+
+    // The next message to a neighbour.
+    fn message(&mut self, link: Link) -> Result<Option<Message>, SyncError> {
+        match link {
+            Link::Before => generate(self.alloc, &self.document, &mut self.before),
+            Link::Behind => generate(self.alloc, &self.document, &mut self.behind),
+        }
+    }
+
+    /// The bytes of the next message to a neighbour; `None` where there is nothing to say.
+    pub fn send(&mut self, link: Link) -> anyhow::Result<Option<Vec<u8>>> {
+        match self.message(link).map_err(refused)? {
+            Some(message) => Ok(Some(message.encode().map_err(refused)?)),
+            None => Ok(None),
+        }
+    }
+
+    /// Whether there is nothing to say to the neighbour behind.
+    pub fn is_quiet(&mut self) -> anyhow::Result<bool> {
+        let message = self.message(Link::Behind).map_err(refused)?;
+        Ok(message.is_none())
+    }
+
+    // Receives a neighbour's message.
+    fn hear(&mut self, link: Link, message: Message) -> Result<Applied, SyncError> {
+        match link {
+            Link::Before => receive(&mut self.document, &mut self.before, message),
+            Link::Behind => receive(&mut self.document, &mut self.behind, message),
+        }
+    }
+
+    /// Receives the bytes of a neighbour's message.
+    pub fn take(&mut self, link: Link, bytes: &[u8]) -> anyhow::Result<()> {
+        let message = Message::decode(self.alloc, bytes).map_err(refused)?;
+        self.hear(link, message).map_err(refused)?;
+        Ok(())
+    }
+}

@@ -1,0 +1,112 @@
+//! Peers in a ring, or in a row.
+
+use crate::peer::{Link, Peer};
+use anyhow::{anyhow, bail};
+use std::alloc::Global;
+
+/// What passed between peers.
+#[derive(Clone, Copy)]
+pub struct Traffic {
+    /// How many messages.
+    pub messages: usize,
+    /// How many bytes they had.
+    pub bytes: usize,
+}
+
+/// Peers, each linked to the next one.
+#[derive(Drop)]
+pub struct Ring {
+    peers: Vec<Peer>,
+    links: usize,
+}
+
+/// After so many rounds of messages something is wrong.
+const MOST_ROUNDS: usize = 1_000;
+
+impl Ring {
+    /// Peers without changes, of which so many are linked to the next one; the last one's next is the first.
+    pub fn new(alloc: Global, peers: u8, links: usize) -> anyhow::Result<Ring> {
+        let mut made = Vec::new(alloc);
+        for number in 0..peers {
+            made.push(Peer::new(alloc, number))?;
+        }
+        Ok(Ring { peers: made, links })
+    }
+
+    /// The peer with the number.
+    pub fn peer(&mut self, number: usize) -> anyhow::Result<&mut Peer> {
+        self.peers.get_mut(number).ok_or(anyhow!("no such peer"))
+    }
+
+    /// Each peer makes so many changes.
+    pub fn write(&mut self, changes: usize) -> anyhow::Result<()> {
+        for number in 0..self.peers.len() {
+            self.peer(number)?.write(changes)?;
+        }
+        Ok(())
+    }
+
+    // The number of the peer behind another one.
+    fn next(&self, number: usize) -> usize {
+        number.saturating_add(1) % self.peers.len().max(1)
+    }
+
+    // Passes the next message over a link, if there is one.
+    fn pass(&mut self, from: usize, to: usize, link: Link) -> anyhow::Result<Option<usize>> {
+        let Some(bytes) = self.peer(from)?.send(link)? else {
+            return Ok(None);
+        };
+        let back = match link {
+            Link::Before => Link::Behind,
+            Link::Behind => Link::Before,
+        };
+        self.peer(to)?.take(back, &bytes)?;
+        Ok(Some(bytes.len()))
+    }
+
+    // Passes the next message over each link, there and back. Answers what passed.
+    fn round(&mut self) -> anyhow::Result<Traffic> {
+        let mut traffic = Traffic {
+            messages: 0,
+            bytes: 0,
+        };
+        for number in 0..self.links {
+            let next = self.next(number);
+            traffic.add(self.pass(number, next, Link::Behind)?);
+            traffic.add(self.pass(next, number, Link::Before)?);
+        }
+        Ok(traffic)
+    }
+
+    /// Passes messages until nobody has anything to say.
+    pub fn settle(&mut self) -> anyhow::Result<Traffic> {
+        let mut total = Traffic {
+            messages: 0,
+            bytes: 0,
+        };
+        for _ in 0..MOST_ROUNDS {
+            let traffic = self.round()?;
+            if traffic.messages == 0 {
+                return Ok(total);
+            }
+            total.join(traffic);
+        }
+        bail!("there is always something to say")
+    }
+}
+
+impl Traffic {
+    // Counts a message of so many bytes.
+    fn add(&mut self, bytes: Option<usize>) {
+        if let Some(bytes) = bytes {
+            self.messages = self.messages.saturating_add(1);
+            self.bytes = self.bytes.saturating_add(bytes);
+        }
+    }
+
+    // Counts what passed besides.
+    fn join(&mut self, other: Traffic) {
+        self.messages = self.messages.saturating_add(other.messages);
+        self.bytes = self.bytes.saturating_add(other.bytes);
+    }
+}
