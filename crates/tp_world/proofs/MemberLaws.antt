@@ -1,0 +1,150 @@
+-- What calls on the peers of a world did.
+use Rattle.std.proofs.Common.{◌≡◌, inl, inr, ℕ, zero, suc, ◌^◌, ◌<◌, List, [], ◌∷◌, length, take, slice_set, Bool, true, false, cond, Some, Result, refl, sym, ap, ◌∙◌, subst, arith}
+use Rattle.std.specs.List.{slice_get}
+use Rattle.std.specs.Prelude.{MatchBool}
+use Rattle.tp_list.specs.Members.{AllIn}
+use Rattle.tp_opid.specs.declared.actor.Actor.{Actor}
+use Rattle.tp_opid.specs.declared.doc_id.DocId.{DocId}
+use Rattle.tp_change.specs.declared.parts.ChangeParts.{ChangeParts}
+use Rattle.tp_change.specs.ChangeHash.{hash_of}
+use Rattle.tp_document.specs.Merging.{absent}
+use Rattle.tp_graph.specs.Named.{has}
+use Rattle.tp_graph.proofs.NamedLaws.{In-has}
+use Rattle.tp_receive.proofs.TurnLaws.{Run-none}
+use Rattle.tp_peer.specs.declared.error.PeerError.{PeerError}
+use Rattle.tp_peer.specs.declared.error.PeerError.TheVariants.{ActorInUse, JournalFailed, Stopped, TooManyLinks, JournalNotEmpty, Doc, Sync, Store, OutOfMemory}
+use Rattle.tp_peer.specs.Appending.{AppendsRecord}
+use Rattle.tp_peer.specs.PeerData.{PeerData, opened}
+use Rattle.tp_peer.specs.PeerStep.{Call, Merge, Reply, Made, Merged, Received, Generated, Forgotten, Text, Heads, Refused, PeerStep, Runs, needs_stopped}
+use Rattle.tp_peer.specs.Taking.{TakesAll, TakesAndStops, TakesPart, coming}
+use Rattle.tp_peer.proofs.StepLaws.{either_stopped, none_stopped, step_runs, step_stopped}
+use Rattle.tp_headline.specs.Calling.{Steps}
+use Rattle.tp_headline.proofs.PlaceLaws.{slice_get-set}
+use Rattle.tp_world.specs.Members.{MergesAt, OpensAgain, OpensAgainAt, StepsAt, left_with}
+
+-- the same step, named otherwise
+pub steps_as : (p q p' q' : PeerData) (call : Call) (a b : Reply) → p ≡ q → a ≡ b → p' ≡ q' → Steps p call a p' → Steps q call b q'
+steps_as p q p' q' call a b e f g h =
+    subst (λ (x : PeerData). Steps q call b x) g (subst (λ (r : Reply). Steps q call r p') f (subst (λ (x : PeerData). Steps x call a p') e h))
+
+-- a peer of which its journal is left answers that it has stopped
+pub left_steps : (p : PeerData) (id : DocId) (actor : Actor) (bytes : List ℕ) → p ≡ left_with id actor bytes → (call : Call) → needs_stopped (left_with id actor bytes) call ≡ true
+    → Steps p call (Refused Stopped) p
+left_steps p id actor bytes e call h =
+    let q = left_with id actor bytes in
+    subst (λ (x : PeerData). Steps x call (Refused Stopped) x) (sym e) (record { step = step_stopped q call h; no_failure = refl })
+
+-- one that takes from itself too, where it has stopped
+pub itself_stopped : (p : PeerData) → p.stopped ≡ true → p.failures ≡ 0 → Steps p (Merge p) (Refused Stopped) p
+itself_stopped p h quiet = record { step = step_stopped p (Merge p) (either_stopped p.stopped p.stopped h); no_failure = quiet }
+
+-- one that runs, where the other has stopped
+pub other_stopped : (p other : PeerData) → other.stopped ≡ true → p.failures ≡ 0 → Steps p (Merge other) (Refused Stopped) p
+other_stopped p other h quiet = record { step = step_stopped p (Merge other) (either_stopped p.stopped other.stopped h); no_failure = quiet }
+
+-- ---- merges from itself
+
+present : (b : Bool) (C : List ChangeParts) (d : ChangeParts) → b ≡ true → C ≡ [] → cond b C (d ∷ C) ≡ []
+present true C d e f = f
+present false C d e f = absurd cc
+
+none_absent : (C D : List ChangeParts) → AllIn D C → absent C D ≡ []
+none_absent C [] all = refl
+none_absent C (d ∷ D) all = present (has C (hash_of d)) (absent C D) d (In-has C d (hash_of d) (all d (inl refl)) refl) (none_absent C D (λ c i. all c (inr i)))
+
+pub nothing_absent : (C : List ChangeParts) → [] ≡ absent C C
+nothing_absent C = sym (none_absent C C (λ c i. i))
+
+runs_of : (p : PeerData) (call : Call) (reply : Reply) (p' : PeerData) → needs_stopped p call ≡ false → PeerStep p call reply p' → Runs p call reply p'
+unfolding PeerStep
+runs_of p call reply p' e h = subst (λ b. MatchBool b ((reply ≡ Refused Stopped) × (p' ≡ p)) (Runs p call reply p')) e h
+
+empty_to_itself : (p : PeerData) (reply : Reply) (p' : PeerData) → Runs p (Merge (opened p.id p.actor [] 0)) reply p' → Runs p (Merge p) reply p'
+empty_to_itself p (Merged r) p' h = (refl, subst (λ K. TakesAll p K r p') (nothing_absent p.applied) h.1)
+empty_to_itself p (Refused (Doc e)) p' h = absurd (h.0.1 refl)
+empty_to_itself p (Refused JournalFailed) p' h = (refl, subst (λ K. TakesAndStops p K p') (nothing_absent p.applied) h.1)
+empty_to_itself p (Refused OutOfMemory) p' h = (refl, subst (λ K. TakesPart p K p') (nothing_absent p.applied) h.1)
+empty_to_itself p (Refused ActorInUse) p' h = absurd h
+empty_to_itself p (Refused Stopped) p' h = absurd h
+empty_to_itself p (Refused JournalNotEmpty) p' h = absurd h
+empty_to_itself p (Refused (Store e)) p' h = absurd h
+empty_to_itself p (Refused TooManyLinks) p' h = absurd h
+empty_to_itself p (Refused (Sync e)) p' h = absurd h
+empty_to_itself p (Made made) p' h = absurd h
+empty_to_itself p (Text t) p' h = absurd h
+empty_to_itself p (Heads hs) p' h = absurd h
+empty_to_itself p (Received r same_heads) p' h = absurd h
+empty_to_itself p (Generated sent) p' h = absurd h
+empty_to_itself p Forgotten p' h = absurd h
+
+-- what is taken from a peer with no changes is what is taken from itself
+pub takes_from_itself : (p empty : PeerData) (reply : Reply) (p' : PeerData) → p.stopped ≡ false → empty ≡ opened p.id p.actor [] 0 → Steps p (Merge empty) reply p' → Steps p (Merge p) reply p'
+takes_from_itself p empty reply p' runs is h =
+    let e = opened p.id p.actor [] 0 in
+    let steps = subst (λ (x : PeerData). Steps p (Merge x) reply p') is h in
+    record {
+      step = step_runs p (Merge p) reply p' (none_stopped p.stopped p.stopped runs runs)
+          (empty_to_itself p reply p' (runs_of p (Merge e) reply p' (none_stopped p.stopped e.stopped runs refl) steps.step));
+      no_failure = steps.no_failure;
+    }
+
+-- memory was refused before anything was taken
+pub takes_nothing : (p : PeerData) → p.stopped ≡ false → p.failures ≡ 0 → Steps p (Merge p) (Refused OutOfMemory) p
+takes_nothing p runs quiet = record {
+  step = step_runs p (Merge p) (Refused OutOfMemory) p (none_stopped p.stopped p.stopped runs runs)
+      (refl, record { at = coming p (absent p.applied p.applied); run = Run-none AppendsRecord (coming p (absent p.applied p.applied)); left = refl });
+  no_failure = quiet;
+}
+
+-- ---- by their numbers
+
+pub set_set : {X : Type 0} (xs : List X) (n : ℕ) (x y : X) → slice_set (slice_set xs n x) n y ≡ slice_set xs n y
+set_set [] n x y = refl
+set_set (a ∷ xs) zero x y = refl
+set_set (a ∷ xs) (suc n) x y = ap (λ l. a ∷ l) (set_set xs n x y)
+
+-- a peer that was taken out took from another one, and was put back
+pub merge_other : (peers mid after : List PeerData) (n m : ℕ) (p nobody other p' : PeerData) (answer : Reply) → slice_get peers n ≡ Some p → mid ≡ slice_set peers n nobody → slice_get mid m ≡ Some other
+    → (n ≡ m → ⊥) → Steps p (Merge other) answer p' → after ≡ slice_set mid n p' → MergesAt peers n m answer after
+merge_other peers mid after n m p nobody other p' answer stands out there apart steps back = record {
+  other = other;
+  there = elim (slice_get-set peers n m nobody other (subst (λ l. slice_get l m ≡ Some other) out there)) [
+    | inl same ↦ absurd (apart (sym same.0))
+    | inr still ↦ still.1
+  ];
+  at = record { before = p; stands = stands; after = p'; steps = steps; left = back ∙ ap (λ l. slice_set l n p') out ∙ set_set peers n nobody p' };
+}
+
+-- a peer that was taken out was opened again, and put back
+pub reopened_at : (peers mid after : List PeerData) (n keep : ℕ) (actor : Actor) (opened : Result (Unit {0}) PeerError) (p nobody p' : PeerData) → slice_get peers n ≡ Some p → mid ≡ slice_set peers n nobody
+    → length p.journal < 2 ^ 64 → OpensAgain p (take keep p.journal) actor opened p' → after ≡ slice_set mid n p' → OpensAgainAt peers n keep actor opened after
+reopened_at peers mid after n keep actor opened p nobody p' stands out small opens back = record {
+  before = p;
+  stands = stands;
+  small = small;
+  after = p';
+  opens = opens;
+  left = back ∙ ap (λ l. slice_set l n p') out ∙ set_set peers n nobody p';
+}
+
+-- a peer that stays as it is
+set_still : {X : Type 0} (xs : List X) (n : ℕ) (x : X) → slice_get xs n ≡ Some x → xs ≡ slice_set xs n x
+set_still [] n x h = absurd cc
+set_still (a ∷ xs) zero x h = let same : a ≡ x = cc in ap (λ y. y ∷ xs) same
+set_still (a ∷ xs) (suc n) x h = ap (λ l. a ∷ l) (set_still xs n x h)
+
+pub stays_at : (peers : List PeerData) (n : ℕ) (p : PeerData) (call : Call) (answer : Reply) → slice_get peers n ≡ Some p → Steps p call answer p → StepsAt peers n call answer peers
+stays_at peers n p call answer stands steps = record { before = p; stands = stands; after = p; steps = steps; left = set_still peers n p stands }
+
+pub set_below : {X : Type 0} (xs ys : List X) (n m : ℕ) (x : X) → ys ≡ slice_set xs n x → m < length xs → m < length ys
+set_below xs ys n m x e h = subst (λ l. m < length l) (sym e) (below xs n m x h) where
+  below : {X : Type 0} (xs : List X) (n m : ℕ) (x : X) → m < length xs → m < length (slice_set xs n x)
+  below [] n m x h = absurd (omega arith)
+  below (a ∷ xs) zero m x h = h
+  below (a ∷ xs) (suc n) zero x h = omega arith
+  below (a ∷ xs) (suc n) (suc m) x h = let more = below xs n m x (omega arith) in omega arith
+
+-- what is taken from itself is what is taken from what it is
+pub steps_itself : (p q p' q' : PeerData) (a b : Reply) → p ≡ q → a ≡ b → p' ≡ q' → Steps p (Merge p) a p' → Steps q (Merge q) b q'
+steps_itself p q p' q' a b e f g h =
+    subst (λ (x : PeerData). Steps q (Merge q) b x) g (subst (λ (r : Reply). Steps q (Merge q) r p') f (subst (λ (x : PeerData). Steps x (Merge x) a p') e h))

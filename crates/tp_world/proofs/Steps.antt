@@ -1,0 +1,28 @@
+-- Steps of a world that is carried.
+use Rattle.std.proofs.Common.{inl, inr, List, refl}
+use Rattle.tp_headline.specs.declared.error.WorldError.{WorldError}
+use Rattle.tp_headline.specs.declared.error.WorldError.TheVariants.{OutOfMemory}
+use Rattle.tp_headline.specs.Carried.{Carried}
+use Rattle.tp_headline.specs.Event.{Event}
+use Rattle.tp_headline.specs.Happening.{Next}
+use Rattle.tp_headline.specs.Refusing.{IsRefusal, MayHappen}
+use Rattle.tp_headline.specs.Reply.{Reply, Refused}
+use Rattle.tp_headline.specs.Running.{GoesOn}
+use Rattle.tp_headline.specs.World.{World}
+use Rattle.tp_headline.proofs.EventLaws.{goes_on_carries, next_carries}
+use Rattle.tp_world.specs.Judging.{Meets}
+
+-- an event that may happen, and did or was refused memory
+pub meets_next : (w : World) (e : Event) (reply : Reply) (w' : World) → MayHappen w e → Meets w e reply w' → Next w e reply w'
+meets_next w e reply w' may (inl short) = inl (record { why = OutOfMemory; refused = tt; replied = short.0; left = short.1 })
+meets_next w e reply w' may (inr happens) = inr (record { may = may; happens = happens })
+
+-- an event that is refused
+pub refused_next : (w : World) (e : Event) (why : WorldError) → IsRefusal w e why → Next w e (Refused why) w
+refused_next w e why is = inl (record { why = why; refused = is; replied = refl; left = refl })
+
+pub step_carried : (w : World) (e : Event) (reply : Reply) (w' : World) → Carried w → Next w e reply w' → Carried w'
+step_carried w e reply w' h next = (next_carries w e reply w' h next).carried
+
+pub run_carried : (w : World) (events : List Event) (replies : List Reply) (w' : World) → Carried w → GoesOn w events replies w' → Carried w'
+run_carried w events replies w' h goes = (goes_on_carries events replies w w' h goes).carried

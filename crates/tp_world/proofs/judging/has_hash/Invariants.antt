@@ -1,0 +1,7 @@
+use Rattle.std.proofs.Common.{◌≡◌, drop}
+use Rattle.tp_graph.specs.Named.{has}
+use Rattle.tp_world.proofs.judging.has_hash.Given as goal
+
+-- what is left decides it
+abbrev pub invariant-loop-change : goal.invariant-loop-change
+invariant-loop-change l = has (drop l.change-index l.changes) l.fn.hash ≡ has l.changes l.fn.hash

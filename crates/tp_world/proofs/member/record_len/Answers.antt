@@ -1,0 +1,6 @@
+use Rattle.std.proofs.Common.{arith}
+use Rattle.tp_journal.proofs.RecordLaws.{length-record_of}
+use Rattle.tp_world.proofs.member.record_len.Goals as goal
+
+pub returns : goal.returns
+returns c = omega (arith, length-record_of c.args.change.now, c.encoded_len.ensures)

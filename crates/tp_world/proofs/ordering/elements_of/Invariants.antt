@@ -1,0 +1,7 @@
+use Rattle.std.proofs.Common.{◌≡◌, take}
+use Rattle.tp_world.specs.Order.{pairs_of}
+use Rattle.tp_world.proofs.ordering.elements_of.Given as goal
+
+-- the elements so far
+abbrev pub invariant-loop-index : goal.invariant-loop-index
+invariant-loop-index g l = l.pairs.items ≡ pairs_of (take l.index (g.S.Sequence.placed l.sequence))

@@ -1,0 +1,15 @@
+use Rattle.std.proofs.Common.{Option, sym, subst}
+use Rattle.tp_headline.specs.Event as events
+use Rattle.tp_world.specs.declared.event.Call.{Call}
+use Rattle.tp_world.specs.Judging.{Meets}
+use Rattle.tp_world.specs.States.{world_of}
+use Rattle.tp_world.specs.Told.{during_of, reply_of}
+use Rattle.tp_world.proofs.state.State.crash.Goals as goal
+
+pub returns-in-None : goal.returns-in-None
+returns-in-None c =
+    subst (λ (d : Option Call). Meets (world_of c.args.self.now) (events.Crash c.args.n (during_of d) c.args.kept c.args.actor) (reply_of c.crash_between.result) (world_of c.crash_between.new.self)) (sym c.in-None.is) c.crash_between.ensures
+
+pub returns-in-Some : goal.returns-in-Some
+returns-in-Some c =
+    subst (λ (d : Option Call). Meets (world_of c.args.self.now) (events.Crash c.args.n (during_of d) c.args.kept c.args.actor) (reply_of c.crash_during.result) (world_of c.crash_during.new.self)) (sym c.in-Some.is) c.crash_during.ensures

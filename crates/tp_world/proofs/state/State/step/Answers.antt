@@ -1,0 +1,11 @@
+use Rattle.tp_world.specs.States.{world_of}
+use Rattle.tp_world.specs.Told.{event_of, reply_of}
+use Rattle.tp_world.proofs.Steps.{meets_next, refused_next}
+use Rattle.tp_world.proofs.state.State.step.Goals as goal
+
+pub returns-in-Err : goal.returns-in-Err
+returns-in-Err c = refused_next (world_of c.args.self.now) (event_of c.args.event.now) c.in-Err.why c.in-Err.ensures.err
+
+pub returns : goal.returns
+returns c =
+    meets_next (world_of c.args.self.now) (event_of c.args.event.now) (reply_of c.happen.result) (world_of c.happen.new.self) c.in-Ok.ensures.may c.happen.ensures

@@ -1,0 +1,8 @@
+use Rattle.std.proofs.Common.{subst}
+use Rattle.tp_headline.specs.Carried.{Carried}
+use Rattle.tp_headline.specs.World.{World}
+use Rattle.tp_headline.proofs.OneList.{carried_headline}
+use Rattle.tp_world.proofs.world.World.reads.Goals as goal
+
+pub returns-clause-headline : goal.returns-clause-headline
+returns-clause-headline c = carried_headline c.args.self.now (subst (λ (w : World). Carried w) c.self.view_is c.self.invariant)

@@ -1,0 +1,25 @@
+use Rattle.std.proofs.Common.{subst}
+use Rattle.tp_headline.specs.Happening.{Next}
+use Rattle.tp_headline.specs.World.{World}
+use Rattle.tp_headline.proofs.FollowLaws.{carried_follows}
+use Rattle.tp_headline.proofs.OneList.{carried_headline}
+use Rattle.tp_world.specs.States.{world_of}
+use Rattle.tp_world.specs.Told.{event_of, reply_of}
+use Rattle.tp_world.proofs.Steps.{step_carried}
+use Rattle.tp_world.proofs.world.World.step.Goals as goal
+
+pub invariant_of-self : goal.invariant_of-self
+invariant_of-self c = step_carried (world_of c.self.inside.state) (event_of c.args.event) (reply_of c.step.result) (world_of c.step.new.self) c.self.invariant c.step.ensures
+
+pub returns-clause-next : goal.returns-clause-next
+returns-clause-next c = subst (λ (w : World). Next w (event_of c.args.event) (reply_of c.step.result) (world_of c.step.new.self)) c.self.view_is c.step.ensures
+
+pub returns-clause-headline : goal.returns-clause-headline
+returns-clause-headline c =
+    carried_headline (world_of c.step.new.self)
+    (step_carried (world_of c.self.inside.state) (event_of c.args.event) (reply_of c.step.result) (world_of c.step.new.self) c.self.invariant c.step.ensures)
+
+pub returns-clause-follows : goal.returns-clause-follows
+returns-clause-follows c =
+    carried_follows (world_of c.step.new.self)
+    (step_carried (world_of c.self.inside.state) (event_of c.args.event) (reply_of c.step.result) (world_of c.step.new.self) c.self.invariant c.step.ensures)

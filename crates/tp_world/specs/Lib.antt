@@ -1,0 +1,7 @@
+pub mod Told
+pub mod Members
+pub mod Lives
+pub mod Judging
+pub mod Making
+pub mod Order
+pub mod States

@@ -1,0 +1,63 @@
+-- The peers of a world, by their numbers, and what becomes of one that crashes.
+use Rattle.std.specs.Prelude.{◌≡◌, ℕ, ◌<◌, ◌^◌, List, [], length, take, slice_set, true, Option, Some, None, Result, Ok, Err}
+use Rattle.std.specs.List.{slice_get}
+use Rattle.tp_opid.specs.declared.actor.Actor.{Actor}
+use Rattle.tp_opid.specs.declared.doc_id.DocId.{DocId}
+use Rattle.tp_change.specs.declared.parts.ChangeParts.{ChangeParts}
+use Rattle.tp_journal.specs.Recovery.{recovered}
+use Rattle.tp_peer.specs.declared.error.PeerError.{PeerError}
+use Rattle.tp_peer.specs.Opening.{Forks, NotForked, NotReopened, Reopens}
+use Rattle.tp_peer.specs.PeerData.{PeerData}
+use Rattle.tp_peer.specs.PeerStep as peer
+use Rattle.tp_headline.specs.Calling.{Steps, in_memory}
+
+-- the changes that were recovered, if any
+abbrev pub changes_in : Option (DocId × List ChangeParts × ℕ) → List ChangeParts
+changes_in None = []
+changes_in (Some x) = x.1
+
+-- a peer that has stopped, of which its journal is left: its changes are those that the bytes recover to, and it has no
+-- links
+abbrev pub left_with : DocId → Actor → List ℕ → PeerData
+left_with id actor bytes =
+    record { id = id; actor = actor; applied = changes_in (recovered bytes); waiting = []; links = []; journal = bytes; failures = 0; stopped = true }
+
+-- What a peer comes to, of this document and actor, where the bytes were opened again under another actor: one that
+-- runs, or what is left of it.
+abbrev pub OpensOn : DocId → Actor → List ℕ → Actor → Result (Unit {0}) PeerError → PeerData → Type 0
+OpensOn id old bytes actor (Ok x) p' = Reopens (in_memory bytes) actor p'
+OpensOn id old bytes actor (Err e) p' = NotReopened (in_memory bytes) actor e (in_memory bytes) × (p' ≡ left_with id old bytes)
+
+-- What a peer p comes to where its journal kept the bytes and was opened again under the actor.
+abbrev pub OpensAgain : PeerData → List ℕ → Actor → Result (Unit {0}) PeerError → PeerData → Type 0
+OpensAgain p bytes actor opened p' = OpensOn p.id p.actor bytes actor opened p'
+
+-- ---- by their numbers
+
+-- The peer numbered n forks.
+abbrev pub ForksAt : List PeerData → ℕ → Actor → Result PeerData PeerError → Type 0
+ForksAt peers n actor (Ok fork) = (p : PeerData) × (slice_get peers n ≡ Some p) × Forks p actor (in_memory []) fork
+ForksAt peers n actor (Err e) = (p : PeerData) × (slice_get peers n ≡ Some p) × NotForked p actor (in_memory []) e (in_memory [])
+
+-- The call was made on the peer numbered n, which answered so.
+pub record StepsAt (peers : List PeerData) (n : ℕ) (call : peer.Call) (answer : peer.Reply) (peers' : List PeerData) : Type 0 where
+  pub before : PeerData
+  pub stands : slice_get peers n ≡ Some before
+  pub after : PeerData
+  pub steps : Steps before call answer after
+  pub left : peers' ≡ slice_set peers n after
+
+-- A merge into the peer numbered n from that numbered m.
+pub record MergesAt (peers : List PeerData) (n m : ℕ) (answer : peer.Reply) (peers' : List PeerData) : Type 0 where
+  pub other : PeerData
+  pub there : slice_get peers m ≡ Some other
+  pub at : StepsAt peers n (peer.Merge other) answer peers'
+
+-- The journal of the peer numbered n kept `keep` bytes at most, and was opened again under the actor.
+pub record OpensAgainAt (peers : List PeerData) (n keep : ℕ) (actor : Actor) (result : Result (Unit {0}) PeerError) (peers' : List PeerData) : Type 0 where
+  pub before : PeerData
+  pub stands : slice_get peers n ≡ Some before
+  pub small : length before.journal < 2 ^ 64
+  pub after : PeerData
+  pub opens : OpensAgain before (take keep before.journal) actor result after
+  pub left : peers' ≡ slice_set peers n after

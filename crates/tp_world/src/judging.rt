@@ -1,0 +1,175 @@
+//! What an event names, and what is asked of it before it happens.
+
+ghost use Rattle.std.specs.Prelude.{◌≡◌, List, false, true, MatchBool, IfOk, IsOkUnless, ◌&&◌};
+ghost use Rattle.std.specs.Str.{chars};
+ghost use Rattle.std.specs.Option.{option_to_list};
+ghost use Rattle.tp_change.specs.ChangeHash.{hash_of};
+ghost use Rattle.tp_graph.specs.Named.{has};
+ghost use Rattle.tp_headline.specs.declared.error.WorldError.TheVariants.{OutOfMemory};
+ghost use Rattle.tp_headline.specs.Event as events;
+ghost use Rattle.tp_world.specs.Judging.{AllRun, AllThere, IsFresh, IsJustEditAt, is_named, keeps_whole, numbers_in};
+ghost use Rattle.tp_world.specs.Told.{during_of, event_of};
+
+use crate::event::{Call, Event};
+use crate::member::{Member, record_len};
+use tp_change::Change;
+use tp_edit::Splice;
+use tp_headline::WorldError;
+use tp_opid::{Actor, Hash};
+
+// The peer that an interrupted call needs beside the one that makes it.
+fn needed_by(during: &Option<Call>) -> Option<usize>
+    ensures { option_to_list result ≡ events.needed_by (during_of during.now) }
+{
+    match during {
+        Some(Call::Merge { from }) => Some(*from),
+        _ => None,
+    }
+}
+
+/// The peers that an event names.
+pub(crate) fn peers_of(event: &Event) -> (Option<usize>, Option<usize>)
+    ensures { numbers_in result ≡ events.peers_of (event_of event.now) }
+{
+    match event {
+        Event::Start { .. } => (None, None),
+        Event::Fork { of, .. } => (Some(*of), None),
+        Event::Edit { peer, .. } => (Some(*peer), None),
+        Event::Merge { into, from } => (Some(*into), Some(*from)),
+        Event::Crash { peer, during, .. } => (Some(*peer), needed_by(during)),
+        Event::Read { peer } => (Some(*peer), None),
+        Event::ReadAt { peer, .. } => (Some(*peer), None),
+    }
+}
+
+/// The peers that an event acts on or reads while they run.
+pub(crate) fn running_of(event: &Event) -> (Option<usize>, Option<usize>)
+    ensures { numbers_in result ≡ events.running_of (event_of event.now) }
+{
+    match event {
+        Event::Crash { during: None, .. } => (None, None),
+        event => peers_of(event),
+    }
+}
+
+/// The actor that an event names.
+pub(crate) fn actor_of(event: &Event) -> Option<Actor>
+    ensures { result ≡ events.actor_of (event_of event.now) }
+{
+    match event {
+        Event::Start { actor } => Some(*actor),
+        Event::Fork { actor, .. } => Some(*actor),
+        Event::Crash { actor, .. } => Some(*actor),
+        _ => None,
+    }
+}
+
+// Whether there is a peer with the number, if there is one.
+fn is_there(members: &[Member], number: Option<usize>) -> bool
+    ensures { MatchBool result (AllThere members.now (option_to_list number))
+        (AllThere members.now (option_to_list number) → ⊥) }
+{
+    match number {
+        Some(n) => n < members.len(),
+        None => true,
+    }
+}
+
+/// Whether there is a peer with each of the numbers.
+pub(crate) fn are_there(members: &[Member], numbers: (Option<usize>, Option<usize>)) -> bool
+    ensures { MatchBool result (AllThere members.now (numbers_in numbers))
+        (AllThere members.now (numbers_in numbers) → ⊥) }
+{
+    is_there(members, numbers.0) && is_there(members, numbers.1)
+}
+
+// Whether no peer with the number has stopped.
+fn is_running(members: &[Member], number: Option<usize>) -> bool
+    ensures { MatchBool result (AllRun members.now (option_to_list number))
+        (AllRun members.now (option_to_list number) → ⊥) }
+{
+    match number {
+        Some(n) => {
+            if n < members.len() {
+                let member = &members[n];
+                !member.is_stopped()
+            } else {
+                true
+            }
+        }
+        None => true,
+    }
+}
+
+/// Whether none of the peers with the numbers has stopped.
+pub(crate) fn are_running(members: &[Member], numbers: (Option<usize>, Option<usize>)) -> bool
+    ensures { MatchBool result (AllRun members.now (numbers_in numbers))
+        (AllRun members.now (numbers_in numbers) → ⊥) }
+{
+    is_running(members, numbers.0) && is_running(members, numbers.1)
+}
+
+// Whether the actor is one of those that were named.
+fn is_named(used: &[Actor], actor: &Actor) -> bool
+    ensures { result ≡ is_named used.now actor.now }
+{
+    for named in used {
+        if named.is(actor) {
+            return true;
+        }
+    }
+    false
+}
+
+/// Whether the actor, if there is one, isn't one of those that were named. One pass over them.
+pub(crate) fn is_fresh(used: &[Actor], actor: Option<Actor>) -> bool
+    ensures { MatchBool result (IsFresh used.now actor) (IsFresh used.now actor → ⊥) }
+{
+    match actor {
+        Some(actor) => !is_named(used, &actor),
+        None => true,
+    }
+}
+
+/// Whether a change has the hash. One pass over them.
+pub(crate) fn has_hash(changes: &[Change], hash: &Hash) -> bool
+    ensures { result ≡ has changes.now hash.now }
+{
+    for change in changes {
+        if change.hash().is(hash) {
+            return true;
+        }
+    }
+    false
+}
+
+/// Whether the event keeps the whole record of the change that it would make.
+pub(crate) fn keeps_whole(event: &Event, change: &Change) -> bool
+    ensures { result ≡ keeps_whole (event_of event.now) change.now }
+{
+    match event {
+        Event::Crash { kept, .. } => record_len(change) as u64 <= *kept,
+        _ => true,
+    }
+}
+
+/// The change that an edit of the peer with the number would make; `None` where it would make none, or there is no such
+/// peer. The only refusal is `OutOfMemory`.
+pub(crate) fn edit_change_at(
+    members: &[Member],
+    n: usize,
+    splices: &[Splice],
+    time: u64,
+    message: &str,
+) -> Result<Option<Change>, WorldError>
+    ensures ok { IfOk result
+        (λ made. IsJustEditAt members.now n splices.now time (chars message.now) made) }
+    ensures err { IsOkUnless result OutOfMemory }
+{
+    if n < members.len() {
+        let member = &members[n];
+        member.edit_change(splices, time, message)
+    } else {
+        Ok(None)
+    }
+}

@@ -1,0 +1,25 @@
+//! A world of peers that edit one text, and that runs: events happen in it one after another, and each is a step of the
+//! relation that the headline speaks of.
+//!
+//! Peers join, edit, merge, are read, crash and come back. What every world keeps makes the headline true of it at every
+//! moment: one list holds every element ever inserted, and every text that was read is a part of it.
+#![tactic(auto)]
+
+mod entry;
+mod event;
+mod happening;
+mod judging;
+mod member;
+mod members;
+mod ordering;
+mod read_record;
+mod reply;
+mod state;
+mod world;
+
+pub use entry::Entry;
+pub use event::{Call, Event};
+pub use read_record::ReadRecord;
+pub use reply::Reply;
+pub use tp_headline::WorldError;
+pub use world::World;

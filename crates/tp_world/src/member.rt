@@ -1,0 +1,391 @@
+//! A peer of a world.
+
+ghost use Rattle.std.specs.Prelude.{◌≡◌, ◌<◌, ◌^◌, [], length, take, min, false, IfOk, IfErr, IsOkUnless};
+ghost use Rattle.std.specs.Str.{chars};
+ghost use Rattle.std.specs.String.{string_bytes};
+ghost use Rattle.tp_graph.specs.Heads.{heads};
+ghost use Rattle.tp_journal.specs.Layout.{header_of, record_of, records_of};
+ghost use Rattle.tp_peer.specs.Opening.{Forks, NotBegun, NotForked};
+ghost use Rattle.tp_peer.specs.PeerData.{opened};
+ghost use Rattle.tp_peer.specs.PeerStep.{Edit, Made, Merge, Merged, PeerStep, Read, ReadAt, Text, replied};
+ghost use Rattle.tp_peer.specs.Taking.{report_of};
+ghost use Rattle.tp_headline.specs.Calling.{Steps, in_memory};
+ghost use Rattle.tp_headline.specs.declared.error.WorldError.TheVariants.{OutOfMemory};
+ghost use Rattle.tp_world.specs.Making.{IsJustEdit};
+ghost use Rattle.tp_world.specs.Members.{OpensAgain, OpensOn, left_with};
+
+use std::alloc::{AllocError, Global};
+use std::marker::Model;
+use tp_change::Change;
+use tp_document::{Applied, DocError};
+use tp_edit::Splice;
+use tp_headline::WorldError;
+use tp_journal::{DIGEST_BYTES, HEADER_BYTES, MemJournal};
+use tp_opid::{Actor, DocId, Hash};
+use tp_peer::laws::a_peer_in_memory_never_fails;
+use tp_peer::{Peer, PeerError};
+
+/// What has become of a peer.
+#[derive(Drop)]
+pub(crate) enum Life {
+    /// It runs.
+    Running(Peer<MemJournal>),
+    /// It crashed and wasn't opened again: its document's identifier, its actor, and its journal are left.
+    Stopped(DocId, Actor, MemJournal),
+}
+
+/// A peer of a world, that runs or has stopped.
+///
+/// Contracts see `PeerData`. The changes of one that has stopped are those that its journal recovers to.
+#[derive(Drop)]
+pub(crate) struct Member {
+    life: Life,
+}
+
+impl Model for Member {
+    ghost use Rattle.tp_peer.specs.PeerData.{PeerData};
+
+    ghost Value = { PeerData };
+
+    ghost use Rattle.tp_world.specs.Lives.{member_data};
+
+    ghost view = { λ m. member_data m.life };
+}
+
+// The peer edits.
+fn edit_running(
+    peer: &mut Peer<MemJournal>,
+    splices: &[Splice],
+    time: u64,
+    message: &str,
+) -> Result<Option<Hash>, PeerError>
+    ensures { Steps peer.old (Edit splices.now time (chars message.now))
+        (replied Made result) peer.new }
+{
+    let made = peer.edit(splices, time, message);
+    a_peer_in_memory_never_fails(peer);
+    made
+}
+
+// The peer takes what another one has.
+fn merge_running(
+    peer: &mut Peer<MemJournal>,
+    other: &Peer<MemJournal>,
+) -> Result<Applied, PeerError>
+    ensures { Steps peer.old (Merge other.now)
+        (replied (λ a. Merged (report_of a)) result) peer.new }
+{
+    let merged = peer.merge(other);
+    a_peer_in_memory_never_fails(peer);
+    merged
+}
+
+// The change that an edit of the peer would make, if any.
+fn edit_change_of(
+    peer: &Peer<MemJournal>,
+    splices: &[Splice],
+    time: u64,
+    message: &str,
+) -> Result<Option<Change>, WorldError>
+    ensures ok { IfOk result
+        (λ made. IsJustEdit peer.now splices.now time (chars message.now) made) }
+    ensures err { IsOkUnless result OutOfMemory }
+{
+    if peer.is_stopped() {
+        return Ok(None);
+    }
+    match peer
+        .document()
+        .make_edit(peer.actor(), splices, time, message)
+    {
+        Ok(made) => Ok(made),
+        Err(error) => match error {
+            DocError::OutOfMemory => Err(WorldError::OutOfMemory),
+            _ => Ok(None),
+        },
+    }
+}
+
+// A peer with no changes, of the same document.
+fn empty_like(alloc: Global, peer: &Peer<MemJournal>) -> Result<Peer<MemJournal>, PeerError>
+    ensures ok { IfOk result (λ p. p ≡ opened peer.now.id peer.now.actor [] 0) }
+    ensures err { IsOkUnless result PeerError.OutOfMemory }
+{
+    let id = peer.document().id();
+    match Peer::create(alloc, MemJournal::new(Vec::new(alloc)), id, peer.actor()) {
+        Ok(empty) => Ok(empty),
+        Err(_) => Err(PeerError::OutOfMemory),
+    }
+}
+
+// The peer takes what one with no changes has, which is what a merge from itself comes to: just what waits is tried
+// again.
+fn merge_nothing(alloc: Global, peer: &mut Peer<MemJournal>) -> Result<Applied, PeerError>
+    ensures { Steps peer.old (Merge peer.old)
+        (replied (λ a. Merged (report_of a)) result) peer.new }
+{
+    a_peer_in_memory_never_fails(peer);
+    if peer.is_stopped() {
+        return Err(PeerError::Stopped);
+    }
+    match empty_like(alloc, peer) {
+        Ok(empty) => merge_running(peer, &empty),
+        Err(error) => Err(error),
+    }
+}
+
+// A peer opened again on the bytes under the actor, or what is left of it.
+fn open_again(
+    alloc: Global,
+    id: DocId,
+    old: Actor,
+    bytes: Vec<u8>,
+    actor: Actor,
+) -> (Member, Result<(), PeerError>)
+    ensures { OpensOn id old bytes.items actor result.1 result.0 }
+{
+    match Peer::reopen(alloc, MemJournal::new(bytes), actor) {
+        Ok(peer) => (Member::running(peer), Ok(())),
+        Err(unopened) => (
+            Member::stopped(id, old, unopened.journal),
+            Err(unopened.error),
+        ),
+    }
+}
+
+// How many bytes the records of the changes have, or `usize::MAX`.
+fn records_len(changes: &[Change]) -> usize
+    ensures { result ≡ min usize.MAX (length (records_of changes.now)) }
+{
+    let mut len: usize = 0;
+    for change in changes {
+        len = len.saturating_add(record_len(change));
+    }
+    len
+}
+
+/// How many bytes the record of a change has.
+pub(crate) fn record_len(change: &Change) -> usize
+    ensures { result ≡ length (record_of change.now) }
+{
+    let _hash = change.hash();
+    change.encoded_len() + 4 + DIGEST_BYTES
+}
+
+// The peer takes what another one of the world has.
+fn merge_member(peer: &mut Peer<MemJournal>, other: &Member) -> Result<Applied, PeerError>
+    ensures { Steps peer.old (Merge other.now)
+        (replied (λ a. Merged (report_of a)) result) peer.new }
+{
+    a_peer_in_memory_never_fails(peer);
+    match &other.life {
+        Life::Running(other) => merge_running(peer, other),
+        Life::Stopped(_, _, _) => Err(PeerError::Stopped),
+    }
+}
+
+impl Member {
+    // One that runs.
+    fn running(peer: Peer<MemJournal>) -> Member
+        ensures { result ≡ peer }
+    {
+        Member {
+            life: Life::Running(peer),
+        }
+    }
+
+    // One of which its journal is left.
+    fn stopped(id: DocId, actor: Actor, journal: MemJournal) -> Member
+        ensures { result ≡ left_with id actor journal }
+    {
+        Member {
+            life: Life::Stopped(id, actor, journal),
+        }
+    }
+
+    /// A peer with an empty document joins.
+    pub(crate) fn begin(alloc: Global, id: DocId, actor: Actor) -> Result<Member, PeerError>
+        ensures ok { IfOk result (λ m. m ≡ opened id actor [] 0) }
+        ensures err { IfErr result (λ e. NotBegun (header_of id) (in_memory []) e (in_memory [])) }
+    {
+        match Peer::create(alloc, MemJournal::new(Vec::new(alloc)), id, actor) {
+            Ok(peer) => Ok(Member::running(peer)),
+            Err(unopened) => Err(unopened.error),
+        }
+    }
+
+    /// What stands in for a peer that is taken out. No memory.
+    pub(crate) fn nobody(alloc: Global) -> Member {
+        Member::stopped(
+            DocId([0; 16]),
+            Actor([0; 16]),
+            MemJournal::new(Vec::new(alloc)),
+        )
+    }
+
+    /// Whether it has stopped.
+    pub(crate) fn is_stopped(&self) -> bool
+        ensures { result ≡ self.now.stopped }
+    {
+        match &self.life {
+            Life::Running(peer) => peer.is_stopped(),
+            Life::Stopped(_, _, _) => true,
+        }
+    }
+
+    /// A peer with a copy of its document.
+    pub(crate) fn fork(&self, alloc: Global, actor: Actor) -> Result<Member, PeerError>
+        ensures ok { IfOk result (λ m. Forks self.now actor (in_memory []) m) }
+        ensures err { IfErr result (λ e. NotForked self.now actor (in_memory []) e (in_memory [])) }
+    {
+        match &self.life {
+            Life::Running(peer) => match peer.fork(MemJournal::new(Vec::new(alloc)), actor) {
+                Ok(peer) => Ok(Member::running(peer)),
+                Err(unopened) => Err(unopened.error),
+            },
+            Life::Stopped(_, _, _) => Err(PeerError::Stopped),
+        }
+    }
+
+    /// It edits.
+    pub(crate) fn edit(
+        &mut self,
+        splices: &[Splice],
+        time: u64,
+        message: &str,
+    ) -> Result<Option<Hash>, PeerError>
+        ensures { Steps self.old (Edit splices.now time (chars message.now))
+            (replied Made result) self.new }
+    {
+        match &mut self.life {
+            Life::Running(peer) => edit_running(peer, splices, time, message),
+            Life::Stopped(_, _, _) => Err(PeerError::Stopped),
+        }
+    }
+
+    /// It takes what another one has.
+    pub(crate) fn merge(&mut self, other: &Member) -> Result<Applied, PeerError>
+        ensures { Steps self.old (Merge other.now)
+            (replied (λ a. Merged (report_of a)) result) self.new }
+    {
+        match &mut self.life {
+            Life::Running(peer) => merge_member(peer, other),
+            Life::Stopped(_, _, _) => Err(PeerError::Stopped),
+        }
+    }
+
+    /// It takes what it has itself: what waits is tried again.
+    pub(crate) fn merge_itself(&mut self, alloc: Global) -> Result<Applied, PeerError>
+        ensures { Steps self.old (Merge self.old)
+            (replied (λ a. Merged (report_of a)) result) self.new }
+    {
+        match &mut self.life {
+            Life::Running(peer) => merge_nothing(alloc, peer),
+            Life::Stopped(_, _, _) => Err(PeerError::Stopped),
+        }
+    }
+
+    /// Its text.
+    pub(crate) fn read(&self) -> Result<String, PeerError>
+        ensures { Steps self.now Read (replied (λ t. Text (chars (string_bytes t))) result)
+            self.now }
+    {
+        match &self.life {
+            Life::Running(peer) => {
+                a_peer_in_memory_never_fails(peer);
+                peer.read()
+            }
+            Life::Stopped(_, _, _) => Err(PeerError::Stopped),
+        }
+    }
+
+    /// Its text at the hashes.
+    pub(crate) fn read_at(&self, hashes: &[Hash]) -> Result<String, PeerError>
+        ensures { Steps self.now (ReadAt hashes.now)
+            (replied (λ t. Text (chars (string_bytes t))) result) self.now }
+    {
+        match &self.life {
+            Life::Running(peer) => {
+                a_peer_in_memory_never_fails(peer);
+                peer.read_at(hashes)
+            }
+            Life::Stopped(_, _, _) => Err(PeerError::Stopped),
+        }
+    }
+
+    /// A copy of its heads.
+    pub(crate) fn heads(&self, alloc: Global) -> Result<Vec<Hash>, AllocError>
+        requires { self.now.stopped ≡ false }
+        ensures { IfOk result (λ v. v.items ≡ heads self.now.applied) }
+    {
+        match &self.life {
+            Life::Running(peer) => Vec::from_slice(alloc, peer.document().heads()),
+            Life::Stopped(_, _, _) => unreachable!(),
+        }
+    }
+
+    /// The change that an edit would make; `None` where it would make none. The only refusal is `OutOfMemory`.
+    pub(crate) fn edit_change(
+        &self,
+        splices: &[Splice],
+        time: u64,
+        message: &str,
+    ) -> Result<Option<Change>, WorldError>
+        ensures ok { IfOk result
+            (λ made. IsJustEdit self.now splices.now time (chars message.now) made) }
+        ensures err { IsOkUnless result OutOfMemory }
+    {
+        match &self.life {
+            Life::Running(peer) => edit_change_of(peer, splices, time, message),
+            Life::Stopped(_, _, _) => Ok(None),
+        }
+    }
+
+    /// How many bytes its journal has, or `usize::MAX`.
+    pub(crate) fn journal_len(&self) -> usize
+        requires { self.now.stopped ≡ false }
+        ensures { result ≡ min usize.MAX (length self.now.journal) }
+    {
+        match &self.life {
+            Life::Running(peer) => {
+                let document = peer.document();
+                records_len(document.changes()).saturating_add(HEADER_BYTES)
+            }
+            Life::Stopped(_, _, _) => unreachable!(),
+        }
+    }
+
+    // What is left of it: its document's identifier, its actor, its journal.
+    fn into_remains(self) -> (DocId, Actor, MemJournal)
+        ensures id { result.0 ≡ self.id }
+        ensures actor { result.1 ≡ self.actor }
+        ensures journal { result.2 ≡ self.journal }
+    {
+        match self.life {
+            Life::Running(peer) => {
+                let id = peer.document().id();
+                let actor = peer.actor();
+                (id, actor, peer.stop())
+            }
+            Life::Stopped(id, actor, journal) => (id, actor, journal),
+        }
+    }
+
+    /// It crashes: its journal keeps `keep` bytes at most, and is opened again under the actor. Where that is refused it
+    /// has stopped.
+    pub(crate) fn reopened(
+        self,
+        alloc: Global,
+        keep: usize,
+        actor: Actor,
+    ) -> (Member, Result<(), PeerError>)
+        ensures len { length self.journal < 2 ^ 64 }
+        ensures opens { OpensAgain self (take keep self.journal) actor result.1 result.0 }
+    {
+        let (id, old, journal) = self.into_remains();
+        let mut bytes = journal.into_vec();
+        let _len = bytes.len();
+        bytes.truncate(keep);
+        open_again(alloc, id, old, bytes, actor)
+    }
+}

@@ -1,0 +1,132 @@
+//! The world that runs.
+
+ghost use Rattle.std.specs.Prelude.{◌≡◌, length, map, IfOk, OnErr, IsOkUnless};
+ghost use Rattle.tp_journal.specs.Layout.{IsDocId};
+ghost use Rattle.tp_headline.specs.declared.error.WorldError.TheVariants.{OutOfMemory};
+ghost use Rattle.tp_headline.specs.Follows.{Follows};
+ghost use Rattle.tp_headline.specs.Happening.{Next};
+ghost use Rattle.tp_headline.specs.Headline.{Headline};
+ghost use Rattle.tp_headline.specs.Running.{GoesOn};
+ghost use Rattle.tp_headline.specs.World.{beginning};
+ghost use Rattle.tp_world.specs.Order.{IsOneList};
+ghost use Rattle.tp_world.specs.Told.{event_of, reply_of};
+
+use crate::entry::Entry;
+use crate::event::Event;
+use crate::ordering::order_of;
+use crate::read_record::ReadRecord;
+use crate::reply::Reply;
+use crate::state::State;
+use std::alloc::Global;
+use std::marker::Model;
+use tp_headline::WorldError;
+use tp_opid::{DocId, OpId};
+
+/// A world of peers that edit one text, each with its journal in memory.
+///
+/// Contracts see the `World` of the headline: the peers, the messages that were sent, the changes that were made, the
+/// actors that were named, and the reads.
+#[derive(Drop)]
+pub struct World {
+    state: State,
+}
+
+impl Model for World {
+    ghost use Rattle.tp_headline.specs.World.{World as Data};
+
+    ghost Value = { Data };
+
+    ghost use Rattle.tp_world.specs.States.{world_of};
+
+    ghost view = { λ w. world_of w.state };
+
+    ghost use Rattle.tp_headline.specs.Carried.{Carried};
+
+    ghost invariant = { λ w. Carried (world_of w.state) };
+}
+
+// What the type of an identifier says: it has 16 bytes. Answers their number.
+fn id_len(id: DocId) -> usize
+    ensures { IsDocId id }
+{
+    let bytes = id.0;
+    bytes.len()
+}
+
+impl World {
+    /// A world in which nothing happened yet. No memory.
+    pub fn new(alloc: Global, id: DocId) -> World
+        ensures { result ≡ beginning id }
+    {
+        let _len = id_len(id);
+        World {
+            state: State::new(alloc, id),
+        }
+    }
+
+    /// The event happens, or is refused; a refused one changes nothing.
+    ///
+    /// It is refused at the first of these that holds: `NoPeer` where a peer that it names isn't there; `ActorUsed` where
+    /// the actor that it names was named before; `HashClash` where it would make a change with the hash of another one
+    /// that was made; `Stopped` where a peer that it acts on or reads has stopped. It may be refused as `OutOfMemory` at
+    /// any time, where a growth of the world's own was refused.
+    ///
+    /// An edit is made twice, and its hash is compared with those of all changes that were made.
+    pub fn step(&mut self, event: Event) -> Reply
+        ensures next { Next self.old (event_of event.entry) (reply_of result) self.new }
+        ensures headline { Headline self.new }
+        ensures follows { Follows self.new }
+    {
+        self.state.step(&event)
+    }
+
+    /// The events happen one after another. Room for the replies is taken first: where that is refused nothing happens.
+    pub fn run(&mut self, events: Vec<Event>) -> Result<Vec<Reply>, WorldError>
+        ensures ok { IfOk result
+            (λ replies. GoesOn self.old (map event_of events.entry.items)
+            (map reply_of replies.items) self.new) }
+        ensures headline { Headline self.new }
+        ensures follows { Follows self.new }
+        ensures err { OnErr result (self.new ≡ self.old) }
+        ensures only { IsOkUnless result OutOfMemory }
+    {
+        let mut replies = match Vec::with_capacity(self.state.alloc, events.len()) {
+            Ok(replies) => replies,
+            Err(_) => return Err(WorldError::OutOfMemory),
+        };
+        let all = events.as_slice();
+        for event in all {
+            replies.push_reserved(self.step(*event));
+        }
+        Ok(replies)
+    }
+
+    /// The messages that were sent so far, in order. Each stays there.
+    pub fn wire(&self) -> &[Entry]
+        ensures { result.now ≡ self.now.wire }
+    {
+        &self.state.wire
+    }
+
+    /// What was read so far, in order.
+    pub fn reads(&self) -> &[ReadRecord]
+        ensures reads { result.now ≡ self.now.reads }
+        ensures headline { Headline self.now }
+    {
+        &self.state.reads
+    }
+
+    /// The one list of all elements that were ever inserted at any peer, deleted ones among them, each with its
+    /// identifier and its character. The only refusal is `OutOfMemory`.
+    ///
+    /// Each change is entered anew.
+    pub fn order(&self) -> Result<Vec<(OpId, char)>, WorldError>
+        ensures list { IfOk result (λ v. IsOneList self.now.made v.items) }
+        ensures err { IsOkUnless result OutOfMemory }
+    {
+        match order_of(self.state.alloc, &self.state.made) {
+            Ok(list) => Ok(list),
+            Err(_) => Err(WorldError::OutOfMemory),
+        }
+    }
+}
