@@ -29,18 +29,18 @@ use Rattle.tp_headline.specs.Call as call
 use Rattle.tp_headline.specs.Calling.{Steps}
 use Rattle.tp_headline.specs.Carried.{Carried}
 use Rattle.tp_headline.specs.Crashing.{ComesBack, kept_bytes, stopped_with}
-use Rattle.tp_headline.specs.Event.{Edit, Merge, Crash, Read, ReadAt}
-use Rattle.tp_headline.specs.Happening.{Happens, with_answer}
+use Rattle.tp_headline.specs.Event.{Edit, Merge, Send, Crash, Read, ReadAt}
+use Rattle.tp_headline.specs.Happening.{Happens, with_answer, with_sent}
 use Rattle.tp_headline.specs.Refusing.{MayHappen}
 use Rattle.tp_headline.specs.Reply.{Reply, Text, Reopened, Inner, PassesOn}
-use Rattle.tp_headline.specs.World.{ReadRecord, World, HasPeer, gained, with_made, with_peer, with_used}
+use Rattle.tp_headline.specs.World.{Entry, ReadRecord, World, HasPeer, gained, with_made, with_peer, with_used}
 use Rattle.tp_headline.proofs.CrashMoves.{Recovered, gained_back, nothing_left, one_cut, one_record, recovered_between, recovered_cut}
 use Rattle.tp_document.specs.Merging.{absent}
 use Rattle.tp_headline.proofs.CallLaws.{merge_leaves}
 use Rattle.tp_headline.proofs.EditMoves.{came_was_made, took_history}
 use Rattle.tp_headline.proofs.PlaceLaws.{slice_get-set_same}
 use Rattle.tp_world.specs.Judging.{Meets}
-use Rattle.tp_world.specs.Making.{AddsRead, IsWould, entered_of, is_kept_in, is_made}
+use Rattle.tp_world.specs.Making.{AddsRead, IsWould, entered_of, is_kept_in, is_made, wire_with}
 use Rattle.tp_world.specs.Members.{MergesAt, OpensAgain, OpensAgainAt, StepsAt, changes_in, left_with}
 
 -- ---- edits
@@ -135,6 +135,30 @@ merge_happens w n m answer peers reply s passed =
       s.there,
       record { before = at.before; stands = at.stands; answer = answer; after = at.after; steps = at.steps; passed = passed },
       ap (λ l. record w { peers = l }) at.left,
+    )
+
+-- ---- messages
+
+sent_world : (w : World) (n : ℕ) (p' : PeerData) (answer : peer.Reply) (peers : List PeerData) (wire : List Entry) → peers ≡ slice_set w.peers n p' → wire ≡ wire_with w.wire n answer
+    → record w { peers = peers; wire = wire } ≡ with_sent (with_peer w n p') n answer
+sent_world w n p' (peer.Generated (Some message)) peers wire e f = cc
+sent_world w n p' (peer.Generated None) peers wire e f = cc
+sent_world w n p' (peer.Made made) peers wire e f = cc
+sent_world w n p' (peer.Merged report) peers wire e f = cc
+sent_world w n p' (peer.Received report same_heads) peers wire e f = cc
+sent_world w n p' peer.Forgotten peers wire e f = cc
+sent_world w n p' (peer.Text text) peers wire e f = cc
+sent_world w n p' (peer.Heads hs) peers wire e f = cc
+sent_world w n p' (peer.Refused e) peers wire f g = cc
+
+pub send_meets : (w : World) (n to : ℕ) (answer : peer.Reply) (peers : List PeerData) (old wire : List Entry) (reply : Reply) → StepsAt w.peers n (peer.Generate to) answer peers → old ≡ w.wire
+    → wire ≡ wire_with old n answer → PassesOn (length old) answer reply → Meets w (Send n to) reply (record w { peers = peers; wire = wire })
+send_meets w n to answer peers old wire reply s same is passed =
+    let sent : wire ≡ wire_with w.wire n answer = subst (λ (l : List Entry). wire ≡ wire_with l n answer) same is in
+    let told : PassesOn (length w.wire) answer reply = subst (λ (l : List Entry). PassesOn (length l) answer reply) same passed in
+    inr (
+      record { before = s.before; stands = s.stands; answer = answer; after = s.after; steps = s.steps; passed = told },
+      sent_world w n s.after answer peers wire s.left sent,
     )
 
 -- ---- reads

@@ -164,6 +164,7 @@ plain_event (happened.Start actor) = record { no_bytes = refl; no_entries = refl
 plain_event (happened.Fork of actor) = record { no_bytes = refl; no_entries = refl }
 plain_event (happened.Edit n splices time message) = record { no_bytes = refl; no_entries = refl }
 plain_event (happened.Merge into from) = record { no_bytes = refl; no_entries = refl }
+plain_event (happened.Send from to) = record { no_bytes = refl; no_entries = refl }
 plain_event (happened.Crash n None kept actor) = record { no_bytes = refl; no_entries = refl }
 plain_event (happened.Crash n (Some (called.Edit splices time message)) kept actor) = record { no_bytes = refl; no_entries = refl }
 plain_event (happened.Crash n (Some (called.Merge from)) kept actor) = record { no_bytes = refl; no_entries = refl }

@@ -11,7 +11,7 @@ use Rattle.tp_headline.specs.Call as call
 use Rattle.tp_headline.specs.Event.{Event, Edit, Crash}
 use Rattle.tp_headline.specs.Refusing.{IsEditAt}
 use Rattle.tp_headline.specs.Reply.{Reply, Text, Refused, Inner}
-use Rattle.tp_headline.specs.World.{ReadRecord, World}
+use Rattle.tp_headline.specs.World.{Entry, ReadRecord, World}
 use Rattle.tp_peer.specs.declared.error.PeerError.{PeerError}
 use Rattle.tp_peer.specs.PeerData.{PeerData}
 
@@ -60,3 +60,8 @@ AddsRead reads n heads (peer.Text text) reply reads' =
     ⊎ ((reply ≡ Text text) × (reads' ≡ reads ++ record { peer = n; heads = heads; text = text } ∷ []))
 AddsRead reads n heads (peer.Refused error) reply reads' = (reply ≡ Inner error) × (reads' ≡ reads)
 AddsRead reads n heads _ reply reads' = ⊥
+
+-- the wire, once the peer numbered n answered so to the call for a message
+abbrev pub wire_with : List Entry → ℕ → peer.Reply → List Entry
+wire_with wire n (peer.Generated (Some message)) = wire ++ record { sender = n; bytes = message.0 } ∷ []
+wire_with wire n _ = wire

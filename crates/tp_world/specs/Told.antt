@@ -29,6 +29,7 @@ event_of (happened.Start actor) = event.Start actor
 event_of (happened.Fork of actor) = event.Fork of actor
 event_of (happened.Edit peer splices time message) = event.Edit peer splices.now time (chars message.now)
 event_of (happened.Merge into from) = event.Merge into from
+event_of (happened.Send from to) = event.Send from to
 event_of (happened.Crash peer during kept actor) = event.Crash peer (during_of during) kept actor
 event_of (happened.Read peer) = event.Read peer
 event_of (happened.ReadAt peer heads) = event.ReadAt peer heads.now
@@ -38,6 +39,8 @@ abbrev pub reply_of : Reply → reply.Reply
 reply_of (told.Peer n) = reply.Peer n
 reply_of (told.Edited made) = reply.Edited made
 reply_of (told.Merged applied) = reply.Merged (report_of applied)
+reply_of (told.Wire n) = reply.Wire n
+reply_of told.Quiet = reply.Quiet
 reply_of told.Reopened = reply.Reopened
 reply_of (told.Text text) = reply.Text (chars (string_bytes text))
 reply_of (told.Refused why) = reply.Refused why

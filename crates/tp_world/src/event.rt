@@ -55,6 +55,14 @@ pub enum Event<'a> {
         /// The number of the other one.
         from: usize,
     },
+    /// A peer makes a message on its link to another one, if there is something to say. The message goes on the wire; the
+    /// other peer has no part in it.
+    Send {
+        /// The number of the one that makes it.
+        from: usize,
+        /// The number of the other one.
+        to: usize,
+    },
     /// A peer crashes, and is opened again.
     Crash {
         /// Its number.

@@ -1,6 +1,6 @@
 //! What each event does to a world.
 
-ghost use Rattle.std.specs.Prelude.{◌≡◌, ℕ, ◌<◌, ◌++◌, ◌&&◌, vec_len, vec_capacity, None, Some, IfOk, IfErr, OnOk, IsOkUnless, MatchResult};
+ghost use Rattle.std.specs.Prelude.{◌≡◌, ℕ, length, ◌<◌, ◌++◌, ◌&&◌, vec_len, vec_capacity, None, Some, IfOk, IfErr, OnOk, IsOkUnless, MatchResult};
 ghost use Rattle.std.specs.Str.{chars};
 ghost use Rattle.std.specs.String.{string_bytes};
 ghost use Rattle.tp_headline.specs.Call as call;
@@ -11,13 +11,15 @@ ghost use Rattle.tp_headline.specs.Happening.{Next};
 ghost use Rattle.tp_headline.specs.Refusing.{IsRefusal, MayHappen};
 ghost use Rattle.tp_headline.specs.Reply.{PassesOn, Inner, Reopened};
 ghost use Rattle.tp_headline.specs.World.{beginning};
-ghost use Rattle.tp_peer.specs.PeerStep.{Made, Merged, Text, replied};
+ghost use Rattle.tp_peer.specs.PeerStep.{Generated, Made, Merged, Text, replied};
+ghost use Rattle.tp_peer.specs.Sent.{sent_of};
 ghost use Rattle.tp_peer.specs.Taking.{report_of};
 ghost use Rattle.tp_world.specs.Judging.{Meets, clashes_in};
-ghost use Rattle.tp_world.specs.Making.{AddsRead, IsWould, entered_of, is_kept_in, is_made};
+ghost use Rattle.tp_world.specs.Making.{AddsRead, IsWould, entered_of, is_kept_in, is_made, wire_with};
 ghost use Rattle.tp_world.specs.States.{world_of};
 ghost use Rattle.tp_world.specs.Told.{call_of, during_of, event_of, reply_of};
 
+use crate::entry::Entry;
 use crate::event::{Call, Event};
 use crate::judging::{
     actor_of, are_running, are_there, edit_change_at, has_hash, is_fresh, keeps_whole, peers_of,
@@ -26,6 +28,7 @@ use crate::judging::{
 use crate::member::{Member, record_len};
 use crate::members::{
     edit_at, fork_at, heads_at, journal_len_at, merge_at, read_at_number, read_past_at, reopen_at,
+    send_at,
 };
 use crate::read_record::ReadRecord;
 use crate::reply::Reply;
@@ -36,7 +39,7 @@ use tp_document::Applied;
 use tp_edit::Splice;
 use tp_headline::WorldError;
 use tp_opid::{Actor, DocId, Hash};
-use tp_peer::PeerError;
+use tp_peer::{Outgoing, PeerError};
 
 // Puts the change behind those that were made, if it was. There is room for it.
 fn add_if(made: &mut Vec<Change>, change: Option<Change>, entered: bool)
@@ -126,6 +129,26 @@ fn add_read(
             }
             Err(_) => Reply::Refused(WorldError::OutOfMemory),
         },
+        Err(error) => Reply::Inner(error),
+    }
+}
+
+// Puts the message on the wire, if one was made. There is room for it.
+fn add_sent(wire: &mut Vec<Entry>, n: usize, sent: Result<Option<Outgoing>, PeerError>) -> Reply
+    requires { vec_len wire.old < vec_capacity wire.old }
+    ensures wire { wire.new.items
+        ≡ wire_with wire.old.items n (replied (λ s. Generated (sent_of s)) sent) }
+    ensures told { PassesOn (length wire.old.items)
+        (replied (λ s. Generated (sent_of s)) sent) (reply_of result) }
+{
+    let place = wire.len();
+    match sent {
+        Ok(Some(message)) => {
+            let Outgoing { bytes, .. } = message;
+            wire.push_reserved(Entry::new(n, bytes));
+            Reply::Wire(place)
+        }
+        Ok(None) => Reply::Quiet,
         Err(error) => Reply::Inner(error),
     }
 }
@@ -289,6 +312,19 @@ impl State {
     {
         let merged = merge_at(self.alloc, &mut self.peers, into, from);
         merge_reply(merged)
+    }
+
+    // A peer makes a message on its link to another one, and it goes on the wire.
+    fn send(&mut self, n: usize, to: usize) -> Reply
+        requires may { MayHappen (world_of self.old) (events.Send n to) }
+        ensures { Meets (world_of self.old) (events.Send n to) (reply_of result)
+            (world_of self.new) }
+    {
+        if self.wire.reserve(1).is_err() {
+            return Reply::Refused(WorldError::OutOfMemory);
+        }
+        let sent = send_at(&mut self.peers, n, to);
+        add_sent(&mut self.wire, n, sent)
     }
 
     // The text of a peer is read, and recorded under its heads.
@@ -464,6 +500,7 @@ impl State {
                 message,
             } => self.edit(*peer, splices, *time, message, change),
             Event::Merge { into, from } => self.merge(*into, *from),
+            Event::Send { from, to } => self.send(*from, *to),
             Event::Crash {
                 peer,
                 during,

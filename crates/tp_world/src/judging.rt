@@ -36,6 +36,7 @@ pub(crate) fn peers_of(event: &Event) -> (Option<usize>, Option<usize>)
         Event::Fork { of, .. } => (Some(*of), None),
         Event::Edit { peer, .. } => (Some(*peer), None),
         Event::Merge { into, from } => (Some(*into), Some(*from)),
+        Event::Send { from, to } => (Some(*from), Some(*to)),
         Event::Crash { peer, during, .. } => (Some(*peer), needed_by(during)),
         Event::Read { peer } => (Some(*peer), None),
         Event::ReadAt { peer, .. } => (Some(*peer), None),
@@ -48,6 +49,7 @@ pub(crate) fn running_of(event: &Event) -> (Option<usize>, Option<usize>)
 {
     match event {
         Event::Crash { during: None, .. } => (None, None),
+        Event::Send { from, .. } => (Some(*from), None),
         event => peers_of(event),
     }
 }

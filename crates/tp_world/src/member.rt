@@ -7,7 +7,8 @@ ghost use Rattle.tp_graph.specs.Heads.{heads};
 ghost use Rattle.tp_journal.specs.Layout.{header_of, record_of, records_of};
 ghost use Rattle.tp_peer.specs.Opening.{Forks, NotBegun, NotForked};
 ghost use Rattle.tp_peer.specs.PeerData.{opened};
-ghost use Rattle.tp_peer.specs.PeerStep.{Edit, Made, Merge, Merged, PeerStep, Read, ReadAt, Text, replied};
+ghost use Rattle.tp_peer.specs.PeerStep.{Edit, Generate, Generated, Made, Merge, Merged, PeerStep, Read, ReadAt, Text, replied};
+ghost use Rattle.tp_peer.specs.Sent.{sent_of};
 ghost use Rattle.tp_peer.specs.Taking.{report_of};
 ghost use Rattle.tp_headline.specs.Calling.{Steps, in_memory};
 ghost use Rattle.tp_headline.specs.declared.error.WorldError.TheVariants.{OutOfMemory};
@@ -23,7 +24,7 @@ use tp_headline::WorldError;
 use tp_journal::{DIGEST_BYTES, HEADER_BYTES, MemJournal};
 use tp_opid::{Actor, DocId, Hash};
 use tp_peer::laws::a_peer_in_memory_never_fails;
-use tp_peer::{Peer, PeerError};
+use tp_peer::{Link, Outgoing, Peer, PeerError};
 
 /// What has become of a peer.
 #[derive(Drop)]
@@ -78,6 +79,16 @@ fn merge_running(
     let merged = peer.merge(other);
     a_peer_in_memory_never_fails(peer);
     merged
+}
+
+// The peer makes a message on its link to another one.
+fn send_running(peer: &mut Peer<MemJournal>, to: usize) -> Result<Option<Outgoing>, PeerError>
+    ensures { Steps peer.old (Generate to)
+        (replied (λ s. Generated (sent_of s)) result) peer.new }
+{
+    let sent = peer.generate_bytes(Link(to as u64));
+    a_peer_in_memory_never_fails(peer);
+    sent
 }
 
 // The change that an edit of the peer would make, if any.
@@ -270,6 +281,17 @@ impl Member {
     {
         match &mut self.life {
             Life::Running(peer) => merge_member(peer, other),
+            Life::Stopped(_, _, _) => Err(PeerError::Stopped),
+        }
+    }
+
+    /// It makes a message on its link to another one, if there is something to say.
+    pub(crate) fn send(&mut self, to: usize) -> Result<Option<Outgoing>, PeerError>
+        ensures { Steps self.old (Generate to)
+            (replied (λ s. Generated (sent_of s)) result) self.new }
+    {
+        match &mut self.life {
+            Life::Running(peer) => send_running(peer, to),
             Life::Stopped(_, _, _) => Err(PeerError::Stopped),
         }
     }

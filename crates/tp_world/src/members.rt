@@ -7,7 +7,8 @@ ghost use Rattle.std.specs.String.{string_bytes};
 ghost use Rattle.tp_graph.specs.Heads.{heads};
 ghost use Rattle.tp_peer.specs.Opening.{Forks, NotForked};
 ghost use Rattle.tp_peer.specs.PeerData.{PeerData};
-ghost use Rattle.tp_peer.specs.PeerStep.{Edit, Made, Merge, Merged, Read, ReadAt, Text, replied};
+ghost use Rattle.tp_peer.specs.PeerStep.{Edit, Generate, Generated, Made, Merge, Merged, Read, ReadAt, Text, replied};
+ghost use Rattle.tp_peer.specs.Sent.{sent_of};
 ghost use Rattle.tp_peer.specs.Taking.{report_of};
 ghost use Rattle.tp_headline.specs.Calling.{Steps, in_memory};
 ghost use Rattle.tp_world.specs.Members.{ForksAt, MergesAt, OpensAgainAt, StepsAt};
@@ -18,7 +19,7 @@ use std::mem;
 use tp_document::Applied;
 use tp_edit::Splice;
 use tp_opid::{Actor, Hash};
-use tp_peer::PeerError;
+use tp_peer::{Outgoing, PeerError};
 
 /// A peer forks.
 pub(crate) fn fork_at(
@@ -48,6 +49,20 @@ pub(crate) fn edit_at(
 {
     let member = &mut members[n];
     member.edit(splices, time, message)
+}
+
+/// A peer makes a message on its link to another one.
+pub(crate) fn send_at(
+    members: &mut Vec<Member>,
+    n: usize,
+    to: usize,
+) -> Result<Option<Outgoing>, PeerError>
+    requires { n < length members.old.items }
+    ensures { StepsAt members.old.items n (Generate to)
+        (replied (λ s. Generated (sent_of s)) result) members.new.items }
+{
+    let member = &mut members[n];
+    member.send(to)
 }
 
 // Takes the peer with the number out, and puts one in its place.

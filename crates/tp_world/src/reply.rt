@@ -14,6 +14,10 @@ pub enum Reply {
     Edited(Option<Hash>),
     /// What a merge reports.
     Merged(Applied),
+    /// A message was sent: the entry of the wire with this number.
+    Wire(usize),
+    /// There was nothing to say.
+    Quiet,
     /// The peer that crashed runs again.
     Reopened,
     /// The text that was read.

@@ -11,5 +11,8 @@ returns-in-Edit c = subst (λ (x : Event). Meets (world_of c.args.self.now) (eve
 pub returns-in-Merge : goal.returns-in-Merge
 returns-in-Merge c = subst (λ (x : Event). Meets (world_of c.args.self.now) (event_of x) (reply_of c.merge.result) (world_of c.merge.new.self)) (sym c.in-Merge.is) c.merge.ensures
 
+pub returns-in-Send : goal.returns-in-Send
+returns-in-Send c = subst (λ (x : Event). Meets (world_of c.args.self.now) (event_of x) (reply_of c.send.result) (world_of c.send.new.self)) (sym c.in-Send.is) c.send.ensures
+
 pub returns-in-Crash : goal.returns-in-Crash
 returns-in-Crash c = subst (λ (x : Event). Meets (world_of c.args.self.now) (event_of x) (reply_of c.crash.result) (world_of c.crash.new.self)) (sym c.in-Crash.is) c.crash.ensures

@@ -1,0 +1,6 @@
+pub mod ListLaws
+pub mod ViewLaws
+pub mod RuleLaws
+pub mod TokenLaws
+pub mod HeldLaws
+pub mod SeatLaws

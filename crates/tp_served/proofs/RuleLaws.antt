@@ -1,0 +1,464 @@
+-- Each step on the shared state keeps its rule.
+use Rattle.std.proofs.Common.{◌≡◌, ◌≢◌, ◌⊎◌, inl, inr, ⊎_elim, ℕ, zero, suc, ◌+◌, ◌<◌, eqb, cond, List, [], ◌∷◌, ◌++◌, length, set, get_or, take, drop, replicate, Option, Some, None, refl, sym, ap, ◌∙◌, subst, arith, length-append, append-nil, append_assoc, take-append-drop}
+use Rattle.std.specs.Prelude.{MatchBool}
+use mathlib.Core.Logic.{dite}
+use native.Mathlib.Decide.{ℕ_discrete}
+use mathlib.Core.Option as maybe
+use lib.ListN.{get_elem?}
+use lib.Seq.{set-get_or}
+use prog.Atomic.{either}
+use Rattle.atomic_table.specs.Table.{Allows, Final, Joins, Seen, Splits, Step, gives, keeps, opening, takes}
+use Rattle.std.proofs.lemmas.List.{length-replicate}
+use Rattle.atomic_table.proofs.Lists.{at_last, at_longer, at_set, at_snoc, set_again, set_else, set_here}
+use Rattle.tp_list.specs.Members.{In}
+use Rattle.tp_list.proofs.Members.{In-append, In-left, In-right}
+use Rattle.tp_change.specs.declared.parts.ChangeParts.{ChangeParts}
+use Rattle.tp_receive.specs.Receiving.{Begins}
+use Rattle.tp_peer.specs.Links.{known_of}
+use Rattle.tp_peer.specs.PeerData.{PeerData}
+use Rattle.tp_served.specs.Seats.{HaveMet, HeldPeer, SeatState, fresh_from, gave, missed_by, past, took}
+use Rattle.tp_served.specs.Rule.{AllFit, Fits, IsCurrent, IsHome, IsLeft, IsOut, IsServed, Shared, ViewState, alone, entered_by, holds, idle, times}
+use Rattle.tp_served.specs.Sitting.{first_seat}
+use Rattle.tp_served.specs.Steps.{Serves, Takes, Token, first_of, given, joined, looked, others_of, spent, tried}
+use Rattle.tp_served.specs.Calls.{Closes}
+use Rattle.tp_served.proofs.ListLaws.{begins_more, begins_same, both_begin, drop_begin, entered-append, entered_all, entered_none, in_replicate}
+use Rattle.tp_served.proofs.ViewLaws.{AllFit-append, AllFit-in, AllFit-map, AllFit-split, at_below, at_one, fresh_fit, fresh_once, length_fresh, length_parted, times-append, times_in, times_le, times_parted, total-push, total-set, total_le, two_le}
+
+abbrev Slot : Type 0
+Slot = maybe.Option (Option HeldPeer)
+
+abbrev seats_in : ViewState → ℕ
+seats_in v = length v.seats
+
+-- no view both holds a peer and is idle
+pub not_idle : {A : Type 0} (h : HeldPeer) → Some h ≡ None → A
+not_idle h e = cc
+
+-- the peer in the slot taken last
+abbrev last_held : HeldPeer → List (ℕ × Option HeldPeer) → HeldPeer
+last_held h [] = h
+last_held h ((k, None) ∷ xs) = h
+last_held h ((k, Some g) ∷ xs) = g
+
+-- ---- one seat alone
+
+-- The seat t of the view at `id` gives way to t', and the peer to h.
+module _ (opened : PeerData) (count : ℕ) where
+  -- another seat has another number
+  apart : (s : Shared) (k : IsServed opened count s) (id j : ℕ) (v u : ViewState) (t x : SeatState) → get_elem? s.views id ≡ maybe.some v → v.seats ≡ t ∷ []
+      → j ≢ id → get_elem? s.views j ≡ maybe.some u → In x u.seats → x.number ≢ t.number
+  apart s k id j v u t x at one other there i e =
+      let mine : In t v.seats = subst (In t) (sym one) (inl refl) in
+      let fit = AllFit-in count k.entered k.current v.seats t (k.fits id v at) mine in
+      let all = k.once t.number fit.number in
+      let two = two_le (λ (w : ViewState). times t.number w.seats) s.views id j v u other at there in
+      let here = times_in t.number v.seats t mine refl in
+      let there' = times_in t.number u.seats x i e in
+      absurd (omega arith)
+
+  reset : (s : Shared) (k : IsServed opened count s) (id : ℕ) (v w : ViewState) (t t' : SeatState) (h : HeldPeer) (entered : List ChangeParts) (words : List ℕ) (homes : List Slot)
+      → get_elem? s.views id ≡ maybe.some v → v.seats ≡ t ∷ [] → w.seats ≡ t' ∷ [] → t'.number ≡ t.number
+      → IsCurrent opened count entered h
+      → IsHome h (record { words = words; homes = homes; views = set s.views id w }) ⊎ IsOut h (record { words = words; homes = homes; views = set s.views id w })
+      → Fits count entered h t'
+      → ((u : SeatState) → u.number ≢ t.number → Fits count k.entered k.current u → Fits count entered h u)
+      → IsLeft h (set s.views id w)
+      → IsServed opened count (record { words = words; homes = homes; views = set s.views id w })
+  reset s k id v w t t' h entered words homes at one one' number is place fit others left =
+      let same_times : (n : ℕ) → times n w.seats ≡ times n v.seats = λ n. ap (times n) one' ∙ (ap (λ (m : ℕ). cond (eqb m n) 1 0 + 0) number ∙ sym (ap (times n) one)) in
+      let same_length : length w.seats ≡ length v.seats = ap length one' ∙ sym (ap length one) in
+      record {
+        current = h;
+        entered = entered;
+        is = is;
+        place = place;
+        fits = λ j u there. ⊎_elim
+            (λ (x : (j ≡ id) × (w ≡ u)). subst (λ (y : ViewState). AllFit count entered h y.seats) x.1 (subst (AllFit count entered h) (sym one') (fit, tt)))
+            (λ (x : (j ≢ id) × (get_elem? s.views j ≡ maybe.some u)). AllFit-map count k.entered entered k.current h u.seats (λ y i f. others y (apart s k id j v u t y at one x.0 x.1 i) f) (k.fits j u x.1))
+            (at_set s.views id j w u there);
+        once = λ n below. let a = k.once n below in let b = total-set (λ (y : ViewState). times n y.seats) s.views id v w at in let c = same_times n in omega arith;
+        all = let a = k.all in let b = total-set (λ (y : ViewState). length y.seats) s.views id v w at in let c = same_length in omega arith;
+        left = left;
+      }
+
+  -- the same peer was left by a seat that notes something else
+  left_still : (views : List ViewState) (id : ℕ) (v w : ViewState) (t t' : SeatState) (h : HeldPeer) → get_elem? views id ≡ maybe.some v → v.seats ≡ t ∷ [] → w.seats ≡ t' ∷ [] → t'.after ≡ t.after
+      → IsLeft h views → IsLeft h (set views id w)
+  left_still views id v w t t' h at one one' same l = dite (ℕ_discrete l.view id)
+      (λ e. let here : v ≡ l.state = maybe.some-injective v l.state (sym at ∙ (ap (get_elem? views) (sym e) ∙ l.there)) in
+      let member : In l.seat (t ∷ []) = subst (In l.seat) (ap (λ (y : ViewState). y.seats) (sym here) ∙ one) l.member in
+      let is : l.seat ≡ t = ⊎_elim (λ e. e) absurd member in
+      record {
+        view = id;
+        state = w;
+        there = set_here views id w (at_below views id v at);
+        seat = t';
+        member = subst (In t') (sym one') (inl refl);
+        left = l.left ∙ (ap (λ (y : SeatState). y.after) is ∙ sym same);
+      })
+      (λ ne. record { view = l.view; state = l.state; there = set_else views id l.view w ne ∙ l.there; seat = l.seat; member = l.member; left = l.left })
+
+  -- what a seat notes of tries changes nothing else
+  fits_noting : (C : List ChangeParts) (h : HeldPeer) (t t' : SeatState) → t'.number ≡ t.number → t'.after ≡ t.after → t'.mine ≡ t.mine → Fits count C h t → Fits count C h t'
+  fits_noting C h t t' number after mine f = record {
+    number = subst (λ n. n < count) (sym number) f.number;
+    goes_on = record {
+      seen = subst (λ (p : PeerData). Begins p.applied h.peer.applied) (sym after) f.goes_on.seen;
+      link = ap (known_of h.peer.links) number ∙ (f.goes_on.link ∙ λ i. known_of (sym after i).links (sym number i));
+    };
+    mine = ap (λ n. entered_by n h.who C) number ∙ (f.mine ∙ sym mine);
+  }
+
+  -- the one who holds the peer is none that is idle
+  holder_apart : (s : Shared) (h : HeldPeer) (out : IsOut h s) (j : ℕ) (v : ViewState) → get_elem? s.views j ≡ maybe.some v → v.holding ≡ None → out.holder ≢ j
+  holder_apart s h out j v at none e =
+      let here : holds h out.seat ≡ v = maybe.some-injective (holds h out.seat) v (sym out.held ∙ (ap (get_elem? s.views) e ∙ at)) in
+      not_idle h (ap (λ (y : ViewState). y.holding) here ∙ none)
+
+  -- ---- take and miss
+
+  takes_home : (s : Shared) (k : IsServed opened count s) (id : ℕ) (t : SeatState) → get_elem? s.views id ≡ maybe.some (alone t) → IsHome k.current s
+      → IsServed opened count (record { words = set s.words 0 (either (eqb (get_or s.words 0 0) 0) 1 (get_or s.words 0 0)); homes = set s.homes 0 maybe.none; views = set s.views id (holds k.current (took t)) })
+  takes_home s k id t at home =
+      reset s k id (alone t) (holds k.current (took t)) t (took t) k.current k.entered (set s.words 0 (either (eqb (get_or s.words 0 0) 0) 1 (get_or s.words 0 0))) (set s.homes 0 maybe.none)
+      at refl refl refl k.is
+      (inr (record {
+        word = ap (λ (ws : List ℕ). set ws 0 (either (eqb (get_or ws 0 0) 0) 1 (get_or ws 0 0))) home.word;
+        slot = ap (λ (hs : List Slot). set hs 0 maybe.none) home.slot;
+        holder = id;
+        seat = took t;
+        held = set_here s.views id (holds k.current (took t)) (at_below s.views id (alone t) at);
+        idle = λ j v there other. ⊎_elim (λ (x : (j ≡ id) × (holds k.current (took t) ≡ v)). absurd (other x.0)) (λ (x : (j ≢ id) × (get_elem? s.views j ≡ maybe.some v)). home.idle j v x.1)
+            (at_set s.views id j (holds k.current (took t)) v there);
+      }))
+      (fits_noting k.entered k.current t (took t) refl refl refl (AllFit-in count k.entered k.current (t ∷ []) t (k.fits id (alone t) at) (inl refl)))
+      (λ u other f. f)
+      (left_still s.views id (alone t) (holds k.current (took t)) t (took t) k.current at refl refl refl k.left)
+
+  misses_out : (s : Shared) (k : IsServed opened count s) (id : ℕ) (t : SeatState) → get_elem? s.views id ≡ maybe.some (alone t) → IsOut k.current s
+      → IsServed opened count (record { words = set s.words 0 (either (eqb (get_or s.words 0 0) 0) 1 (get_or s.words 0 0)); homes = s.homes; views = set s.views id (alone (missed_by 1 t)) })
+  misses_out s k id t at out =
+      reset s k id (alone t) (alone (missed_by 1 t)) t (missed_by 1 t) k.current k.entered (set s.words 0 (either (eqb (get_or s.words 0 0) 0) 1 (get_or s.words 0 0))) s.homes
+      at refl refl refl k.is
+      (inr (record {
+        word = ap (λ (ws : List ℕ). set ws 0 (either (eqb (get_or ws 0 0) 0) 1 (get_or ws 0 0))) out.word;
+        slot = out.slot;
+        holder = out.holder;
+        seat = out.seat;
+        held = set_else s.views id out.holder (alone (missed_by 1 t)) (holder_apart s k.current out id (alone t) at refl) ∙ out.held;
+        idle = λ j v there other. ⊎_elim (λ (x : (j ≡ id) × (alone (missed_by 1 t) ≡ v)). sym (ap (λ (y : ViewState). y.holding) x.1)) (λ (x : (j ≢ id) × (get_elem? s.views j ≡ maybe.some v)). out.idle j v x.1 other)
+            (at_set s.views id j (alone (missed_by 1 t)) v there);
+      }))
+      (fits_noting k.entered k.current t (missed_by 1 t) refl refl refl (AllFit-in count k.entered k.current (t ∷ []) t (k.fits id (alone t) at) (inl refl)))
+      (λ u other f. f)
+      (left_still s.views id (alone t) (alone (missed_by 1 t)) t (missed_by 1 t) k.current at refl refl refl k.left)
+
+  same_seat : (t u : SeatState) (xs ys : List (ℕ × Option HeldPeer)) → (let m : Token = (alone t, xs) in m) ≡ (alone u, ys) → t ≡ u
+  same_seat t u xs ys e = ap (λ (m : Token). first_seat m.0.seats) e
+
+  pub tries : (slots id : ℕ) (st : Step (Option HeldPeer)) (m : Token) (t : SeatState) → m ≡ (alone t, []) → Allows (IsServed opened count) slots id m 0 (λ n. either (eqb n 0) 1 n) (tried st m)
+  tries slots id st m t e = subst (λ (x : Token). Allows (IsServed opened count) slots id x 0 (λ n. either (eqb n 0) 1 n) (tried st x)) (sym e) (λ s k _ at _.
+      ⊎_elim
+      (λ (home : IsHome k.current s). (
+        holds k.current (took t),
+        takes 0 (Some k.current),
+        ap (λ (hs : List Slot). get_elem? hs 0) home.slot,
+        takes_home s k id t at home,
+        λ u same. subst (λ (x : SeatState). MatchBool (eqb (get_or s.words 0 0) 0) (Takes x (holds k.current (took t), (0, Some k.current) ∷ [])) ((let m' : Token = (holds k.current (took t), (0, Some k.current) ∷ []) in m') ≡ (alone (missed_by 1 x), [])))
+            (same_seat t u [] [] same)
+            (subst (λ (n : ℕ). MatchBool (eqb n 0) (Takes t (holds k.current (took t), (0, Some k.current) ∷ [])) ((let m' : Token = (holds k.current (took t), (0, Some k.current) ∷ []) in m') ≡ (alone (missed_by 1 t), [])))
+            (sym (ap (λ (ws : List ℕ). get_or ws 0 0) home.word))
+            (record { found = k.current; goes_on = (AllFit-in count k.entered k.current (t ∷ []) t (k.fits id (alone t) at) (inl refl)).goes_on; out = refl })),
+      ))
+      (λ (out : IsOut k.current s). (
+        alone (missed_by 1 t),
+        keeps,
+        tt,
+        misses_out s k id t at out,
+        λ u same. subst (λ (x : SeatState). MatchBool (eqb (get_or s.words 0 0) 0) (Takes x (alone (missed_by 1 t), [])) ((let m' : Token = (alone (missed_by 1 t), []) in m') ≡ (alone (missed_by 1 x), [])))
+            (same_seat t u [] [] same)
+            (subst (λ (n : ℕ). MatchBool (eqb n 0) (Takes t (alone (missed_by 1 t), [])) ((let m' : Token = (alone (missed_by 1 t), []) in m') ≡ (alone (missed_by 1 t), [])))
+            (sym (ap (λ (ws : List ℕ). get_or ws 0 0) out.word)) refl),
+      ))
+      k.place)
+
+  -- ---- give back
+
+  serves_current : (C : List ChangeParts) (n : ℕ) (h h' : HeldPeer) → n < count → IsCurrent opened count C h → (sv : Serves n h h') → IsCurrent opened count (C ++ sv.new) h'
+  serves_current C n h h' below is sv = record {
+    id = sv.id ∙ is.id;
+    actor = sv.actor ∙ is.actor;
+    applied = sv.applied ∙ (ap (λ l. l ++ sv.new) is.applied ∙ append_assoc opened.applied C sv.new);
+    numbered = ap length sv.who ∙ (length-append h.who (replicate (length sv.new) n) ∙ (let a = length-replicate (length sv.new) n in let b = is.numbered in let c = length-append C sv.new in omega arith));
+    seats = λ m i. ⊎_elim (is.seats m) (λ j. subst (λ x. x < count) (sym (in_replicate n m (length sv.new) j)) below) (In-append m h.who (replicate (length sv.new) n) (subst (In m) sv.who i));
+  }
+
+  -- the changes of the seat m among those of h', by those of h
+  entered_serving : (C : List ChangeParts) (m n : ℕ) (h h' : HeldPeer) (xs : List ChangeParts) → length h.who ≡ length C → (sv : Serves n h h') → entered_by m (replicate (length sv.new) n) sv.new ≡ xs
+      → entered_by m h'.who (C ++ sv.new) ≡ entered_by m h.who C ++ xs
+  entered_serving C m n h h' xs numbered sv e =
+      ap (λ w. entered_by m w (C ++ sv.new)) sv.who ∙ (entered-append m h.who C (replicate (length sv.new) n) sv.new numbered ∙ ap (λ l. entered_by m h.who C ++ l) e)
+
+  serves_other : (C : List ChangeParts) (n : ℕ) (h h' : HeldPeer) (u : SeatState) → length h.who ≡ length C → (sv : Serves n h h') → u.number ≢ n → Fits count C h u → Fits count (C ++ sv.new) h' u
+  serves_other C n h h' u numbered sv other f = record {
+    number = f.number;
+    goes_on = record { seen = subst (Begins u.after.applied) (sym sv.applied) (begins_more u.after.applied h.peer.applied sv.new f.goes_on.seen); link = sv.links u.number other ∙ f.goes_on.link };
+    mine = entered_serving C u.number n h h' [] numbered sv (entered_none u.number n sv.new (λ e. other (sym e))) ∙ (append-nil (entered_by u.number h.who C) ∙ f.mine);
+  }
+
+  serves_own : (C : List ChangeParts) (h h' : HeldPeer) (t : SeatState) → length h.who ≡ length C → (sv : Serves t.number h h') → Fits count C h t → Fits count (C ++ sv.new) h' (gave h.peer h'.peer t)
+  serves_own C h h' t numbered sv f =
+      let past_is : past h.peer h'.peer ≡ sv.new = ap (drop (length h.peer.applied)) sv.applied ∙ drop_begin h.peer.applied sv.new in record {
+        number = f.number;
+        goes_on = record { seen = begins_same h'.peer.applied; link = refl };
+        mine = entered_serving C t.number t.number h h' (past h.peer h'.peer) numbered sv (entered_all t.number sv.new ∙ sym past_is) ∙ ap (λ l. l ++ past h.peer h'.peer) f.mine;
+      }
+
+  gives_home : (s : Shared) (k : IsServed opened count s) (id : ℕ) (t : SeatState) (h h' : HeldPeer) → get_elem? s.views id ≡ maybe.some (holds h t) → h ≡ k.current → (out : IsOut k.current s) → id ≡ out.holder
+      → Serves t.number h h' → IsServed opened count (record { words = set s.words 0 0; homes = set s.homes 0 (maybe.some (Some h')); views = set s.views id (alone (gave h.peer h'.peer t)) })
+  gives_home s k id t h h' at current out e sv =
+      let is : IsCurrent opened count k.entered h = subst (IsCurrent opened count k.entered) (sym current) k.is in
+      let all : AllFit count k.entered h (t ∷ []) = subst (λ x. AllFit count k.entered x (t ∷ [])) (sym current) (k.fits id (holds h t) at) in
+      reset s k id (holds h t) (alone (gave h.peer h'.peer t)) t (gave h.peer h'.peer t) h' (k.entered ++ sv.new) (set s.words 0 0) (set s.homes 0 (maybe.some (Some h')))
+      at refl refl refl (serves_current k.entered t.number h h' all.0.number is sv)
+      (inl (record {
+        word = ap (λ (ws : List ℕ). set ws 0 0) out.word;
+        slot = ap (λ (hs : List Slot). set hs 0 (maybe.some (Some h'))) out.slot;
+        idle = λ j v there. ⊎_elim (λ (x : (j ≡ id) × (alone (gave h.peer h'.peer t) ≡ v)). sym (ap (λ (y : ViewState). y.holding) x.1))
+            (λ (x : (j ≢ id) × (get_elem? s.views j ≡ maybe.some v)). out.idle j v x.1 (λ f. x.0 (f ∙ sym e))) (at_set s.views id j (alone (gave h.peer h'.peer t)) v there);
+      }))
+      (serves_own k.entered h h' t is.numbered sv all.0)
+      (λ u other f. serves_other k.entered t.number h h' u is.numbered sv other (subst (λ x. Fits count k.entered x u) (sym current) f))
+      (record { view = id; state = alone (gave h.peer h'.peer t); there = set_here s.views id (alone (gave h.peer h'.peer t)) (at_below s.views id (holds h t) at); seat = gave h.peer h'.peer t; member = inl refl; left = refl })
+
+  abbrev held_or : HeldPeer → Option HeldPeer → HeldPeer
+  held_or h None = h
+  held_or h (Some g) = g
+
+  pub gives_back : (slots id n : ℕ) (st : Step (Option HeldPeer)) (m : Token) (t : SeatState) (h h' : HeldPeer) → m ≡ (holds h t, (0, Some h') ∷ []) → Serves t.number h h'
+      → Allows (IsServed opened count) slots id m 0 (λ _. 0) (λ _. given st m n)
+  gives_back slots id n st m t h h' e sv = subst (λ (x : Token). Allows (IsServed opened count) slots id x 0 (λ _. 0) (λ _. given st x n)) (sym e) (λ s k _ at _.
+      ⊎_elim
+      (λ (home : IsHome k.current s). not_idle h (home.idle id (holds h t) at))
+      (λ (out : IsOut k.current s). dite (ℕ_discrete id out.holder)
+      (λ same.
+      let here : holds h t ≡ holds k.current out.seat = maybe.some-injective (holds h t) (holds k.current out.seat) (sym at ∙ (ap (get_elem? s.views) same ∙ out.held)) in (
+        alone (gave h.peer h'.peer t),
+        gives,
+        tt,
+        gives_home s k id t h h' at (ap (λ (y : ViewState). held_or h y.holding) here) out same sv,
+        λ u g g' eq.
+            let seat : t ≡ u = ap (λ (x : Token). first_seat x.0.seats) eq in
+            let found : h ≡ g = ap (λ (x : Token). held_or h x.0.holding) eq in
+            let left : h' ≡ g' = ap (λ (x : Token). last_held h x.1) eq in
+            λ i. (alone (gave (found i).peer (left i).peer (seat i)), []),
+      ))
+      (λ other. not_idle h (out.idle id (holds h t) at other)))
+      k.place)
+
+  -- ---- look
+
+  still : (s : Shared) (id : ℕ) (v : ViewState) → get_elem? s.views id ≡ maybe.some v → IsServed opened count s → IsServed opened count (record { words = set s.words 0 (get_or s.words 0 0); homes = s.homes; views = set s.views id v })
+  still s id v at k = subst (IsServed opened count) (λ i. record { words = sym (set-get_or s.words 0 0) i; homes = s.homes; views = sym (set_again s.views id v at) i }) k
+
+  pub looks : (slots id : ℕ) (st : Step (Option HeldPeer)) (m : Token) (t u : SeatState) → m ≡ (idle (t ∷ u ∷ []), []) → Allows (IsServed opened count) slots id m 0 (λ n. n) (looked st m)
+  looks slots id st m t u e = subst (λ (x : Token). Allows (IsServed opened count) slots id x 0 (λ n. n) (looked st x)) (sym e) (λ s k _ at _.
+      let all = k.fits id (idle (t ∷ u ∷ [])) at in
+      let met : HaveMet t u = both_begin t.after.applied u.after.applied k.current.peer.applied all.0.goes_on.seen all.1.0.goes_on.seen in (
+        idle (t ∷ u ∷ []),
+        keeps,
+        tt,
+        still s id (idle (t ∷ u ∷ [])) at k,
+        λ x y same.
+            let one : t ≡ x = ap (λ (z : Token). first_seat z.0.seats) same in
+            let two : u ≡ y = ap (λ (z : Token). first_seat (drop 1 z.0.seats)) same in
+            (refl, subst (λ (z : SeatState). HaveMet z y) one (subst (λ (z : SeatState). HaveMet t z) two met)),
+      ))
+
+  -- ---- join
+
+  pub joins : (id other : ℕ) (ts us : List SeatState) → Joins (IsServed opened count) id (idle ts) other (idle us) (idle (us ++ ts)) spent
+  joins id other ts us s k at apart' there =
+      let B : ViewState = idle (us ++ ts) in
+      let V : List ViewState = set s.views id B in
+      let theirs : get_elem? s.views other ≡ maybe.some (idle us) = sym (set_else s.views id other B apart') ∙ there in
+      let sides : (j : ℕ) (v : ViewState) → get_elem? (set V other spent) j ≡ maybe.some v → (spent ≡ v) ⊎ ((B ≡ v) ⊎ (get_elem? s.views j ≡ maybe.some v)) = λ j v at'.
+      ⊎_elim (λ (x : (j ≡ other) × (spent ≡ v)). inl x.1)
+      (λ (x : (j ≢ other) × (get_elem? V j ≡ maybe.some v)). ⊎_elim (λ (y : (j ≡ id) × (B ≡ v)). inr (inl y.1)) (λ (y : (j ≢ id) × (get_elem? s.views j ≡ maybe.some v)). inr (inr y.1)) (at_set s.views id j B v x.1))
+      (at_set V other j spent v at') in
+      record {
+        current = k.current;
+        entered = k.entered;
+        is = k.is;
+        place = ⊎_elim
+            (λ (home : IsHome k.current s). inl (record {
+              word = home.word;
+              slot = home.slot;
+              idle = λ j v at'. ⊎_elim (λ (x : spent ≡ v). sym (ap (λ (y : ViewState). y.holding) x)) (⊎_elim (λ (x : B ≡ v). sym (ap (λ (y : ViewState). y.holding) x)) (λ x. home.idle j v x)) (sides j v at');
+            }))
+            (λ (out : IsOut k.current s). inr (record {
+              word = out.word;
+              slot = out.slot;
+              holder = out.holder;
+              seat = out.seat;
+              held = set_else V other out.holder spent (holder_apart s k.current out other (idle us) theirs refl) ∙ (set_else s.views id out.holder B (holder_apart s k.current out id (idle ts) at refl) ∙ out.held);
+              idle = λ j v at' ne. ⊎_elim (λ (x : spent ≡ v). sym (ap (λ (y : ViewState). y.holding) x)) (⊎_elim (λ (x : B ≡ v). sym (ap (λ (y : ViewState). y.holding) x)) (λ x. out.idle j v x ne)) (sides j v at');
+            }))
+            k.place;
+        fits = λ j v at'. ⊎_elim (λ (x : spent ≡ v). subst (λ (y : ViewState). AllFit count k.entered k.current y.seats) x tt)
+            (⊎_elim (λ (x : B ≡ v). subst (λ (y : ViewState). AllFit count k.entered k.current y.seats) x (AllFit-append count k.entered k.current us ts (k.fits other (idle us) theirs) (k.fits id (idle ts) at))) (λ x. k.fits j v x))
+            (sides j v at');
+        once = λ n below. let a = k.once n below in let f : ViewState → ℕ = λ y. times n y.seats in
+            let b = total-set f s.views id (idle ts) B at in let c = total-set f V other (idle us) spent there in let d = times-append n us ts in omega arith;
+        all = let a = k.all in let b = total-set seats_in s.views id (idle ts) B at in let c = total-set seats_in V other (idle us) spent there in let d = length-append us ts in omega arith;
+        left = let l = k.left in dite (ℕ_discrete l.view id)
+            (λ e. let here : idle ts ≡ l.state = maybe.some-injective (idle ts) l.state (sym at ∙ (ap (get_elem? s.views) (sym e) ∙ l.there)) in record {
+              view = id;
+              state = B;
+              there = set_else V other id spent (λ f. apart' (sym f)) ∙ set_here s.views id B (at_below s.views id (idle ts) at);
+              seat = l.seat;
+              member = In-right l.seat us ts (subst (λ (y : ViewState). In l.seat y.seats) (sym here) l.member);
+              left = l.left;
+            })
+            (λ ne. dite (ℕ_discrete l.view other)
+            (λ e. let here : idle us ≡ l.state = maybe.some-injective (idle us) l.state (sym theirs ∙ (ap (get_elem? s.views) (sym e) ∙ l.there)) in record {
+              view = id;
+              state = B;
+              there = set_else V other id spent (λ f. apart' (sym f)) ∙ set_here s.views id B (at_below s.views id (idle ts) at);
+              seat = l.seat;
+              member = In-left l.seat us ts (subst (λ (y : ViewState). In l.seat y.seats) (sym here) l.member);
+              left = l.left;
+            })
+            (λ ne'. record { view = l.view; state = l.state; there = set_else V other l.view spent ne' ∙ (set_else s.views id l.view B ne ∙ l.there); seat = l.seat; member = l.member; left = l.left }));
+      }
+
+  -- ---- split
+
+  pub splits : (id : ℕ) (ts : List SeatState) → Splits (IsServed opened count) id (idle ts) (idle (take 1 ts)) (idle (drop 1 ts))
+  splits id ts s k at =
+      let L : ViewState = idle (take 1 ts) in
+      let R : ViewState = idle (drop 1 ts) in
+      let V : List ViewState = set s.views id L in
+      let sides : (j : ℕ) (v : ViewState) → get_elem? (V ++ R ∷ []) j ≡ maybe.some v → (R ≡ v) ⊎ ((L ≡ v) ⊎ (get_elem? s.views j ≡ maybe.some v)) = λ j v at'.
+      ⊎_elim (λ (x : get_elem? V j ≡ maybe.some v). ⊎_elim (λ (y : (j ≡ id) × (L ≡ v)). inr (inl y.1)) (λ (y : (j ≢ id) × (get_elem? s.views j ≡ maybe.some v)). inr (inr y.1)) (at_set s.views id j L v x)) (λ (x : R ≡ v). inl x)
+      (at_snoc V R v j at') in
+      let parts : AllFit count k.entered k.current (take 1 ts ++ drop 1 ts) = subst (AllFit count k.entered k.current) (sym (take-append-drop 1 ts)) (k.fits id (idle ts) at) in
+      let both = AllFit-split count k.entered k.current (take 1 ts) (drop 1 ts) parts in
+      record {
+        current = k.current;
+        entered = k.entered;
+        is = k.is;
+        place = ⊎_elim
+            (λ (home : IsHome k.current s). inl (record {
+              word = home.word;
+              slot = home.slot;
+              idle = λ j v at'. ⊎_elim (λ (x : R ≡ v). sym (ap (λ (y : ViewState). y.holding) x)) (⊎_elim (λ (x : L ≡ v). sym (ap (λ (y : ViewState). y.holding) x)) (λ x. home.idle j v x)) (sides j v at');
+            }))
+            (λ (out : IsOut k.current s). inr (record {
+              word = out.word;
+              slot = out.slot;
+              holder = out.holder;
+              seat = out.seat;
+              held = at_longer V (R ∷ []) out.holder (holds k.current out.seat) (set_else s.views id out.holder L (holder_apart s k.current out id (idle ts) at refl) ∙ out.held);
+              idle = λ j v at' ne. ⊎_elim (λ (x : R ≡ v). sym (ap (λ (y : ViewState). y.holding) x)) (⊎_elim (λ (x : L ≡ v). sym (ap (λ (y : ViewState). y.holding) x)) (λ x. out.idle j v x ne)) (sides j v at');
+            }))
+            k.place;
+        fits = λ j v at'. ⊎_elim (λ (x : R ≡ v). subst (λ (y : ViewState). AllFit count k.entered k.current y.seats) x both.1)
+            (⊎_elim (λ (x : L ≡ v). subst (λ (y : ViewState). AllFit count k.entered k.current y.seats) x both.0) (λ x. k.fits j v x)) (sides j v at');
+        once = λ n below. let a = k.once n below in let f : ViewState → ℕ = λ y. times n y.seats in
+            let b = total-set f s.views id (idle ts) L at in let c = total-push f V R in let d = times_parted n ts in omega arith;
+        all = let a = k.all in let b = total-set seats_in s.views id (idle ts) L at in let c = total-push seats_in V R in let d = length_parted ts in omega arith;
+        left = let l = k.left in dite (ℕ_discrete l.view id)
+            (λ e. let here : idle ts ≡ l.state = maybe.some-injective (idle ts) l.state (sym at ∙ (ap (get_elem? s.views) (sym e) ∙ l.there)) in
+            let member : In l.seat (take 1 ts ++ drop 1 ts) = subst (In l.seat) (sym (take-append-drop 1 ts)) (subst (λ (y : ViewState). In l.seat y.seats) (sym here) l.member) in
+            ⊎_elim
+            (λ i. record { view = id; state = L; there = at_longer V (R ∷ []) id L (set_here s.views id L (at_below s.views id (idle ts) at)); seat = l.seat; member = i; left = l.left })
+            (λ i. record { view = length V; state = R; there = at_last V R (length V) refl; seat = l.seat; member = i; left = l.left })
+            (In-append l.seat (take 1 ts) (drop 1 ts) member))
+            (λ ne. record { view = l.view; state = l.state; there = at_longer V (R ∷ []) l.view l.state (set_else s.views id l.view L ne ∙ l.there); seat = l.seat; member = l.member; left = l.left });
+      }
+
+  -- ---- the beginning and the end
+
+  first_left : (k : ℕ) → 0 < k → IsLeft (record { peer = opened; who = [] }) (idle (fresh_from opened 0 k) ∷ [])
+  first_left zero some = absurd (omega arith)
+  first_left (suc k) some = record { view = 0; state = idle (fresh_from opened 0 (suc k)); there = refl; seat = record { number = 0; before = opened; after = opened; mine = []; taken = 0; missed = 0 }; member = inl refl; left = refl }
+
+  pub opens : 0 < count → IsServed opened count (opening (0 ∷ []) (Some (record { peer = opened; who = [] }) ∷ []) (idle (fresh_from opened 0 count)))
+  opens some = record {
+    current = record { peer = opened; who = [] };
+    entered = [];
+    is = record { id = refl; actor = refl; applied = sym (append-nil opened.applied); numbered = refl; seats = λ n i. absurd i };
+    place = inl (record { word = refl; slot = refl; idle = λ j v at. sym (ap (λ (y : ViewState). y.holding) (at_one (idle (fresh_from opened 0 count)) v j at)) });
+    fits = λ j v at. subst (λ (y : ViewState). AllFit count [] (record { peer = opened; who = [] }) y.seats) (at_one (idle (fresh_from opened 0 count)) v j at) (fresh_fit opened count 0 count (omega arith));
+    once = λ n below. let a = fresh_once opened n 0 count (omega arith) (omega arith) in omega arith;
+    all = let a = length_fresh opened 0 count in omega arith;
+    left = first_left count some;
+  }
+
+  -- one view has all seats: no other has any
+  others_none : (s : Shared) (k : IsServed opened count s) (id j : ℕ) (v u : ViewState) → get_elem? s.views id ≡ maybe.some v → length v.seats ≡ count → j ≢ id → get_elem? s.views j ≡ maybe.some u → length u.seats ≡ 0
+  others_none s k id j v u at all other there = let a = k.all in let b = two_le seats_in s.views id j v u other at there in omega arith
+
+  all_once : (s : Shared) (k : IsServed opened count s) (id : ℕ) (v : ViewState) → get_elem? s.views id ≡ maybe.some v → length v.seats ≡ count → (n : ℕ) → n < count → times n v.seats ≡ 1
+  all_once s k id v at all n below =
+      let f : ViewState → ℕ = λ y. times n y.seats in
+      let a = k.once n below in
+      let b = total-set f s.views id v spent at in
+      let c = k.all in
+      let d = total-set seats_in s.views id v spent at in
+      let e = total_le f seats_in (set s.views id spent) (λ y. times_le n y.seats) in
+      omega arith
+
+  none_in : (t : SeatState) (ts : List SeatState) → length ts ≡ 0 → In t ts → ⊥
+  none_in t [] e i = i
+  none_in t (u ∷ ts) e i = absurd (omega arith)
+
+  -- who left the peer is among them
+  all_left : (s : Shared) (k : IsServed opened count s) (id : ℕ) (v : ViewState) → get_elem? s.views id ≡ maybe.some v → length v.seats ≡ count → In k.left.seat v.seats
+  all_left s k id v at all = let l = k.left in dite (ℕ_discrete l.view id)
+      (λ e. subst (λ (y : ViewState). In l.seat y.seats) (sym (maybe.some-injective v l.state (sym at ∙ (ap (get_elem? s.views) (sym e) ∙ l.there)))) l.member)
+      (λ ne. absurd (none_in l.seat l.state.seats (others_none s k id l.view v l.state at all ne l.there) l.member))
+
+  closed : (s : Shared) (k : IsServed opened count s) (id : ℕ) (states : List SeatState) → get_elem? s.views id ≡ maybe.some (idle states) → length states ≡ count → Closes opened count states k.current.peer
+  closed s k id states at all = record {
+    id = k.is.id;
+    actor = k.is.actor;
+    seat = k.left.seat;
+    member = all_left s k id (idle states) at all;
+    left = k.left.left;
+    goes_on = λ t i. (AllFit-in count k.entered k.current states t (k.fits id (idle states) at) i).goes_on;
+    entered = k.entered;
+    applied = k.is.applied;
+    who = k.current.who;
+    numbered = k.is.numbered;
+    seats = k.is.seats;
+    once = all_once s k id (idle states) at all;
+    mine = λ t i. (AllFit-in count k.entered k.current states t (k.fits id (idle states) at) i).mine;
+  }
+
+  -- with all seats in one view that holds nothing, the peer is in the slot
+  pub closes : (id : ℕ) (states : List SeatState) (ws : List ℕ) (xs : List (Option HeldPeer)) → length states ≡ count → Final (Seen (IsServed opened count) id (idle states)) ws xs
+      → (h : HeldPeer) × (get_elem? xs 0 ≡ maybe.some (Some h)) × Closes opened count states h.peer
+  closes id states ws xs all final =
+      let s = final.0 in
+      let k = final.1.0 in
+      let at = final.1.1 in
+      ⊎_elim
+      (λ (home : IsHome k.current s). (k.current, final.4 0 (Some k.current) (ap (λ (hs : List Slot). get_elem? hs 0) home.slot), closed s k id states at all))
+      (λ (out : IsOut k.current s). let none = others_none s k id out.holder (idle states) (holds k.current out.seat) at all (holder_apart s k.current out id (idle states) at refl) out.held in absurd (omega arith))
+      k.place
+
+  -- ---- the same, of views that are equal to these
+
+  pub joins_at : (id other : ℕ) (v w : ViewState) (ts us : List SeatState) → v ≡ idle ts → w ≡ idle us → Joins (IsServed opened count) id v other w (joined v w) spent
+  joins_at id other v w ts us e d =
+      subst (λ (x : ViewState). Joins (IsServed opened count) id x other w (joined x w) spent) (sym e)
+      (subst (λ (x : ViewState). Joins (IsServed opened count) id (idle ts) other x (joined (idle ts) x) spent) (sym d) (joins id other ts us))
+
+  pub splits_at : (id : ℕ) (v : ViewState) (ts : List SeatState) → v ≡ idle ts → Splits (IsServed opened count) id v (first_of v) (others_of v)
+  splits_at id v ts e = subst (λ (x : ViewState). Splits (IsServed opened count) id x (first_of x) (others_of x)) (sym e) (splits id ts)
+
+  pub closes_at : (id : ℕ) (v : ViewState) (states : List SeatState) (ws : List ℕ) (xs : List (Option HeldPeer)) → v ≡ idle states → length states ≡ count → Final (Seen (IsServed opened count) id v) ws xs
+      → (h : HeldPeer) × (get_elem? xs 0 ≡ maybe.some (Some h)) × Closes opened count states h.peer
+  closes_at id v states ws xs e all final = closes id states ws xs all (subst (λ (x : ViewState). Final (Seen (IsServed opened count) id x) ws xs) e final)

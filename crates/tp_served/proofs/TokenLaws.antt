@@ -1,0 +1,127 @@
+-- What a seat's token is after a step.
+use Rattle.std.proofs.Common.{◌≡◌, ◌≢◌, ℕ, eqb, eq-eqb, ne_eqb, ◌+◌, arith, List, [], ◌∷◌, Option, Some, None, refl, sym, ap, ◌∙◌, subst}
+use Rattle.std.specs.Prelude.{MatchBool}
+use Rattle.atomic_table.specs.Table.{Step, rest, step}
+use mathlib.Core.Option as maybe
+use Rattle.atomic_table.specs.Seated.{TableId}
+use Rattle.tp_peer.specs.PeerStep.{Call, PeerStep, Reply}
+use Rattle.tp_served.specs.Seats.{HeldPeer, SeatState, Shows, gave, missed_by, took}
+use Rattle.tp_served.specs.Rule.{ViewState, alone, holds, idle}
+use Rattle.tp_served.specs.Sitting.{IsSeat, seat_of}
+use Rattle.tp_served.specs.Steps.{Serves, Takes, Token, given, joined, tried}
+use Rattle.tp_served.specs.ServedError.{Answer, Missed, Replied}
+use Rattle.tp_served.specs.Calls.{EndsTurn, IsTurn, Tries}
+
+-- a step, where what it tells doesn't hang on it
+abbrev pub any_step : Step (Option HeldPeer)
+any_step = step 0 0 0 0 maybe.none
+
+-- the first of the views
+first_view : List ViewState → ViewState
+first_view [] = idle []
+first_view (v ∷ vs) = v
+
+-- what the slot taken last has
+top : List (ℕ × Option HeldPeer) → Option HeldPeer
+top [] = None
+top (x ∷ xs) = x.1
+
+-- the token of a seat
+pub token_is : (v : ViewState) (m : Token) (views : List ViewState) → views ≡ m.0 ∷ [] → views ≡ v ∷ [] → m.1 ≡ [] → m ≡ (v, [])
+unfolding first_view
+token_is v m views e d none = λ i. (ap first_view (sym e ∙ d) i, none i)
+
+pub tried_miss : (st : Step (Option HeldPeer)) (m : Token) (r : ℕ) (m' : Token) (t : SeatState) → tried st m r m' → r ≢ 0 → m ≡ (alone t, []) → m' ≡ (alone (missed_by 1 t), [])
+tried_miss st m r m' t tells other e =
+    let now : MatchBool (eqb r 0) (Takes t m') (m' ≡ (alone (missed_by 1 t), [])) = tells t e in
+    subst (λ b. MatchBool b (Takes t m') (m' ≡ (alone (missed_by 1 t), []))) (ne_eqb r 0 other) now
+
+pub tried_take : (st : Step (Option HeldPeer)) (m : Token) (r : ℕ) (m' : Token) (t : SeatState) → tried st m r m' → r ≡ 0 → m ≡ (alone t, []) → Takes t m'
+tried_take st m r m' t tells zero e =
+    let now : MatchBool (eqb r 0) (Takes t m') (m' ≡ (alone (missed_by 1 t), [])) = tells t e in
+    subst (λ b. MatchBool b (Takes t m') (m' ≡ (alone (missed_by 1 t), []))) (eq-eqb r 0 zero) now
+
+-- a seat that took the peer may read and write the slot
+pub slot_out : (t : SeatState) (m : Token) → Takes t m → (old : Option HeldPeer) × (m.1 ≡ (0, old) ∷ rest m.1)
+slot_out t m takes =
+    let e : m.1 ≡ (0, Some takes.found) ∷ [] = ap (λ (x : Token). x.1) takes.out in
+    (Some takes.found, e ∙ ap (λ (l : List (ℕ × Option HeldPeer)). (0, Some takes.found) ∷ rest l) (sym e))
+
+-- what the slot has is the peer
+pub slot_has : (t : SeatState) (m : Token) (r : Option HeldPeer) → (takes : Takes t m) → m.1 ≡ (0, r) ∷ rest m.1 → r ≡ Some takes.found
+unfolding top
+slot_has t m r takes e = ap top (sym e ∙ ap (λ (x : Token). x.1) takes.out)
+
+some_or : HeldPeer → Option HeldPeer → HeldPeer
+some_or h None = h
+some_or h (Some g) = g
+
+pub some_same : (h g : HeldPeer) → Some h ≡ Some g → h ≡ g
+unfolding some_or
+some_same h g e = ap (some_or h) e
+
+-- the peer was taken out of the slot
+pub turn_is : (t : SeatState) (m m' : Token) (r : Option HeldPeer) (h : HeldPeer) → Takes t m → m.1 ≡ (0, r) ∷ rest m.1 → m' ≡ (m.0, (0, None) ∷ rest m.1) → r ≡ Some h → IsTurn t m' h
+unfolding some_or
+turn_is t m m' r h takes e out some =
+    let is : takes.found ≡ h = ap (some_or h) (sym (slot_has t m r takes e) ∙ some) in
+    subst (λ x. IsTurn t m' x) is (record { goes_on = takes.goes_on; out = out ∙ ap (λ (x : Token). (let y : Token = (x.0, (0, None) ∷ rest x.1) in y)) takes.out })
+
+-- another was put into the slot
+pub put_is : (t : SeatState) (h h' : HeldPeer) (m m' : Token) → m ≡ (holds h t, (0, None) ∷ []) → m' ≡ (m.0, (0, Some h') ∷ rest m.1) → m' ≡ (holds h t, (0, Some h') ∷ [])
+put_is t h h' m m' e put = put ∙ ap (λ (x : Token). (let y : Token = (x.0, (0, Some h') ∷ rest x.1) in y)) e
+
+-- the token of a seat, by its views
+pub seat_token : (views badge : List ViewState) (m : Token) → badge ≡ views → views ≡ alone (seat_of views) ∷ [] → badge ≡ m.0 ∷ [] → m.1 ≡ [] → m ≡ (alone (seat_of views), [])
+seat_token views badge m same one e none = token_is (alone (seat_of views)) m badge e (same ∙ one) none
+
+-- two tokens joined
+pub joined_token : (m v w : Token) (t u : SeatState) → v ≡ (alone u, []) → w ≡ (alone t, []) → m ≡ (joined v.0 w.0, v.1) → m ≡ (idle (t ∷ u ∷ []), [])
+joined_token m v w t u e d is = is ∙ λ i. (joined (e i).0 (d i).0, (e i).1)
+
+-- a seat again, by its views
+pub seat_at : (n : ℕ) (served : TableId) (views : List ViewState) (t : SeatState) → views ≡ alone t ∷ [] → t.number ≡ n → IsSeat n served views
+seat_at n served views t e number = record { alone = e ∙ ap (λ (x : SeatState). alone x ∷ []) (sym (ap seat_of e)); number = ap (λ (v : List ViewState). (seat_of v).number) e ∙ number }
+
+pub missed_more : (k : ℕ) (t : SeatState) → missed_by 1 (missed_by k t) ≡ missed_by (k + 1) t
+missed_more k t = let e : (t.missed + k) + 1 ≡ t.missed + (k + 1) = omega arith in ap (λ n. record t { missed = n }) e
+
+-- ---- a call on a turn
+
+pub ends_turn : (t : SeatState) (m : Token) (h h' : HeldPeer) (call : Call) (reply : Reply) (views : List ViewState) → IsTurn t m h → PeerStep h.peer call reply h'.peer
+    → ((u : SeatState) (g : HeldPeer) → m ≡ (holds g u, (0, None) ∷ []) → views ≡ alone (gave g.peer h'.peer u) ∷ []) → EndsTurn t call reply views
+ends_turn t m h h' call reply views turn step given = record {
+  state = gave h.peer h'.peer (took t);
+  shows = record { number = refl; taken = refl; step = step; goes_on = record { seen = turn.goes_on.seen; link = turn.goes_on.link }; mine = refl };
+  missed = refl;
+  alone = given (took t) h turn.out;
+}
+
+-- a turn that a peer may end
+pub may_give : (t : SeatState) (m : Token) (h h' : HeldPeer) (n : ℕ) → IsTurn t m h → t.number ≡ n → Serves n h h' → (u : SeatState) × (g : HeldPeer) × (m ≡ (holds g u, (0, None) ∷ [])) × Serves u.number g h'
+may_give t m h h' n turn number serves = (took t, h, turn.out, subst (λ k. Serves k h h') (sym number) serves)
+
+-- misses before a turn show nothing else
+pub shows_missed : (t t' : SeatState) (k : ℕ) (call : Call) (reply : Reply) → Shows (missed_by k t) call reply t' → Shows t call reply t'
+shows_missed t t' k call reply s = record { number = s.number; taken = s.taken; step = s.step; goes_on = record { seen = s.goes_on.seen; link = s.goes_on.link }; mine = s.mine }
+
+-- a seat is that of its views
+pub state_is : (views : List ViewState) (t : SeatState) → views ≡ alone t ∷ [] → t ≡ seat_of views
+state_is views t e = sym (ap seat_of e)
+
+-- what a try shows whose turn ended
+pub tries_turn : (t old : SeatState) (call : Call) (reply : Reply) (answer : Answer) (views : List ViewState) → t ≡ old → answer ≡ Replied reply → EndsTurn t call reply views → Tries old call answer (seat_of views)
+tries_turn t old call reply answer views same is ends =
+    subst (λ (u : SeatState). Tries u call answer (seat_of views)) same
+    (subst (λ (a : Answer). Tries t call a (seat_of views)) (sym is)
+    (subst (λ (u : SeatState). Tries t call (Replied reply) u) (state_is views ends.state ends.alone) (ends.shows, ends.missed)))
+
+-- what a try shows that found the word taken
+pub tries_miss : (t old : SeatState) (call : Call) (views : List ViewState) → t ≡ old → views ≡ alone (missed_by 1 t) ∷ [] → Tries old call Missed (seat_of views)
+tries_miss t old call views same e = subst (λ (u : SeatState). Tries u call Missed (seat_of views)) same (ap seat_of e)
+
+-- what a call shows whose turn ended after some misses
+pub shows_turn : (t old : SeatState) (k : ℕ) (call : Call) (reply : Reply) (views : List ViewState) → t ≡ old → EndsTurn (missed_by k t) call reply views → Shows old call reply (seat_of views)
+shows_turn t old k call reply views same ends =
+    subst (λ (u : SeatState). Shows u call reply (seat_of views)) same
+    (subst (λ (u : SeatState). Shows t call reply u) (state_is views ends.state ends.alone) (shows_missed t ends.state k call reply ends.shows))

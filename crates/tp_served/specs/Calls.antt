@@ -1,0 +1,62 @@
+-- What the calls on a served peer ensure.
+use Rattle.std.specs.Prelude.{◌≡◌, ℕ, ◌<◌, ◌≤◌, List, [], ◌∷◌, ◌++◌, length, Option, Some, None}
+use Rattle.atomic_table.specs.Seated.{TableId}
+use Rattle.tp_list.specs.Members.{In}
+use Rattle.tp_change.specs.declared.parts.ChangeParts.{ChangeParts}
+use Rattle.tp_peer.specs.PeerData.{PeerData}
+use Rattle.tp_peer.specs.PeerStep.{Call, Reply}
+use Rattle.tp_served.specs.declared.error.ServedError.{ServedError}
+use Rattle.tp_served.specs.declared.error.ServedError.TheVariants.{Busy, Peer, BadSeats, OutOfMemory}
+use Rattle.tp_served.specs.ServedError.{Answer, Missed, Replied, Never}
+use Rattle.tp_served.specs.Seats.{GoesOn, HeldPeer, SeatData, SeatState, Shows, missed_by, took}
+use Rattle.tp_served.specs.Rule.{ViewState, alone, entered_by, holds, times}
+use Rattle.tp_served.specs.Steps.{Token}
+
+-- What one try of a call does to its seat: where the word was found taken, it notes that and nothing else changes; else
+-- it shows the call, and notes no miss.
+abbrev pub Tries : SeatState → Call → Answer → SeatState → Type 0
+Tries t call Missed t' = t' ≡ missed_by 1 t
+Tries t call (Replied reply) t' = Shows t call reply t' × (t'.missed ≡ t.missed)
+Tries t call Never t' = ⊥
+
+-- All of them are seats of this served peer.
+abbrev pub AreOf : TableId → List SeatData → Type 0
+AreOf served [] = Unit {0}
+AreOf served (s ∷ seats) = (s.served ≡ served) × AreOf served seats
+
+-- why a peer wasn't served with so many seats, and what comes back
+abbrev pub NotServed : ℕ → PeerData → ServedError → Option PeerData → Type 0
+NotServed count p BadSeats back = (0 < count → count ≤ 64 → ⊥) × (back ≡ Some p)
+NotServed count p OutOfMemory back = (0 < count) × (count ≤ 64) × (back ≡ None)
+NotServed count p Busy back = ⊥
+NotServed count p (Peer e) back = ⊥
+
+-- What the peer that comes back at the end is, by what all seats know: what one of them left, or the opened one where
+-- none took a turn. Its list goes on from what each has seen. It is the opened list and then changes each of which has
+-- the number of one seat: those that have a seat's number are, in order, the seat's.
+pub record Closes (opened : PeerData) (count : ℕ) (states : List SeatState) (p : PeerData) : Type 0 where
+  pub id : p.id ≡ opened.id
+  pub actor : p.actor ≡ opened.actor
+  pub seat : SeatState
+  pub member : In seat states
+  pub left : p ≡ seat.after
+  pub goes_on : (t : SeatState) → In t states → GoesOn t p
+  pub entered : List ChangeParts
+  pub applied : p.applied ≡ opened.applied ++ entered
+  pub who : List ℕ
+  pub numbered : length who ≡ length entered
+  pub seats : (n : ℕ) → In n who → n < count
+  pub once : (n : ℕ) → n < count → times n states ≡ 1
+  pub mine : (t : SeatState) → In t states → entered_by t.number who entered ≡ t.mine
+
+-- The seat is on its turn: it took the peer h out of the slot, which is empty. The peer goes on from what the seat left.
+pub record IsTurn (t : SeatState) (m : Token) (h : HeldPeer) : Type 0 where
+  pub goes_on : GoesOn t h.peer
+  pub out : m ≡ (holds h (took t), (0, None) ∷ [])
+
+-- The seat's turn ended: its token, which has these views, is that of a seat that shows the call, and noted no miss.
+pub record EndsTurn (t : SeatState) (call : Call) (reply : Reply) (views : List ViewState) : Type 0 where
+  pub state : SeatState
+  pub shows : Shows t call reply state
+  pub missed : state.missed ≡ t.missed
+  pub alone : views ≡ alone state ∷ []

@@ -1,0 +1,6 @@
+pub mod ServedError
+pub mod Seats
+pub mod Rule
+pub mod Sitting
+pub mod Steps
+pub mod Calls

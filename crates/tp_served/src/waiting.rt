@@ -1,0 +1,134 @@
+//! Calls that try again until they have the peer.
+
+ghost use Rattle.std.specs.Prelude.{◌≡◌, ℕ, [], ◌∷◌};
+ghost use Rattle.std.specs.Str.{chars};
+ghost use Rattle.std.specs.String.{string_bytes};
+ghost use Rattle.tp_peer.specs.PeerStep.{Edit, Made, Receive, Received as Reported, Generate, Generated, Forget, Forgotten, Read, Text, replied};
+ghost use Rattle.tp_peer.specs.Sent.{sent_of};
+ghost use Rattle.tp_peer.specs.Taking.{report_of};
+ghost use Rattle.tp_served.specs.Seats.{SeatState, Shows, missed_by};
+ghost use Rattle.tp_served.specs.Rule.{alone};
+ghost use Rattle.tp_served.specs.Calls.{IsTurn};
+
+use crate::rule::View;
+use crate::seat::Seat;
+use crate::served::Served;
+use crate::turn::Turn;
+use atomic_table::Badge;
+use std::sync::Wait;
+use std::{mem, thread};
+use tp_edit::Splice;
+use tp_journal::Journal;
+use tp_opid::Hash;
+use tp_peer::{Outgoing, PeerError, Received};
+
+impl<J: Journal> Served<J> {
+    // Tries to take the peer until it has it.
+    fn wait<R: Wait>(&self, rt: &R, badge: Badge<View>) -> Turn<J>
+        requires served { badge.table_id ≡ self.now.served }
+        requires seat { (t : SeatState) × (badge.views ≡ alone t ∷ []) }
+        ensures served { result.token.table_id ≡ self.now.served }
+        ensures taken { (t : SeatState) → badge.views ≡ alone t ∷ []
+            → (k : ℕ) × IsTurn (missed_by k t) result.token.me result.held }
+    {
+        let mut badge = badge;
+        for _ in rt.forever() {
+            match self.take(badge) {
+                Ok(turn) => return turn,
+                Err(back) => badge = back,
+            }
+            thread::yield_now();
+        }
+        unreachable!()
+    }
+
+    /// Reads the text, as `Peer::read` does, once the seat has the peer.
+    pub fn read<R: Wait>(&self, rt: &R, seat: &mut Seat) -> Result<String, PeerError>
+        requires { seat.old.served ≡ self.now.served }
+        ensures served { seat.new.served ≡ seat.old.served }
+        ensures shows { Shows seat.old.state Read
+            (replied (λ t. Text (chars (string_bytes t))) result) seat.new.state }
+    {
+        let badge = mem::replace(&mut seat.badge, Badge::blank());
+        let turn = self.wait(rt, badge);
+        let (badge, result) = self.read_on(turn);
+        seat.badge = badge;
+        result
+    }
+
+    /// Edits the text, as `Peer::edit` does, once the seat has the peer.
+    pub fn edit<R: Wait>(
+        &self,
+        rt: &R,
+        seat: &mut Seat,
+        splices: &[Splice],
+        time: u64,
+        message: &str,
+    ) -> Result<Option<Hash>, PeerError>
+        requires { seat.old.served ≡ self.now.served }
+        ensures served { seat.new.served ≡ seat.old.served }
+        ensures shows { Shows seat.old.state (Edit splices.now time (chars message.now))
+            (replied Made result) seat.new.state }
+    {
+        let badge = mem::replace(&mut seat.badge, Badge::blank());
+        let turn = self.wait(rt, badge);
+        let (badge, result) = self.edit_on(turn, seat.number, splices, time, message);
+        seat.badge = badge;
+        result
+    }
+
+    /// Receives a message that came on the link with the seat's number, as `Peer::receive_bytes` does, once the seat has
+    /// the peer.
+    ///
+    /// Room for the numbers of 2,048 changes more is made first. Where it is refused the call is refused as `Stopped`,
+    /// `TooManyLinks` or `OutOfMemory`, in that order, and nothing has changed.
+    pub fn receive<R: Wait>(
+        &self,
+        rt: &R,
+        seat: &mut Seat,
+        bytes: &[u8],
+    ) -> Result<Received, PeerError>
+        requires { seat.old.served ≡ self.now.served }
+        ensures served { seat.new.served ≡ seat.old.served }
+        ensures shows { Shows seat.old.state (Receive seat.old.state.number bytes.now)
+            (replied (λ r. Reported (report_of r.applied) r.same_heads) result)
+            seat.new.state }
+    {
+        let badge = mem::replace(&mut seat.badge, Badge::blank());
+        let turn = self.wait(rt, badge);
+        let (badge, result) = self.receive_on(turn, seat.number, bytes);
+        seat.badge = badge;
+        result
+    }
+
+    /// Makes the next message on the link with the seat's number, as `Peer::generate_bytes` does, once the seat has the
+    /// peer.
+    pub fn generate<R: Wait>(&self, rt: &R, seat: &mut Seat) -> Result<Option<Outgoing>, PeerError>
+        requires { seat.old.served ≡ self.now.served }
+        ensures served { seat.new.served ≡ seat.old.served }
+        ensures shows { Shows seat.old.state (Generate seat.old.state.number)
+            (replied (λ sent. Generated (sent_of sent)) result)
+            seat.new.state }
+    {
+        let badge = mem::replace(&mut seat.badge, Badge::blank());
+        let turn = self.wait(rt, badge);
+        let (badge, result) = self.generate_on(turn, seat.number);
+        seat.badge = badge;
+        result
+    }
+
+    /// Forgets the link with the seat's number, as `Peer::forget_link` does, once the seat has the peer.
+    pub fn forget<R: Wait>(&self, rt: &R, seat: &mut Seat) -> Result<(), PeerError>
+        requires { seat.old.served ≡ self.now.served }
+        ensures served { seat.new.served ≡ seat.old.served }
+        ensures shows { Shows seat.old.state (Forget seat.old.state.number)
+            (replied (λ _. Forgotten) result)
+            seat.new.state }
+    {
+        let badge = mem::replace(&mut seat.badge, Badge::blank());
+        let turn = self.wait(rt, badge);
+        let (badge, result) = self.forget_on(turn, seat.number);
+        seat.badge = badge;
+        result
+    }
+}
