@@ -1,3 +1,4 @@
 pub mod HashLemmas
 pub mod Journals
+pub mod LogLines
 pub mod TextLines

@@ -1,9 +1,11 @@
--- Hashes as text.
-use Rattle.std.specs.Prelude.{List, [], ◌∷◌}
+-- Hashes as text, keys as text, and what is drawn under a key.
+use Rattle.std.specs.Prelude.{◌≡◌, ℕ, List, [], ◌∷◌, Option, Some, None}
 use Rattle.std.specs.Borrow.{Bor}
-use Rattle.std.specs.Prelude.{ℕ}
+use Rattle.rand_chacha.specs.ChaCha.{ChaCha, of_seed}
 use Rattle.tp_opid.specs.HexText.{IsHexOf}
+use Rattle.tp_opid.specs.declared.actor.Actor.{Actor}
 use Rattle.tp_opid.specs.declared.hash.Hash.{Hash}
+use Rattle.tp_peer.specs.Actors.{after_word, fresh_actor_of}
 
 -- the texts are the hexadecimal digits of the hashes, one for one
 abbrev pub AreHashes : List (Bor (List ℕ)) → List Hash → Type 0
@@ -11,3 +13,19 @@ AreHashes [] [] = Unit {0}
 AreHashes [] (h ∷ hs) = ⊥
 AreHashes (t ∷ ts) [] = ⊥
 AreHashes (t ∷ ts) (h ∷ hs) = IsHexOf t.now h.0 × AreHashes ts hs
+
+-- the bytes are those whose hexadecimal digits are given; any bytes where none are given
+abbrev pub IsKey : Option (Bor (List ℕ)) → List ℕ → Type 0
+IsKey None key = Unit {0}
+IsKey (Some text) key = IsHexOf text.now key
+
+-- the generator is the one of the key, at its beginning
+abbrev pub IsKeyed : Option (Bor (List ℕ)) → ChaCha → Type 0
+IsKeyed given generator = (key : List ℕ) × IsKey given key × (generator ≡ of_seed key)
+
+-- the actor that is drawn from the generator, and the generator afterwards
+unfoldable pub drawn : ChaCha → Actor
+drawn generator = fresh_actor_of generator
+
+unfoldable pub after_draw : ChaCha → ChaCha
+after_draw generator = after_word (after_word (after_word (after_word generator)))

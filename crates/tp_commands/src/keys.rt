@@ -2,7 +2,7 @@
 
 ghost use Rattle.std.specs.Prelude.{◌≡◌, IfOk};
 ghost use Rattle.tp_opid.specs.HexText.{IsHexOf};
-ghost use Rattle.tp_commands.specs.Keys.{AreHashes};
+ghost use Rattle.tp_commands.specs.Keys.{AreHashes, IsKeyed, after_draw, drawn};
 
 use crate::error::CommandError;
 use rand_chacha::ChaCha20Rng;
@@ -11,7 +11,8 @@ use std::alloc::Global;
 use std::fs;
 use std::io::Read;
 use std::rt::Files;
-use tp_opid::Hash;
+use tp_opid::{Actor, Hash};
+use tp_peer::fresh_actor;
 
 /// The hashes that the texts are, in their order. The first text that isn't 64 hexadecimal digits is refused as `BadHex`.
 pub(crate) fn hashes_in(alloc: Global, texts: &[&str]) -> Result<Vec<Hash>, CommandError>
@@ -41,10 +42,21 @@ fn random_key<R: Files>(rt: &R) -> Result<[u8; 32], CommandError> {
 }
 
 /// A generator of random numbers with the key, or with one that nobody can guess where none is given.
-pub(crate) fn generator<R: Files>(rt: &R, key: Option<&str>) -> Result<ChaCha20Rng, CommandError> {
+pub(crate) fn generator<R: Files>(rt: &R, key: Option<&str>) -> Result<ChaCha20Rng, CommandError>
+    ensures { IfOk result (λ g. IsKeyed key.entry g) }
+{
     let key = match key {
         Some(text) => key_in(text)?,
         None => random_key(rt)?,
     };
     Ok(ChaCha20Rng::from_seed(key))
+}
+
+/// An actor that is drawn from the generator.
+#[tactic(auto, unfolding(crate::specs::Keys::drawn, crate::specs::Keys::after_draw))]
+pub(crate) fn draw(generator: &mut ChaCha20Rng) -> Actor
+    ensures actor { result ≡ drawn generator.old }
+    ensures after { generator.new ≡ after_draw generator.old }
+{
+    fresh_actor(generator)
 }

@@ -1,64 +1,112 @@
 //! The changes of a document, a line each.
 
+ghost use Rattle.std.specs.Prelude.{◌≡◌, ◌≤◌, ◌++◌, IfOk, OnOk};
+ghost use Rattle.std.specs.List.{flat_map};
+ghost use Rattle.std.specs.Str.{chars};
+ghost use Rattle.std.specs.String.{string_bytes};
+ghost use Rattle.tp_commands.specs.Log.{AreChangeLines, change_line as line_of_change, delete_count, deleted_count, escaped, fields_part, inserted_count, message_part};
+
 use crate::error::CommandError;
 use crate::reading::document_in;
 use std::alloc::{AllocError, Global};
 use tp_change::{Change, Record};
 
-// How many characters and deletes some records have.
-fn counts(records: &[Record]) -> (usize, usize) {
-    let mut inserted = 0usize;
-    let mut deleted = 0usize;
-    for record in records {
-        match record {
-            Record::Insert { text, .. } => inserted = inserted.saturating_add(
-                text.as_str().chars().count(),
-            ),
-            Record::Delete { .. } => deleted = deleted.saturating_add(1),
-        }
+// How many deletes a record is.
+fn deletes(entry: &Record) -> usize
+    ensures count { result ≡ delete_count entry.now }
+    ensures one { result ≤ 1 }
+{
+    match entry {
+        Record::Insert { .. } => 0,
+        Record::Delete { .. } => 1,
     }
-    (inserted, deleted)
 }
 
-// Puts the message behind the line, with control characters and backslashes escaped as Rust does.
-fn put_message(line: &mut String, message: &str) -> Result<(), AllocError> {
+// How many of a change's operations delete a character.
+fn deleted(change: &Change) -> usize
+    ensures { result ≡ deleted_count change.now }
+{
+    let mut count = 0usize;
+    for entry in change.records() {
+        count += deletes(entry);
+    }
+    count
+}
+
+// How many of them insert one.
+fn inserted(change: &Change) -> usize
+    ensures { result ≡ inserted_count change.now }
+{
+    change.op_count() - deleted(change)
+}
+
+// Puts a character behind the line: a control character and a backslash as Rust escapes them.
+fn put_char(line: &mut String, ch: char) -> Result<(), AllocError>
+    ensures { OnOk result (string_bytes line.new ≡ string_bytes line.old ++ escaped ch) }
+{
+    if ch.is_control() || ch == '\\' {
+        line.extend(ch.escape_default())
+    } else {
+        line.push(ch)
+    }
+}
+
+// Puts the characters of a text behind the line.
+fn put_escaped(line: &mut String, text: &str) -> Result<(), AllocError>
+    ensures { OnOk result
+        (string_bytes line.new ≡ string_bytes line.old ++ flat_map escaped (chars text.now)) }
+{
+    for ch in text.chars() {
+        put_char(line, ch)?;
+    }
+    Ok(())
+}
+
+// Puts the message behind the line, if there is one.
+fn put_message(line: &mut String, message: &str) -> Result<(), AllocError>
+    ensures { OnOk result
+        (string_bytes line.new ≡ string_bytes line.old ++ message_part (chars message.now)) }
+{
     if message.is_empty() {
         return Ok(());
     }
     line.push(' ')?;
-    for c in message.chars() {
-        if c.is_control() || c == '\\' {
-            for e in c.escape_default() {
-                line.push(e)?;
-            }
-        } else {
-            line.push(c)?;
-        }
-    }
-    Ok(())
+    put_escaped(line, message)
 }
 
-// The line of a change.
-fn put_change(alloc: Global, lines: &mut String, change: &Change) -> Result<(), CommandError> {
+// What the line of a change begins with.
+fn fields(alloc: Global, change: &Change) -> Result<String, CommandError>
+    ensures { IfOk result (λ l. string_bytes l ≡ fields_part change.now) }
+{
     let hash = change.hash().to_text(alloc)?;
     let actor = change.actor().to_text(alloc)?;
     let seq = change.seq();
     let time = change.time();
-    let (inserted, deleted) = counts(change.records());
-    write!(lines, "{hash} {actor} {seq} {time} +{inserted} -{deleted}")?;
-    put_message(lines, change.message())?;
-    lines.push('\n')?;
-    Ok(())
+    let inserted = inserted(change);
+    let deleted = deleted(change);
+    Ok(format!(in alloc; "{hash} {actor} {seq} {time} +{inserted} -{deleted}")?)
+}
+
+// The line of a change.
+fn change_line(alloc: Global, change: &Change) -> Result<String, CommandError>
+    ensures { IfOk result (λ l. string_bytes l ≡ line_of_change change.now) }
+{
+    let mut line = fields(alloc, change)?;
+    put_message(&mut line, change.message())?;
+    line.push('\n')?;
+    Ok(line)
 }
 
 /// A line for each change of a journal's bytes, in the order in which they entered: its hash, actor, sequence number,
 /// time, `+` and how many characters it inserts, `-` and how many it deletes, and its message if it has one, with control
 /// characters escaped.
-pub(crate) fn log_lines(alloc: Global, journal: &[u8]) -> Result<String, CommandError> {
+pub(crate) fn log_lines(alloc: Global, journal: &[u8]) -> Result<String, CommandError>
+    ensures { IfOk result (λ lines. AreChangeLines journal.now (string_bytes lines)) }
+{
     let document = document_in(alloc, journal)?;
     let mut lines = String::new(alloc);
     for change in document.changes() {
-        put_change(alloc, &mut lines, change)?;
+        lines.push_str(change_line(alloc, change)?.as_str())?;
     }
     Ok(lines)
 }

@@ -1,23 +1,23 @@
 //! Carrying out a command.
 
-ghost use Rattle.std.specs.Prelude.{◌≡◌, ◌≤◌, ◌⊎◌, ◌++◌, ℕ, List, [], codes, IfOk, IfErr, OnOk, IsOkAnd, MatchResult};
-ghost use Rattle.std.specs.Fmt.{decimal};
+ghost use Rattle.std.specs.Prelude.{◌≡◌, ◌≤◌, ◌⊎◌, ℕ, List, [], IfOk, IfErr, OnOk, IsOkAnd, MatchResult};
 ghost use Rattle.std.specs.Io.KnownBytes.{Appends, Keeps};
+ghost use Rattle.std.specs.Str.{chars};
 ghost use Rattle.std.specs.String.{string_bytes};
-ghost use Rattle.hex.specs.Hex.{encode_lower};
-ghost use Rattle.tp_opid.specs.declared.doc_id.DocId.{DocId as Identifier};
-ghost use Rattle.tp_opid.specs.declared.hash.Hash.{Hash};
+ghost use Rattle.tp_opid.specs.declared.hash.Hash.{Hash as HashOf};
 ghost use Rattle.tp_textpeer.specs.Output.{AppendsPart};
 ghost use Rattle.tp_commands.specs.declared.error.CommandError.{CommandError as Refusal};
+ghost use Rattle.tp_commands.specs.Editing.{IsEditLine, IsMergeLine, IsNewLine, made_line as line_of_made};
 ghost use Rattle.tp_commands.specs.Keys.{AreHashes};
+ghost use Rattle.tp_commands.specs.Log.{AreChangeLines};
 ghost use Rattle.tp_commands.specs.Names.{refusal_text};
 ghost use Rattle.tp_commands.specs.Output.{Grows, GrowsPart, IsLineOf, IsPrinted, IsShown, Leaves};
-ghost use Rattle.tp_commands.specs.Reading.{AreHeadLines, IsCursorLine, IsTextLine, hash_line as hash_line_of, line};
+ghost use Rattle.tp_commands.specs.Reading.{AreHeadLines, IsCursorLine, IsTextLine, line};
 
 use crate::editing::{begin, edit, fill, reopen, take};
 use crate::error::CommandError;
 use crate::files::{journal_at, read_file, replace_file};
-use crate::keys::{generator, hashes_in};
+use crate::keys::{draw, generator, hashes_in};
 use crate::log::log_lines;
 use crate::reading::{cursor_line, hash_line, head_lines, saved, text_line};
 use std::alloc::{AllocError, Global};
@@ -26,8 +26,8 @@ use std::rt::Files;
 use std::{fs, io};
 use tp_command_line::Command;
 use tp_edit::Splice;
-use tp_opid::{Actor, DocId};
-use tp_peer::{PeerSequence, fresh_actor};
+use tp_opid::{Actor, DocId, Hash};
+use tp_peer::PeerSequence;
 use tp_store::load;
 use tp_textpeer::{show, write_out};
 
@@ -164,7 +164,7 @@ fn show_file<R: Files + AllocGlobal, W: Write>(
 }
 
 fn text<R: Files + AllocGlobal>(rt: &R, file: &str, heads: &[&str]) -> Result<String, CommandError>
-    ensures { IfOk result (λ l. (journal : List ℕ) × (hs : List Hash) × AreHashes heads.now hs
+    ensures { IfOk result (λ l. (journal : List ℕ) × (hs : List HashOf) × AreHashes heads.now hs
         × IsTextLine journal hs (string_bytes l)) }
 {
     let hashes = hashes_in(rt.alloc(), heads)?;
@@ -177,7 +177,9 @@ fn heads<R: Files + AllocGlobal>(rt: &R, file: &str) -> Result<String, CommandEr
     head_lines(rt.alloc(), &read_file(rt, file)?)
 }
 
-fn log<R: Files + AllocGlobal>(rt: &R, file: &str) -> Result<String, CommandError> {
+fn log<R: Files + AllocGlobal>(rt: &R, file: &str) -> Result<String, CommandError>
+    ensures { IfOk result (λ l. (journal : List ℕ) × AreChangeLines journal (string_bytes l)) }
+{
     log_lines(rt.alloc(), &read_file(rt, file)?)
 }
 
@@ -187,7 +189,7 @@ fn cursor<R: Files + AllocGlobal>(
     at: u64,
     heads: &[&str],
 ) -> Result<String, CommandError>
-    ensures { IfOk result (λ l. (journal : List ℕ) × (hs : List Hash) × AreHashes heads.now hs
+    ensures { IfOk result (λ l. (journal : List ℕ) × (hs : List HashOf) × AreHashes heads.now hs
         × IsCursorLine journal at hs (string_bytes l)) }
 {
     let hashes = hashes_in(rt.alloc(), heads)?;
@@ -200,12 +202,12 @@ fn new<R: Files + AllocGlobal>(
     file: &str,
     key: Option<&str>,
 ) -> Result<String, CommandError>
-    ensures { IfOk result (λ l. (id : Identifier) × (string_bytes l ≡ line (encode_lower id.0))) }
+    ensures { IfOk result (λ l. IsNewLine key.entry (string_bytes l)) }
 {
     let mut generator = generator(rt, key)?;
-    let Actor(drawn) = fresh_actor(&mut generator);
+    let Actor(drawn) = draw(&mut generator);
     let id = DocId(drawn);
-    let actor = fresh_actor(&mut generator);
+    let actor = draw(&mut generator);
     let mut journal = begin(rt.alloc(), journal_at(rt, file, true)?, id, actor)?;
     journal.sync()?;
     let mut line = id.to_text(rt.alloc())?;
@@ -221,16 +223,24 @@ fn edited<R: Files + AllocGlobal>(
     message: &str,
     key: Option<&str>,
 ) -> Result<String, CommandError>
-    ensures { IfOk result (λ l. ((h : Hash) × (string_bytes l ≡ hash_line_of h))
-        ⊎ (string_bytes l ≡ line (codes "nothing"))) }
+    ensures { IfOk result (λ l. IsEditLine key.entry splice.entry time (chars message.now)
+        (string_bytes l)) }
 {
-    let actor = fresh_actor(&mut generator(rt, key)?);
+    let actor = draw(&mut generator(rt, key)?);
     let journal = journal_at(rt, file, false)?;
     let (mut journal, made) = edit(rt.alloc(), journal, actor, splice, time, message)?;
     journal.sync()?;
+    let line = made_line(rt.alloc(), made)?;
+    Ok(line)
+}
+
+// The line of what an edit made.
+fn made_line(alloc: Global, made: Option<Hash>) -> Result<String, CommandError>
+    ensures { IfOk result (λ l. string_bytes l ≡ line_of_made made) }
+{
     match made {
-        Some(hash) => hash_line(rt.alloc(), &hash),
-        None => Ok(String::from_str(rt.alloc(), "nothing\n")?),
+        Some(hash) => hash_line(alloc, &hash),
+        None => Ok(String::from_str(alloc, "nothing\n")?),
     }
 }
 
@@ -240,12 +250,11 @@ fn merged<R: Files + AllocGlobal>(
     other: &str,
     key: Option<&str>,
 ) -> Result<String, CommandError>
-    ensures { IfOk result
-        (λ l. (count : ℕ) × (string_bytes l ≡ line (codes "applied " ++ decimal count))) }
+    ensures { IfOk result (λ l. IsMergeLine key.entry (string_bytes l)) }
 {
     let mut generator = generator(rt, key)?;
-    let actor = fresh_actor(&mut generator);
-    let other_actor = fresh_actor(&mut generator);
+    let actor = draw(&mut generator);
+    let other_actor = draw(&mut generator);
     let peer = reopen(rt.alloc(), journal_at(rt, file, false)?, actor)?;
     let bytes = read_file(rt, other)?;
     let (mut journal, count) = take(rt.alloc(), peer, bytes, other_actor)?;

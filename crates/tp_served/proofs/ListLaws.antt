@@ -13,9 +13,6 @@ begins_same C = ([], sym (append-nil C))
 pub begins_more : (C D new : List ChangeParts) → Begins C D → Begins C (D ++ new)
 begins_more C D new b = (b.0 ++ new, ap (λ l. l ++ new) b.1 ∙ append_assoc C b.0 new)
 
-pub begins_trans : (C D E : List ChangeParts) → Begins C D → Begins D E → Begins C E
-begins_trans C D E b d = (b.0 ++ d.0, d.1 ∙ (ap (λ l. l ++ d.0) b.1 ∙ append_assoc C b.0 d.0))
-
 -- of two beginnings of one list, one begins the other
 either_begins : (C D c d : List ChangeParts) → C ++ c ≡ D ++ d → Begins C D ⊎ Begins D C
 either_begins [] D c d e = inl (D, refl)

@@ -51,9 +51,17 @@ pub AreOf-push : (served : TableId) (seats : List SeatData) (s : SeatData) → A
 AreOf-push served [] s all = (tt, all.0)
 AreOf-push served (u ∷ seats) s all = let r = AreOf-push served seats s all.1 in ((all.0, r.0), r.1)
 
+-- the last of some seats, and the others
+pub last_is : (served : TableId) (all others : List SeatData) (s : SeatData) → all ≡ others ++ s ∷ [] → AreOf served all → AreOf served others × (s.served ≡ served)
+last_is served all others s is are = AreOf-push served others s (subst (AreOf served) is are)
+
 pub AreOf-seats : (served : TableId) (ts : List SeatState) → AreOf served (seats_of served ts)
 AreOf-seats served [] = tt
 AreOf-seats served (t ∷ ts) = (refl, AreOf-seats served ts)
+
+-- the seats that an opening gives
+pub opened_are : (served : TableId) (p : PeerData) (count : ℕ) (seats : List SeatData) → seats ≡ seats_of served (fresh_from p 0 count) → AreOf served seats
+opened_are served p count seats is = subst (AreOf served) (sym is) (AreOf-seats served (fresh_from p 0 count))
 
 pub length_states : (seats : List SeatData) → length (states_of seats) ≡ length seats
 length_states [] = refl

@@ -9,7 +9,7 @@ use Rattle.tp_served.specs.Seats.{HeldPeer, SeatState, Shows, gave, missed_by, t
 use Rattle.tp_served.specs.Rule.{ViewState, alone, holds, idle}
 use Rattle.tp_served.specs.Sitting.{IsSeat, seat_of}
 use Rattle.tp_served.specs.Steps.{Serves, Takes, Token, given, joined, tried}
-use Rattle.tp_served.specs.ServedError.{Answer, Missed, Replied}
+use Rattle.tp_served.specs.ServedError.{Answer, Replied}
 use Rattle.tp_served.specs.Calls.{EndsTurn, IsTurn, Tries}
 
 -- a step, where what it tells doesn't hang on it
@@ -115,10 +115,6 @@ tries_turn t old call reply answer views same is ends =
     subst (λ (u : SeatState). Tries u call answer (seat_of views)) same
     (subst (λ (a : Answer). Tries t call a (seat_of views)) (sym is)
     (subst (λ (u : SeatState). Tries t call (Replied reply) u) (state_is views ends.state ends.alone) (ends.shows, ends.missed)))
-
--- what a try shows that found the word taken
-pub tries_miss : (t old : SeatState) (call : Call) (views : List ViewState) → t ≡ old → views ≡ alone (missed_by 1 t) ∷ [] → Tries old call Missed (seat_of views)
-tries_miss t old call views same e = subst (λ (u : SeatState). Tries u call Missed (seat_of views)) same (ap seat_of e)
 
 -- what a call shows whose turn ended after some misses
 pub shows_turn : (t old : SeatState) (k : ℕ) (call : Call) (reply : Reply) (views : List ViewState) → t ≡ old → EndsTurn (missed_by k t) call reply views → Shows old call reply (seat_of views)

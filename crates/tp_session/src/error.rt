@@ -1,9 +1,11 @@
 //! Why a session ended.
 
 ghost use Rattle.std.specs.Prelude.{◌≡◌};
+ghost use Rattle.tp_session.specs.declared.error.NetError.TheVariants.{Io, Peer};
 ghost use Rattle.tp_session.specs.NetError.{code_of, error_of_fault, refusal_of};
 
 use crate::reason::Reason;
+use std::io;
 use thiserror::Error;
 use tp_frame::{Frame, FrameError};
 use tp_peer::PeerError;
@@ -14,7 +16,7 @@ pub enum NetError {
     /// The stream failed, or its bytes ended before the session did.
     #[error("Io")]
     Io,
-    /// The other sent bytes that are no frame.
+    /// The other sent bytes that are no frame, or a message of this side is too long for one.
     #[error("Frame")]
     Frame,
     /// The other's hello names another document.
@@ -83,5 +85,21 @@ impl From<FrameError> for NetError {
             FrameError::OutOfMemory => NetError::OutOfMemory,
             _ => NetError::Frame,
         }
+    }
+}
+
+impl From<PeerError> for NetError {
+    ghost from_gives = { λ refusal e. e ≡ Peer refusal };
+
+    fn from(error: PeerError) -> NetError {
+        NetError::Peer(error)
+    }
+}
+
+impl From<io::Error> for NetError {
+    ghost from_gives = { λ _ e. e ≡ Io };
+
+    fn from(_e: io::Error) -> NetError {
+        NetError::Io
     }
 }

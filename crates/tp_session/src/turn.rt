@@ -36,3 +36,11 @@ impl Ended {
         }
     }
 }
+
+impl From<Ended> for NetError {
+    ghost from_gives = { λ ended e. e ≡ ended.error };
+
+    fn from(ended: Ended) -> NetError {
+        ended.error
+    }
+}

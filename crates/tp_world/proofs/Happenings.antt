@@ -5,6 +5,7 @@ use Rattle.std.specs.List.{slice_get}
 use Rattle.std.proofs.lemmas.Bool.Decides.{nat_tests}
 use Rattle.std.proofs.lemmas.List.{take_all}
 use Rattle.std.proofs.Math.Seq.{drop-append_seam, drop-length, take-append-add}
+use Rattle.tp_list.specs.Members.{AllIn}
 use Rattle.tp_list.proofs.Tests.{truth}
 use Rattle.tp_opid.specs.declared.actor.Actor.{Actor}
 use Rattle.tp_opid.specs.declared.doc_id.DocId.{DocId}
@@ -36,7 +37,7 @@ use Rattle.tp_headline.specs.Reply.{Reply, Text, Reopened, Inner, PassesOn}
 use Rattle.tp_headline.specs.World.{Entry, ReadRecord, World, HasPeer, gained, with_made, with_peer, with_used}
 use Rattle.tp_headline.proofs.CrashMoves.{Recovered, gained_back, nothing_left, one_cut, one_record, recovered_between, recovered_cut}
 use Rattle.tp_document.specs.Merging.{absent}
-use Rattle.tp_headline.proofs.CallLaws.{merge_leaves}
+use Rattle.tp_headline.proofs.CallLaws.{Took, merge_leaves}
 use Rattle.tp_headline.proofs.EditMoves.{came_was_made, took_history}
 use Rattle.tp_headline.proofs.PlaceLaws.{slice_get-set_same}
 use Rattle.tp_world.specs.Judging.{Meets}
@@ -255,7 +256,7 @@ crashed_world : (w : World) (n : ℕ) (p' : PeerData) (peers : List PeerData) (n
     → record w { peers = peers; made = w.made ++ new; used = w.used ++ actor ∷ [] } ≡ with_used (with_made (with_peer w n p') gains) actor
 crashed_world w n p' peers new gains actor e f = cc
 
-crashed_no_more : (w : World) (n : ℕ) (p' : PeerData) (peers : List PeerData) (actor : Actor) → peers ≡ slice_set w.peers n p'
+pub crashed_no_more : (w : World) (n : ℕ) (p' : PeerData) (peers : List PeerData) (actor : Actor) → peers ≡ slice_set w.peers n p'
     → record w { peers = peers; used = w.used ++ actor ∷ [] } ≡ with_used (with_made (with_peer w n p') []) actor
 crashed_no_more w n p' peers actor e =
     ap (λ l. record w { peers = l; used = w.used ++ actor ∷ [] }) e ∙ ap (λ l. record w { peers = slice_set w.peers n p'; made = l; used = w.used ++ actor ∷ [] }) (sym (append-nil w.made))
@@ -303,7 +304,21 @@ interrupted w n kept len cut actor opened made answer peers peers' s is cut_is o
       left = o.left ∙ ap (λ l. slice_set l n o.after) s.left ∙ set_set w.peers n s.after o.after;
     }
 
--- ---- a crash during a merge
+-- ---- a crash while changes are received
+
+-- the peer comes back, where the call left it as it was or it took changes that were made
+pub comes_back_with : (w : World) (n kept : ℕ) (actor : Actor) (opened : Result (Unit {0}) PeerError) (p at p' : PeerData) (peers : List PeerData) (K : List ChangeParts) (reply : Reply) → Carried w
+    → p.stopped ≡ false → AllIn (p.waiting ++ K) w.made → (at ≡ p) ⊎ Took p K at → Interrupted w n kept actor opened p at p' peers → MatchResult opened (λ x. reply ≡ Reopened) (λ e. reply ≡ Inner e)
+    → ComesBack p (kept_bytes p at kept) actor reply p'
+comes_back_with w n kept actor opened p at p' peers K reply h runs came (inl same) i told =
+    let q = h.peers n p i.stands in
+    let r = recovered_between w p kept h q in
+    let recovers = subst (λ (x : PeerData). Recovers (kept_bytes p x kept) p.id (p.applied ++ r.whole) r.keep) (sym same) r.recovers in
+    comes_back p at p' (kept_bytes p at kept) (p.applied ++ r.whole) r.keep actor opened reply q.quiet (ap (λ (x : PeerData). x.id) same) (ap (λ (x : PeerData). x.actor) same) recovers i.opens told
+comes_back_with w n kept actor opened p at p' peers K reply h runs came (inr took) i told =
+    let q = h.peers n p i.stands in
+    let r = recovered_cut p at kept took.new (subst IsDocId (sym q.id) h.is_id) (q.live runs).journal took.journal (took_history w p at K took h.limits came q.history) in
+    comes_back p at p' (kept_bytes p at kept) (p.applied ++ r.whole) r.keep actor opened reply q.quiet took.id took.actor r.recovers i.opens told
 
 pub crash_in_merge_happens : (w : World) (n m kept len cut : ℕ) (actor : Actor) (opened : Result (Unit {0}) PeerError) (answer : peer.Reply) (peers peers' : List PeerData) (reply : Reply)
     → Carried w → MayHappen w (Crash n (Some (call.Merge m)) kept actor) → (s : MergesAt w.peers n m answer peers) → len ≡ min (2 ^ 64 - 1) (length s.at.before.journal)
@@ -314,18 +329,9 @@ crash_in_merge_happens w n m kept len cut actor opened answer peers peers' reply
     let p = t.before in
     let at = t.after in
     let i = interrupted w n kept len cut actor opened (peer.Merge s.other) answer peers peers' t is cut_is o in
-    let q = h.peers n p t.stands in
     let runs : p.stopped ≡ false = may world.Stopped n p (inl refl) t.stands in
-    let back : ComesBack p (kept_bytes p at kept) actor reply o.after = elim (merge_leaves p s.other answer at t.steps) [
-      | inl same ↦
-          let r = recovered_between w p kept h q in
-          let recovers = subst (λ (x : PeerData). Recovers (kept_bytes p x kept) p.id (p.applied ++ r.whole) r.keep) (sym same) r.recovers in
-          comes_back p at o.after (kept_bytes p at kept) (p.applied ++ r.whole) r.keep actor opened reply q.quiet (ap (λ (x : PeerData). x.id) same) (ap (λ (x : PeerData). x.actor) same) recovers i.opens told
-      | inr took ↦
-          let came = came_was_made w p s.other q (h.peers m s.other s.there) in
-          let r = recovered_cut p at kept took.new (subst IsDocId (sym q.id) h.is_id) (q.live runs).journal took.journal (took_history w p at (absent p.applied s.other.applied) took h.limits came q.history) in
-          comes_back p at o.after (kept_bytes p at kept) (p.applied ++ r.whole) r.keep actor opened reply q.quiet took.id took.actor r.recovers i.opens told
-    ] in (
+    let came = came_was_made w p s.other (h.peers n p t.stands) (h.peers m s.other s.there) in
+    let back = comes_back_with w n kept actor opened p at o.after peers' (absent p.applied s.other.applied) reply h runs came (merge_leaves p s.other answer at t.steps) i told in (
       record {
         before = p;
         stands = t.stands;

@@ -1,8 +1,10 @@
 pub mod RefusedEdits
 pub mod JudgeLaws
 pub mod Happenings
+pub mod Deliveries
 pub mod MemberLaws
 pub mod Runs
 pub mod OrderLaws
+pub mod ForeignLaws
 pub mod Verdicts
 pub mod Steps

@@ -1,87 +1,77 @@
 -- What the tests of an event say, each after those before it.
-use Rattle.std.proofs.Common.{◌≡◌, ℕ, List, true, false, Bool, Option, sym, ◌∙◌, subst}
-use Rattle.std.specs.Prelude.{MatchBool}
+use Rattle.std.proofs.Common.{◌≡◌, ℕ, ◌+◌, List, true, false, Bool, Option, Some, None, Result, Ok, Err, refl, sym, ◌∙◌, subst}
+use Rattle.std.specs.Prelude.{IfOk, MatchBool}
+use Rattle.tp_list.specs.Members.{AllIn}
 use Rattle.tp_opid.specs.declared.actor.Actor.{Actor}
 use Rattle.tp_change.specs.declared.parts.ChangeParts.{ChangeParts}
-use Rattle.tp_headline.specs.declared.error.WorldError.TheVariants.{NoPeer, ActorUsed, HashClash, Stopped}
-use Rattle.tp_headline.specs.Carried.{Carried}
-use Rattle.tp_headline.specs.Event.{Event, peers_of, running_of, actor_of}
-use Rattle.tp_headline.specs.Refusing.{IsRefusal, MayHappen, Passes}
-use Rattle.tp_headline.specs.World.{World}
+use Rattle.tp_peer.specs.Laws.{changes_in}
 use Rattle.tp_peer.specs.PeerData.{PeerData}
-use Rattle.tp_world.specs.Judging.{AllRun, AllThere, IsFresh, clashes_in}
+use Rattle.tp_headline.specs.declared.error.WorldError.{WorldError}
+use Rattle.tp_headline.specs.declared.error.WorldError.TheVariants.{NoPeer, ActorUsed, ForeignChange, HashClash, Stopped, NoEntry}
+use Rattle.tp_headline.specs.WorldError.{code_of}
+use Rattle.tp_headline.specs.Carried.{Carried}
+use Rattle.tp_headline.specs.Event.{Event, actor_of, bytes_of, entries_of, peers_of, running_of}
+use Rattle.tp_headline.specs.Refusing.{IsRefusal, Passes}
+use Rattle.tp_headline.specs.World.{Entry, World}
+use Rattle.tp_world.specs.Judging.{AllRun, AllThere, IsFresh, Judges, PassesBefore, clashes_in}
 use Rattle.tp_world.specs.Making.{IsWould}
-use Rattle.tp_world.proofs.JudgeLaws.{IsPlain, a_clash, before_fifth, before_first, before_fourth, before_second, may_happen, no_clash}
+use Rattle.tp_world.proofs.JudgeLaws.{a_clash, fails_first, no_clash, passes_next}
 
-where_true : (P Q : Type 0) (b : Bool) → MatchBool b P Q → b ≡ true → P
-where_true P Q true h e = h
-where_true P Q false h e = absurd cc
+passes_if : (w : World) (e : Event) (why : WorldError) (b : Bool) → Judges w e why b → b ≡ true → Passes w e why
+passes_if w e why true h t = h
+passes_if w e why false h t = absurd cc
 
-where_false : (P Q : Type 0) (b : Bool) → MatchBool b P Q → b ≡ false → Q
-where_false P Q true h e = absurd cc
-where_false P Q false h e = h
+fails_if : (w : World) (e : Event) (why : WorldError) (b : Bool) → Judges w e why b → b ≡ false → Passes w e why → ⊥
+fails_if w e why true h f = absurd cc
+fails_if w e why false h f = h
 
--- ---- the peers are there
+-- ---- one test after another
 
-pub there : (w : World) (e : Event) (ns : List ℕ) (b : Bool) → ns ≡ peers_of e → MatchBool b (AllThere w.peers ns) (AllThere w.peers ns → ⊥) → b ≡ true → Passes w e NoPeer
-there w e ns b is h t = subst (AllThere w.peers) is (where_true (AllThere w.peers ns) (AllThere w.peers ns → ⊥) b h t)
+-- it is passed
+pub passes_more : (w : World) (e : Event) (why next : WorldError) (b : Bool) → code_of next ≡ code_of why + 1 → PassesBefore w e why → Judges w e why b → b ≡ true → PassesBefore w e next
+passes_more w e why next b is before h t = passes_next w e why next is before (passes_if w e why b h t)
 
-pub not_there : (w : World) (e : Event) (plain : IsPlain e) (ns : List ℕ) (b : Bool) → ns ≡ peers_of e → MatchBool b (AllThere w.peers ns) (AllThere w.peers ns → ⊥) → b ≡ false → IsRefusal w e NoPeer
-not_there w e plain ns b is h f = record {
-  before = before_first w e plain;
-  fails = λ all. where_false (AllThere w.peers ns) (AllThere w.peers ns → ⊥) b h f (subst (AllThere w.peers) (sym is) all);
-}
+-- it isn't
+pub refuses : (w : World) (e : Event) (why : WorldError) (b : Bool) → PassesBefore w e why → Judges w e why b → b ≡ false → IsRefusal w e why
+refuses w e why b before h f = fails_first w e why before (fails_if w e why b h f)
 
--- ---- the actor is fresh
+-- ---- hashes that clash
 
-pub fresh : (w : World) (e : Event) (actor : Option Actor) (b : Bool) → actor ≡ actor_of e → MatchBool b (IsFresh w.used actor) (IsFresh w.used actor → ⊥) → b ≡ true → Passes w e ActorUsed
-fresh w e actor b is h t = subst (IsFresh w.used) is (where_true (IsFresh w.used actor) (IsFresh w.used actor → ⊥) b h t)
+pub refuses_clash : (w : World) (e : Event) (made : Option ChangeParts) (b : Bool) → Carried w → IsWould w e made → b ≡ clashes_in w.made e made → b ≡ true → PassesBefore w e HashClash → IsRefusal w e HashClash
+refuses_clash w e made b h would is t before = fails_first w e HashClash before (a_clash w e made h would (sym is ∙ t))
 
-pub not_fresh : (w : World) (e : Event) (plain : IsPlain e) (actor : Option Actor) (b : Bool) → actor ≡ actor_of e → MatchBool b (IsFresh w.used actor) (IsFresh w.used actor → ⊥) → b ≡ false → Passes w e NoPeer
-    → IsRefusal w e ActorUsed
-not_fresh w e plain actor b is h f first = record {
-  before = before_second w e plain first;
-  fails = λ new. where_false (IsFresh w.used actor) (IsFresh w.used actor → ⊥) b h f (subst (IsFresh w.used) (sym is) new);
-}
+pub passes_clash : (w : World) (e : Event) (made : Option ChangeParts) (b : Bool) → Carried w → IsWould w e made → b ≡ clashes_in w.made e made → b ≡ false → PassesBefore w e HashClash → PassesBefore w e Stopped
+passes_clash w e made b h would is f before = passes_next w e HashClash Stopped refl before (no_clash w e made h would (sym is ∙ f))
 
--- ---- no hash clashes
+-- ---- each test, where the lists were borrowed
 
-pub clash : (w : World) (e : Event) (plain : IsPlain e) (made : Option ChangeParts) (b : Bool) → Carried w → IsWould w e made → b ≡ clashes_in w.made e made → b ≡ true → Passes w e NoPeer → Passes w e ActorUsed
-    → IsRefusal w e HashClash
-clash w e plain made b h would is t first second = record {
-  before = before_fourth w e plain first second;
-  fails = a_clash w e made h would (sym is ∙ t);
-}
+pub judges_peers : (w : World) (e : Event) (at : List PeerData) (ns : List ℕ) (b : Bool) → at ≡ w.peers → ns ≡ peers_of e → MatchBool b (AllThere at ns) (AllThere at ns → ⊥) → Judges w e NoPeer b
+judges_peers w e at ns b same is h =
+    subst (λ (l : List ℕ). MatchBool b (AllThere w.peers l) (AllThere w.peers l → ⊥)) is (subst (λ (l : List PeerData). MatchBool b (AllThere l ns) (AllThere l ns → ⊥)) same h)
 
-pub apart : (w : World) (e : Event) (made : Option ChangeParts) (b : Bool) → Carried w → IsWould w e made → b ≡ clashes_in w.made e made → b ≡ false → Passes w e HashClash
-apart w e made b h would is f = no_clash w e made h would (sym is ∙ f)
+pub judges_actor : (w : World) (e : Event) (at : List Actor) (actor : Option Actor) (b : Bool) → at ≡ w.used → actor ≡ actor_of e → MatchBool b (IsFresh at actor) (IsFresh at actor → ⊥) → Judges w e ActorUsed b
+judges_actor w e at actor b same is h =
+    subst (λ (a : Option Actor). MatchBool b (IsFresh w.used a) (IsFresh w.used a → ⊥)) is (subst (λ (l : List Actor). MatchBool b (IsFresh l actor) (IsFresh l actor → ⊥)) same h)
 
--- ---- the peers run
+pub judges_running : (w : World) (e : Event) (at : List PeerData) (ns : List ℕ) (b : Bool) → at ≡ w.peers → ns ≡ running_of e → MatchBool b (AllRun at ns) (AllRun at ns → ⊥) → Judges w e Stopped b
+judges_running w e at ns b same is h =
+    subst (λ (l : List ℕ). MatchBool b (AllRun w.peers l) (AllRun w.peers l → ⊥)) is (subst (λ (l : List PeerData). MatchBool b (AllRun l ns) (AllRun l ns → ⊥)) same h)
 
-pub not_running : (w : World) (e : Event) (plain : IsPlain e) (ns : List ℕ) (b : Bool) → ns ≡ running_of e → MatchBool b (AllRun w.peers ns) (AllRun w.peers ns → ⊥) → b ≡ false → Passes w e NoPeer → Passes w e ActorUsed
-    → Passes w e HashClash → IsRefusal w e Stopped
-not_running w e plain ns b is h f first second third = record {
-  before = before_fifth w e plain first second third;
-  fails = λ all. where_false (AllRun w.peers ns) (AllRun w.peers ns → ⊥) b h f (subst (AllRun w.peers) (sym is) all);
-}
+pub judges_entry : (w : World) (e : Event) (at : List Entry) (ns : List ℕ) (b : Bool) → at ≡ w.wire → ns ≡ entries_of e → MatchBool b (AllThere at ns) (AllThere at ns → ⊥) → Judges w e NoEntry b
+judges_entry w e at ns b same is h =
+    subst (λ (l : List ℕ). MatchBool b (AllThere w.wire l) (AllThere w.wire l → ⊥)) is (subst (λ (l : List Entry). MatchBool b (AllThere l ns) (AllThere l ns → ⊥)) same h)
 
-pub may : (w : World) (e : Event) (plain : IsPlain e) (ns : List ℕ) (b : Bool) → ns ≡ running_of e → MatchBool b (AllRun w.peers ns) (AllRun w.peers ns → ⊥) → b ≡ true → Passes w e NoPeer → Passes w e ActorUsed
-    → Passes w e HashClash → MayHappen w e
-may w e plain ns b is h t first second third = may_happen w e plain first second third (subst (AllRun w.peers) is (where_true (AllRun w.peers ns) (AllRun w.peers ns → ⊥) b h t))
+same_bytes : (xs ys : List ℕ) → Some xs ≡ Some ys → xs ≡ ys
+same_bytes xs ys e = cc
 
--- ---- where the lists were borrowed
+pub judges_bytes : (w : World) (e : Event) (bytes : List ℕ) (at : List ChangeParts) (r : Result Bool WorldError) → bytes_of e ≡ Some bytes → at ≡ w.made
+    → IfOk r (λ all. MatchBool all (AllIn (changes_in bytes) at) (AllIn (changes_in bytes) at → ⊥)) → IfOk r (λ made. Judges w e ForeignChange made)
+judges_bytes w e bytes at (Ok true) brings same all = λ other is.
+    let one : bytes ≡ other = same_bytes bytes other (sym brings ∙ is) in
+    subst (λ (b : List ℕ). AllIn (changes_in b) w.made) one (subst (λ (l : List ChangeParts). AllIn (changes_in bytes) l) same all)
+judges_bytes w e bytes at (Ok false) brings same none = λ passes. none (subst (λ (l : List ChangeParts). AllIn (changes_in bytes) l) (sym same) (passes bytes brings))
+judges_bytes w e bytes at (Err x) brings same h = tt
 
-pub there_in : (w : World) (e : Event) (at : List PeerData) (ns : List ℕ) (b : Bool) → at ≡ w.peers → ns ≡ peers_of e → MatchBool b (AllThere at ns) (AllThere at ns → ⊥) → b ≡ true → Passes w e NoPeer
-there_in w e at ns b same is h t = there w e ns b is (subst (λ (l : List PeerData). MatchBool b (AllThere l ns) (AllThere l ns → ⊥)) same h) t
-
-pub fresh_in : (w : World) (e : Event) (at : List Actor) (actor : Option Actor) (b : Bool) → at ≡ w.used → actor ≡ actor_of e → MatchBool b (IsFresh at actor) (IsFresh at actor → ⊥) → b ≡ true → Passes w e ActorUsed
-fresh_in w e at actor b same is h t = fresh w e actor b is (subst (λ (l : List Actor). MatchBool b (IsFresh l actor) (IsFresh l actor → ⊥)) same h) t
-
-pub running_in : (w : World) (at : List PeerData) (ns : List ℕ) (b : Bool) → at ≡ w.peers → MatchBool b (AllRun at ns) (AllRun at ns → ⊥) → MatchBool b (AllRun w.peers ns) (AllRun w.peers ns → ⊥)
-running_in w at ns b same h = subst (λ (l : List PeerData). MatchBool b (AllRun l ns) (AllRun l ns → ⊥)) same h
-
-pub there_is : (w : World) (at : List PeerData) (ns : List ℕ) (b : Bool) → at ≡ w.peers → MatchBool b (AllThere at ns) (AllThere at ns → ⊥) → MatchBool b (AllThere w.peers ns) (AllThere w.peers ns → ⊥)
-there_is w at ns b same h = subst (λ (l : List PeerData). MatchBool b (AllThere l ns) (AllThere l ns → ⊥)) same h
-
-pub fresh_is : (w : World) (at : List Actor) (actor : Option Actor) (b : Bool) → at ≡ w.used → MatchBool b (IsFresh at actor) (IsFresh at actor → ⊥) → MatchBool b (IsFresh w.used actor) (IsFresh w.used actor → ⊥)
-fresh_is w at actor b same h = subst (λ (l : List Actor). MatchBool b (IsFresh l actor) (IsFresh l actor → ⊥)) same h
+-- it brings no bytes of any origin
+pub brings_none : (w : World) (e : Event) → bytes_of e ≡ None → Passes w e ForeignChange
+brings_none w e none bytes is = absurd (let same : None ≡ Some bytes = sym none ∙ is in cc)

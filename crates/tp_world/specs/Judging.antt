@@ -1,5 +1,5 @@
 -- What an event names, and what is asked of it before it happens.
-use Rattle.std.specs.Prelude.{◌≡◌, ◌⊎◌, ℕ, List, [], ◌∷◌, ◌++◌, Bool, true, false, length, nat_le, ◌&&◌, ◌||◌, Option, Some, None, IsSome}
+use Rattle.std.specs.Prelude.{◌≡◌, ◌⊎◌, ℕ, ◌<◌, List, [], ◌∷◌, ◌++◌, Bool, true, false, length, nat_le, ◌&&◌, ◌||◌, Option, Some, None, IsSome, MatchBool}
 use Rattle.std.specs.List.{slice_get}
 use Rattle.std.specs.Option.{option_to_list}
 use Rattle.tp_list.specs.Members.{In}
@@ -11,9 +11,12 @@ use Rattle.tp_edit.specs.declared.splice.Splice.{Splice}
 use Rattle.tp_graph.specs.Named.{has}
 use Rattle.tp_journal.specs.Layout.{record_of}
 use Rattle.tp_peer.specs.PeerData.{PeerData}
+use Rattle.tp_headline.specs.declared.error.WorldError.{WorldError}
 use Rattle.tp_headline.specs.declared.error.WorldError.TheVariants.{OutOfMemory}
+use Rattle.tp_headline.specs.WorldError.{code_of}
 use Rattle.tp_headline.specs.Event.{Event, Crash}
 use Rattle.tp_headline.specs.Happening.{Happens}
+use Rattle.tp_headline.specs.Refusing.{Passes}
 use Rattle.tp_headline.specs.Reply.{Reply, Refused}
 use Rattle.tp_headline.specs.World.{World}
 use Rattle.tp_world.specs.Making.{IsEditOf}
@@ -22,9 +25,9 @@ use Rattle.tp_world.specs.Making.{IsEditOf}
 abbrev pub numbers_in : Option ℕ × Option ℕ → List ℕ
 numbers_in x = option_to_list x.0 ++ option_to_list x.1
 
--- There is a peer with each of the numbers.
-abbrev pub AllThere : List PeerData → List ℕ → Type 0
-AllThere peers ns = (n : ℕ) → In n ns → IsSome (slice_get peers n)
+-- There is one, a peer or an entry of the wire, with each of the numbers.
+abbrev pub AllThere : {X : Type 0} → List X → List ℕ → Type 0
+AllThere xs ns = (n : ℕ) → In n ns → IsSome (slice_get xs n)
 
 -- None of the peers with the numbers has stopped.
 abbrev pub AllRun : List PeerData → List ℕ → Type 0
@@ -55,6 +58,14 @@ keeps_whole _ c = true
 abbrev pub clashes_in : List ChangeParts → Event → Option ChangeParts → Bool
 clashes_in made e None = false
 clashes_in made e (Some c) = has made (hash_of c) && keeps_whole e c
+
+-- The event passes every test with a smaller number than this one.
+abbrev pub PassesBefore : World → Event → WorldError → Type 0
+PassesBefore w e why = (other : WorldError) → code_of other < code_of why → Passes w e other
+
+-- It says whether the event passes the test.
+abbrev pub Judges : World → Event → WorldError → Bool → Type 0
+Judges w e why b = MatchBool b (Passes w e why) (Passes w e why → ⊥)
 
 -- A growth of the world's own was refused and nothing changed, or the event happened.
 abbrev pub Meets : World → Event → Reply → World → Type 0

@@ -10,6 +10,7 @@ use Rattle.tp_peer.specs.Opening.{Forks, NotForked, NotReopened, Reopens}
 use Rattle.tp_peer.specs.PeerData.{PeerData}
 use Rattle.tp_peer.specs.PeerStep as peer
 use Rattle.tp_headline.specs.Calling.{Steps, in_memory}
+use Rattle.tp_headline.specs.World.{Entry}
 
 -- the changes that were recovered, if any
 abbrev pub changes_in : Option (DocId × List ChangeParts × ℕ) → List ChangeParts
@@ -52,6 +53,12 @@ pub record MergesAt (peers : List PeerData) (n m : ℕ) (answer : peer.Reply) (p
   pub other : PeerData
   pub there : slice_get peers m ≡ Some other
   pub at : StepsAt peers n (peer.Merge other) answer peers'
+
+-- The peer numbered n received the entry numbered k of the wire, on its link to the peer that sent it.
+pub record DeliversAt (peers : List PeerData) (wire : List Entry) (k n : ℕ) (answer : peer.Reply) (peers' : List PeerData) : Type 0 where
+  pub message : Entry
+  pub sent : slice_get wire k ≡ Some message
+  pub at : StepsAt peers n (peer.Receive message.sender message.bytes) answer peers'
 
 -- The journal of the peer numbered n kept `keep` bytes at most, and was opened again under the actor.
 pub record OpensAgainAt (peers : List PeerData) (n keep : ℕ) (actor : Actor) (result : Result (Unit {0}) PeerError) (peers' : List PeerData) : Type 0 where

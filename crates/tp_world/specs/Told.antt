@@ -17,6 +17,7 @@ use Rattle.tp_world.specs.declared.reply.Reply.TheVariants as told
 abbrev pub call_of : Call → call.Call
 call_of (called.Edit splices time message) = call.Edit splices.now time (chars message.now)
 call_of (called.Merge from) = call.Merge from
+call_of (called.Deliver entry) = call.Deliver entry
 
 -- the call during which a peer crashes, if it is during one
 abbrev pub during_of : Option Call → Option call.Call
@@ -30,6 +31,8 @@ event_of (happened.Fork of actor) = event.Fork of actor
 event_of (happened.Edit peer splices time message) = event.Edit peer splices.now time (chars message.now)
 event_of (happened.Merge into from) = event.Merge into from
 event_of (happened.Send from to) = event.Send from to
+event_of (happened.Deliver entry to) = event.Deliver entry to
+event_of (happened.DeliverBytes to from bytes) = event.DeliverBytes to from bytes.now
 event_of (happened.Crash peer during kept actor) = event.Crash peer (during_of during) kept actor
 event_of (happened.Read peer) = event.Read peer
 event_of (happened.ReadAt peer heads) = event.ReadAt peer heads.now
@@ -41,6 +44,7 @@ reply_of (told.Edited made) = reply.Edited made
 reply_of (told.Merged applied) = reply.Merged (report_of applied)
 reply_of (told.Wire n) = reply.Wire n
 reply_of told.Quiet = reply.Quiet
+reply_of (told.Delivered received) = reply.Delivered (report_of received.applied) received.same_heads
 reply_of told.Reopened = reply.Reopened
 reply_of (told.Text text) = reply.Text (chars (string_bytes text))
 reply_of (told.Refused why) = reply.Refused why

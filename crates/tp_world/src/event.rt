@@ -20,6 +20,11 @@ pub enum Call<'a> {
         /// The number of the other one.
         from: usize,
     },
+    /// The peer receives a message that was sent, on its link to the peer that sent it.
+    Deliver {
+        /// The number of the message's entry on the wire.
+        entry: usize,
+    },
 }
 
 /// What happens in a world. Peers are numbered from 0, in the order in which they joined.
@@ -62,6 +67,23 @@ pub enum Event<'a> {
         from: usize,
         /// The number of the other one.
         to: usize,
+    },
+    /// A peer receives a message that was sent, on its link to the peer that sent it. The message stays on the wire: it may
+    /// be delivered never, once or many times, to any peer.
+    Deliver {
+        /// The number of the message's entry on the wire.
+        entry: usize,
+        /// The number of the peer that receives it.
+        to: usize,
+    },
+    /// A peer receives bytes of any origin on its link to another one, which has no part in it.
+    DeliverBytes {
+        /// The number of the one that receives them.
+        to: usize,
+        /// The number of the other one.
+        from: usize,
+        /// The bytes, whether or not they are a message.
+        bytes: &'a [u8],
     },
     /// A peer crashes, and is opened again.
     Crash {

@@ -1,34 +1,29 @@
 //! What each event does to a world.
 
-ghost use Rattle.std.specs.Prelude.{◌≡◌, ℕ, length, ◌<◌, ◌++◌, ◌&&◌, vec_len, vec_capacity, None, Some, IfOk, IfErr, OnOk, IsOkUnless, MatchResult};
+ghost use Rattle.std.specs.Prelude.{◌≡◌, ℕ, length, ◌<◌, ◌++◌, ◌&&◌, vec_len, vec_capacity, None, Some, MatchResult};
 ghost use Rattle.std.specs.Str.{chars};
 ghost use Rattle.std.specs.String.{string_bytes};
 ghost use Rattle.tp_headline.specs.Call as call;
 ghost use Rattle.tp_headline.specs.Carried.{Carried};
 ghost use Rattle.tp_headline.specs.Event as events;
-ghost use Rattle.tp_headline.specs.declared.error.WorldError.TheVariants.{OutOfMemory};
 ghost use Rattle.tp_headline.specs.Happening.{Next};
-ghost use Rattle.tp_headline.specs.Refusing.{IsRefusal, MayHappen};
+ghost use Rattle.tp_headline.specs.Refusing.{MayHappen};
 ghost use Rattle.tp_headline.specs.Reply.{PassesOn, Inner, Reopened};
 ghost use Rattle.tp_headline.specs.World.{beginning};
-ghost use Rattle.tp_peer.specs.PeerStep.{Generated, Made, Merged, Text, replied};
+ghost use Rattle.tp_peer.specs.PeerStep.{Generated, Made, Merged, Received as Reported, Text, replied};
 ghost use Rattle.tp_peer.specs.Sent.{sent_of};
 ghost use Rattle.tp_peer.specs.Taking.{report_of};
-ghost use Rattle.tp_world.specs.Judging.{Meets, clashes_in};
+ghost use Rattle.tp_world.specs.Judging.{Meets};
 ghost use Rattle.tp_world.specs.Making.{AddsRead, IsWould, entered_of, is_kept_in, is_made, wire_with};
 ghost use Rattle.tp_world.specs.States.{world_of};
 ghost use Rattle.tp_world.specs.Told.{call_of, during_of, event_of, reply_of};
 
 use crate::entry::Entry;
 use crate::event::{Call, Event};
-use crate::judging::{
-    actor_of, are_running, are_there, edit_change_at, has_hash, is_fresh, keeps_whole, peers_of,
-    running_of,
-};
 use crate::member::{Member, record_len};
 use crate::members::{
-    edit_at, fork_at, heads_at, journal_len_at, merge_at, read_at_number, read_past_at, reopen_at,
-    send_at,
+    deliver_at, edit_at, fork_at, heads_at, journal_len_at, merge_at, read_at_number, read_past_at,
+    receive_at, reopen_at, send_at,
 };
 use crate::read_record::ReadRecord;
 use crate::reply::Reply;
@@ -39,7 +34,7 @@ use tp_document::Applied;
 use tp_edit::Splice;
 use tp_headline::WorldError;
 use tp_opid::{Actor, DocId, Hash};
-use tp_peer::{Outgoing, PeerError};
+use tp_peer::{Outgoing, PeerError, Received};
 
 // Puts the change behind those that were made, if it was. There is room for it.
 fn add_if(made: &mut Vec<Change>, change: Option<Change>, entered: bool)
@@ -78,6 +73,16 @@ fn merge_reply(merged: Result<Applied, PeerError>) -> Reply
 {
     match merged {
         Ok(applied) => Reply::Merged(applied),
+        Err(error) => Reply::Inner(error),
+    }
+}
+
+fn deliver_reply(received: Result<Received, PeerError>) -> Reply
+    ensures { (n : ℕ) → PassesOn n
+        (replied (λ r. Reported (report_of r.applied) r.same_heads) received) (reply_of result) }
+{
+    match received {
+        Ok(received) => Reply::Delivered(received),
         Err(error) => Reply::Inner(error),
     }
 }
@@ -167,69 +172,6 @@ impl State {
             used: Vec::new(alloc),
             reads: Vec::new(alloc),
         }
-    }
-
-    // The change of the edit that the event is, or during which a peer crashes in it. The only refusal is `OutOfMemory`.
-    fn would_make(&self, event: &Event) -> Result<Option<Change>, WorldError>
-        ensures ok { IfOk result (λ made. IsWould (world_of self.now) (event_of event.now) made) }
-        ensures err { IsOkUnless result OutOfMemory }
-    {
-        match event {
-            Event::Edit {
-                peer,
-                splices,
-                time,
-                message,
-            } => edit_change_at(&self.peers, *peer, splices, *time, message),
-            Event::Crash {
-                peer,
-                during: Some(
-                    Call::Edit {
-                        splices,
-                        time,
-                        message,
-                    },
-                ),
-                ..
-            } => edit_change_at(&self.peers, *peer, splices, *time, message),
-            _ => Ok(None),
-        }
-    }
-
-    // Whether a change that was made has the hash of the one that the event would make.
-    fn clashes(&self, event: &Event, change: &Option<Change>) -> bool
-        ensures { result ≡ clashes_in self.now.made.items (event_of event.now) change.now }
-    {
-        match change {
-            Some(change) => has_hash(&self.made, &change.hash()) && keeps_whole(event, change),
-            None => false,
-        }
-    }
-
-    /// Why the event is refused; or else the change of the edit that it is, or during which a peer crashes in it.
-    pub(crate) fn judge(&self, event: &Event) -> Result<Option<Change>, WorldError>
-        requires { Carried (world_of self.now) }
-        ensures may { OnOk result (MayHappen (world_of self.now) (event_of event.now)) }
-        ensures made { IfOk result (λ made. IsWould (world_of self.now) (event_of event.now) made) }
-        ensures err { IfErr result (λ why. IsRefusal (world_of self.now) (event_of event.now) why) }
-    {
-        if !are_there(&self.peers, peers_of(event)) {
-            return Err(WorldError::NoPeer);
-        }
-        if !is_fresh(&self.used, actor_of(event)) {
-            return Err(WorldError::ActorUsed);
-        }
-        let change = match self.would_make(event) {
-            Ok(change) => change,
-            Err(error) => return Err(error),
-        };
-        if self.clashes(event, &change) {
-            return Err(WorldError::HashClash);
-        }
-        if !are_running(&self.peers, running_of(event)) {
-            return Err(WorldError::Stopped);
-        }
-        Ok(change)
     }
 
     // A peer with an empty document joins.
@@ -325,6 +267,26 @@ impl State {
         }
         let sent = send_at(&mut self.peers, n, to);
         add_sent(&mut self.wire, n, sent)
+    }
+
+    // A peer receives a message that was sent, on its link to the peer that sent it.
+    fn deliver(&mut self, entry: usize, to: usize) -> Reply
+        requires may { MayHappen (world_of self.old) (events.Deliver entry to) }
+        ensures { Meets (world_of self.old) (events.Deliver entry to) (reply_of result)
+            (world_of self.new) }
+    {
+        let received = deliver_at(&mut self.peers, &self.wire, entry, to);
+        deliver_reply(received)
+    }
+
+    // A peer receives bytes of any origin on its link to another one.
+    fn deliver_bytes(&mut self, to: usize, from: usize, bytes: &[u8]) -> Reply
+        requires may { MayHappen (world_of self.old) (events.DeliverBytes to from bytes.now) }
+        ensures { Meets (world_of self.old) (events.DeliverBytes to from bytes.now)
+            (reply_of result) (world_of self.new) }
+    {
+        let received = receive_at(&mut self.peers, to, from, bytes);
+        deliver_reply(received)
     }
 
     // The text of a peer is read, and recorded under its heads.
@@ -431,6 +393,24 @@ impl State {
         crash_reply(opened)
     }
 
+    // A peer crashes while it receives a message that was sent.
+    fn crash_in_delivery(&mut self, n: usize, entry: usize, kept: u64, actor: Actor) -> Reply
+        requires carried { Carried (world_of self.old) }
+        requires may { MayHappen (world_of self.old)
+            (events.Crash n (Some (call.Deliver entry)) kept actor) }
+        ensures { Meets (world_of self.old) (events.Crash n (Some (call.Deliver entry)) kept actor)
+            (reply_of result) (world_of self.new) }
+    {
+        if self.used.reserve(1).is_err() {
+            return Reply::Refused(WorldError::OutOfMemory);
+        }
+        let len = journal_len_at(&self.peers, n).saturating_add(kept as usize);
+        let _received = deliver_at(&mut self.peers, &self.wire, entry, n);
+        let opened = reopen_at(self.alloc, &mut self.peers, n, len, actor);
+        self.used.push_reserved(actor);
+        crash_reply(opened)
+    }
+
     // A peer crashes during a call.
     fn crash_during(
         &mut self,
@@ -456,6 +436,7 @@ impl State {
                 message,
             } => self.crash_in_edit(n, splices, time, message, kept, actor, change),
             Call::Merge { from } => self.crash_in_merge(n, from, kept, actor),
+            Call::Deliver { entry } => self.crash_in_delivery(n, entry, kept, actor),
         }
     }
 
@@ -501,6 +482,8 @@ impl State {
             } => self.edit(*peer, splices, *time, message, change),
             Event::Merge { into, from } => self.merge(*into, *from),
             Event::Send { from, to } => self.send(*from, *to),
+            Event::Deliver { entry, to } => self.deliver(*entry, *to),
+            Event::DeliverBytes { to, from, bytes } => self.deliver_bytes(*to, *from, bytes),
             Event::Crash {
                 peer,
                 during,

@@ -1,15 +1,15 @@
 //! What an event names, and what is asked of it before it happens.
 
-ghost use Rattle.std.specs.Prelude.{◌≡◌, List, false, true, MatchBool, IfOk, IsOkUnless, ◌&&◌};
+ghost use Rattle.std.specs.Prelude.{◌≡◌, false, true, MatchBool, IfOk, IsOkUnless, ◌&&◌};
 ghost use Rattle.std.specs.Str.{chars};
 ghost use Rattle.std.specs.Option.{option_to_list};
-ghost use Rattle.tp_change.specs.ChangeHash.{hash_of};
 ghost use Rattle.tp_graph.specs.Named.{has};
 ghost use Rattle.tp_headline.specs.declared.error.WorldError.TheVariants.{OutOfMemory};
 ghost use Rattle.tp_headline.specs.Event as events;
 ghost use Rattle.tp_world.specs.Judging.{AllRun, AllThere, IsFresh, IsJustEditAt, is_named, keeps_whole, numbers_in};
 ghost use Rattle.tp_world.specs.Told.{during_of, event_of};
 
+use crate::entry::Entry;
 use crate::event::{Call, Event};
 use crate::member::{Member, record_len};
 use tp_change::Change;
@@ -37,6 +37,8 @@ pub(crate) fn peers_of(event: &Event) -> (Option<usize>, Option<usize>)
         Event::Edit { peer, .. } => (Some(*peer), None),
         Event::Merge { into, from } => (Some(*into), Some(*from)),
         Event::Send { from, to } => (Some(*from), Some(*to)),
+        Event::Deliver { to, .. } => (Some(*to), None),
+        Event::DeliverBytes { to, from, .. } => (Some(*to), Some(*from)),
         Event::Crash { peer, during, .. } => (Some(*peer), needed_by(during)),
         Event::Read { peer } => (Some(*peer), None),
         Event::ReadAt { peer, .. } => (Some(*peer), None),
@@ -50,7 +52,22 @@ pub(crate) fn running_of(event: &Event) -> (Option<usize>, Option<usize>)
     match event {
         Event::Crash { during: None, .. } => (None, None),
         Event::Send { from, .. } => (Some(*from), None),
+        Event::DeliverBytes { to, .. } => (Some(*to), None),
         event => peers_of(event),
+    }
+}
+
+/// The entry of the wire that an event names.
+pub(crate) fn entry_of(event: &Event) -> Option<usize>
+    ensures { option_to_list result ≡ events.entries_of (event_of event.now) }
+{
+    match event {
+        Event::Deliver { entry, .. } => Some(*entry),
+        Event::Crash {
+            during: Some(Call::Deliver { entry }),
+            ..
+        } => Some(*entry),
+        _ => None,
     }
 }
 
@@ -73,6 +90,17 @@ fn is_there(members: &[Member], number: Option<usize>) -> bool
 {
     match number {
         Some(n) => n < members.len(),
+        None => true,
+    }
+}
+
+/// Whether the wire has the entry with the number, if there is one.
+pub(crate) fn is_sent(wire: &[Entry], number: Option<usize>) -> bool
+    ensures { MatchBool result (AllThere wire.now (option_to_list number))
+        (AllThere wire.now (option_to_list number) → ⊥) }
+{
+    match number {
+        Some(n) => n < wire.len(),
         None => true,
     }
 }

@@ -7,7 +7,7 @@ ghost use Rattle.tp_graph.specs.Heads.{heads};
 ghost use Rattle.tp_journal.specs.Layout.{header_of, record_of, records_of};
 ghost use Rattle.tp_peer.specs.Opening.{Forks, NotBegun, NotForked};
 ghost use Rattle.tp_peer.specs.PeerData.{opened};
-ghost use Rattle.tp_peer.specs.PeerStep.{Edit, Generate, Generated, Made, Merge, Merged, PeerStep, Read, ReadAt, Text, replied};
+ghost use Rattle.tp_peer.specs.PeerStep.{Edit, Generate, Generated, Made, Merge, Merged, Read, ReadAt, Receive, Received as Reported, Text, replied};
 ghost use Rattle.tp_peer.specs.Sent.{sent_of};
 ghost use Rattle.tp_peer.specs.Taking.{report_of};
 ghost use Rattle.tp_headline.specs.Calling.{Steps, in_memory};
@@ -24,7 +24,7 @@ use tp_headline::WorldError;
 use tp_journal::{DIGEST_BYTES, HEADER_BYTES, MemJournal};
 use tp_opid::{Actor, DocId, Hash};
 use tp_peer::laws::a_peer_in_memory_never_fails;
-use tp_peer::{Link, Outgoing, Peer, PeerError};
+use tp_peer::{Link, Outgoing, Peer, PeerError, Received};
 
 /// What has become of a peer.
 #[derive(Drop)]
@@ -89,6 +89,20 @@ fn send_running(peer: &mut Peer<MemJournal>, to: usize) -> Result<Option<Outgoin
     let sent = peer.generate_bytes(Link(to as u64));
     a_peer_in_memory_never_fails(peer);
     sent
+}
+
+// The peer receives bytes on its link to another one.
+fn receive_running(
+    peer: &mut Peer<MemJournal>,
+    from: usize,
+    bytes: &[u8],
+) -> Result<Received, PeerError>
+    ensures { Steps peer.old (Receive from bytes.now)
+        (replied (λ r. Reported (report_of r.applied) r.same_heads) result) peer.new }
+{
+    let received = peer.receive_bytes(Link(from as u64), bytes);
+    a_peer_in_memory_never_fails(peer);
+    received
 }
 
 // The change that an edit of the peer would make, if any.
@@ -292,6 +306,17 @@ impl Member {
     {
         match &mut self.life {
             Life::Running(peer) => send_running(peer, to),
+            Life::Stopped(_, _, _) => Err(PeerError::Stopped),
+        }
+    }
+
+    /// It receives bytes on its link to another one.
+    pub(crate) fn receive(&mut self, from: usize, bytes: &[u8]) -> Result<Received, PeerError>
+        ensures { Steps self.old (Receive from bytes.now)
+            (replied (λ r. Reported (report_of r.applied) r.same_heads) result) self.new }
+    {
+        match &mut self.life {
+            Life::Running(peer) => receive_running(peer, from, bytes),
             Life::Stopped(_, _, _) => Err(PeerError::Stopped),
         }
     }

@@ -1,25 +1,24 @@
 //! The peers of a world by their numbers.
 
-ghost use Rattle.std.specs.Prelude.{◌≡◌, ◌+◌, ◌<◌, ◌≤◌, length, min, take, slice_set, Some, false, IfOk};
+ghost use Rattle.std.specs.Prelude.{◌≡◌, ◌<◌, length, min, slice_set, Some, false, IfOk};
 ghost use Rattle.std.specs.List.{slice_get};
 ghost use Rattle.std.specs.Str.{chars};
 ghost use Rattle.std.specs.String.{string_bytes};
 ghost use Rattle.tp_graph.specs.Heads.{heads};
-ghost use Rattle.tp_peer.specs.Opening.{Forks, NotForked};
 ghost use Rattle.tp_peer.specs.PeerData.{PeerData};
-ghost use Rattle.tp_peer.specs.PeerStep.{Edit, Generate, Generated, Made, Merge, Merged, Read, ReadAt, Text, replied};
+ghost use Rattle.tp_peer.specs.PeerStep.{Edit, Generate, Generated, Made, Merged, Read, ReadAt, Receive, Received as Reported, Text, replied};
 ghost use Rattle.tp_peer.specs.Sent.{sent_of};
 ghost use Rattle.tp_peer.specs.Taking.{report_of};
-ghost use Rattle.tp_headline.specs.Calling.{Steps, in_memory};
-ghost use Rattle.tp_world.specs.Members.{ForksAt, MergesAt, OpensAgainAt, StepsAt};
+ghost use Rattle.tp_world.specs.Members.{DeliversAt, ForksAt, MergesAt, OpensAgainAt, StepsAt};
 
+use crate::entry::Entry;
 use crate::member::Member;
 use std::alloc::{AllocError, Global};
 use std::mem;
 use tp_document::Applied;
 use tp_edit::Splice;
 use tp_opid::{Actor, Hash};
-use tp_peer::{Outgoing, PeerError};
+use tp_peer::{Outgoing, PeerError, Received};
 
 /// A peer forks.
 pub(crate) fn fork_at(
@@ -63,6 +62,37 @@ pub(crate) fn send_at(
 {
     let member = &mut members[n];
     member.send(to)
+}
+
+/// A peer receives bytes on its link to another one.
+pub(crate) fn receive_at(
+    members: &mut Vec<Member>,
+    n: usize,
+    from: usize,
+    bytes: &[u8],
+) -> Result<Received, PeerError>
+    requires { n < length members.old.items }
+    ensures { StepsAt members.old.items n (Receive from bytes.now)
+        (replied (λ r. Reported (report_of r.applied) r.same_heads) result) members.new.items }
+{
+    let member = &mut members[n];
+    member.receive(from, bytes)
+}
+
+/// A peer receives the entry of the wire with the number, on its link to the peer that sent it.
+pub(crate) fn deliver_at(
+    members: &mut Vec<Member>,
+    wire: &[Entry],
+    entry: usize,
+    n: usize,
+) -> Result<Received, PeerError>
+    requires entry { entry < length wire.now }
+    requires peer { n < length members.old.items }
+    ensures { DeliversAt members.old.items wire.now entry n
+        (replied (λ r. Reported (report_of r.applied) r.same_heads) result) members.new.items }
+{
+    let sent = &wire[entry];
+    receive_at(members, n, sent.sender(), sent.bytes())
 }
 
 // Takes the peer with the number out, and puts one in its place.

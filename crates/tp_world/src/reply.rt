@@ -3,7 +3,7 @@
 use tp_document::Applied;
 use tp_headline::WorldError;
 use tp_opid::Hash;
-use tp_peer::PeerError;
+use tp_peer::{PeerError, Received};
 
 /// What is replied to an event.
 #[derive(Drop)]
@@ -18,6 +18,8 @@ pub enum Reply {
     Wire(usize),
     /// There was nothing to say.
     Quiet,
+    /// What a message that was received led to.
+    Delivered(Received),
     /// The peer that crashed runs again.
     Reopened,
     /// The text that was read.

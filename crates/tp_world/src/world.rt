@@ -1,6 +1,6 @@
 //! The world that runs.
 
-ghost use Rattle.std.specs.Prelude.{◌≡◌, length, map, IfOk, OnErr, IsOkUnless};
+ghost use Rattle.std.specs.Prelude.{◌≡◌, map, IfOk, OnErr, IsOkUnless};
 ghost use Rattle.tp_journal.specs.Layout.{IsDocId};
 ghost use Rattle.tp_headline.specs.declared.error.WorldError.TheVariants.{OutOfMemory};
 ghost use Rattle.tp_headline.specs.Follows.{Follows};
@@ -67,11 +67,15 @@ impl World {
     /// The event happens, or is refused; a refused one changes nothing.
     ///
     /// It is refused at the first of these that holds: `NoPeer` where a peer that it names isn't there; `ActorUsed` where
-    /// the actor that it names was named before; `HashClash` where it would make a change with the hash of another one
-    /// that was made; `Stopped` where a peer that it acts on or reads has stopped. It may be refused as `OutOfMemory` at
-    /// any time, where a growth of the world's own was refused.
+    /// the actor that it names was named before; `ForeignChange` where it brings bytes of any origin that carry a change
+    /// which no peer made; `HashClash` where it would make a change with the hash of another one that was made; `Stopped`
+    /// where a peer that it acts on or reads has stopped; `NoEntry` where the wire has no entry with the number that it
+    /// names. It may be refused as `OutOfMemory` at any time, where a growth of the world's own was refused.
     ///
-    /// An edit is made twice, and its hash is compared with those of all changes that were made.
+    /// A step costs what its call on the peer costs, and what judging it takes. A new actor is compared with those that
+    /// were named. An edit is made twice, and its hash is compared with those of all changes that were made. Bytes of any
+    /// origin are decoded twice, and so is the hash of each change that they carry compared; one that was made is written
+    /// out, and so is the one with its hash. A message that was sent isn't judged. A crash opens the journal again.
     pub fn step(&mut self, event: Event) -> Reply
         ensures next { Next self.old (event_of event.entry) (reply_of result) self.new }
         ensures headline { Headline self.new }

@@ -13,3 +13,7 @@ returns-in-Edit c =
 pub returns-in-Merge : goal.returns-in-Merge
 returns-in-Merge c =
     subst (λ (d : Call). Meets (world_of c.args.self.now) (events.Crash c.args.n (Some (call_of d)) c.args.kept c.args.actor) (reply_of c.crash_in_merge.result) (world_of c.crash_in_merge.new.self)) (sym c.in-Merge.is) c.crash_in_merge.ensures
+
+pub returns-in-Deliver : goal.returns-in-Deliver
+returns-in-Deliver c =
+    subst (λ (d : Call). Meets (world_of c.args.self.now) (events.Crash c.args.n (Some (call_of d)) c.args.kept c.args.actor) (reply_of c.crash_in_delivery.result) (world_of c.crash_in_delivery.new.self)) (sym c.in-Deliver.is) c.crash_in_delivery.ensures

@@ -16,3 +16,9 @@ returns-in-Send c = subst (λ (x : Event). Meets (world_of c.args.self.now) (eve
 
 pub returns-in-Crash : goal.returns-in-Crash
 returns-in-Crash c = subst (λ (x : Event). Meets (world_of c.args.self.now) (event_of x) (reply_of c.crash.result) (world_of c.crash.new.self)) (sym c.in-Crash.is) c.crash.ensures
+
+pub returns-in-Deliver : goal.returns-in-Deliver
+returns-in-Deliver c = subst (λ (x : Event). Meets (world_of c.args.self.now) (event_of x) (reply_of c.deliver.result) (world_of c.deliver.new.self)) (sym c.in-Deliver.is) c.deliver.ensures
+
+pub returns-in-DeliverBytes : goal.returns-in-DeliverBytes
+returns-in-DeliverBytes c = subst (λ (x : Event). Meets (world_of c.args.self.now) (event_of x) (reply_of c.deliver_bytes.result) (world_of c.deliver_bytes.new.self)) (sym c.in-DeliverBytes.is) c.deliver_bytes.ensures

@@ -1,0 +1,8 @@
+pub mod Bytes
+pub mod Transcripts
+pub mod Endings
+pub mod OneTurn
+pub mod SeatLists
+pub mod Entering
+pub mod Counting
+pub mod Told

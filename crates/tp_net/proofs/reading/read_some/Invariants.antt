@@ -1,0 +1,10 @@
+use Rattle.std.proofs.Common.{◌≡◌, length}
+use Rattle.std.specs.Io.KnownBytes.{Keeps}
+use Rattle.tp_net.proofs.reading.read_some.Given as goal
+
+-- an interrupted read took nothing
+abbrev pub invariant-loop : goal.invariant-loop
+invariant-loop g l = record {
+  chunk : length l.chunk ≡ length l.initial.chunk;
+  reader : Keeps (g.R.Read.remaining l.initial.reader) (g.R.Read.remaining l.reader);
+}

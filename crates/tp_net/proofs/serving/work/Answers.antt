@@ -1,0 +1,16 @@
+use Rattle.std.proofs.Common.{◌∙◌}
+use Rattle.tp_net.specs.Turns.{joins, stays}
+use Rattle.tp_net.proofs.serving.work.Goals as goal
+
+pub loop-init : goal.loop-init
+loop-init g c = record { can = tt; finite = tt; sits = stays c.args.seat.now }
+
+pub attend-requires : goal.attend-requires
+attend-requires g c = c.loop.invariant.sits.served ∙ c.requires
+
+pub loop-preserved : goal.loop-preserved
+loop-preserved g c = record {
+  can = tt;
+  finite = tt;
+  sits = joins c.args.seat.now _ _ c.loop.invariant.sits c.attend.ensures;
+}

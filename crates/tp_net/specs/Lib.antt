@@ -1,0 +1,5 @@
+pub mod Transcript
+pub mod Stops
+pub mod RunSession
+pub mod Names
+pub mod Turns

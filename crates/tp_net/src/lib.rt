@@ -1,0 +1,21 @@
+//! Sessions over streams, and the server and the client over sockets.
+//!
+//! [`run_session`] holds one session over a reader and a writer: it reads frames, has a session answer them, and sends
+//! the answers, until both sides have said done or the session breaks off. [`serve`] holds sessions over the connections
+//! that it accepts, on the seats of a served peer, and [`connect`] holds one as the client.
+#![tactic(auto)]
+
+mod connecting;
+mod gate;
+mod holding;
+mod reading;
+mod run;
+mod seated;
+mod serving;
+mod writing;
+
+pub use connecting::connect;
+pub use gate::{AlwaysOpen, Gate};
+pub use run::run_session;
+pub use seated::SeatedHost;
+pub use serving::{Interrupted, serve};

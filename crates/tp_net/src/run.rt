@@ -1,0 +1,185 @@
+//! One session over a reader and a writer.
+
+ghost use Rattle.std.specs.Prelude.{◌≡◌, ◌⊎◌, ℕ, List, ◌++◌, false, Ok, IfOk, IfErr, option_to_list};
+ghost use Rattle.std.specs.List.{flat_map};
+ghost use Rattle.std.specs.Io.KnownBytes.{Appends, Consumes, Keeps};
+ghost use Rattle.tp_frame.specs.declared.frame.Frame.{Frame as FrameOf};
+ghost use Rattle.tp_frame.specs.Frame.{spelling};
+ghost use Rattle.tp_session.specs.declared.error.NetError.TheVariants.{Io};
+ghost use Rattle.tp_session.specs.declared.turn.Turn.{Turn as TurnOf};
+ghost use Rattle.tp_session.specs.Laws.{is_over};
+ghost use Rattle.tp_net.specs.Stops.{GivesNoFrame, EndsBy, Takes, TakesAndStops, Stops};
+ghost use Rattle.tp_net.specs.RunSession.{EndsWell, StopsFor, BreaksOff, Forgetting, NeverBegins};
+
+use crate::reading::next_frame;
+use crate::writing::{send, send_refusal};
+use std::alloc::Global;
+use std::io::{Read, Write};
+use tp_frame::Framer;
+use tp_opid::DocId;
+use tp_session::{Host, NetError, Role, Session, Turn};
+
+// The session's turn about the next frame.
+fn hear<R: Read, H: Host>(
+    reader: &mut R,
+    framer: &mut Framer,
+    session: &mut Session,
+    host: &mut H,
+) -> Result<Turn, NetError>
+    ensures ok { IfOk result (λ turn. (more : List ℕ)
+        × Consumes (R.remaining reader.old) (R.remaining reader.new) more
+        × Takes H.receives H.generates session.old host.old (framer.old ++ more) turn
+        framer.new session.new host.new) }
+    ensures err { IfErr result (λ e. (more : List ℕ)
+        × Consumes (R.remaining reader.old) (R.remaining reader.new) more
+        × (is_over session.old.phase ≡ false
+        → (GivesNoFrame (framer.old ++ more) e × (host.new ≡ host.old))
+        ⊎ EndsBy H.receives H.generates session.old host.old (framer.old ++ more) e host.new)) }
+    ensures host { H.goes_on host.old host.new }
+{
+    let frame = next_frame(reader, framer)?;
+    Ok(session.on_frame(frame, host)?)
+}
+
+// Takes the next frame and sends the answer. Whether the session has ended then.
+fn take_turn<R: Read, W: Write, H: Host>(
+    alloc: Global,
+    reader: &mut R,
+    writer: &mut W,
+    framer: &mut Framer,
+    session: &mut Session,
+    host: &mut H,
+) -> Result<bool, NetError>
+    ensures ok { IfOk result (λ ended. (more : List ℕ) × (turn : TurnOf)
+        × Consumes (R.remaining reader.old) (R.remaining reader.new) more
+        × Appends (W.contents writer.old) (W.contents writer.new)
+        (flat_map spelling (option_to_list turn.send))
+        × Takes H.receives H.generates session.old host.old (framer.old ++ more) turn
+        framer.new session.new host.new
+        × (turn.ended ≡ ended)) }
+    ensures err { IfErr result (λ e. (more : List ℕ)
+        × Consumes (R.remaining reader.old) (R.remaining reader.new) more
+        × (is_over session.old.phase ≡ false
+        → (GivesNoFrame (framer.old ++ more) e × (host.new ≡ host.old))
+        ⊎ (EndsBy H.receives H.generates session.old host.old (framer.old ++ more) e host.new
+        ⊎ TakesAndStops H.receives H.generates session.old host.old (framer.old ++ more) e
+        host.new))) }
+    ensures kept { IfErr result
+        (λ e. (e ≡ Io) ⊎ Keeps (W.contents writer.old) (W.contents writer.new)) }
+    ensures host { H.goes_on host.old host.new }
+{
+    let Turn {
+        send: answer,
+        ended,
+    } = hear(reader, framer, session, host)?;
+    send(alloc, writer, answer)?;
+    Ok(ended)
+}
+
+// The session to its end, with no refusal where it stops for an error.
+fn converse<R: Read, W: Write, H: Host>(
+    alloc: Global,
+    reader: &mut R,
+    writer: &mut W,
+    role: Role,
+    id: DocId,
+    host: &mut H,
+) -> Result<u64, NetError>
+    ensures ok { IfOk result (λ applied. (read : List ℕ) × (sent : List FrameOf)
+        × Consumes (R.remaining reader.old) (R.remaining reader.new) read
+        × Appends (W.contents writer.old) (W.contents writer.new) (flat_map spelling sent)
+        × EndsWell H.receives H.generates role id host.old read sent applied host.new) }
+    ensures err { IfErr result (λ e. (read : List ℕ) × (sent : List FrameOf)
+        × Consumes (R.remaining reader.old) (R.remaining reader.new) read
+        × ((e ≡ Io)
+        ⊎ Appends (W.contents writer.old) (W.contents writer.new) (flat_map spelling sent))
+        × StopsFor H.receives H.generates role id host.old read sent e host.new) }
+    ensures host { H.goes_on host.old host.new }
+{
+    let mut session = Session::new(role, id);
+    let mut framer = Framer::new(alloc);
+    send(alloc, writer, session.first())?;
+    for _ in 0..u64::MAX {
+        if take_turn(alloc, reader, writer, &mut framer, &mut session, host)? {
+            return Ok(session.applied());
+        }
+    }
+    Err(NetError::Io)
+}
+
+// The session to its end, with the refusal that is due where it stops for an error.
+fn hold<R: Read, W: Write, H: Host>(
+    alloc: Global,
+    reader: &mut R,
+    writer: &mut W,
+    role: Role,
+    id: DocId,
+    host: &mut H,
+) -> Result<u64, NetError>
+    ensures ok { IfOk result (λ applied. (read : List ℕ) × (sent : List FrameOf)
+        × Consumes (R.remaining reader.old) (R.remaining reader.new) read
+        × Appends (W.contents writer.old) (W.contents writer.new) (flat_map spelling sent)
+        × EndsWell H.receives H.generates role id host.old read sent applied host.new) }
+    ensures err { IfErr result (λ e. (read : List ℕ) × (sent : List FrameOf)
+        × Consumes (R.remaining reader.old) (R.remaining reader.new) read
+        × ((e ≡ Io)
+        ⊎ Appends (W.contents writer.old) (W.contents writer.new) (flat_map spelling sent))
+        × BreaksOff H.receives H.generates role id host.old read sent e host.new) }
+    ensures host { H.goes_on host.old host.new }
+{
+    match converse(alloc, reader, writer, role, id, host) {
+        Ok(applied) => Ok(applied),
+        Err(error) => {
+            send_refusal(writer, error)?;
+            Err(error)
+        }
+    }
+}
+
+/// Holds one session over a stream, as the side with the role, about the document with the identifier, and answers how
+/// many changes were applied here.
+///
+/// The host forgets its link before the first frame and at the end. A client sends its hello; then each frame that the
+/// reader gives is answered as [`Session::on_frame`] says, until both sides have said done. The writer is flushed behind
+/// each frame.
+///
+/// Where the host refuses to forget the link at the begin the answer is `Peer`, and nothing is read or sent; such a
+/// refusal at the end changes nothing. `Io` where the reader fails, or ends before the session has, and where the
+/// writer fails. `Frame` where the bytes that come are no frame, or a message of the host is too long for one.
+/// `OutOfMemory` where a growth was refused for a frame, and else what `on_frame` answers. Before each error but `Io`
+/// and `RefusedByOther` the refusal that is due is sent, which takes no memory; where the writer fails then, the
+/// answer is `Io`.
+///
+/// It waits for bytes as long as the reader does, so the other side can hold it for ever. At most 8,192 bytes are read at
+/// once, and kept until their frames are whole; bytes behind the last frame may have been read.
+pub fn run_session<R: Read, W: Write, H: Host>(
+    alloc: Global,
+    reader: &mut R,
+    writer: &mut W,
+    role: Role,
+    id: DocId,
+    host: &mut H,
+) -> Result<u64, NetError>
+    // What was read begins with the frames that came, each was one step of the session, and their answers were sent.
+    ensures ended { IfOk result (λ applied. (read : List ℕ) × (sent : List FrameOf)
+        × Consumes (R.remaining reader.old) (R.remaining reader.new) read
+        × Appends (W.contents writer.old) (W.contents writer.new) (flat_map spelling sent)
+        × Forgetting H.forgets
+        (λ h h'. EndsWell H.receives H.generates role id h read sent applied h')
+        host.old host.new) }
+    // So it was up to an error, and the refusal that is due was sent, unless the stream failed.
+    ensures broken { IfErr result (λ e. (read : List ℕ) × (sent : List FrameOf)
+        × Consumes (R.remaining reader.old) (R.remaining reader.new) read
+        × ((e ≡ Io)
+        ⊎ Appends (W.contents writer.old) (W.contents writer.new) (flat_map spelling sent))
+        × (NeverBegins H.forgets host.old read sent e host.new
+        ⊎ Forgetting H.forgets
+        (λ h h'. BreaksOff H.receives H.generates role id h read sent e h')
+        host.old host.new)) }
+    ensures host { H.goes_on host.old host.new }
+{
+    host.forget()?;
+    let result = hold(alloc, reader, writer, role, id, host);
+    let _ = host.forget();
+    result
+}

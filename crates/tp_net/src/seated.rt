@@ -1,0 +1,71 @@
+//! A seat at a served peer, as the host of a session.
+
+ghost use Rattle.std.specs.Prelude.{◌≡◌};
+ghost use Rattle.tp_peer.specs.PeerStep.{Receive, Generate, Forget};
+ghost use Rattle.tp_served.specs.Seats.{Shows};
+ghost use Rattle.tp_net.specs.Names.{TableId-set};
+ghost use Rattle.tp_net.specs.Turns.{Sits};
+
+use std::sync::Wait;
+use tp_journal::Journal;
+use tp_peer::{Outgoing, PeerError, Received};
+use tp_served::{Seat, Served};
+use tp_session::Host;
+
+/// A seat that is lent, with its served peer, as the host of sessions on the link with the seat's number.
+///
+/// Each call of the session is one turn of the seat: it waits until the seat has the peer. Nothing is said of how long
+/// that takes.
+#[derive(Drop)]
+pub struct SeatedHost<'a, 's, J: Journal, R: Wait> {
+    rt: &'a R,
+    served: &'a Served<J>,
+    seat: &'s mut Seat,
+    ghost at_its_peer: { seat.now.served ≡ served.now.served } by { TableId-set _ _ },
+}
+
+impl<'a, 's, J: Journal, R: Wait> SeatedHost<'a, 's, J, R> {
+    /// The seat, which is one of the served peer's.
+    pub fn new(rt: &'a R, served: &'a Served<J>, seat: &'s mut Seat) -> SeatedHost<'a, 's, J, R>
+        requires { seat.old.served ≡ served.now.served }
+        ensures same_reference { result.seat.ghost_name ≡ seat.entry.ghost_name }
+        ensures seat { result.seat.now ≡ seat.old }
+    {
+        SeatedHost { rt, served, seat }
+    }
+}
+
+impl<'a, 's, J: Journal, R: Wait> Host for SeatedHost<'a, 's, J, R> {
+    ghost use Rattle.std.proofs.Common.{refl, ◌∙◌};
+    ghost use Rattle.tp_net.specs.Turns.{stays as stays_at, joins as joins_at};
+
+    ghost goes_on = { λ a b. (b.seat.ghost_name ≡ a.seat.ghost_name) × Sits a.seat.now b.seat.now };
+
+    ghost receives = { λ a bytes reply b.
+        Shows a.seat.now.state (Receive a.seat.now.state.number bytes) reply b.seat.now.state };
+
+    ghost generates = { λ a reply b.
+        Shows a.seat.now.state (Generate a.seat.now.state.number) reply b.seat.now.state };
+
+    ghost forgets = { λ a reply b.
+        Shows a.seat.now.state (Forget a.seat.now.state.number) reply b.seat.now.state };
+
+    fn receive(&mut self, bytes: &[u8]) -> Result<Received, PeerError> {
+        self.served.receive(self.rt, self.seat, bytes)
+    }
+
+    fn generate(&mut self) -> Result<Option<Outgoing>, PeerError> {
+        self.served.generate(self.rt, self.seat)
+    }
+
+    fn forget(&mut self) -> Result<(), PeerError> {
+        self.served.forget(self.rt, self.seat)
+    }
+
+    ghost stays = { λ h. (refl, stays_at h.seat.now) };
+
+    ghost joins = { λ a b c first then. (
+      then.0 ∙ first.0,
+      joins_at a.seat.now b.seat.now c.seat.now first.1 then.1,
+    ) };
+}

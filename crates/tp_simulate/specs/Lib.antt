@@ -1,0 +1,6 @@
+pub mod SimError
+pub mod Words
+pub mod Telling
+pub mod Marks
+pub mod Playing
+pub mod Script

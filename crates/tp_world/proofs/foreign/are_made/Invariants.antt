@@ -1,0 +1,7 @@
+use Rattle.std.proofs.Common.{take}
+use Rattle.tp_list.specs.Members.{AllIn}
+use Rattle.tp_world.proofs.foreign.are_made.Given as goal
+
+-- those so far
+abbrev pub invariant-loop-change : goal.invariant-loop-change
+invariant-loop-change l = AllIn (take l.change-index l.changes) l.fn.made

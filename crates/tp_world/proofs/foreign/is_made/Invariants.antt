@@ -1,0 +1,7 @@
+use Rattle.std.proofs.Common.{◌≡◌, drop}
+use Rattle.tp_graph.specs.Named.{has}
+use Rattle.tp_world.proofs.foreign.is_made.Given as goal
+
+-- what is left decides it
+abbrev pub invariant-loop-other : goal.invariant-loop-other
+invariant-loop-other l = has (drop l.other-index l.made) l.hash ≡ has l.made l.hash
