@@ -3,6 +3,7 @@
 #![tactic(auto)]
 
 mod bytes;
+mod cursors;
 mod edits;
 mod faulty;
 mod links;

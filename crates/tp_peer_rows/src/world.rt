@@ -1,9 +1,10 @@
 //! What the rows of an example have made so far, and what makes their calls.
 
 use crate::faulty::FaultyJournal;
-use crate::{bytes, edits, links, peers, reads};
+use crate::{bytes, cursors, edits, links, peers, reads};
 use std::alloc::Global;
 use tp_change::Change;
+use tp_document::Cursor;
 use tp_peer::Peer;
 use tp_runner::{Calls, Fault, Shelf, Words, call_on_fields};
 
@@ -21,6 +22,8 @@ pub struct World {
     pub peers: Shelf<RowPeer>,
     /// Journals, as bytes.
     pub bytes: Shelf<Vec<u8>>,
+    /// Cursors, of no peer.
+    pub cursors: Shelf<Cursor>,
 }
 
 impl World {
@@ -31,6 +34,7 @@ impl World {
             changes: Shelf::new(alloc),
             peers: Shelf::new(alloc),
             bytes: Shelf::new(alloc),
+            cursors: Shelf::new(alloc),
         }
     }
 }
@@ -53,6 +57,9 @@ impl Calls for World {
         if let Some(answer) = links::call(self, word, words) {
             return answer;
         }
+        if let Some(answer) = cursors::call(self, word, words) {
+            return answer;
+        }
         reads::call(self, word, words)
     }
 
@@ -60,6 +67,7 @@ impl Calls for World {
         self.changes.clear();
         self.peers.clear();
         self.bytes.clear();
+        self.cursors.clear();
     }
 
     fn is_partial(&self, row: &str) -> bool {
