@@ -1,5 +1,5 @@
 -- What a graph keeps stays true where a change is made ready for, and where it enters.
-use Rattle.std.proofs.Common.{◌≡◌, ℕ, ◌+◌, ◌<◌, ◌≤◌, ◌==◌, List, [], ◌∷◌, ◌++◌, length, Bool, true, false, cond, Option, Some, None, refl, sym, ap, ◌∙◌, subst, arith, length-append}
+use Rattle.std.proofs.Common.{◌≡◌, ◌⊎◌, inl, inr, ℕ, ◌+◌, ◌<◌, ◌≤◌, ◌==◌, List, [], ◌∷◌, ◌++◌, length, Bool, true, false, cond, Option, Some, None, refl, sym, ap, ◌∙◌, subst, arith, length-append}
 use Rattle.std.proofs.lemmas.Bool.Decides.{nat_tests}
 use Rattle.std.proofs.lemmas.List.{take-append-le}
 use Rattle.tp_list.proofs.Tests.{never, not_true}
@@ -13,9 +13,10 @@ use Rattle.tp_graph.specs.declared.by_actor.ByActor.{ByActor}
 use Rattle.tp_graph.specs.declared.extent.Room.{Room}
 use Rattle.tp_graph.specs.declared.error.GraphError.{GraphError}
 use Rattle.tp_graph.specs.ByActor.{places_of, IsOwn, IsByActor}
-use Rattle.tp_graph.specs.Extents.{IsRoom, room_hash}
-use Rattle.tp_graph.specs.Kept.{IsReadyIf}
-use Rattle.tp_graph.specs.Lists.{HasRoom}
+use Rattle.tp_graph.specs.Before.{IsClear}
+use Rattle.tp_graph.specs.Extents.{IsKnown, room_hash}
+use Rattle.tp_graph.specs.Kept.{IsReady, IsReadyIf}
+use Rattle.tp_graph.specs.Lists.{HasRoom, HasSameItems}
 use Rattle.tp_graph.specs.Named.{has}
 use Rattle.tp_graph.specs.Fit.{defect, cause, or_full, most_changes}
 use Rattle.tp_graph.specs.Places.{noted, NotesFrom}
@@ -76,6 +77,20 @@ pub ready_for : (g : Inside) (o : Option Room) (h : Hash) → room_hash o ≡ So
 ready_for g None h e k = cc
 ready_for g (Some r) h e k = let same : r.hash ≡ h = cc in (ap (noted g.index) (sym same) ∙ k.noted_is, k.listed, k.room)
 
-pub ready_past : (g : Inside) (o : Option Room) → IsReadyIf o g → IsRoom g.lists.changes.items o
-ready_past g None k = tt
-ready_past g (Some r) k = k.past
+pub ready_past : (g : Inside) (o : Option Room) (r : Room) → o ≡ Some r → IsReadyIf o g → IsKnown g.lists.changes.items r.deps.items r.past × IsClear r.deletes.items
+ready_past g o r e k = let ready : IsReady r g = subst (λ p. IsReadyIf p g) e k in (ready.past, ready.clear)
+
+-- what was made ready stays so where growths are made for another change
+pub ready_stays : (a b : Inside) (o : Option Room) → HasSameItems a.lists b.lists → (HasRoom a.lists → HasRoom b.lists) → b.index ≡ a.index
+    → (b.by_actor.listed ≡ a.by_actor.listed) ⊎ (b.by_actor.listed ≡ length a.lists.changes.items) → IsReadyIf o a → IsReadyIf o b
+ready_stays a b None same room notes listed k = tt
+ready_stays a b (Some r) same room notes listed k = record {
+  past = subst (λ C. IsKnown C r.deps.items r.past) (sym same.changes) k.past;
+  clear = k.clear;
+  noted_is = ap (λ (es : List (Hash × ℕ)). noted es r.hash) notes ∙ k.noted_is ∙ ap (λ (C : List ChangeParts). Some (length C)) (sym same.changes);
+  listed = counted listed ∙ ap (λ (C : List ChangeParts). length C) (sym same.changes);
+  room = room k.room;
+} where
+  counted : (b.by_actor.listed ≡ a.by_actor.listed) ⊎ (b.by_actor.listed ≡ length a.lists.changes.items) → b.by_actor.listed ≡ length a.lists.changes.items
+  counted (inl e) = e ∙ k.listed
+  counted (inr e) = e

@@ -20,3 +20,4 @@ pub mod EndLaws
 pub mod ClashLaws
 pub mod LawRules
 pub mod BeforeLaws
+pub mod MarkedLaws

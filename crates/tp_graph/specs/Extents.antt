@@ -70,8 +70,3 @@ pub record AreExtents (C : List ChangeParts) (es : List (Option Extent)) : Type 
 abbrev pub room_hash : Option Room → Option Hash
 room_hash None = None
 room_hash (Some r) = Some r.hash
-
--- What was made ready holds the extent of the dependencies that it was made for.
-abbrev pub IsRoom : List ChangeParts → Option Room → Type 0
-IsRoom C None = Unit {0}
-IsRoom C (Some r) = IsKnown C r.deps.items r.past

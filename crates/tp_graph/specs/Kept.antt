@@ -1,20 +1,33 @@
 -- What is kept beside applied changes.
-use Rattle.std.specs.Prelude.{◌≡◌, ◌≤◌, length, Option, Some, None}
+use Rattle.std.specs.Prelude.{◌≡◌, ◌≤◌, List, length, Option, Some, None}
+use Rattle.tp_change.specs.declared.parts.ChangeParts.{ChangeParts}
+use Rattle.tp_change.specs.ChangeHash.{hash_of}
 use Rattle.tp_change.specs.Elements as made
 use Rattle.tp_graph.specs.declared.applied.Applied.TheInside.{Inside}
 use Rattle.tp_graph.specs.declared.extent.Room.{Room}
+use Rattle.tp_graph.specs.Before.{IsClear}
 use Rattle.tp_graph.specs.ByActor.{IsByActor}
 use Rattle.tp_graph.specs.Extents.{AreExtents, IsKnown}
 use Rattle.tp_graph.specs.Fit.{most_changes}
 use Rattle.tp_graph.specs.Heads as head
 use Rattle.tp_graph.specs.Lists.{HasRoom}
+use Rattle.tp_graph.specs.Marked.{AreMarked}
 use Rattle.tp_graph.specs.Places.{noted, NotesFrom, ends_of}
 use Rattle.tp_graph.specs.Sound.{Sound}
 
+-- What was made ready is for the change: it has its hash and its dependencies, the extent is that of their past, and no
+-- mark is set.
+pub record IsRoomFor (C : List ChangeParts) (c : ChangeParts) (r : Room) : Type 0 where
+  pub hash : r.hash ≡ hash_of c
+  pub deps : r.deps.items ≡ c.deps
+  pub past : IsKnown C c.deps r.past
+  pub clear : IsClear r.deletes.items
+
 -- Every growth is made for a change with the hash: its place is noted, all changes are listed by actor, and there is
--- room in the lists; and the extent is that of the dependencies that it was made for.
+-- room in the lists; the extent is that of the dependencies that it was made for, and no mark is set.
 pub record IsReady (r : Room) (a : Inside) : Type 0 where
   pub past : IsKnown a.lists.changes.items r.deps.items r.past
+  pub clear : IsClear r.deletes.items
   pub noted_is : noted a.index r.hash ≡ Some (length a.lists.changes.items)
   pub listed : a.by_actor.listed ≡ length a.lists.changes.items
   pub room : HasRoom a.lists
@@ -31,6 +44,7 @@ pub record IsKept (a : Inside) : Type 0 where
   pub heads_are : a.lists.heads.items ≡ head.heads a.lists.changes.items
   pub ends_are : a.lists.ends.items ≡ ends_of a.lists.changes.items
   pub pasts : AreExtents a.lists.changes.items a.lists.pasts.items
+  pub marked : AreMarked a.lists.changes.items a.lists.marked.items
   pub next_is : a.next ≡ made.next_counter a.lists.changes.items
   pub notes : NotesFrom 0 a.lists.changes.items a.index
   pub by_actor : IsByActor a.lists.changes.items a.by_actor

@@ -19,3 +19,4 @@ pub mod Kept
 pub mod Answers
 pub mod Since
 pub mod Before
+pub mod Marked

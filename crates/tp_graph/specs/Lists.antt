@@ -9,6 +9,7 @@ pub record HasRoom (l : Lists) : Type 0 where
   pub heads : vec_len l.heads < vec_capacity l.heads
   pub ends : vec_len l.ends < vec_capacity l.ends
   pub pasts : vec_len l.pasts < vec_capacity l.pasts
+  pub marked : vec_len l.marked < vec_capacity l.marked
 
 -- The lists have the same items.
 pub record HasSameItems (l m : Lists) : Type 0 where
@@ -16,6 +17,7 @@ pub record HasSameItems (l m : Lists) : Type 0 where
   pub heads : m.heads.items ≡ l.heads.items
   pub ends : m.ends.items ≡ l.ends.items
   pub pasts : m.pasts.items ≡ l.pasts.items
+  pub marked : m.marked.items ≡ l.marked.items
 
 -- The lists have no items.
 pub record AreEmpty (l : Lists) : Type 0 where
@@ -23,3 +25,4 @@ pub record AreEmpty (l : Lists) : Type 0 where
   pub heads : l.heads.items ≡ []
   pub ends : l.ends.items ≡ []
   pub pasts : l.pasts.items ≡ []
+  pub marked : l.marked.items ≡ []

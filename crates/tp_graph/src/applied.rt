@@ -1,6 +1,6 @@
 //! The applied changes, with what is kept beside them.
 
-ghost use Rattle.std.specs.Prelude.{◌≡◌, ◌<◌, ◌≤◌, List, [], ◌∷◌, ◌++◌, length, slice_index, Some, None, Err, IfSome, OnOk, OnErr};
+ghost use Rattle.std.specs.Prelude.{◌≡◌, ◌<◌, ◌≤◌, List, [], ◌∷◌, ◌++◌, length, slice_index, Some, None, Err, IfOk, IfSome, OnOk, OnErr};
 ghost use Rattle.std.specs.List.{slice_get};
 ghost use Rattle.tp_opid.specs.declared.hash.Hash.{Hash};
 ghost use Rattle.tp_change.specs.declared.parts.ChangeParts.{ChangeParts};
@@ -8,10 +8,12 @@ ghost use Rattle.tp_change.specs.ChangeHash.{hash_of};
 ghost use Rattle.tp_change.specs.Elements as made;
 ghost use Rattle.tp_graph.specs.Answers.{Answers, TakesMemory};
 ghost use Rattle.tp_graph.specs.ByActor.{IsOwn};
-ghost use Rattle.tp_graph.specs.Extents.{IsRoom, IsKnown};
+ghost use Rattle.tp_graph.specs.Extents.{IsKnown};
 ghost use Rattle.tp_graph.specs.Fit as fit;
 ghost use Rattle.tp_graph.specs.Fit.{cause, most_changes};
 ghost use Rattle.tp_graph.specs.Heads as head;
+ghost use Rattle.tp_graph.specs.Kept.{IsRoomFor};
+ghost use Rattle.tp_graph.specs.Marked.{IsMarked};
 ghost use Rattle.tp_graph.specs.Places.{place_from, ends_of};
 ghost use Rattle.tp_graph.specs.Sound.{Sound};
 
@@ -21,6 +23,7 @@ use crate::extent::{Extent, Room};
 use crate::index::{Index, place_of};
 use crate::judge::later;
 use crate::lists::Lists;
+use crate::marked;
 use crate::own::Own;
 use crate::part::extent_in;
 use crate::walk::same_hashes;
@@ -58,18 +61,13 @@ impl Model for Applied {
 
 // The extent of the past of the dependencies that was made ready, where it was made for these. Else a change enters whose
 // hash is that of another, which was made ready for, and its extent isn't known: there is no memory to make it.
-fn extent_for(room: Option<Room>, deps: &[Hash]) -> Option<Extent>
-    ensures { (C : List ChangeParts) → IsRoom C room → IsKnown C deps.now result }
+fn extent_for(past: Option<Extent>, made_for: &[Hash], deps: &[Hash]) -> Option<Extent>
+    ensures { (C : List ChangeParts) → IsKnown C made_for.now past → IsKnown C deps.now result }
 {
-    match room {
-        Some(room) => {
-            if same_hashes(deps, room.deps.as_slice()) {
-                room.past
-            } else {
-                None
-            }
-        }
-        None => None,
+    if same_hashes(deps, made_for) {
+        past
+    } else {
+        None
     }
 }
 
@@ -136,6 +134,14 @@ impl Applied {
         &self.lists.pasts[place]
     }
 
+    /// The marks of the change at the place, where they are kept: where it has many operations.
+    pub(crate) fn marks_at(&self, place: usize) -> Option<&[bool]>
+        ensures { IfSome result (λ deletes. (c : ChangeParts)
+            → slice_get self.now.changes place ≡ Some c → IsMarked c deletes.now) }
+    {
+        marked::find(self.lists.marked.as_slice(), place)
+    }
+
     /// Their heads, rising.
     pub(crate) fn heads(&self) -> &[Hash]
         ensures { result.now ≡ head.heads self.now.changes }
@@ -172,6 +178,22 @@ impl Applied {
         place_of(self.lists.changes.as_slice(), &self.index, hash)
     }
 
+    // Checks, and makes what is kept of the change's past and of its operations.
+    fn room_for(&self, change: &Change) -> Result<Room, GraphError>
+        ensures answers { Answers result (cause self.now.changes change.now) }
+        ensures made { IfOk result (λ room. IsRoomFor self.now.changes change.now room) }
+    {
+        let past = extent_in(self.judge(change)?);
+        let deletes = marked::room_for(self.alloc, change)?;
+        let deps = Vec::from_slice(self.alloc, change.deps())?;
+        Ok(Room {
+            hash: change.hash(),
+            deps,
+            past,
+            deletes,
+        })
+    }
+
     /// Checks, and makes every growth that the entry of the change takes.
     pub(crate) fn ready(&mut self, change: &Change) -> Result<(), GraphError>
         ensures answers { Answers result (cause self.old.changes change.now) }
@@ -179,14 +201,12 @@ impl Applied {
         ensures room { OnOk result (self.new.room ≡ Some (hash_of change.now)) }
         ensures err { OnErr result (self.new.room ≡ self.old.room) }
     {
-        let past = extent_in(self.judge(change)?);
-        let deps = Vec::from_slice(self.alloc, change.deps())?;
-        let hash = change.hash();
+        let room = self.room_for(change)?;
         self.lists.grow()?;
         self.by_actor
             .catch_up(self.alloc, self.lists.changes.as_slice())?;
-        self.index.note(hash, self.lists.changes.len() as u32)?;
-        self.room = Some(Room { hash, deps, past });
+        self.index.note(room.hash, self.lists.changes.len() as u32)?;
+        self.room = Some(room);
         Ok(())
     }
 
@@ -197,9 +217,14 @@ impl Applied {
         ensures changes { self.new.changes ≡ self.old.changes ++ change ∷ [] }
         ensures room { self.new.room ≡ None }
     {
-        let past = extent_for(self.room.take(), change.deps());
         let end = change.next_start();
         self.next = later(self.next, end);
-        self.lists.push(change, end, past);
+        match self.room.take() {
+            Some(room) => {
+                let past = extent_for(room.past, room.deps.as_slice(), change.deps());
+                self.lists.push(change, end, past, room.deletes);
+            }
+            None => unreachable!(),
+        }
     }
 }

@@ -32,13 +32,14 @@ pub(crate) struct Extent {
     pub(crate) tips: Vec<u32>,
 }
 
-/// What was made ready for the entry of a change: its hash, its dependencies, and the extent of their past, where that
-/// is known.
+/// What was made ready for the entry of a change: its hash, its dependencies, the extent of their past, where that is
+/// known, and room for the marks of its operations, where it has many.
 #[derive(Drop)]
 pub(crate) struct Room {
     pub(crate) hash: Hash,
     pub(crate) deps: Vec<Hash>,
     pub(crate) past: Option<Extent>,
+    pub(crate) deletes: Vec<bool>,
 }
 
 // The greater of two places.

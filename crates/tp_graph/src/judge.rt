@@ -1,6 +1,8 @@
 //! What a change has to be behind the changes of its past: its numbers and its references.
 
-ghost use Rattle.std.specs.Prelude.{◌≡◌, ◌+◌, ◌<◌, ◌≤◌, ◌^◌, ◌++◌, ◌||◌, List, length};
+ghost use Rattle.std.specs.Prelude.{◌≡◌, ◌+◌, ◌<◌, ◌≤◌, ◌^◌, ◌++◌, ◌||◌, List, length, Some};
+ghost use Rattle.std.specs.List.{slice_get};
+ghost use Rattle.tp_change.specs.declared.parts.ChangeParts.{ChangeParts};
 ghost use Rattle.tp_change.specs.declared.record.Record.{Record};
 ghost use Rattle.tp_change.specs.Elements as made;
 ghost use Rattle.tp_change.specs.Operations.{count_of, op_count, ops_of, ops_from};
@@ -8,6 +10,7 @@ ghost use Rattle.tp_graph.specs.Before.{Tells, IsClear};
 ghost use Rattle.tp_graph.specs.ByActor.{IsMaker};
 ghost use Rattle.tp_graph.specs.Covers as cover;
 ghost use Rattle.tp_graph.specs.Ends.{end_named};
+ghost use Rattle.tp_graph.specs.Marked.{IsMarked};
 ghost use Rattle.tp_graph.specs.Parts.{picked, IsPartOf};
 ghost use Rattle.tp_graph.specs.Past.{past};
 
@@ -18,8 +21,8 @@ use tp_change::{Change, MAX_OPS, Record};
 use tp_list::char_count;
 use tp_opid::{Hash, OpId, Place};
 
-// So many operations are few: marks for these cost next to nothing.
-const FEW: usize = 64;
+/// So many operations are few: marks for these cost next to nothing, and so does a pass over them.
+pub(crate) const FEW: usize = 64;
 
 // Whether the records, the first of which has the given counter, insert at a counter.
 fn covers(records: &[Record], first: u64, counter: u64) -> bool
@@ -74,6 +77,24 @@ fn inserts_id(change: &Change, end: u64, id: &OpId) -> bool
         return true;
     }
     covers(change.records(), change.start(), id.counter)
+}
+
+// The same where the change's deletes are marked. A look-up.
+fn inserts_marked(change: &Change, end: u64, deletes: &[bool], id: &OpId) -> bool
+    requires end { end ≡ change.now.start + op_count change.now }
+    requires marked { IsMarked change.now deletes.now }
+    ensures { result ≡ made.is_inserted (made.inserts_in (ops_of change.now)) id.now }
+{
+    if !change.actor().is(&id.actor) {
+        return false;
+    }
+    let before = Before {
+        actor: change.actor(),
+        first: change.start(),
+        count: (end - change.start()) as usize,
+        deletes,
+    };
+    before.inserts_at(id.counter)
 }
 
 /// The greater of the two.
@@ -131,8 +152,24 @@ impl Applied {
         }
     }
 
-    // Whether a change of the past inserts the element with the identifier: a look-up for the change that has the
-    // operation, and its records.
+    // Whether the change at the place inserts the element with the identifier: a look-up among its marks, or a pass over
+    // its few operations.
+    fn inserts_at(&self, place: usize, id: &OpId) -> bool
+        requires { place < length self.now.changes }
+        ensures { (c : ChangeParts) → slice_get self.now.changes place ≡ Some c
+            → result ≡ made.is_inserted (made.inserts_in (ops_of c)) id.now }
+    {
+        let _changes = self.changes();
+        let change = self.at(place);
+        let end = self.end_at(place);
+        match self.marks_at(place) {
+            Some(deletes) => inserts_marked(change, end, deletes, id),
+            None => inserts_id(change, end, id),
+        }
+    }
+
+    // Whether a change of the past inserts the element with the identifier: look-ups for the change that has the
+    // operation, and for the operation in it.
     fn is_inserted(&self, part: &Part, id: &OpId) -> bool
         requires { IsPartOf part.now self.now.changes }
         ensures { result
@@ -144,7 +181,7 @@ impl Applied {
                 if !part.holds(self, place) {
                     return false;
                 }
-                inserts_id(self.at(place), self.end_at(place), id)
+                self.inserts_at(place, id)
             }
             None => false,
         }

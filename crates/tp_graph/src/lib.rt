@@ -18,6 +18,7 @@ mod judge;
 pub mod laws;
 mod limits;
 mod lists;
+mod marked;
 mod own;
 mod part;
 mod past;

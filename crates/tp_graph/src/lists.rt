@@ -4,27 +4,31 @@ ghost use Rattle.std.specs.Prelude.{◌≡◌, [], ◌∷◌, ◌++◌, OnOk, ve
 ghost use Rattle.tp_list.specs.Rising as list;
 ghost use Rattle.tp_opid.specs.Order.{hash_cmp};
 ghost use Rattle.tp_change.specs.ChangeHash.{hash_of};
+ghost use Rattle.tp_graph.specs.Before.{IsClear};
 ghost use Rattle.tp_graph.specs.Heads as head;
 ghost use Rattle.tp_graph.specs.Lists.{HasRoom, HasSameItems, AreEmpty};
+ghost use Rattle.tp_graph.specs.Marked.{AreMarked};
 
 use crate::extent::Extent;
 use crate::heads;
+use crate::marked::{self, Marked};
 use std::alloc::{AllocError, Global};
 use tp_change::Change;
 use tp_opid::Hash;
 
-/// The applied changes in the order in which they entered, their heads, and for each change where its counters end
-/// and how far the past of its dependencies reaches.
+/// The applied changes in the order in which they entered, their heads, for each change where its counters end and how
+/// far the past of its dependencies reaches, and marks of the changes of many operations.
 #[derive(Drop)]
 pub(crate) struct Lists {
     pub(crate) changes: Vec<Change>,
     pub(crate) heads: Vec<Hash>,
     pub(crate) ends: Vec<u64>,
     pub(crate) pasts: Vec<Option<Extent>>,
+    pub(crate) marked: Vec<Marked>,
 }
 
-// Puts an item at the end of a vector that has room for it.
-fn push_within<T: Drop>(items: &mut Vec<T>, item: T)
+/// Puts an item at the end of a vector that has room for it.
+pub(crate) fn push_within<T: Drop>(items: &mut Vec<T>, item: T)
     requires { vec_len items.old < vec_capacity items.old }
     ensures { items.new.items ≡ items.old.items ++ item ∷ [] }
 {
@@ -44,6 +48,7 @@ impl Lists {
             heads: Vec::new(alloc),
             ends: Vec::new(alloc),
             pasts: Vec::new(alloc),
+            marked: Vec::new(alloc),
         }
     }
 
@@ -57,19 +62,30 @@ impl Lists {
         self.heads.reserve(1)?;
         self.ends.reserve(1)?;
         self.pasts.reserve(1)?;
+        self.marked.reserve(1)?;
         Ok(())
     }
 
-    /// Puts a change at the end. There is room for it.
-    pub(crate) fn push(&mut self, change: Change, end: u64, past: Option<Extent>)
-        requires { HasRoom self.old }
+    /// Puts a change at the end. There is room for it; that for its marks was made where it has many operations.
+    pub(crate) fn push(
+        &mut self,
+        change: Change,
+        end: u64,
+        past: Option<Extent>,
+        deletes: Vec<bool>,
+    )
+        requires room { HasRoom self.old }
+        requires clear { IsClear deletes.items }
         ensures changes { self.new.changes.items ≡ self.old.changes.items ++ change ∷ [] }
         ensures heads { self.new.heads.items ≡ list.put hash_cmp (hash_of change)
             (head.without change.deps self.old.heads.items) }
         ensures ends { self.new.ends.items ≡ self.old.ends.items ++ end ∷ [] }
         ensures pasts { self.new.pasts.items ≡ self.old.pasts.items ++ past ∷ [] }
+        ensures marked { AreMarked self.old.changes.items self.old.marked.items
+            → AreMarked self.new.changes.items self.new.marked.items }
     {
         heads::move_on(&mut self.heads, change.deps(), change.hash());
+        marked::keep(&mut self.marked, self.changes.len(), &change, deletes);
         push_within(&mut self.ends, end);
         push_within(&mut self.pasts, past);
         push_within(&mut self.changes, change);

@@ -2,7 +2,7 @@ use Rattle.std.proofs.Common.{◌≡◌, ℕ, ◌<◌, ◌≤◌, ◌+◌, ◌�
 use Rattle.tp_change.specs.ChangeHash.{hash_of}
 use Rattle.tp_change.proofs.ElementLaws.{next_counter-push}
 use Rattle.tp_graph.specs.Fit.{cause, most_changes}
-use Rattle.tp_graph.specs.Extents.{IsKnown, IsRoom, room_hash}
+use Rattle.tp_graph.specs.Extents.{IsKnown, room_hash}
 use Rattle.tp_graph.specs.AppliedState.{AppliedState}
 use Rattle.tp_graph.specs.Places.{noted}
 use Rattle.tp_graph.proofs.ExtentLaws.{AreExtents-push}
@@ -16,7 +16,10 @@ use Rattle.tp_graph.proofs.applied.Applied.enter.Goals as goal
 pub push-requires : goal.push-requires
 push-requires c =
     let room_is : room_hash c.self.inside.room ≡ Some (hash_of c.args.change) = ap (λ (s : AppliedState). s.room) c.self.view_is ∙ c.requires.room in
-    (ready_for c.self.inside c.self.inside.room (hash_of c.args.change) room_is c.self.invariant.ready).2
+    record {
+      room = (ready_for c.self.inside c.self.inside.room (hash_of c.args.change) room_is c.self.invariant.ready).2;
+      clear = (ready_past c.self.inside c.self.inside.room c.in-Some.room (sym c.take.ensures.value ∙ c.in-Some.is) c.self.invariant.ready).1;
+    }
 
 pub invariant_of-self : goal.invariant_of-self
 invariant_of-self c =
@@ -29,8 +32,8 @@ invariant_of-self c =
     let f = Fits-from_cause C x none in
     let room_is : room_hash g.room ≡ Some (hash_of x) = ap (λ (s : AppliedState). s.room) c.self.view_is ∙ c.requires.room in
     let ready = ready_for g g.room (hash_of x) room_is kept.ready in
-    let past = subst (IsRoom C) (sym c.take.ensures.value) (ready_past g g.room kept.ready) in
-    let known : IsKnown C x.deps c.extent_for-past.result = subst (λ H. IsKnown C H c.extent_for-past.result) c.deps.ensures (c.extent_for-past.ensures C past) in
+    let past = ready_past g g.room c.in-Some.room (sym c.take.ensures.value ∙ c.in-Some.is) kept.ready in
+    let known : IsKnown C x.deps c.extent_for-past.result = subst (λ H. IsKnown C H c.extent_for-past.result) c.deps.ensures (c.extent_for-past.ensures C (subst (λ H. IsKnown C H c.in-Some.room.past) (sym c.as_slice.ensures.value) past.0)) in
     let less : length C < most_changes = room_for_one C x none kept.few in
     let more : length (C ++ x ∷ []) ≡ length C + 1 = length-append C (x ∷ []) in
     let few : length (C ++ x ∷ []) ≤ most_changes = omega arith in
@@ -41,6 +44,7 @@ invariant_of-self c =
       heads_are = rw (pushed.heads, pushed.changes, kept.heads_are) (sym (heads-push C x kept.sound f));
       ends_are = rw (pushed.ends, pushed.changes, kept.ends_are, c.next_start-end.ensures) (sym (ends_of-push C x));
       pasts = rw (pushed.changes, pushed.pasts) (AreExtents-push C x g.lists.pasts.items c.extent_for-past.result kept.sound f kept.pasts known);
+      marked = pushed.marked kept.marked;
       next_is = rw (pushed.changes, c.later-self-inside.ensures, kept.next_is, c.next_start-end.ensures) (sym (next_counter-push C x));
       notes = rw pushed.changes (NotesFrom-push 0 C x g.index kept.notes at);
       by_actor = rw pushed.changes (IsByActor-push C x g.by_actor ready.1 kept.by_actor);

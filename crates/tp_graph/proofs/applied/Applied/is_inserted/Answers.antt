@@ -4,12 +4,8 @@ use Rattle.tp_change.specs.Operations.{ops_of}
 use Rattle.tp_graph.specs.Parts.{holds, picked}
 use Rattle.tp_graph.proofs.OwnLaws.{inserted-none, inserted-maker}
 use Rattle.tp_graph.proofs.MarksLaws.{holds-picked, picked-In}
-use Rattle.tp_graph.proofs.EndLaws.{end_at}
 use Rattle.tp_list.proofs.Members.{slice_get-there}
 use Rattle.tp_graph.proofs.applied.Applied.is_inserted.Goals as goal
-
-pub inserts_id-requires : goal.inserts_id-requires
-inserts_id-requires c = c.end_at.ensures ∙ end_at c.args.self.now.changes c.in-Some.place _ c.at.ensures
 
 pub returns-then-not-holds : goal.returns-then-not-holds
 returns-then-not-holds c =
@@ -28,9 +24,10 @@ returns-else-not-holds c =
     let C = c.args.self.now.changes in
     let part = c.args.part.now in
     let place = c.in-Some.place in
+    let w = slice_get-there C place c.in-Some.ensures.0 in
     let held : holds part C place ≡ true = sym c.holds.ensures ∙ c.if-not-holds.false in
-    ap (λ b. b && c.inserts_id.result) (sym held)
-    ∙ inserted-maker C (picked part C) c.args.id.now place _ (holds part C place) c.inserts_id.result (picked-In part C) c.in-Some.ensures c.at.ensures (holds-picked part C place _ c.changes-changes.ensures.sound c.at.ensures) c.inserts_id.ensures
+    ap (λ b. b && c.inserts_at.result) (sym held)
+    ∙ inserted-maker C (picked part C) c.args.id.now place w.0 (holds part C place) c.inserts_at.result (picked-In part C) c.in-Some.ensures w.1 (holds-picked part C place w.0 c.changes-changes.ensures.sound w.1) (c.inserts_at.ensures w.0 w.1)
 
 pub returns-in-None : goal.returns-in-None
 returns-in-None c = inserted-none c.args.self.now.changes (picked c.args.part.now c.args.self.now.changes) c.args.id.now (picked-In c.args.part.now c.args.self.now.changes) c.in-None.ensures
