@@ -7,3 +7,4 @@ pub mod Seeking
 pub mod Sequencing
 pub mod ByActor
 pub mod Linking
+pub mod Entering

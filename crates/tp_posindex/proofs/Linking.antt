@@ -1,6 +1,6 @@
 -- The index: what an element more leaves of it, and what a look-up finds.
 use Rattle.tp_list.proofs.Members.{In-index, In-get_or, In-middle}
-use Rattle.std.proofs.Common.{◌≡◌, ◌⊎◌, inl, inr, ℕ, zero, suc, ◌+◌, ◌<◌, ◌≤◌, true, false, Option, None, Some, List, [], ◌∷◌, ◌++◌, length, take, drop, get_or, insert, map, position, refl, sym, ap, ◌∙◌, subst, arith, length-append}
+use Rattle.std.proofs.Common.{◌≡◌, ◌⊎◌, inl, inr, ℕ, zero, suc, ◌+◌, ◌<◌, ◌≤◌, true, false, Option, None, Some, List, [], ◌∷◌, ◌++◌, length, get_or, insert, map, position, refl, sym, ap, ◌∙◌, subst, arith, length-append}
 use Rattle.tp_list.specs.Members.{In}
 use Rattle.tp_opid.specs.declared.actor.Actor.{Actor}
 use Rattle.tp_opid.specs.declared.op_id.OpId.{OpId}

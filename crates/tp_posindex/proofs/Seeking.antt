@@ -10,6 +10,10 @@ use Rattle.tp_opid.specs.declared.op_id.Place.TheVariants.{After}
 use Rattle.tp_opid.specs.Insert.{Insert}
 use Rattle.tp_opid.specs.Order.{Below}
 use Rattle.tp_opid.specs.Same.{id_eq}
+use Rattle.tp_opid.proofs.Orders.{id_eq-itself}
+use Rattle.tp_opid.specs.Tree.{HasReference}
+use Rattle.tp_opid.specs.declared.op_id.Place.{Place}
+use Rattle.tp_opid.specs.declared.op_id.Place.TheVariants.{Start}
 use Rattle.tp_rga.specs.Order.{EndsAt, IsInserted}
 use Rattle.tp_rga.proofs.Lookups.{IsFirst-position, IsThere-found, EndsAt-found, place_found}
 use Rattle.tp_posindex.specs.Layout.{joined, block_at, index_at, IsGap, StandsAt}
@@ -129,11 +133,12 @@ none_placed E ks x below e = λ d i. IsFirst-position E x None e d (In-placed E 
 pub found_placed : (E : List Insert) (ks : List ℕ) (x : OpId) (k : ℕ) → In k ks → position (λ (e : Insert). id_eq e.id x) E ≡ Some k → IsThere (map (element_at E) ks) x
 found_placed E ks x k i e = IsThere-found (map (element_at E) ks) x (element_at E k) (In-element E ks k i) (number_is E x k e).1
 
--- the prefix of the elements up to the one that was found
-pub ends_found : (E : List Insert) (bs : List (List ℕ)) (p offset k : ℕ) (r : OpId) → StandsAt bs p offset k → position (λ (e : Insert). id_eq e.id r) E ≡ Some k → EndsAt (take (index_at bs p (offset + 1)) (map (element_at E) (joined bs))) (After r)
-ends_found E bs p offset k r at found =
+-- the prefix of the elements up to one that stands somewhere
+pub ends_at : (E : List Insert) (bs : List (List ℕ)) (p offset k : ℕ) → StandsAt bs p offset k → EndsAt (take (index_at bs p (offset + 1)) (map (element_at E) (joined bs))) (After (element_at E k).id)
+ends_at E bs p offset k at =
+    let r = (element_at E k).id in
     let whole = stands_whole bs p offset k 0 at in
-    let named = (number_is E r k found).1 in
+    let named = id_eq-itself r in
     let i = index_at bs p offset in
     let size : length (map (element_at E) (joined bs)) ≡ length (joined bs) = length-map (joined bs) (element_at E) in
     let lt : i < length (map (element_at E) (joined bs)) = (let l = whole.0 in omega arith) in
@@ -141,6 +146,13 @@ ends_found E bs p offset k r at found =
     (λ d. subst (λ (w : Insert). id_eq w.id r ≡ true) (sym (get_or-of_map (element_at E) (joined bs) i d 0 whole.0 ∙ ap (element_at E) whole.1)) named) in
     let next : i + 1 ≡ index_at bs p (offset + 1) = omega arith in
     subst (λ n. EndsAt (take n (map (element_at E) (joined bs))) (After r)) next (EndsAt-found (map (element_at E) (joined bs)) i r lt held)
+
+-- the reference of an insert that can come is among the elements
+pub reference_there : (E : List Insert) (ks : List ℕ) (x : OpId) (p : Place) → ((k : ℕ) → In k ks → k < length E) → CanInsert (map (element_at E) ks) x p → HasReference E p
+reference_there E ks x Start below can = tt
+reference_there E ks x (After r) below can =
+    let there = can.place.0 in
+    (there.0, (there.1.0, In-placed E ks (record { id = r; after = there.0; ch = there.1.0 }) below there.1.1))
 
 -- an insert at the place that the code finds stands in order
 pub inserted_found : (E : List Insert) (ks : List ℕ) (x : Insert) (from to : ℕ) → CanInsert (map (element_at E) ks) x.id x.after → from ≤ to → to ≤ length ks → EndsAt (take from (map (element_at E) ks)) x.after → AllWithin (λ k. Below x.id (element_at E k).id) ks from to → (to < length ks → HoldsAt (λ k. Below x.id (element_at E k).id → ⊥) ks to) → IsInserted (map (element_at E) ks) (insert (map (element_at E) ks) to x) x

@@ -5,5 +5,6 @@ pub mod Kept
 pub mod Counted
 pub mod Blocked
 pub mod Came
+pub mod Entered
 pub mod Actors
 pub mod Indexed

@@ -1,18 +1,19 @@
 //! The elements by number, with an index by identifier.
 
 ghost use Rattle.std.specs.Prelude.{◌≡◌, ◌+◌, ◌^◌, ◌<◌, ◌≤◌, [], ◌∷◌, ◌++◌, length, position, IsOk, OnOk};
+ghost use Rattle.tp_opid.specs.Insert.{Insert};
 ghost use Rattle.tp_opid.specs.Same.{id_eq};
+ghost use Rattle.tp_opid.specs.Tree.{HasReference};
+ghost use Rattle.tp_posindex.specs.Entered.{IsNumberBelow, place_in};
 
 use crate::actors::find;
+use crate::entries::Entries;
+use crate::entry::Reference;
 use crate::links::{Latest, Link};
 use crate::lookup::{likely, link_next, seek};
 use std::alloc::{AllocError, Global};
 use std::marker::Model;
-use tp_opid::OpId;
-use tp_rga::Insertion;
-
-/// How many elements there are at most: 4,294,967,295.
-const MOST_ELEMENTS: usize = 4_294_967_295;
+use tp_opid::{OpId, Place};
 
 /// The elements in the order in which they came: the number of an element is how many came before it.
 ///
@@ -23,7 +24,7 @@ const MOST_ELEMENTS: usize = 4_294_967_295;
 /// do where changes enter behind their dependencies. Once one doesn't, a look-up passes over all elements.
 #[derive(Drop)]
 pub(crate) struct Elements {
-    items: Vec<Insertion>,
+    entries: Entries,
     latest: Vec<Latest>,
     links: Vec<Link>,
     rising: bool,
@@ -38,13 +39,13 @@ impl Model for Elements {
     ghost Value = { Came };
 
     ghost view = { λ e. record {
-      items = e.items.items;
+      items = e.entries.items;
       room = min
-          (min (4294967295 - vec_len e.items) (vec_capacity e.items - vec_len e.items))
+          e.entries.room
           (min (vec_capacity e.links - vec_len e.links) (vec_capacity e.latest - vec_len e.latest));
     } };
 
-    ghost invariant = { λ e. e.rising ≡ true → IsIndexed e.items.items e.latest.items e.links.items };
+    ghost invariant = { λ e. e.rising ≡ true → IsIndexed e.entries.items e.latest.items e.links.items };
 }
 
 impl Elements {
@@ -53,7 +54,7 @@ impl Elements {
         ensures { result.items ≡ [] }
     {
         Elements {
-            items: Vec::new(alloc),
+            entries: Entries::new(alloc),
             latest: Vec::new(alloc),
             links: Vec::new(alloc),
             rising: true,
@@ -68,65 +69,82 @@ impl Elements {
         ensures succeeds { n ≤ self.old.room → IsOk result }
         ensures room { self.old.room ≤ self.new.room }
     {
-        if n > MOST_ELEMENTS.saturating_sub(self.items.len()) {
-            return Err(AllocError);
-        }
-        self.items.reserve(n)?;
+        self.entries.reserve(n)?;
         self.links.reserve(n)?;
         self.latest.reserve(n)
     }
 
     /// How many there are.
     pub fn len(&self) -> usize
-        ensures { result ≡ length self.now.items }
+        ensures value { result ≡ length self.now.items }
+        ensures most { result ≤ 4294967295 }
     {
-        self.items.len()
+        self.entries.len()
     }
 
     /// The elements by number.
-    pub fn items(&self) -> &[Insertion]
-        ensures { result.now ≡ self.now.items }
+    pub fn entries(&self) -> &Entries
+        ensures { result.now.items ≡ self.now.items }
     {
-        self.items.as_slice()
+        &self.entries
     }
 
     /// The number of the element with an identifier, or `None` where there is none.
     pub fn number_of(&self, id: &OpId) -> Option<usize>
-        ensures { result ≡ position (λ e. id_eq e.id id.now) self.now.items }
+        ensures { result ≡ position (λ (e : Insert). id_eq e.id id.now) self.now.items }
     {
         if !self.rising {
-            return self.items.iter().position(|e| e.id.is(id));
+            return self.entries.search(id);
         }
         let Ok(entry) = find(&self.latest, &id.actor) else {
             return None;
         };
         let last = self.latest[entry].number as usize;
-        let at = likely(&self.items, last, id.counter);
-        let e = &self.items[at];
-        if e.id.is(id) {
+        let at = likely(&self.entries, last, id.counter);
+        if self.entries.id(at).is(id) {
             return Some(at);
         }
-        let at = seek(&self.items, &self.links, last, id.counter)?;
-        let e = &self.items[at];
-        if e.id.counter == id.counter {
+        let at = seek(&self.entries, &self.links, last, id.counter)?;
+        if self.entries.counter(at) == id.counter {
             Some(at)
         } else {
             None
         }
     }
 
+    /// A reference by the number of its element.
+    pub fn reference_of(&self, place: &Place) -> Reference
+        requires { HasReference self.now.items place.now }
+        ensures below { IsNumberBelow (length self.now.items) result }
+        ensures place { place_in self.now.items result ≡ place.now }
+    {
+        match place {
+            Place::Start => Reference::Start,
+            Place::After(id) => match self.number_of(id) {
+                Some(number) => {
+                    prove!(number < self.len());
+                    Reference::After(number as u32)
+                }
+                None => unreachable!(),
+            },
+        }
+    }
+
     /// Takes in the next element. It takes no memory.
-    pub fn push(&mut self, e: Insertion)
-        requires { 0 < self.old.room }
-        ensures items { self.new.items ≡ self.old.items ++ e ∷ [] }
+    pub fn push(&mut self, id: OpId, after: Reference, ch: char)
+        requires room { 0 < self.old.room }
+        requires after { IsNumberBelow (length self.old.items) after }
+        ensures items { self.new.items ≡ self.old.items
+            ++ record { id = id; after = place_in self.old.items after; ch = ch } ∷ [] }
         ensures fits { length self.new.items < 2 ^ 64 }
         ensures room { self.old.room ≤ self.new.room + 1 }
     {
         if self.rising {
-            self.rising = link_next(&self.items, &mut self.latest, &mut self.links, &e.id);
-        }
-        if self.items.push(e).is_err() {
-            unreachable!()
+            let linked = link_next(&self.entries, &mut self.latest, &mut self.links, &id);
+            self.rising = linked.rising;
+            self.entries.push(id, linked.sibling, after, ch);
+        } else {
+            self.entries.push(id, None, after, ch);
         }
     }
 }

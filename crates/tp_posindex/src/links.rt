@@ -20,3 +20,12 @@ pub(crate) struct Link {
     pub jump: u32,
     pub depth: u32,
 }
+
+/// What linking the next element shows.
+#[derive(Clone, Copy)]
+pub(crate) struct Linked {
+    /// Whether its counter is greater than those of its actor's elements.
+    pub rising: bool,
+    /// The number of another element of its actor, if there is one.
+    pub sibling: Option<u32>,
+}

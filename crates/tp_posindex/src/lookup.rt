@@ -7,9 +7,9 @@ ghost use Rattle.tp_posindex.specs.Actors.{latest_at, IsPlaceOf};
 ghost use Rattle.tp_posindex.specs.Indexed.{actor_at, counter_at, link_at, IsIndexed};
 
 use crate::actors::find;
-use crate::links::{Latest, Link};
+use crate::entries::Entries;
+use crate::links::{Latest, Link, Linked};
 use tp_opid::OpId;
-use tp_rga::Insertion;
 
 /// The link of the next element of an actor, whose latest so far is `last`.
 fn link_behind(links: &[Link], last: u32) -> Link
@@ -32,21 +32,20 @@ fn link_behind(links: &[Link], last: u32) -> Link
 
 /// The next step of a look-up back from an element whose counter is too great: past elements of its actor with greater
 /// counters alone; `None` where the actor has no element before it.
-fn back(items: &[Insertion], links: &[Link], at: usize, counter: u64) -> Option<usize>
-    requires at { at < length items.now }
-    requires indexed { (latest : List Last) × IsIndexed items.now latest links.now }
+fn back(entries: &Entries, links: &[Link], at: usize, counter: u64) -> Option<usize>
+    requires at { at < length entries.now.items }
+    requires indexed { (latest : List Last) × IsIndexed entries.now.items latest links.now }
     ensures found { IfSome result
-        (λ next. (next < at) × (actor_at items.now next ≡ actor_at items.now at)
-        × ((j : ℕ) → j < at → actor_at items.now j ≡ actor_at items.now at
-        → counter_at items.now j ≤ counter → j ≤ next)) }
+        (λ next. (next < at) × (actor_at entries.now.items next ≡ actor_at entries.now.items at)
+        × ((j : ℕ) → j < at → actor_at entries.now.items j ≡ actor_at entries.now.items at
+        → counter_at entries.now.items j ≤ counter → j ≤ next)) }
     ensures none { IfNone result
-        ((j : ℕ) → j < at → actor_at items.now j ≡ actor_at items.now at → ⊥) }
+        ((j : ℕ) → j < at → actor_at entries.now.items j ≡ actor_at entries.now.items at → ⊥) }
 {
     let link = links[at];
     let jump = link.jump as usize;
     if jump < at {
-        let e = &items[jump];
-        if counter <= e.id.counter {
+        if counter <= entries.counter(jump) {
             return Some(jump);
         }
     }
@@ -56,25 +55,24 @@ fn back(items: &[Insertion], links: &[Link], at: usize, counter: u64) -> Option<
 
 /// From an element on, back over those of its actor, to the first whose counter isn't greater than one; `None` where
 /// all are.
-pub(crate) fn seek(items: &[Insertion], links: &[Link], from: usize, counter: u64) -> Option<usize>
-    requires from { from < length items.now }
-    requires indexed { (latest : List Last) × IsIndexed items.now latest links.now }
+pub(crate) fn seek(entries: &Entries, links: &[Link], from: usize, counter: u64) -> Option<usize>
+    requires from { from < length entries.now.items }
+    requires indexed { (latest : List Last) × IsIndexed entries.now.items latest links.now }
     ensures found { IfSome result
-        (λ at. (at < length items.now) × (actor_at items.now at ≡ actor_at items.now from)
-        × (counter_at items.now at ≤ counter)
-        × ((j : ℕ) → j ≤ from → actor_at items.now j ≡ actor_at items.now from
-        → counter_at items.now j ≤ counter → j ≤ at)) }
+        (λ at. (at < length entries.now.items) × (actor_at entries.now.items at ≡ actor_at entries.now.items from)
+        × (counter_at entries.now.items at ≤ counter)
+        × ((j : ℕ) → j ≤ from → actor_at entries.now.items j ≡ actor_at entries.now.items from
+        → counter_at entries.now.items j ≤ counter → j ≤ at)) }
     ensures none { IfNone result
-        ((j : ℕ) → j ≤ from → actor_at items.now j ≡ actor_at items.now from
-        → counter < counter_at items.now j) }
+        ((j : ℕ) → j ≤ from → actor_at entries.now.items j ≡ actor_at entries.now.items from
+        → counter < counter_at entries.now.items j) }
 {
     let mut at = from;
     'steps: loop {
-        let e = &items[at];
-        if e.id.counter <= counter {
+        if entries.counter(at) <= counter {
             return Some(at);
         }
-        match back(items, links, at, counter) {
+        match back(entries, links, at, counter) {
             Some(next) => at = next,
             None => return None,
         }
@@ -85,16 +83,14 @@ pub(crate) fn seek(items: &[Insertion], links: &[Link], from: usize, counter: u6
 const GUESSES: usize = 8;
 
 /// Where an element with the counter stands if the counters of the elements from `low` to `high` rise evenly.
-fn guess(items: &[Insertion], low: usize, high: usize, counter: u64) -> usize
+fn guess(entries: &Entries, low: usize, high: usize, counter: u64) -> usize
     requires low { low ≤ high }
-    requires high { high < length items.now }
+    requires high { high < length entries.now.items }
     ensures low { low ≤ result }
     ensures high { result ≤ high }
 {
-    let first = &items[low];
-    let last = &items[high];
-    let low_counter = first.id.counter;
-    let high_counter = last.id.counter;
+    let low_counter = entries.counter(low);
+    let high_counter = entries.counter(high);
     if counter <= low_counter {
         return low;
     }
@@ -109,16 +105,15 @@ fn guess(items: &[Insertion], low: usize, high: usize, counter: u64) -> usize
 /// Where, up to an element, one with the counter is likely to stand: by interpolation, as if the counters of all
 /// elements rose, which those of elements that were inserted one after another do. It looks at a few elements. The
 /// answer is a guess that the caller has to check.
-pub(crate) fn likely(items: &[Insertion], last: usize, counter: u64) -> usize
-    requires { last < length items.now }
+pub(crate) fn likely(entries: &Entries, last: usize, counter: u64) -> usize
+    requires { last < length entries.now.items }
     ensures { result ≤ last }
 {
     let mut low = 0;
     let mut high = last;
     for _ in 0..GUESSES {
-        let at = guess(items, low, high, counter);
-        let e = &items[at];
-        let found = e.id.counter;
+        let at = guess(entries, low, high, counter);
+        let found = entries.counter(at);
         if found < counter && at < high {
             low = at + 1;
         } else if counter < found && low < at {
@@ -133,31 +128,30 @@ pub(crate) fn likely(items: &[Insertion], last: usize, counter: u64) -> usize
 /// Links the next element of an actor behind its latest, which the actor's entry names, and says whether its counter is
 /// the greater. It takes no memory.
 fn link_more(
-    items: &[Insertion],
+    entries: &Entries,
     latest: &mut Vec<Latest>,
     links: &mut Vec<Link>,
     id: &OpId,
     entry: usize,
 ) -> bool
-    requires few { length items.now < 4294967295 }
+    requires few { 0 < entries.now.room }
     requires room { vec_len links.old < vec_capacity links.old }
-    requires indexed { IsIndexed items.now latest.old.items links.old.items }
+    requires indexed { IsIndexed entries.now.items latest.old.items links.old.items }
     requires entry { entry < length latest.old.items }
     requires actor { (latest_at latest.old.items entry).actor ≡ id.now.actor }
     ensures indexed { (e : Insert) → e.id ≡ id.now → result ≡ true
-        → IsIndexed (items.now ++ e ∷ []) latest.new.items links.new.items }
+        → IsIndexed (entries.now.items ++ e ∷ []) latest.new.items links.new.items }
     ensures latest_room { vec_capacity latest.old - vec_len latest.old
         ≤ vec_capacity latest.new - vec_len latest.new }
     ensures links_room { vec_capacity links.old - vec_len links.old
         ≤ vec_capacity links.new - vec_len links.new + 1 }
 {
     let last = latest[entry].number;
-    let e = &items[last as usize];
-    if id.counter <= e.id.counter {
+    if id.counter <= entries.counter(last as usize) {
         return false;
     }
     let link = link_behind(links, last);
-    latest[entry].number = items.len() as u32;
+    latest[entry].number = entries.len() as u32;
     if links.push(link).is_err() {
         unreachable!()
     }
@@ -166,25 +160,25 @@ fn link_more(
 
 /// Links an actor's first element, and puts the actor's entry in where it belongs. It takes no memory.
 fn link_first(
-    items: &[Insertion],
+    entries: &Entries,
     latest: &mut Vec<Latest>,
     links: &mut Vec<Link>,
     id: &OpId,
     entry: usize,
 )
-    requires few { length items.now < 4294967295 }
+    requires few { 0 < entries.now.room }
     requires latest_room { vec_len latest.old < vec_capacity latest.old }
     requires links_room { vec_len links.old < vec_capacity links.old }
-    requires indexed { IsIndexed items.now latest.old.items links.old.items }
+    requires indexed { IsIndexed entries.now.items latest.old.items links.old.items }
     requires entry { IsPlaceOf latest.old.items id.now.actor entry }
     ensures indexed { (e : Insert) → e.id ≡ id.now
-        → IsIndexed (items.now ++ e ∷ []) latest.new.items links.new.items }
+        → IsIndexed (entries.now.items ++ e ∷ []) latest.new.items links.new.items }
     ensures latest_room { vec_capacity latest.old - vec_len latest.old
         ≤ vec_capacity latest.new - vec_len latest.new + 1 }
     ensures links_room { vec_capacity links.old - vec_len links.old
         ≤ vec_capacity links.new - vec_len links.new + 1 }
 {
-    let number = items.len() as u32;
+    let number = entries.len() as u32;
     let first = Latest {
         actor: id.actor,
         number,
@@ -199,29 +193,38 @@ fn link_first(
     }
 }
 
-/// Links the next element behind its actor's latest, and says whether its counter is the greater. It takes no memory.
+/// Links the next element behind its actor's latest. It takes no memory.
 pub(crate) fn link_next(
-    items: &[Insertion],
+    entries: &Entries,
     latest: &mut Vec<Latest>,
     links: &mut Vec<Link>,
     id: &OpId,
-) -> bool
-    requires few { length items.now < 4294967295 }
+) -> Linked
+    requires few { 0 < entries.now.room }
     requires latest_room { vec_len latest.old < vec_capacity latest.old }
     requires links_room { vec_len links.old < vec_capacity links.old }
-    requires indexed { IsIndexed items.now latest.old.items links.old.items }
-    ensures indexed { (e : Insert) → e.id ≡ id.now → result ≡ true
-        → IsIndexed (items.now ++ e ∷ []) latest.new.items links.new.items }
+    requires indexed { IsIndexed entries.now.items latest.old.items links.old.items }
+    ensures indexed { (e : Insert) → e.id ≡ id.now → result.rising ≡ true
+        → IsIndexed (entries.now.items ++ e ∷ []) latest.new.items links.new.items }
+    ensures sibling { IfSome result.sibling
+        (λ k. (k < length entries.now.items) × (actor_at entries.now.items k ≡ id.now.actor)) }
     ensures latest_room { vec_capacity latest.old - vec_len latest.old
         ≤ vec_capacity latest.new - vec_len latest.new + 1 }
     ensures links_room { vec_capacity links.old - vec_len links.old
         ≤ vec_capacity links.new - vec_len links.new + 1 }
 {
     match find(latest, &id.actor) {
-        Ok(entry) => link_more(items, latest, links, id, entry),
+        Ok(entry) => {
+            let sibling = Some(latest[entry].number);
+            let rising = link_more(entries, latest, links, id, entry);
+            Linked { rising, sibling }
+        }
         Err(entry) => {
-            link_first(items, latest, links, id, entry);
-            true
+            link_first(entries, latest, links, id, entry);
+            Linked {
+                rising: true,
+                sibling: None,
+            }
         }
     }
 }

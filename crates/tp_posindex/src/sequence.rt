@@ -14,7 +14,7 @@ use crate::spots::spot_for;
 use std::alloc::{AllocError, Global};
 use std::marker::Model;
 use tp_opid::{OpId, Place};
-use tp_rga::{Element, Insertion, Sequence};
+use tp_rga::{Element, Sequence};
 
 /// A sequence whose elements stand in blocks of up to 128, at most 4,294,967,295 of them with the deleted ones.
 ///
@@ -111,8 +111,9 @@ impl Sequence for BlockSequence {
     fn insert(&mut self, id: OpId, after: Place, ch: char) -> Result<(), AllocError> {
         self.elements.reserve(1)?;
         self.blocks.reserve(1)?;
-        let spot = spot_for(&self.elements, &self.blocks, &id, &after);
-        self.elements.push(Insertion { id, after, ch });
+        let reference = self.elements.reference_of(&after);
+        let spot = spot_for(self.elements.entries(), &self.blocks, &id, reference);
+        self.elements.push(id, reference, ch);
         self.blocks.put(spot);
         self.left += 1;
         Ok(())
@@ -150,8 +151,8 @@ impl Sequence for BlockSequence {
     fn char_at(&self, i: usize) -> Option<char> {
         match self.blocks.nth_visible(i) {
             Some(spot) => {
-                let e = &self.elements.items()[self.blocks.number_at(spot)];
-                Some(e.ch)
+                let number = self.blocks.number_at(spot);
+                Some(self.elements.entries().ch(number))
             }
             None => None,
         }
@@ -160,8 +161,8 @@ impl Sequence for BlockSequence {
     fn id_at(&self, i: usize) -> Option<OpId> {
         match self.blocks.nth_visible(i) {
             Some(spot) => {
-                let e = &self.elements.items()[self.blocks.number_at(spot)];
-                Some(e.id)
+                let number = self.blocks.number_at(spot);
+                Some(self.elements.entries().id(number))
             }
             None => None,
         }
@@ -182,7 +183,7 @@ impl Sequence for BlockSequence {
         match self.blocks.spot_at(i) {
             Some(spot) => {
                 let number = self.blocks.number_at(spot);
-                let e = &self.elements.items()[number];
+                let e = self.elements.entries().get(number);
                 Some(Element {
                     id: e.id,
                     after: e.after,

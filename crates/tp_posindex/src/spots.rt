@@ -1,35 +1,35 @@
 //! The elements by number, and the spot where an insert goes.
 
-ghost use Rattle.tp_opid.specs.Tree.{HasReference, CanInsert};
-ghost use Rattle.std.specs.Prelude.{◌≡◌, ℕ, ◌<◌, ◌≤◌, ◌≢◌, length, take, insert, map, slice_index_or};
+ghost use Rattle.tp_opid.specs.Tree.{CanInsert};
+ghost use Rattle.std.specs.Prelude.{◌≡◌, ℕ, ◌<◌, ◌≤◌, ◌≢◌, List, length, take, insert, map, slice_index_or};
 ghost use Rattle.std.specs.List.{All, AllWithin, HoldsAt};
 ghost use Rattle.tp_opid.specs.Insert.{Insert};
 ghost use Rattle.tp_opid.specs.Order.{Below};
 ghost use Rattle.tp_rga.specs.Order.{EndsAt, IsInserted};
 ghost use Rattle.tp_posindex.specs.Layout.{joined, index_at, IsGap};
-ghost use Rattle.tp_posindex.specs.Laid.{IsNumbered};
 ghost use Rattle.tp_posindex.specs.Blocked.{element_at};
+ghost use Rattle.tp_posindex.specs.Entered.{IsNumberBelow, place_in};
 
 use crate::blocks::{Blocks, Spot};
-use crate::elements::Elements;
-use tp_opid::{OpId, Place};
-use tp_rga::Insertion;
+use crate::entries::Entries;
+use crate::entry::Reference;
+use tp_opid::OpId;
 
 /// From an offset of a block on, past each element with a greater identifier, up to the first that has none or to the
 /// block's end.
-fn past_greater_in(elements: &[Insertion], numbers: &[u32], from: usize, id: &OpId) -> usize
+fn past_greater_in(entries: &Entries, numbers: &[u32], from: usize, id: &OpId) -> usize
     requires from { from ≤ length numbers.now }
-    requires numbers { All (λ k. k < length elements.now) numbers.now }
+    requires numbers { All (λ k. k < length entries.now.items) numbers.now }
     ensures from { from ≤ result }
     ensures within { result ≤ length numbers.now }
     ensures passed { AllWithin
-        (λ k. Below id.now (element_at elements.now k).id) numbers.now from result }
+        (λ k. Below id.now (element_at entries.now.items k).id) numbers.now from result }
     ensures stops { result < length numbers.now
-        → HoldsAt (λ k. ¬ Below id.now (element_at elements.now k).id) numbers.now result }
+        → HoldsAt (λ k. ¬ Below id.now (element_at entries.now.items k).id) numbers.now result }
 {
     for offset in from..numbers.len() {
-        let e = &elements[numbers[offset] as usize];
-        if !id.is_below(&e.id) {
+        let other = entries.id(numbers[offset] as usize);
+        if !id.is_below(&other) {
             return offset;
         }
     }
@@ -37,26 +37,26 @@ fn past_greater_in(elements: &[Insertion], numbers: &[u32], from: usize, id: &Op
 }
 
 /// From a spot on, past each element with a greater identifier, up to the first that has none or to the end.
-fn past_greater(elements: &[Insertion], blocks: &Blocks, from: Spot, id: &OpId) -> Spot
+fn past_greater(entries: &Entries, blocks: &Blocks, from: Spot, id: &OpId) -> Spot
     requires from { IsGap blocks.now.blocks from.block from.offset }
-    requires matched { length blocks.now.flags ≡ length elements.now }
+    requires matched { length blocks.now.flags ≡ length entries.now.items }
     ensures gap { IsGap blocks.now.blocks result.block result.offset }
     ensures from { index_at blocks.now.blocks from.block from.offset
         ≤ index_at blocks.now.blocks result.block result.offset }
     ensures within { index_at blocks.now.blocks result.block result.offset
         ≤ length (joined blocks.now.blocks) }
     ensures passed { AllWithin
-        (λ k. Below id.now (element_at elements.now k).id) (joined blocks.now.blocks)
+        (λ k. Below id.now (element_at entries.now.items k).id) (joined blocks.now.blocks)
         (index_at blocks.now.blocks from.block from.offset) (index_at blocks.now.blocks result.block result.offset) }
     ensures stops { index_at blocks.now.blocks result.block result.offset
         < length (joined blocks.now.blocks)
-        → HoldsAt (λ k. ¬ Below id.now (element_at elements.now k).id) (joined blocks.now.blocks)
+        → HoldsAt (λ k. ¬ Below id.now (element_at entries.now.items k).id) (joined blocks.now.blocks)
         (index_at blocks.now.blocks result.block result.offset) }
 {
     let mut offset = from.offset;
     for block in from.block..blocks.count() {
         let numbers = blocks.block(block);
-        let stop = past_greater_in(elements, numbers, offset, id);
+        let stop = past_greater_in(entries, numbers, offset, id);
         if stop < numbers.len() {
             return Spot {
                 block,
@@ -68,50 +68,39 @@ fn past_greater(elements: &[Insertion], blocks: &Blocks, from: Spot, id: &OpId) 
     blocks.end()
 }
 
-/// Right after a reference: at the start, or behind the element that it names.
-fn right_after(elements: &Elements, blocks: &Blocks, place: &Place) -> Spot
-    requires matched { length blocks.now.flags ≡ length elements.now.items }
-    requires numbered { IsNumbered (length elements.now.items) (joined blocks.now.blocks) }
-    requires place { HasReference
-        (map (element_at elements.now.items) (joined blocks.now.blocks)) place.now }
+/// Right after a reference: at the start, or behind the element with the number.
+fn right_after(blocks: &Blocks, reference: Reference) -> Spot
+    requires { IsNumberBelow (length blocks.now.flags) reference }
     ensures gap { IsGap blocks.now.blocks result.block result.offset }
-    ensures ends { EndsAt (take (index_at blocks.now.blocks result.block result.offset)
-        (map (element_at elements.now.items) (joined blocks.now.blocks))) place.now }
+    ensures ends { (E : List Insert) → EndsAt (take (index_at blocks.now.blocks result.block result.offset)
+        (map (element_at E) (joined blocks.now.blocks))) (place_in E reference) }
 {
-    match place {
-        Place::Start => Spot {
+    match reference {
+        Reference::Start => Spot {
             block: 0,
             offset: 0,
         },
-        Place::After(reference) => match elements.number_of(reference) {
-            Some(number) => {
-                let spot = blocks.spot_of(number);
-                Spot {
-                    block: spot.block,
-                    offset: spot.offset + 1,
-                }
+        Reference::After(number) => {
+            let spot = blocks.spot_of(number as usize);
+            Spot {
+                block: spot.block,
+                offset: spot.offset + 1,
             }
-            None => unreachable!(),
-        },
+        }
     }
 }
 
 /// The spot where an insert goes: right after its reference, past each element with a greater identifier.
-pub(crate) fn spot_for(elements: &Elements, blocks: &Blocks, id: &OpId, after: &Place) -> Spot
-    requires matched { length blocks.now.flags ≡ length elements.now.items }
-    requires numbered { IsNumbered (length elements.now.items) (joined blocks.now.blocks) }
-    requires can { CanInsert (map (element_at elements.now.items)
-        (joined blocks.now.blocks)) id.now after.now }
+pub(crate) fn spot_for(entries: &Entries, blocks: &Blocks, id: &OpId, reference: Reference) -> Spot
+    requires matched { length blocks.now.flags ≡ length entries.now.items }
+    requires reference { IsNumberBelow (length entries.now.items) reference }
+    requires can { CanInsert (map (element_at entries.now.items)
+        (joined blocks.now.blocks)) id.now (place_in entries.now.items reference) }
     ensures gap { IsGap blocks.now.blocks result.block result.offset }
-    ensures order { (ch : ℕ) → let x : Insert = record { id = id.now; after = after.now; ch = ch }
+    ensures order { (ch : ℕ) → let x : Insert = record { id = id.now; after = place_in entries.now.items reference; ch = ch }
         in
-        let placed = map (element_at elements.now.items) (joined blocks.now.blocks) in
+        let placed = map (element_at entries.now.items) (joined blocks.now.blocks) in
         IsInserted placed (insert placed (index_at blocks.now.blocks result.block result.offset) x) x }
 {
-    past_greater(
-        elements.items(),
-        blocks,
-        right_after(elements, blocks, after),
-        id,
-    )
+    past_greater(entries, blocks, right_after(blocks, reference), id)
 }

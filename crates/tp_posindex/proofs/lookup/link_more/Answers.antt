@@ -1,20 +1,18 @@
 use Rattle.tp_list.proofs.Members.{In-get_or}
-use Rattle.std.proofs.Common.{◌≡◌, ◌⊎◌, ◌<◌, get_or, set, List, [], true, not, length, map, sym, ◌∙◌, ap, arith, subst}
+use Rattle.std.proofs.Common.{◌≡◌, ◌⊎◌, ◌<◌, set, List, [], true, not, length, map, sym, ◌∙◌, ap, arith, subst}
 use Rattle.std.specs.Result.{is_ok}
 use Rattle.tp_opid.specs.declared.op_id.OpId.{OpId}
-use Rattle.tp_opid.specs.Insert.{Insert}
 use Rattle.tp_posindex.specs.declared.links.Latest.{Latest}
 use Rattle.tp_posindex.specs.declared.links.Link.{Link}
 use Rattle.tp_posindex.specs.Actors.{latest_at}
 use Rattle.tp_posindex.specs.Indexed.{noted, counter_at, link_at}
-use Rattle.tp_posindex.specs.Blocked.{blank}
 use Rattle.tp_posindex.proofs.Laying.{get_or-any}
 use Rattle.tp_posindex.proofs.ByActor.{set-noted}
 use Rattle.tp_posindex.proofs.Linking.{IsIndexed-more}
 use Rattle.tp_posindex.proofs.lookup.link_more.Goals as goal
 
-pub bounds-items-last : goal.bounds-items-last
-bounds-items-last c =
+pub counter-requires : goal.counter-requires
+counter-requires c =
     let latest = c.args.latest.now.items in
     let x = latest_at latest c.args.entry in
     let d : Latest = record { actor = record { 0 = [] }; number = 0 } in
@@ -36,7 +34,7 @@ link_behind-link-requires-clause-last c =
 
 pub returns-clause-indexed : goal.returns-clause-indexed
 returns-clause-indexed c = λ e is ok.
-    let E = c.args.items.now in
+    let E = c.args.entries.now.items in
     let latest = c.args.latest.now.items in
     let x = latest_at latest c.args.entry in
     let d : Latest = record { actor = record { 0 = [] }; number = 0 } in
@@ -46,13 +44,13 @@ returns-clause-indexed c = λ e is ok.
     let at : c.index.result.now.number ≡ x.number = ap (λ (w : Latest). w.number) read in
     let by : x.actor ≡ e.id.actor = c.requires.actor ∙ sym (ap (λ (w : OpId). w.actor) is) in
     let there = c.requires.indexed.there x inside in
-    let held : c.e.inside.id.counter ≡ counter_at E x.number = ap (λ (w : Insert). w.id.counter) (c.e.view_is ∙ c.index-items-last.is ∙ ap (λ n. get_or E n c.index-items-last.result) at ∙ get_or-any E x.number c.index-items-last.result blank there.0) in
+    let held : c.counter.result ≡ counter_at E x.number = c.counter.ensures ∙ ap (counter_at E) at in
     let same_counter : c.args.id.now.counter ≡ e.id.counter = sym (ap (λ (w : OpId). w.counter) is) in
-    let greater : counter_at E x.number < e.id.counter = omega (arith, held, same_counter, c.if-id-e.false) in
+    let greater : counter_at E x.number < e.id.counter = omega (arith, held, same_counter, c.if-id-counter.false) in
     let pushed : is_ok c.push.result ≡ true = c.is_err.ensures.negation ∙ ap not c.if-is_err.false in
     let links_is = rw pushed at c.push.ensures.items in
-    let y : Latest = record { actor = c.index_mut.result.now.actor; number = length E } in
-    let y_is : y ≡ record { actor = x.actor; number = length E } = ap (λ (w : Latest). let z : Latest = record { actor = w.actor; number = length E } in z) written in
+    let y : Latest = record { actor = c.index_mut.result.now.actor; number = c.len.result } in
+    let y_is : y ≡ record { actor = x.actor; number = length E } = ap (λ (w : Latest). let z : Latest = record { actor = w.actor; number = c.len.result } in z) written ∙ ap (λ n. let z : Latest = record { actor = x.actor; number = n } in z) c.len.ensures.value in
     let latest_is : set latest c.args.entry y ≡ map (noted e.id.actor (length E)) latest = set-noted latest c.args.entry e.id.actor (length E) y c.requires.indexed.sorted c.requires.entry by y_is in
     let links : c.deref.result.now ≡ c.args.links.now.items = c.deref.ensures.value in
     let before : c.link_behind-link.result.before ≡ x.number = c.link_behind-link.ensures.before ∙ at in

@@ -9,7 +9,7 @@ use Rattle.tp_posindex.proofs.spots.past_greater.Goals as goal
 
 pub loop-block-init : goal.loop-block-init
 loop-block-init c =
-    let P : ℕ → Type 0 = λ k. Below c.args.id.now (element_at c.args.elements.now k).id in
+    let P : ℕ → Type 0 = λ k. Below c.args.id.now (element_at c.args.entries.now.items k).id in
     let bs = c.args.blocks.now.blocks in
     ((λ lt. c.requires.from.offset_in), omega arith, AllWithin-empty P (joined bs) (index_at bs c.args.from.block c.args.from.offset))
 
@@ -41,7 +41,7 @@ returns-then-stop-numbers-clause-passed c =
     let stop = c.past_greater_in-stop.result in
     let lt : p < length bs = omega (arith, c.count-block-end.ensures.count) in
     let size : length c.block-numbers.result.now ≡ length (block_at bs p) = ap (λ (z : List ℕ). length z) c.block-numbers.ensures.value in
-    let P : ℕ → Type 0 = λ k. Below c.args.id.now (element_at c.args.elements.now k).id in
+    let P : ℕ → Type 0 = λ k. Below c.args.id.now (element_at c.args.entries.now.items k).id in
     let passed : AllWithin P (block_at bs p) c.loop-block.offset stop = subst (λ (z : List ℕ). AllWithin P z c.loop-block.offset stop) c.block-numbers.ensures.value c.past_greater_in-stop.ensures.passed in
     let here = AllWithin-joined P bs p c.loop-block.offset stop lt (omega (arith, size, c.past_greater_in-stop.ensures.within)) passed in
     let all = AllWithin-join P (joined bs) (index_at bs c.args.from.block c.args.from.offset) (index_at bs p c.loop-block.offset) (index_at bs p stop) c.loop-block.invariant.2 here in
@@ -54,7 +54,7 @@ returns-then-stop-numbers-clause-stops c =
     let stop = c.past_greater_in-stop.result in
     let lt : p < length bs = omega (arith, c.count-block-end.ensures.count) in
     let size : length c.block-numbers.result.now ≡ length (block_at bs p) = ap (λ (z : List ℕ). length z) c.block-numbers.ensures.value in
-    let Q : ℕ → Type 0 = λ k. Below c.args.id.now (element_at c.args.elements.now k).id → ⊥ in
+    let Q : ℕ → Type 0 = λ k. Below c.args.id.now (element_at c.args.entries.now.items k).id → ⊥ in
     let held : HoldsAt Q (block_at bs p) stop = subst (λ (z : List ℕ). HoldsAt Q z stop) c.block-numbers.ensures.value (c.past_greater_in-stop.ensures.stops c.if-stop-numbers.true) in
     let at = HoldsAt-joined Q bs p stop lt (omega (arith, size, c.if-stop-numbers.true)) held in
     λ short. at
@@ -66,7 +66,7 @@ loop-block-preserved c =
     let stop = c.past_greater_in-stop.result in
     let lt : p < length bs = omega (arith, c.count-block-end.ensures.count) in
     let size : length c.block-numbers.result.now ≡ length (block_at bs p) = ap (λ (z : List ℕ). length z) c.block-numbers.ensures.value in
-    let P : ℕ → Type 0 = λ k. Below c.args.id.now (element_at c.args.elements.now k).id in
+    let P : ℕ → Type 0 = λ k. Below c.args.id.now (element_at c.args.entries.now.items k).id in
     let passed : AllWithin P (block_at bs p) c.loop-block.offset stop = subst (λ (z : List ℕ). AllWithin P z c.loop-block.offset stop) c.block-numbers.ensures.value c.past_greater_in-stop.ensures.passed in
     let here = AllWithin-joined P bs p c.loop-block.offset stop lt (omega (arith, size, c.past_greater_in-stop.ensures.within)) passed in
     let all = AllWithin-join P (joined bs) (index_at bs c.args.from.block c.args.from.offset) (index_at bs p c.loop-block.offset) (index_at bs p stop) c.loop-block.invariant.2 here in
@@ -85,7 +85,7 @@ returns-clause-from c =
 
 pub returns-clause-passed : goal.returns-clause-passed
 returns-clause-passed c =
-    let P : ℕ → Type 0 = λ k. Below c.args.id.now (element_at c.args.elements.now k).id in
+    let P : ℕ → Type 0 = λ k. Below c.args.id.now (element_at c.args.entries.now.items k).id in
     let bs = c.args.blocks.now.blocks in
     let past = index_at-past bs c.loop-block.block c.loop-block.offset (omega (arith, c.count-block-end.ensures.count)) in
     AllWithin-prefix P (joined bs) (index_at bs c.args.from.block c.args.from.offset) (index_at bs c.loop-block.block c.loop-block.offset) (index_at bs c.end.result.block c.end.result.offset) (omega (arith, past, c.end.ensures.end)) c.loop-block.invariant.2

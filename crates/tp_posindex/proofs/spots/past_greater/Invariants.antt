@@ -7,4 +7,4 @@ use Rattle.tp_posindex.proofs.spots.past_greater.Given as goal
 
 -- what was passed is above the identifier
 abbrev pub invariant-loop-block : goal.invariant-loop-block
-invariant-loop-block l = (l.block < length l.blocks.blocks → l.offset ≤ length (block_at l.blocks.blocks l.block)) × (index_at l.blocks.blocks l.fn.from.block l.fn.from.offset ≤ index_at l.blocks.blocks l.block l.offset) × AllWithin (λ k. Below l.id (element_at l.elements k).id) (joined l.blocks.blocks) (index_at l.blocks.blocks l.fn.from.block l.fn.from.offset) (index_at l.blocks.blocks l.block l.offset)
+invariant-loop-block l = (l.block < length l.blocks.blocks → l.offset ≤ length (block_at l.blocks.blocks l.block)) × (index_at l.blocks.blocks l.fn.from.block l.fn.from.offset ≤ index_at l.blocks.blocks l.block l.offset) × AllWithin (λ k. Below l.id (element_at l.entries.items k).id) (joined l.blocks.blocks) (index_at l.blocks.blocks l.fn.from.block l.fn.from.offset) (index_at l.blocks.blocks l.block l.offset)

@@ -5,4 +5,4 @@ use Rattle.tp_posindex.proofs.spots.past_greater_in.Given as goal
 
 -- what was passed is above the identifier
 abbrev pub invariant-loop-offset : goal.invariant-loop-offset
-invariant-loop-offset l = AllWithin (λ k. Below l.id (element_at l.elements k).id) l.numbers l.from l.offset
+invariant-loop-offset l = AllWithin (λ k. Below l.id (element_at l.entries.items k).id) l.numbers l.from l.offset

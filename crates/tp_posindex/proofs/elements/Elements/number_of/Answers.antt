@@ -1,12 +1,11 @@
-use Rattle.std.proofs.Common.{◌≡◌, ◌<◌, ◌≤◌, ℕ, List, true, length, position, sym, ◌∙◌, ap, arith, subst}
+use Rattle.std.proofs.Common.{◌≡◌, ◌<◌, List, true, length, position, sym, ◌∙◌, ap, arith, subst}
 use Rattle.tp_opid.specs.Insert.{Insert}
 use Rattle.tp_opid.specs.Same.{id_eq}
 use Rattle.tp_posindex.specs.declared.links.Latest.{Latest}
-use Rattle.tp_posindex.specs.Blocked.{blank, element_at}
+use Rattle.tp_posindex.specs.Blocked.{element_at}
 use Rattle.tp_posindex.specs.Came.{Came}
 use Rattle.tp_posindex.specs.Actors.{latest_at, IsPlaceOf}
-use Rattle.tp_posindex.specs.Indexed.{actor_at, counter_at}
-use Rattle.tp_posindex.proofs.Laying.{get_or-any}
+use Rattle.tp_posindex.specs.Indexed.{counter_at}
 use Rattle.tp_posindex.proofs.Linking.{entry_read, look_nobody, look_above, look_found, look_below, look_guessed}
 use Rattle.tp_posindex.proofs.elements.Elements.number_of.Goals as goal
 
@@ -15,96 +14,93 @@ returns-in_default c =
     let s = c.self.inside in
     let id = c.args.id.now in
     let kept = c.self.invariant c.if-not-self.false in
-    let place = subst (λ (z : List Latest). IsPlaceOf z id.actor c.in_default.field-0) c.deref-2.ensures.value c.in_default.ensures.none in
-    sym (look_nobody s.items.items s.latest.items s.links.items id c.in_default.field-0 kept place) ∙ ap (λ (v : Came). position (λ (e : Insert). id_eq e.id id) v.items) c.self.view_is
+    let place = subst (λ (z : List Latest). IsPlaceOf z id.actor c.in_default.field-0) c.deref.ensures.value c.in_default.ensures.none in
+    sym (look_nobody s.entries.items s.latest.items s.links.items id c.in_default.field-0 kept place) ∙ ap (λ (v : Came). position (λ (e : Insert). id_eq e.id id) v.items) c.self.view_is
 
 pub likely-at-requires : goal.likely-at-requires
 likely-at-requires c =
     let s = c.self.inside in
-    let E = s.items.items in
+    let E = s.entries.items in
     let id = c.args.id.now in
     let kept = c.self.invariant c.if-not-self.false in
     let x = c.index.result.now in
-    let found = subst (λ (z : List Latest). (c.in-Ok.entry < length z) × ((latest_at z c.in-Ok.entry).actor ≡ id.actor)) c.deref-2.ensures.value c.in-Ok.ensures.found in
+    let found = subst (λ (z : List Latest). (c.in-Ok.entry < length z) × ((latest_at z c.in-Ok.entry).actor ≡ id.actor)) c.deref.ensures.value c.in-Ok.ensures.found in
     let entry = entry_read E s.latest.items s.links.items c.in-Ok.entry id.actor x kept found c.index.ensures in
-    let size = ap (λ (z : List Insert). length z) c.deref-3.ensures.value in
-    omega (arith, entry.2, size)
+    omega (arith, entry.2)
 
-pub index-e-requires : goal.index-e-requires
-index-e-requires c =
+pub id-requires : goal.id-requires
+id-requires c =
     let s = c.self.inside in
-    let E = s.items.items in
+    let E = s.entries.items in
     let id = c.args.id.now in
     let kept = c.self.invariant c.if-not-self.false in
     let x = c.index.result.now in
-    let found = subst (λ (z : List Latest). (c.in-Ok.entry < length z) × ((latest_at z c.in-Ok.entry).actor ≡ id.actor)) c.deref-2.ensures.value c.in-Ok.ensures.found in
+    let found = subst (λ (z : List Latest). (c.in-Ok.entry < length z) × ((latest_at z c.in-Ok.entry).actor ≡ id.actor)) c.deref.ensures.value c.in-Ok.ensures.found in
     let entry = entry_read E s.latest.items s.links.items c.in-Ok.entry id.actor x kept found c.index.ensures in
     omega (arith, entry.2, c.likely-at.ensures)
 
 pub returns-then-is : goal.returns-then-is
 returns-then-is c =
     let s = c.self.inside in
-    let E = s.items.items in
+    let E = s.entries.items in
     let id = c.args.id.now in
     let kept = c.self.invariant c.if-not-self.false in
     let x = c.index.result.now in
-    let found = subst (λ (z : List Latest). (c.in-Ok.entry < length z) × ((latest_at z c.in-Ok.entry).actor ≡ id.actor)) c.deref-2.ensures.value c.in-Ok.ensures.found in
+    let found = subst (λ (z : List Latest). (c.in-Ok.entry < length z) × ((latest_at z c.in-Ok.entry).actor ≡ id.actor)) c.deref.ensures.value c.in-Ok.ensures.found in
     let entry = entry_read E s.latest.items s.links.items c.in-Ok.entry id.actor x kept found c.index.ensures in
     let at = c.likely-at.result in
     let within : at < length E = omega (arith, entry.2, c.likely-at.ensures) in
-    let read : c.index-e.result.now ≡ element_at E at = c.index-e.ensures ∙ get_or-any E at c.index-e.result.now blank within in
-    let named : id_eq (element_at E at).id id ≡ true = sym (ap (λ (w : Insert). id_eq w.id id) (c.e.view_is ∙ read)) ∙ sym c.is.ensures ∙ c.if-is.true in
+    let named : id_eq (element_at E at).id id ≡ true = sym (ap (λ i. id_eq i id) c.id.ensures) ∙ sym c.is.ensures ∙ c.if-is.true in
     sym (look_guessed E s.latest.items s.links.items id at kept within named) ∙ ap (λ (v : Came). position (λ (e : Insert). id_eq e.id id) v.items) c.self.view_is
 
 pub seek-requires-clause-from : goal.seek-requires-clause-from
 seek-requires-clause-from c =
     let s = c.self.inside in
-    let E = s.items.items in
+    let E = s.entries.items in
     let id = c.args.id.now in
     let kept = c.self.invariant c.if-not-self.false in
     let x = c.index.result.now in
-    let found = subst (λ (z : List Latest). (c.in-Ok.entry < length z) × ((latest_at z c.in-Ok.entry).actor ≡ id.actor)) c.deref-2.ensures.value c.in-Ok.ensures.found in
+    let found = subst (λ (z : List Latest). (c.in-Ok.entry < length z) × ((latest_at z c.in-Ok.entry).actor ≡ id.actor)) c.deref.ensures.value c.in-Ok.ensures.found in
     let entry = entry_read E s.latest.items s.links.items c.in-Ok.entry id.actor x kept found c.index.ensures in
-    let size = ap (λ (z : List Insert). length z) c.deref-4.ensures.value in
-    omega (arith, entry.2, size)
+    omega (arith, entry.2)
 
 pub returns-in_err-at : goal.returns-in_err-at
 returns-in_err-at c =
     let s = c.self.inside in
-    let E = s.items.items in
+    let E = s.entries.items in
     let id = c.args.id.now in
     let kept = c.self.invariant c.if-not-self.false in
     let x = c.index.result.now in
-    let found = subst (λ (z : List Latest). (c.in-Ok.entry < length z) × ((latest_at z c.in-Ok.entry).actor ≡ id.actor)) c.deref-2.ensures.value c.in-Ok.ensures.found in
+    let found = subst (λ (z : List Latest). (c.in-Ok.entry < length z) × ((latest_at z c.in-Ok.entry).actor ≡ id.actor)) c.deref.ensures.value c.in-Ok.ensures.found in
     let entry = entry_read E s.latest.items s.links.items c.in-Ok.entry id.actor x kept found c.index.ensures in
-    let greater = subst (λ (z : List Insert). (j : ℕ) → j ≤ x.number → actor_at z j ≡ actor_at z x.number → id.counter < counter_at z j) c.deref-4.ensures.value c.in_err-at.ensures.none in
+    let greater = c.in_err-at.ensures.none in
     c.from_residual.ensures ∙ sym (look_above E s.latest.items s.links.items id x kept entry.0 entry.1 greater) ∙ ap (λ (v : Came). position (λ (e : Insert). id_eq e.id id) v.items) c.self.view_is
 
-pub returns-then-e-id : goal.returns-then-e-id
-returns-then-e-id c =
+pub returns-then-counter-id : goal.returns-then-counter-id
+returns-then-counter-id c =
     let s = c.self.inside in
-    let E = s.items.items in
+    let E = s.entries.items in
     let id = c.args.id.now in
     let kept = c.self.invariant c.if-not-self.false in
     let x = c.index.result.now in
-    let found = subst (λ (z : List Latest). (c.in-Ok.entry < length z) × ((latest_at z c.in-Ok.entry).actor ≡ id.actor)) c.deref-2.ensures.value c.in-Ok.ensures.found in
+    let found = subst (λ (z : List Latest). (c.in-Ok.entry < length z) × ((latest_at z c.in-Ok.entry).actor ≡ id.actor)) c.deref.ensures.value c.in-Ok.ensures.found in
     let entry = entry_read E s.latest.items s.links.items c.in-Ok.entry id.actor x kept found c.index.ensures in
-    let seen = subst (λ (z : List Insert). (c.in_ok-at.at < length z) × (actor_at z c.in_ok-at.at ≡ actor_at z x.number) × (counter_at z c.in_ok-at.at ≤ id.counter) × ((j : ℕ) → j ≤ x.number → actor_at z j ≡ actor_at z x.number → counter_at z j ≤ id.counter → j ≤ c.in_ok-at.at)) c.deref-4.ensures.value c.in_ok-at.ensures.found in
-    let read : c.e-2.inside.id.counter ≡ counter_at E c.in_ok-at.at = ap (λ (w : Insert). w.id.counter) (c.e-2.view_is ∙ c.index-e-2.ensures ∙ get_or-any E c.in_ok-at.at c.index-e-2.result.now blank seen.0) in
-    sym (look_found E s.latest.items s.links.items id x c.in_ok-at.at kept entry.0 entry.1 seen.0 seen.1 (sym read ∙ c.if-e-id.true)) ∙ ap (λ (v : Came). position (λ (e : Insert). id_eq e.id id) v.items) c.self.view_is
+    let seen = c.in_ok-at.ensures.found in
+    let read : c.counter.result ≡ counter_at E c.in_ok-at.at = c.counter.ensures in
+    sym (look_found E s.latest.items s.links.items id x c.in_ok-at.at kept entry.0 entry.1 seen.0 seen.1 (sym read ∙ c.if-counter-id.true)) ∙ ap (λ (v : Came). position (λ (e : Insert). id_eq e.id id) v.items) c.self.view_is
 
-pub returns-else-e-id : goal.returns-else-e-id
-returns-else-e-id c =
+pub returns-else-counter-id : goal.returns-else-counter-id
+returns-else-counter-id c =
     let s = c.self.inside in
-    let E = s.items.items in
+    let E = s.entries.items in
     let id = c.args.id.now in
     let kept = c.self.invariant c.if-not-self.false in
     let x = c.index.result.now in
-    let found = subst (λ (z : List Latest). (c.in-Ok.entry < length z) × ((latest_at z c.in-Ok.entry).actor ≡ id.actor)) c.deref-2.ensures.value c.in-Ok.ensures.found in
+    let found = subst (λ (z : List Latest). (c.in-Ok.entry < length z) × ((latest_at z c.in-Ok.entry).actor ≡ id.actor)) c.deref.ensures.value c.in-Ok.ensures.found in
     let entry = entry_read E s.latest.items s.links.items c.in-Ok.entry id.actor x kept found c.index.ensures in
-    let seen = subst (λ (z : List Insert). (c.in_ok-at.at < length z) × (actor_at z c.in_ok-at.at ≡ actor_at z x.number) × (counter_at z c.in_ok-at.at ≤ id.counter) × ((j : ℕ) → j ≤ x.number → actor_at z j ≡ actor_at z x.number → counter_at z j ≤ id.counter → j ≤ c.in_ok-at.at)) c.deref-4.ensures.value c.in_ok-at.ensures.found in
-    let read : c.e-2.inside.id.counter ≡ counter_at E c.in_ok-at.at = ap (λ (w : Insert). w.id.counter) (c.e-2.view_is ∙ c.index-e-2.ensures ∙ get_or-any E c.in_ok-at.at c.index-e-2.result.now blank seen.0) in
+    let seen = c.in_ok-at.ensures.found in
+    let read : c.counter.result ≡ counter_at E c.in_ok-at.at = c.counter.ensures in
     let small = seen.2 in
-    let apart = c.if-e-id.false in
+    let apart = c.if-counter-id.false in
     let less : counter_at E c.in_ok-at.at < id.counter = omega (arith, read) in
     sym (look_below E s.latest.items s.links.items id x c.in_ok-at.at kept entry.0 entry.1 seen.0 seen.1 less seen.3) ∙ ap (λ (v : Came). position (λ (e : Insert). id_eq e.id id) v.items) c.self.view_is

@@ -8,6 +8,10 @@ use Rattle.tp_posindex.specs.Layout.{joined, index_at}
 use Rattle.tp_posindex.specs.Laid.{flags_of}
 use Rattle.tp_posindex.specs.BlockState.{BlockState}
 use Rattle.tp_posindex.specs.Blocked.{element_at, pieces}
+use Rattle.tp_opid.specs.declared.op_id.Place.{Place}
+use Rattle.tp_posindex.specs.Entered.{place_in}
+use Rattle.tp_posindex.proofs.Entering.{pushed_is}
+use Rattle.tp_posindex.proofs.Seeking.{reference_there}
 use Rattle.tp_posindex.proofs.Sequencing.{placed_is, placed_insert, IsBlocked-insert}
 use Rattle.tp_posindex.proofs.sequence.BlockSequenceSequence.insert.Goals as goal
 
@@ -18,7 +22,16 @@ spot_for-spot-requires-clause-can c =
     let bs = s.blocks.blocks in
     let placed : List Insert = map (element_at E) (joined bs) in
     let seen : joined c.args.self.now.blocks ≡ placed = sym (ap (λ (v : BlockState). joined v.blocks) c.self.view_is) ∙ placed_is E bs in
-    rw (c.reserve.ensures.items, c.reserve-2.ensures.blocks) (subst (λ z. CanInsert z c.args.id c.args.after) seen c.requires)
+    subst (λ (F : List Insert). CanInsert (map (element_at F) (joined c.reserve-2.new.self.blocks)) c.args.id (place_in F c.reference_of-reference.result)) (sym c.entries.ensures) (subst (λ (p : Place). CanInsert (map (element_at c.reserve.new.self.items) (joined c.reserve-2.new.self.blocks)) c.args.id p) (sym c.reference_of-reference.ensures.place) (rw (c.reserve.ensures.items, c.reserve-2.ensures.blocks) (subst (λ z. CanInsert z c.args.id c.args.after) seen c.requires)))
+
+pub reference_of-reference-requires : goal.reference_of-reference-requires
+reference_of-reference-requires c =
+    let s = c.self.inside in
+    let E = s.elements.items in
+    let bs = s.blocks.blocks in
+    let placed : List Insert = map (element_at E) (joined bs) in
+    let seen : joined c.args.self.now.blocks ≡ placed = sym (ap (λ (v : BlockState). joined v.blocks) c.self.view_is) ∙ placed_is E bs in
+    rw c.reserve.ensures.items (reference_there E (joined bs) c.args.id c.args.after c.self.invariant.numbered.below (subst (λ z. CanInsert z c.args.id c.args.after) seen c.requires))
 
 pub overflow_add-self : goal.overflow_add-self
 overflow_add-self c =
@@ -31,7 +44,7 @@ overflow_add-self c =
     let size = length-map (joined bs) (element_at E) in
     let many = c.self.invariant.numbered.many in
     let x : Insert = record { id = c.args.id; after = c.args.after; ch = c.args.ch } in
-    let more : length c.push.new.self.items ≡ length E + 1 = ap (λ (z : List Insert). length z) (c.push.ensures.items ∙ ap (λ (z : List Insert). z ++ x ∷ []) c.reserve.ensures.items) ∙ length-append E (x ∷ []) in
+    let more : length c.push.new.self.items ≡ length E + 1 = ap (λ (z : List Insert). length z) (pushed_is c.reserve.new.self.items E c.args.id c.args.after c.reference_of-reference.result c.args.ch c.push.new.self.items c.reserve.ensures.items c.reference_of-reference.ensures.place c.push.ensures.items) ∙ length-append E (x ∷ []) in
     omega (arith, le, size, many, more, c.push.ensures.fits)
 
 pub invariant_of-self-2 : goal.invariant_of-self-2
@@ -43,7 +56,7 @@ invariant_of-self-2 c =
     let seen : joined c.args.self.now.blocks ≡ placed = sym (ap (λ (v : BlockState). joined v.blocks) c.self.view_is) ∙ placed_is E bs in
     let x : Insert = record { id = c.args.id; after = c.args.after; ch = c.args.ch } in
     let G = index_at c.reserve-2.new.self.blocks c.spot_for-spot.result.block c.spot_for-spot.result.offset in
-    let items_is : c.push.new.self.items ≡ E ++ x ∷ [] = c.push.ensures.items ∙ ap (λ (z : List Insert). z ++ x ∷ []) c.reserve.ensures.items in
+    let items_is : c.push.new.self.items ≡ E ++ x ∷ [] = pushed_is c.reserve.new.self.items E c.args.id c.args.after c.reference_of-reference.result c.args.ch c.push.new.self.items c.reserve.ensures.items c.reference_of-reference.ensures.place c.push.ensures.items in
     let whole : joined c.put.new.self.blocks ≡ insert (joined bs) G (length s.blocks.flags) =
     c.put.ensures.joined ∙ ap (λ (z : List (List ℕ)). insert (joined z) G (length c.reserve-2.new.self.flags)) c.reserve-2.ensures.blocks ∙ ap (λ (z : List Bool). insert (joined bs) G (length z)) c.reserve-2.ensures.flags in
     let new : IsNew placed c.args.id = subst (λ z. IsNew z c.args.id) seen c.requires.new in
@@ -59,10 +72,16 @@ returns-clause-ok c =
     let seen : joined c.args.self.now.blocks ≡ placed = sym (ap (λ (v : BlockState). joined v.blocks) c.self.view_is) ∙ placed_is E bs in
     let x : Insert = record { id = c.args.id; after = c.args.after; ch = c.args.ch } in
     let G = index_at c.reserve-2.new.self.blocks c.spot_for-spot.result.block c.spot_for-spot.result.offset in
-    let items_is : c.push.new.self.items ≡ E ++ x ∷ [] = c.push.ensures.items ∙ ap (λ (z : List Insert). z ++ x ∷ []) c.reserve.ensures.items in
+    let items_is : c.push.new.self.items ≡ E ++ x ∷ [] = pushed_is c.reserve.new.self.items E c.args.id c.args.after c.reference_of-reference.result c.args.ch c.push.new.self.items c.reserve.ensures.items c.reference_of-reference.ensures.place c.push.ensures.items in
     let whole : joined c.put.new.self.blocks ≡ insert (joined bs) G (length s.blocks.flags) =
     c.put.ensures.joined ∙ ap (λ (z : List (List ℕ)). insert (joined z) G (length c.reserve-2.new.self.flags)) c.reserve-2.ensures.blocks ∙ ap (λ (z : List Bool). insert (joined bs) G (length z)) c.reserve-2.ensures.flags in
-    let order = subst (λ (z : List (List ℕ)). IsInserted (map (element_at E) (joined z)) (insert (map (element_at E) (joined z)) G x) x) c.reserve-2.ensures.blocks (rw c.reserve.ensures.items at (c.spot_for-spot.ensures.order c.args.ch)) in
+    let r = c.reference_of-reference.result in
+    let B = c.reserve-2.new.self.blocks in
+    let same : c.entries.result.now.items ≡ E = c.entries.ensures ∙ c.reserve.ensures.items in
+    let place : place_in E r ≡ c.args.after = ap (λ (z : List Insert). place_in z r) (sym c.reserve.ensures.items) ∙ c.reference_of-reference.ensures.place in
+    let among_these = subst (λ (F : List Insert). let y : Insert = record { id = c.args.id; after = place_in F r; ch = c.args.ch } in IsInserted (map (element_at F) (joined B)) (insert (map (element_at F) (joined B)) G y) y) same (c.spot_for-spot.ensures.order c.args.ch) in
+    let after_that = subst (λ (p : Place). let y : Insert = record { id = c.args.id; after = p; ch = c.args.ch } in IsInserted (map (element_at E) (joined B)) (insert (map (element_at E) (joined B)) G y) y) place among_these in
+    let order = subst (λ (z : List (List ℕ)). IsInserted (map (element_at E) (joined z)) (insert (map (element_at E) (joined z)) G x) x) c.reserve-2.ensures.blocks after_that in
     let new_is : joined (pieces c.push.new.self.items c.put.new.self.blocks) ≡ insert placed G x =
     placed_is c.push.new.self.items c.put.new.self.blocks
     ∙ ap (λ (z : List Insert). map (element_at z) (joined c.put.new.self.blocks)) items_is
