@@ -15,7 +15,7 @@ use crate::sequence::PeerSequence;
 use std::alloc::Global;
 use tp_change::Change;
 use tp_document::Document;
-use tp_journal::{DIGEST_BYTES, HEADER_BYTES, Journal, header, put_record, recover};
+use tp_journal::{DIGEST_BYTES, HEADER_BYTES, Journal, Recovered, header, put_record, recover};
 use tp_opid::{Actor, DocId};
 use tp_store::StoreError;
 
@@ -38,7 +38,10 @@ fn is_unused(alloc: Global, bytes: &[u8]) -> Result<bool, PeerError>
         return Ok(false);
     }
     match recover::<PeerSequence>(alloc, bytes) {
-        Ok(_) => Ok(false),
+        Ok(recovered) => {
+            drop(recovered);
+            Ok(false)
+        }
         Err(StoreError::NoHeader) => Ok(true),
         Err(StoreError::OutOfMemory) => Err(PeerError::OutOfMemory),
         Err(_) => Ok(false),
@@ -107,6 +110,38 @@ fn journal_of(alloc: Global, document: &Document<PeerSequence>) -> Result<Vec<u8
     Ok(bytes)
 }
 
+// The bytes with which an unused journal begins that is to keep a copy of the document, for a peer under the actor.
+fn bytes_for<J: Journal>(
+    alloc: Global,
+    document: &Document<PeerSequence>,
+    journal: &mut J,
+    actor: &Actor,
+) -> Result<Vec<u8>, PeerError>
+    ensures unused { OnOk result (IsUnused (J.content journal.old)) }
+    ensures free { OnOk result (is_used document.now.applied actor.now ≡ false) }
+    ensures bytes { IfOk result
+        (λ bytes. bytes.items ≡ journal_bytes document.now.id document.now.applied) }
+    ensures stays { OnOk result
+        (journal_state (J.content journal.new) (J.failures journal.new)
+        ≡ journal_state (J.content journal.old) (J.failures journal.old)) }
+    ensures err { IfErr result
+        (λ e. NotCopied document.now.id document.now.applied actor.now
+        (journal_state (J.content journal.old) (J.failures journal.old)) e
+        (journal_state (J.content journal.new) (J.failures journal.new))) }
+{
+    match check_unused(alloc, journal) {
+        Ok(()) => {}
+        Err(error) => return Err(error),
+    }
+    if has_actor(document.changes(), actor) {
+        return Err(PeerError::ActorInUse);
+    }
+    match journal_of(alloc, document) {
+        Ok(bytes) => Ok(bytes),
+        Err(_) => Err(PeerError::OutOfMemory),
+    }
+}
+
 // A copy of the document, for a peer under the actor on an unused journal, which is begun with the document's header
 // and records. All that can fail comes before the append.
 fn copy_to<J: Journal>(
@@ -128,23 +163,45 @@ fn copy_to<J: Journal>(
         (journal_state (J.content journal.old) (J.failures journal.old)) e
         (journal_state (J.content journal.new) (J.failures journal.new))) }
 {
-    match check_unused(alloc, journal) {
-        Ok(()) => {}
-        Err(error) => return Err(error),
-    }
-    if has_actor(document.changes(), actor) {
-        return Err(PeerError::ActorInUse);
-    }
-    let bytes = match journal_of(alloc, document) {
+    let bytes = match bytes_for(alloc, document, journal, actor) {
         Ok(bytes) => bytes,
-        Err(_) => return Err(PeerError::OutOfMemory),
+        Err(error) => return Err(error),
     };
     match document.fork() {
         Ok(copy) => match begin(journal, &bytes) {
             Ok(()) => Ok(copy),
-            Err(error) => Err(error),
+            Err(error) => {
+                drop(copy);
+                Err(error)
+            }
         },
         Err(_) => Err(PeerError::OutOfMemory),
+    }
+}
+
+// Cuts the journal to what is kept of it, for a peer under the actor.
+fn cut_to<J: Journal>(
+    journal: &mut J,
+    recovered: &Recovered<PeerSequence>,
+    actor: &Actor,
+) -> Result<(), PeerError>
+    requires { Recovers (J.content journal.old) recovered.now.document.id
+        recovered.now.document.applied recovered.now.keep }
+    ensures free { OnOk result (is_used recovered.now.document.applied actor.now ≡ false) }
+    ensures kept { OnOk result
+        (J.content journal.new
+        ≡ journal_bytes recovered.now.document.id recovered.now.document.applied) }
+    ensures quiet { OnOk result (J.failures journal.new ≡ J.failures journal.old) }
+    ensures err { IfErr result
+        (λ e. NotReopened (journal_state (J.content journal.old) (J.failures journal.old)) actor.now
+        e (journal_state (J.content journal.new) (J.failures journal.new))) }
+{
+    if has_actor(recovered.document.changes(), actor) {
+        return Err(PeerError::ActorInUse);
+    }
+    match journal.cut(recovered.keep) {
+        Ok(()) => Ok(()),
+        Err(error) => Err(PeerError::from(error)),
     }
 }
 
@@ -168,15 +225,14 @@ fn recover_for<J: Journal>(
         Ok(bytes) => bytes,
         Err(error) => return Err(PeerError::from(error)),
     };
-    let recovered = match recover(alloc, &bytes) {
-        Ok(recovered) => recovered,
-        Err(error) => return Err(PeerError::from(error)),
-    };
-    if has_actor(recovered.document.changes(), actor) {
-        return Err(PeerError::ActorInUse);
-    }
-    match journal.cut(recovered.keep) {
-        Ok(()) => Ok(recovered.document),
+    match recover(alloc, &bytes) {
+        Ok(recovered) => match cut_to(journal, &recovered, actor) {
+            Ok(()) => Ok(recovered.document),
+            Err(error) => {
+                drop(recovered);
+                Err(error)
+            }
+        },
         Err(error) => Err(PeerError::from(error)),
     }
 }
@@ -201,7 +257,10 @@ impl<J: Journal> Peer<J> {
             (journal_state (J.content journal) (J.failures journal))
             u.error (journal_state (J.content u.journal) (J.failures u.journal))) }
     {
-        match copy_to(alloc, &Document::new(alloc, id), &mut journal, &actor) {
+        let empty = Document::new(alloc, id);
+        let copied = copy_to(alloc, &empty, &mut journal, &actor);
+        drop(empty);
+        match copied {
             Ok(document) => Ok(Peer::new(alloc, journal, document, actor)),
             Err(error) => Err(Unopened { journal, error }),
         }

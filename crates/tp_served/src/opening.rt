@@ -119,7 +119,13 @@ fn open_with<J: Journal>(
         × (r.1.items ≡ seats_of r.0.served (fresh_from peer 0 count))) }
 {
     let id = peer.document().id();
-    let mut seats = Vec::with_capacity(alloc, usize::from(count))?;
+    let mut seats = match Vec::with_capacity(alloc, usize::from(count)) {
+        Ok(seats) => seats,
+        Err(error) => {
+            drop(peer);
+            return Err(error);
+        }
+    };
     let (table, token) = table_of(alloc, peer, usize::from(count))?;
     part(&table, token, &mut seats, count);
     let served = Served {

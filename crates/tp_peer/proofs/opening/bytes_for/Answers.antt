@@ -1,7 +1,7 @@
 use Rattle.tp_journal.specs.Layout.{journal}
 use Rattle.tp_peer.specs.Appending.{journal_state}
 use Rattle.tp_peer.proofs.OpeningLaws.{not_copied}
-use Rattle.tp_peer.proofs.opening.copy_to.Goals as goal
+use Rattle.tp_peer.proofs.opening.bytes_for.Goals as goal
 
 pub returns-in-Err-clause-err : goal.returns-in-Err-clause-err
 returns-in-Err-clause-err g c =
