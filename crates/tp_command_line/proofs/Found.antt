@@ -85,12 +85,12 @@ not_found name (s ∷ shapes) none = go (bytes_eq s.name name) refl (not_found n
     go true same rest = absurd (none.0 (sym ((bytes_eq-Decides s.name name).0 same)))
     go false same rest = rest
 
--- the ten names are all
+-- these names are all
 pub no_other_name : (name : Text) (rows : List Row) → IsUse name rows → (name ≡ codes "new" → ⊥) → (name ≡ codes "edit" → ⊥) → (name ≡ codes "text" → ⊥)
     → (name ≡ codes "heads" → ⊥) → (name ≡ codes "log" → ⊥) → (name ≡ codes "cursor" → ⊥) → (name ≡ codes "merge" → ⊥) → (name ≡ codes "save" → ⊥)
-    → (name ≡ codes "load" → ⊥) → (name ≡ codes "show" → ⊥) → ⊥
-no_other_name name rows found a b c d e f g h i j =
-    let none = not_found name (built textpeer_app).subs (a, (b, (c, (d, (e, (f, (g, (h, (i, (j, tt)))))))))) in
+    → (name ≡ codes "load" → ⊥) → (name ≡ codes "show" → ⊥) → (name ≡ codes "simulate" → ⊥) → ⊥
+no_other_name name rows found a b c d e f g h i j k =
+    let none = not_found name (built textpeer_app).subs (a, (b, (c, (d, (e, (f, (g, (h, (i, (j, (k, tt))))))))))) in
     let bad : None ≡ Some found.shape = sym none ∙ found.named in
     absurd (cc)
 

@@ -89,6 +89,9 @@ second_file_sound = single_sound String (placed 2 file_rule) refl refl refl
 log_sound : IsSound (placed 1 (required_rule (codes "LOG")))
 log_sound = single_sound String (placed 1 (required_rule (codes "LOG"))) refl refl refl
 
+script_sound : IsSound (placed 1 (required_rule (codes "SCRIPT")))
+script_sound = single_sound String (placed 1 (required_rule (codes "SCRIPT"))) refl refl refl
+
 heads_sound : (i : ℕ) (required : Bool) → IsSound (placed i (record (several (codes "HASH")) { required = required }))
 heads_sound i required = record { fills = many_fills (placed i (record (several (codes "HASH")) { required = required })) refl; defaults = refl; reading = refl }
 
@@ -132,7 +135,7 @@ all_sound = (
                   (saved_sound, (second_file_sound, (help_sound, tt))),
                   (
                     (log_sound, (help_sound, tt)),
-                    tt,
+                    ((script_sound, (help_sound, tt)), tt),
                   ),
                 ),
               ),
@@ -150,7 +153,7 @@ AllNamed [] = Unit {0}
 AllNamed (s ∷ shapes) = (shape_named s.name ≡ Some s) × AllNamed shapes
 
 all_named : AllNamed (built textpeer_app).subs
-all_named = (refl, (refl, (refl, (refl, (refl, (refl, (refl, (refl, (refl, (refl, tt))))))))))
+all_named = (refl, (refl, (refl, (refl, (refl, (refl, (refl, (refl, (refl, (refl, (refl, tt)))))))))))
 
 found_named : (test : Shape → Bool) (shapes : List Shape) → AllNamed shapes → (s : Shape) → find test shapes ≡ Some s → shape_named s.name ≡ Some s
 found_named test [] named s e = absurd (cc)

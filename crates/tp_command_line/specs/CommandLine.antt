@@ -106,6 +106,10 @@ load_shape = with_rules (codes "load") (required_rule (codes "SAVED") ∷ file_r
 abbrev pub show_shape : Shape
 show_shape = with_rules (codes "show") (required_rule (codes "LOG") ∷ [])
 
+-- `simulate SCRIPT`
+abbrev pub simulate_shape : Shape
+simulate_shape = with_rules (codes "simulate") (required_rule (codes "SCRIPT") ∷ [])
+
 -- the command has this shape, and no subcommand and no argument that subcommands have too
 pub record IsLeaf (s : Shape) (c : Command) : Type 0 where
   pub app : app_of c ≡ record { top = s; subs = [] }
@@ -132,5 +136,5 @@ journals_app = record {
 -- `textpeer` with all its subcommands
 abbrev pub textpeer_app : App
 textpeer_app = record journals_app {
-  subs = journals_app.subs ++ merge_shape ∷ save_shape ∷ load_shape ∷ show_shape ∷ [];
+  subs = journals_app.subs ++ merge_shape ∷ save_shape ∷ load_shape ∷ show_shape ∷ simulate_shape ∷ [];
 }

@@ -3,7 +3,7 @@ use Rattle.std.specs.Prelude.{◌≡◌, ◌≢◌, List, [], ◌∷◌, Option,
 use Rattle.std.specs.Borrow.{Bor}
 use Rattle.clap.specs.Words.{Row, Text, all_of, first_of}
 use Rattle.tp_command_line.specs.declared.command.Command.{Command}
-use Rattle.tp_command_line.specs.declared.command.Command.TheVariants.{New, Edit, Text as ReadText, Heads, Log, Cursor, Merge, Save, Load, Show}
+use Rattle.tp_command_line.specs.declared.command.Command.TheVariants.{New, Edit, Text as ReadText, Heads, Log, Cursor, Merge, Save, Load, Show, Simulate}
 use Rattle.tp_command_line.specs.Values.{HasNumber}
 
 -- the first value of an argument is the text
@@ -38,6 +38,7 @@ IsCommandOf name rows (Save file out) = (name ≡ codes "save") × HasText (code
 IsCommandOf name rows (Load saved file) = (name ≡ codes "load") × HasText (codes "SAVED") rows saved
     × HasText (codes "FILE") rows file
 IsCommandOf name rows (Show log) = (name ≡ codes "show") × HasText (codes "LOG") rows log
+IsCommandOf name rows (Simulate script) = (name ≡ codes "simulate") × HasText (codes "SCRIPT") rows script
 
 -- the command is that of the subcommand that was found
 abbrev pub IsFoundAs : Option (Text × List Row) → Command → Type 0

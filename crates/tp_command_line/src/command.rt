@@ -82,4 +82,9 @@ pub enum Command<'a> {
         /// The path of the log.
         log: &'a str,
     },
+    /// Runs a script of peers that edit and exchange, and prints what each line does.
+    Simulate {
+        /// The path of the script.
+        script: &'a str,
+    },
 }

@@ -4,7 +4,7 @@ ghost use Rattle.std.specs.Prelude.{◌≡◌, IfOk, [], false, codes};
 ghost use Rattle.clap.specs.Words.{Shape, app_of, rule_of, with_subcommand};
 ghost use Rattle.tp_command_line.specs.CommandLine.{mandatory, message_rule, numeric, option_rule, required_rule, several, time_rule};
 ghost use Rattle.tp_command_line.specs.CommandLine.{IsLeaf, bare_app, journals_app, textpeer_app, with_rules};
-ghost use Rattle.tp_command_line.specs.CommandLine.{cursor_shape, edit_at_shape, edit_shape, heads_shape, load_shape, log_shape, merge_shape, new_shape, save_shape, show_shape, text_shape};
+ghost use Rattle.tp_command_line.specs.CommandLine.{cursor_shape, edit_at_shape, edit_shape, heads_shape, load_shape, log_shape, merge_shape, new_shape, save_shape, show_shape, simulate_shape, text_shape};
 
 use clap::{Arg, ArgAction, Command, value_parser};
 use std::alloc::{AllocError, Global};
@@ -17,7 +17,8 @@ pub(crate) fn textpeer_command<'a>(alloc: Global) -> Result<Command<'a>, AllocEr
     let merged = with(journals, merge_command(alloc))?;
     let saved = with(merged, save_command(alloc))?;
     let loaded = with(saved, load_command(alloc))?;
-    with(loaded, show_command(alloc))
+    let shown = with(loaded, show_command(alloc))?;
+    with(shown, simulate_command(alloc))
 }
 
 // The program with the commands on one journal alone.
@@ -335,5 +336,21 @@ fn show_command<'a>(alloc: Global) -> Result<Command<'a>, AllocError>
         alloc,
         "LOG",
         "a log of changes: each a length of 4 bytes and the change's bytes",
+    ))
+}
+
+fn simulate_command<'a>(alloc: Global) -> Result<Command<'a>, AllocError>
+    ensures { IfOk result (IsLeaf simulate_shape) }
+{
+    named(
+        alloc,
+        "simulate",
+        "Runs a script of peers that edit, exchange and crash, and prints a line for each line of it",
+        "Example:\n  textpeer simulate two-peers.script",
+    )
+    .arg(required(
+        alloc,
+        "SCRIPT",
+        "a script: an event on each line, as `start ACTOR`, `edit P AT DEL TEXT` or `read P`",
     ))
 }

@@ -106,6 +106,9 @@ pub(crate) fn command_of<'a>(
         "show" => Ok(Command::Show {
             log: text_of(found, "LOG"),
         }),
+        "simulate" => Ok(Command::Simulate {
+            script: text_of(found, "SCRIPT"),
+        }),
         _ => unreachable!(),
     }
 }

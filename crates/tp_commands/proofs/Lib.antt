@@ -2,3 +2,4 @@ pub mod HashLemmas
 pub mod Journals
 pub mod LogLines
 pub mod TextLines
+pub mod HelpWords

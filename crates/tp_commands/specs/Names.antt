@@ -1,5 +1,6 @@
 -- The names of refusals: of what a layer below refused, the innermost one's.
 use Rattle.std.specs.Prelude.{ℕ, List, ◌++◌, codes}
+use Rattle.std.specs.Fmt.{decimal}
 use Rattle.tp_document.specs.declared.error.DocError.{DocError}
 use Rattle.tp_document.specs.declared.error.DocError.TheVariants as doc
 use Rattle.tp_graph.specs.declared.error.GraphError.{GraphError}
@@ -12,7 +13,7 @@ use Rattle.tp_sync.specs.declared.error.SyncError.{SyncError}
 use Rattle.tp_sync.specs.declared.error.SyncError.TheVariants as sync
 use Rattle.tp_textpeer.specs.Refusal.{refusal_text as text_of_log_refusal}
 use Rattle.tp_commands.specs.declared.error.CommandError.{CommandError}
-use Rattle.tp_commands.specs.declared.error.CommandError.TheVariants.{BadHex, Io, OutOfMemory, Peer, Doc, Store, Show}
+use Rattle.tp_commands.specs.declared.error.CommandError.TheVariants.{BadHex, Io, OutOfMemory, Peer, Doc, Store, Show, Line}
 
 abbrev pub name_of_graph : GraphError → List ℕ
 name_of_graph graph.Known = codes "Known"
@@ -79,3 +80,4 @@ refusal_text (Peer e) = codes "textpeer: " ++ name_of_peer e
 refusal_text (Doc e) = codes "textpeer: " ++ name_of_document e
 refusal_text (Store e) = codes "textpeer: " ++ name_of_bytes e
 refusal_text (Show r) = text_of_log_refusal r.0
+refusal_text (Line number) = codes "textpeer: line " ++ decimal number

@@ -4,11 +4,12 @@ use Rattle.std.specs.Io.KnownBytes.{Appends, Keeps}
 use Rattle.std.specs.Str.{chars}
 use Rattle.tp_opid.specs.declared.hash.Hash.{Hash}
 use Rattle.tp_command_line.specs.declared.command.Command.{Command}
-use Rattle.tp_command_line.specs.declared.command.Command.TheVariants.{New, Edit, Text, Heads, Log, Cursor, Merge, Save, Load, Show}
+use Rattle.tp_command_line.specs.declared.command.Command.TheVariants.{New, Edit, Text, Heads, Log, Cursor, Merge, Save, Load, Show, Simulate}
+use Rattle.tp_simulate.specs.Script.{IsPrinted as IsScriptPrinted, PrintsPart, StopsAt}
 use Rattle.tp_textpeer.specs.Output.{AppendsPart}
 use Rattle.tp_textpeer.specs.Show.{HasText, line as text_line}
 use Rattle.tp_commands.specs.declared.error.CommandError.{CommandError}
-use Rattle.tp_commands.specs.declared.error.CommandError.TheVariants.{Io, OutOfMemory}
+use Rattle.tp_commands.specs.declared.error.CommandError.TheVariants.{Io, OutOfMemory, Line}
 use Rattle.tp_commands.specs.Editing.{IsEditLine, IsMergeLine, IsNewLine}
 use Rattle.tp_commands.specs.Keys.{AreHashes}
 use Rattle.tp_commands.specs.Log.{AreChangeLines}
@@ -22,7 +23,7 @@ IsShown printed = (log : List ℕ) × (text : List ℕ) × HasText log text × (
 -- The bytes are what the command prints where it was done, on files that held some bytes: of `text`, `heads`, `log` and
 -- `cursor` what these bytes say; of `show` the text of the log that they are; of `new` the identifier that is drawn; of
 -- `edit` the hash of the change that was made, or `nothing`; of `merge` how many changes entered; of `save` and `load`
--- nothing.
+-- nothing; of `simulate` the replies to the lines of a script, and the one list of its world.
 abbrev pub IsPrinted : Command → List ℕ → Type 0
 IsPrinted (New file key) printed = IsNewLine key printed
 IsPrinted (Edit file at del text time message key) printed = IsEditLine key (record { at = at; del = del; text = text }) time (chars message.now) printed
@@ -34,6 +35,7 @@ IsPrinted (Merge file other key) printed = IsMergeLine key printed
 IsPrinted (Save file out) printed = printed ≡ []
 IsPrinted (Load saved file) printed = printed ≡ []
 IsPrinted (Show log) printed = IsShown printed
+IsPrinted (Simulate script) printed = IsScriptPrinted printed
 
 -- What the writer holds grew by bytes of which P holds.
 abbrev pub Grows : (List ℕ → Type 0) → Option (List ℕ) → Option (List ℕ) → Type 0
@@ -47,6 +49,17 @@ GrowsPart P before after = (printed : List ℕ) × P printed × AppendsPart befo
 -- what the command prints.
 abbrev pub Leaves : (List ℕ → Type 0) → CommandError → Option (List ℕ) → Option (List ℕ) → Type 0
 Leaves P e before after = Keeps before after ⊎ ((e ≡ Io) × GrowsPart P before after)
+
+-- What the output holds after the refusal of a script: where a line is at fault just what is printed of the lines before
+-- it, and else what it held, or a beginning of what a script prints.
+abbrev pub LeavesScript : CommandError → Option (List ℕ) → Option (List ℕ) → Type 0
+LeavesScript (Line number) before after = StopsAt number before after
+LeavesScript e before after = Keeps before after ⊎ PrintsPart before after
+
+-- What the output holds after the refusal of a command. A script is printed as it goes on, all else at the end.
+abbrev pub LeavesOf : Command → CommandError → Option (List ℕ) → Option (List ℕ) → Type 0
+LeavesOf (Simulate script) e before after = LeavesScript e before after
+LeavesOf command e before after = Leaves (IsPrinted command) e before after
 
 -- The bytes are the line of the refusal; or of `OutOfMemory`, where there was no memory for that line.
 abbrev pub IsLineOf : CommandError → List ℕ → Type 0

@@ -9,7 +9,7 @@ use Rattle.tp_command_line.specs.CommandOf.{IsFoundAs}
 use Rattle.tp_command_line.specs.declared.command.Command.{Command}
 use Rattle.tp_commands.specs.declared.error.CommandError.{CommandError}
 use Rattle.tp_commands.specs.declared.error.CommandError.TheVariants.{Io}
-use Rattle.tp_commands.specs.Output.{Grows, GrowsPart, IsPrinted}
+use Rattle.tp_commands.specs.Output.{Grows, IsPrinted, LeavesOf}
 
 -- the parser was asked for help or for the version
 abbrev pub IsForHelp : ErrorKind → Type 0
@@ -27,8 +27,8 @@ AskFor words command = (fault_of textpeer_app words ≡ []) × IsFoundAs (subcom
 abbrev pub WasDone : List Text → Option (List ℕ) → Option (List ℕ) → Type 0
 WasDone words before after = AskForHelp words ⊎ ((command : Command) × AskFor words command × Grows (IsPrinted command) before after)
 
--- What the output holds after a refusal: what it held; but where the output itself failed perhaps a part of the help, or a
--- beginning of what the command prints.
+-- What the output holds after a refusal: what it held; but where the output itself failed perhaps a part of the help; or
+-- what the command leaves there.
 abbrev pub WasRefused : List Text → CommandError → Option (List ℕ) → Option (List ℕ) → Type 0
 WasRefused words e before after = Keeps before after
-    ⊎ ((e ≡ Io) × (AskForHelp words ⊎ ((command : Command) × AskFor words command × GrowsPart (IsPrinted command) before after)))
+    ⊎ (((e ≡ Io) × AskForHelp words) ⊎ ((command : Command) × AskFor words command × LeavesOf command e before after))

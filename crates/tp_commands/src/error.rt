@@ -2,7 +2,7 @@
 
 ghost use Rattle.std.specs.Prelude.{◌≡◌};
 ghost use Rattle.tp_commands.specs.declared.error.CommandError.TheVariants.{OutOfMemory};
-ghost use Rattle.tp_commands.specs.CommandError.{code_of, refusal_of_bytes, refusal_of_document, refusal_of_hex, refusal_of_log, refusal_of_peer};
+ghost use Rattle.tp_commands.specs.CommandError.{code_of, IsOfSystem, refusal_of_bytes, refusal_of_document, refusal_of_hex, refusal_of_log, refusal_of_peer, refusal_of_script};
 
 use std::alloc::{AllocError, AllocFailed};
 use std::io;
@@ -10,11 +10,12 @@ use std::io::ErrorKind;
 use tp_document::DocError;
 use tp_opid::HexError;
 use tp_peer::PeerError;
+use tp_simulate::SimError;
 use tp_store::StoreError;
 use tp_textpeer::{Refusal, ShowError, ShowFault};
 
 /// Why a command was refused. Its `Display` is the line that the program prints of it, without the newline: `textpeer: `
-/// and the innermost refusal's name, or of a log what [`Refusal`] prints.
+/// and the innermost refusal's name, or of a log what [`Refusal`] prints, or of a script the number of its line.
 #[derive(Clone, Copy, Debug, PartialEq, Eq)]
 pub enum CommandError {
     /// A hash or a key isn't 64 hexadecimal digits.
@@ -31,6 +32,9 @@ pub enum CommandError {
     Store(StoreError),
     /// A log was refused. It is never `Io` or `OutOfMemory`.
     Show(Refusal),
+    /// The line of a script with this number, from 1, has another shape than docs/FORMATS.md says, or names a mark that
+    /// isn't set.
+    Line(u64),
 }
 
 impl CommandError {
@@ -46,6 +50,7 @@ impl CommandError {
             CommandError::Doc(_) => 5,
             CommandError::Store(_) => 6,
             CommandError::Show(_) => 7,
+            CommandError::Line(_) => 8,
         }
     }
 }
@@ -67,6 +72,8 @@ impl<T: Drop> From<AllocFailed<T>> for CommandError {
 }
 
 impl From<io::Error> for CommandError {
+    ghost from_gives = { λ _ e. IsOfSystem e };
+
     fn from(error: io::Error) -> CommandError {
         match error.kind() {
             ErrorKind::OutOfMemory => CommandError::OutOfMemory,
@@ -128,6 +135,18 @@ impl From<ShowError> for CommandError {
             ShowFault::Io => CommandError::Io,
             ShowFault::OutOfMemory => CommandError::OutOfMemory,
             _ => CommandError::Show(Refusal(error)),
+        }
+    }
+}
+
+impl From<SimError> for CommandError {
+    ghost from_gives = { λ error e. e ≡ refusal_of_script error };
+
+    fn from(error: SimError) -> CommandError {
+        match error {
+            SimError::Line(number) => CommandError::Line(number),
+            SimError::Io => CommandError::Io,
+            SimError::OutOfMemory => CommandError::OutOfMemory,
         }
     }
 }

@@ -109,6 +109,7 @@ impl fmt::Display for CommandError {
             CommandError::Doc(error) => document_name(error),
             CommandError::Store(error) => bytes_name(error),
             CommandError::Show(refusal) => return write!(f, "{refusal}"),
+            CommandError::Line(number) => return write!(f, "textpeer: line {number}"),
         };
         write!(f, "textpeer: {name}")
     }

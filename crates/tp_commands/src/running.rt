@@ -5,13 +5,14 @@ ghost use Rattle.std.specs.Io.KnownBytes.{Appends, Keeps};
 ghost use Rattle.std.specs.Str.{chars};
 ghost use Rattle.std.specs.String.{string_bytes};
 ghost use Rattle.tp_opid.specs.declared.hash.Hash.{Hash as HashOf};
+ghost use Rattle.tp_simulate.specs.Script.{Prints};
 ghost use Rattle.tp_textpeer.specs.Output.{AppendsPart};
 ghost use Rattle.tp_commands.specs.declared.error.CommandError.{CommandError as Refusal};
 ghost use Rattle.tp_commands.specs.Editing.{IsEditLine, IsMergeLine, IsNewLine, made_line as line_of_made};
 ghost use Rattle.tp_commands.specs.Keys.{AreHashes};
 ghost use Rattle.tp_commands.specs.Log.{AreChangeLines};
 ghost use Rattle.tp_commands.specs.Names.{refusal_text};
-ghost use Rattle.tp_commands.specs.Output.{Grows, GrowsPart, IsLineOf, IsPrinted, IsShown, Leaves};
+ghost use Rattle.tp_commands.specs.Output.{Grows, GrowsPart, IsLineOf, IsPrinted, IsShown, Leaves, LeavesOf, LeavesScript};
 ghost use Rattle.tp_commands.specs.Reading.{AreHeadLines, IsCursorLine, IsTextLine, line};
 
 use crate::editing::{begin, edit, fill, reopen, take};
@@ -28,6 +29,7 @@ use tp_command_line::Command;
 use tp_edit::Splice;
 use tp_opid::{Actor, DocId, Hash};
 use tp_peer::PeerSequence;
+use tp_simulate::simulate;
 use tp_store::load;
 use tp_textpeer::{show, write_out};
 
@@ -37,8 +39,9 @@ pub(crate) const REFUSED: u8 = 1;
 
 /// Carries out a command, and returns the exit status: 0 where it was done, and all that it prints was written to `out`
 /// and flushed; 1 where it was refused, with one line on `err`, as [`CommandError`] prints it. A refusal writes nothing to
-/// `out`; where `out` itself failed, which is refused as `Io`, it has taken a beginning of what the command prints. Where
-/// `err` fails it has taken a beginning of the line.
+/// `out`; where `out` itself failed, which is refused as `Io`, it has taken a beginning of what the command prints. A
+/// script is printed line by line as it goes on, and what was printed before a refusal stays. Where `err` fails it has
+/// taken a beginning of the line.
 pub fn run_command<R: Files + AllocGlobal, W: Write, E: Write>(
     rt: &R,
     command: Command,
@@ -50,7 +53,7 @@ pub fn run_command<R: Files + AllocGlobal, W: Write, E: Write>(
         × Grows (IsPrinted command.entry) (W.contents out.old) (W.contents out.new) }
     ensures refused { result ≡ REFUSED → (e : Refusal)
         × GrowsPart (IsLineOf e) (E.contents err.old) (E.contents err.new)
-        × Leaves (IsPrinted command.entry) e (W.contents out.old) (W.contents out.new) }
+        × LeavesOf command.entry e (W.contents out.old) (W.contents out.new) }
 {
     ended(rt.alloc(), carry_out(rt, command, out), err)
 }
@@ -114,7 +117,7 @@ fn carry_out<R: Files + AllocGlobal, W: Write>(
 ) -> Result<(), CommandError>
     ensures prints { OnOk result
         (Grows (IsPrinted command.entry) (W.contents out.old) (W.contents out.new)) }
-    ensures err { IfErr result (λ e. Leaves (IsPrinted command.entry) e
+    ensures err { IfErr result (λ e. LeavesOf command.entry e
         (W.contents out.old) (W.contents out.new)) }
 {
     match command {
@@ -143,6 +146,7 @@ fn carry_out<R: Files + AllocGlobal, W: Write>(
         Command::Save { file, out: path } => put(out, save_to(rt, file, path)),
         Command::Load { saved, file } => put(out, load_from(rt, saved, file)),
         Command::Show { log } => show_file(rt, log, out),
+        Command::Simulate { script } => simulate_file(rt, script, out),
     }
 }
 
@@ -158,6 +162,24 @@ fn show_file<R: Files + AllocGlobal, W: Write>(
     let file = fs::open(rt, log)?;
     let mut reader = BufReader::new(rt.alloc(), file)?;
     match show(rt.alloc(), &mut reader, out) {
+        Ok(()) => Ok(()),
+        Err(error) => Err(CommandError::from(error)),
+    }
+}
+
+// Runs the script at a path.
+fn simulate_file<R: Files + AllocGlobal, W: Write>(
+    rt: &R,
+    script: &str,
+    out: &mut W,
+) -> Result<(), CommandError>
+    ensures ok { OnOk result (Prints (W.contents out.old) (W.contents out.new)) }
+    ensures err { IfErr result
+        (λ e. LeavesScript e (W.contents out.old) (W.contents out.new)) }
+{
+    let file = fs::open(rt, script)?;
+    let mut reader = BufReader::new(rt.alloc(), file)?;
+    match simulate(rt.alloc(), &mut reader, out) {
         Ok(()) => Ok(()),
         Err(error) => Err(CommandError::from(error)),
     }

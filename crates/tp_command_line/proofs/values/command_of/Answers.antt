@@ -41,8 +41,11 @@ text_of-requires-in-load-2 c = named_value (codes "load") (codes "FILE") c.in-lo
 pub text_of-requires-in-show : goal.text_of-requires-in-show
 text_of-requires-in-show c = named_value (codes "show") (codes "LOG") c.in-show.is c.requires refl
 
+pub text_of-requires-in-simulate : goal.text_of-requires-in-simulate
+text_of-requires-in-simulate c = named_value (codes "simulate") (codes "SCRIPT") c.in-simulate.is c.requires refl
+
 -- there is no other subcommand
 pub unreachable-requires : goal.unreachable-requires
 unreachable-requires c =
     let d = c.in_default in
-    no_other_name _ _ c.requires d.not-new d.not-edit d.not-text d.not-heads d.not-log d.not-cursor d.not-merge d.not-save d.not-load d.not-show
+    no_other_name _ _ c.requires d.not-new d.not-edit d.not-text d.not-heads d.not-log d.not-cursor d.not-merge d.not-save d.not-load d.not-show d.not-simulate
