@@ -8,11 +8,11 @@ use tp_change::Change;
 use tp_document::Document;
 use tp_measure::{Branch, micros_since};
 use tp_opid::{Actor, DocId};
-use tp_rga::PlainSequence;
+use tp_posindex::BlockSequence;
 
 // What it takes to apply the changes, as one list, to a new document, in microseconds.
 fn apply<R: Clock + AllocGlobal>(rt: &R, changes: Vec<Change>) -> anyhow::Result<u64> {
-    let mut document: Document<PlainSequence> = Document::new(rt.alloc(), DocId([7; 16]));
+    let mut document: Document<BlockSequence> = Document::new(rt.alloc(), DocId([7; 16]));
     let start = Instant::now(rt)?;
     document
         .apply(changes)

@@ -10,10 +10,10 @@ use tp_document::Document;
 use tp_journal::{FileJournal, Journal, header, put_record, record, recover};
 use tp_measure::{Branch, micros_since, report_memory};
 use tp_opid::{Actor, DocId};
-use tp_rga::PlainSequence;
+use tp_posindex::BlockSequence;
 use tp_store::{StoreError, load, save};
 
-type Doc = Document<PlainSequence>;
+type Doc = Document<BlockSequence>;
 
 const CHANGES: u64 = 100_000;
 
@@ -98,7 +98,8 @@ fn report_recovered<R: Clock + Print + AllocGlobal>(
     bytes: &[u8],
 ) -> anyhow::Result<()> {
     let (_document, micros) = recovered(rt, bytes)?;
-    Ok(println!(rt; "journal-recover tenths {tenths:>2} {micros:>8} micros")?)
+    let len = bytes.len();
+    Ok(println!(rt; "journal-recover tenths {tenths:>2} {len:>9} bytes {micros:>8} micros")?)
 }
 
 // The bytes with the records of a tenth of the changes behind them.
@@ -160,7 +161,8 @@ fn loaded<R: Clock + AllocGlobal>(rt: &R, bytes: &[u8]) -> anyhow::Result<(Doc, 
 fn report_loaded<R: Clock + Print + AllocGlobal>(rt: &R, bytes: &[u8]) -> anyhow::Result<()> {
     let (document, micros) = loaded(rt, bytes)?;
     let count = document.changes().len();
-    Ok(println!(rt; "load {count:>9} changes {micros:>6} micros")?)
+    let len = bytes.len();
+    Ok(println!(rt; "load {count:>9} changes {len:>9} bytes {micros:>8} micros")?)
 }
 
 // Saves and loads a document of 100,000 changes.

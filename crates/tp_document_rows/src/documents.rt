@@ -1,6 +1,6 @@
 //! Calls that make documents, or put changes into them.
 
-use crate::lists::hashes;
+use crate::lists::{hashes, range};
 use crate::world::World;
 use std::alloc::Global;
 use tp_change::{Change, ChangeParts, Record};
@@ -105,12 +105,6 @@ fn firsts(alloc: Global, from: usize, to: usize, text: &str) -> Result<Vec<Chang
         made.push(first_of(alloc, actor, text)?)?;
     }
     Ok(made)
-}
-
-// `FROM..TO`.
-fn range(word: &str) -> Result<(usize, usize), Fault> {
-    let (from, to) = word.split_once("..").ok_or(Fault::Row("no range"))?;
-    Ok((count(from)?, count(to)?))
 }
 
 // `branches DOCUMENT FROM..TO TEXT`: enters the first changes of the actors with the numbers from `FROM` up to, but

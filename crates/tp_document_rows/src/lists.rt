@@ -40,6 +40,12 @@ pub fn hashes<S: Sequence>(world: &World<S>, word: &str) -> Result<Vec<Hash>, Fa
     Ok(hashes)
 }
 
+/// A range: `FROM..TO`.
+pub fn range(word: &str) -> Result<(usize, usize), Fault> {
+    let (from, to) = word.split_once("..").ok_or(Fault::Row("no range"))?;
+    Ok((count(from)?, count(to)?))
+}
+
 // Adds copies of changes from one place up to, but without, another.
 fn push_range(
     changes: &mut Vec<Change>,
@@ -73,9 +79,8 @@ fn push_range_back(
 }
 
 // Adds copies of a document's applied changes in a range of places, `3..5`, or `5..3` for the other way round.
-fn push_places(changes: &mut Vec<Change>, there: &[Change], range: &str) -> Result<(), Fault> {
-    let (from, to) = range.split_once("..").ok_or(Fault::Row("no range"))?;
-    let (from, to) = (count(from)?, count(to)?);
+fn push_places(changes: &mut Vec<Change>, there: &[Change], places: &str) -> Result<(), Fault> {
+    let (from, to) = range(places)?;
     if from <= to {
         push_range(changes, there, from, to)
     } else {
@@ -90,7 +95,7 @@ fn push_changes<S: Sequence>(
     item: &str,
 ) -> Result<(), Fault> {
     match item.split_once(':') {
-        Some((name, range)) => push_places(changes, world.documents.get(name)?.changes(), range),
+        Some((name, places)) => push_places(changes, world.documents.get(name)?.changes(), places),
         None => push_named(changes, &world.changes, item),
     }
 }

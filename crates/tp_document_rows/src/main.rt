@@ -6,6 +6,7 @@
 mod cursors;
 mod documents;
 mod edits;
+mod elements;
 mod errors;
 mod graphs;
 mod history;

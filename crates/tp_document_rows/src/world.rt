@@ -1,6 +1,6 @@
 //! What the rows of an example have made so far, and what makes their calls.
 
-use crate::{cursors, documents, edits, errors, graphs, history, orders, receiving};
+use crate::{cursors, documents, edits, elements, errors, graphs, history, orders, receiving};
 use std::alloc::Global;
 use tp_change::Change;
 use tp_document::{Cursor, Document};
@@ -21,6 +21,8 @@ pub struct World<S: Sequence> {
     pub graphs: Shelf<Graph>,
     /// Cursors.
     pub cursors: Shelf<Cursor>,
+    /// Sequences.
+    pub sequences: Shelf<S>,
 }
 
 impl<S: Sequence> World<S> {
@@ -32,6 +34,7 @@ impl<S: Sequence> World<S> {
             documents: Shelf::new(alloc),
             graphs: Shelf::new(alloc),
             cursors: Shelf::new(alloc),
+            sequences: Shelf::new(alloc),
         }
     }
 }
@@ -52,6 +55,9 @@ fn change<S: Sequence>(
         return Some(answer);
     }
     if let Some(answer) = receiving::call(world, word, words) {
+        return Some(answer);
+    }
+    if let Some(answer) = elements::call(world, word, words) {
         return Some(answer);
     }
     cursors::call(world, word, words)
@@ -89,6 +95,7 @@ impl<S: Sequence> Calls for World<S> {
         self.documents.clear();
         self.graphs.clear();
         self.cursors.clear();
+        self.sequences.clear();
     }
 
     fn is_partial(&self, row: &str) -> bool {

@@ -40,11 +40,21 @@ fn show_begun(rt: &impl Print, text: &Text) -> anyhow::Result<()> {
     Ok(())
 }
 
+// Both write, and what they have in the end is shown, and what Ann began with.
+fn write_both(rt: &impl Print, ann: &mut Text, ben: &mut Text) -> anyhow::Result<()> {
+    write_apart(ann, ben)?;
+    show(rt, ann, ben)?;
+    show_begun(rt, ann)
+}
+
+// Ann begins, and Ben goes on from a copy of hers.
+fn write_together(rt: &impl Print, ann: &mut Text) -> anyhow::Result<()> {
+    write(ann, ANN, 0, 0, "Hello world")?;
+    let mut ben = ann.fork()?;
+    write_both(rt, ann, &mut ben)
+}
+
 fn main(rt: HostRuntime) -> anyhow::Result<()> {
     let mut ann: Text = Document::new(rt.alloc(), DocId([7; 16]));
-    write(&mut ann, ANN, 0, 0, "Hello world")?;
-    let mut ben = ann.fork()?;
-    write_apart(&mut ann, &mut ben)?;
-    show(&rt, &ann, &ben)?;
-    show_begun(&rt, &ann)
+    write_together(&rt, &mut ann)
 }

@@ -17,6 +17,16 @@ pub enum Link {
     Behind,
 }
 
+impl Link {
+    /// The same link, as the neighbour sees it.
+    pub fn back(self) -> Link {
+        match self {
+            Link::Before => Link::Behind,
+            Link::Behind => Link::Before,
+        }
+    }
+}
+
 /// A peer in a ring.
 #[derive(Drop)]
 pub struct Peer {
@@ -47,6 +57,11 @@ impl Peer {
         }
     }
 
+    /// Has another neighbour behind it from now on, of whom it knows nothing.
+    pub fn meet(&mut self) {
+        self.behind = SyncState::new(self.alloc);
+    }
+
     /// How many changes it has.
     pub fn change_count(&self) -> usize {
         self.document.changes().len()
@@ -55,14 +70,23 @@ impl Peer {
     /// Types so many characters at the end of the text, each a change.
     pub fn write(&mut self, changes: usize) -> anyhow::Result<()> {
         for _ in 0..changes {
-            self.type_one()?;
+            let end = self.document.len();
+            self.insert_one(end)?;
         }
         Ok(())
     }
 
-    fn type_one(&mut self) -> anyhow::Result<()> {
+    /// Inserts so many characters at the start of the text, each a change.
+    pub fn write_at_start(&mut self, changes: usize) -> anyhow::Result<()> {
+        for _ in 0..changes {
+            self.insert_one(0)?;
+        }
+        Ok(())
+    }
+
+    fn insert_one(&mut self, at: usize) -> anyhow::Result<()> {
         let splice = Splice {
-            at: self.document.len(),
+            at,
             del: 0,
             text: "x",
         };
