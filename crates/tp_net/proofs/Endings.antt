@@ -6,7 +6,6 @@ use Rattle.tp_frame.specs.declared.frame.Frame.{Frame}
 use Rattle.tp_frame.specs.Frame.{spelling, IsFrame}
 use Rattle.tp_peer.specs.PeerStep.{Reply}
 use Rattle.tp_session.specs.declared.error.NetError.{NetError}
-use Rattle.tp_session.specs.declared.error.NetError.TheVariants.{Io}
 use Rattle.tp_session.specs.declared.session.Phase.{Phase}
 use Rattle.tp_session.specs.declared.session.Phase.TheVariants.{AwaitsHello, Exchanges, SaidDone, Over}
 use Rattle.tp_session.specs.declared.session.Role.{Role}
@@ -114,9 +113,3 @@ stops_at_turn receives generates role id h read held sent s k e h' c (inr (inr t
       (comes_on receives generates role id h read held sent s k t.turn t.rest t.session h' c t.takes);
   cause = (t.cant_send, refl);
 }
-
--- the session has taken too many turns
-pub stops_at_last : {H : Type 0} (receives : H → List ℕ → Reply → H → Type 0) (generates : H → Reply → H → Type 0) (role : Role) (id : DocId) (h : H) (read held : List ℕ) (sent : List Frame) (s : SessionData) (k : H)
-    → Comes receives generates role id h read held sent s k → StopsFor receives generates role id h read sent Io k
-stops_at_last receives generates role id h read held sent s k c =
-    stops_at_turn receives generates role id h read held sent s k Io k c (inl (inl refl, refl))

@@ -1,6 +1,6 @@
 -- How a transcript begins and goes on.
 use Rattle.std.proofs.Common.{◌≡◌, ℕ, List, [], ◌∷◌, ◌++◌, Ok, refl, sym, ap, subst, ◌∙◌, append_assoc, append-nil}
-use Rattle.std.specs.Prelude.{Option, option_to_list}
+use Rattle.std.specs.Prelude.{option_to_list}
 use Rattle.std.specs.List.{flat_map, AllByRecursion}
 use Rattle.std.proofs.lemmas.List.{flat_map_more}
 use Rattle.tp_opid.specs.declared.doc_id.DocId.{DocId}
@@ -94,15 +94,3 @@ comes_on receives generates role id h read held sent s k turn rest s' h' c t =
           ∙ append_assoc (option_to_list (first_of role id)) (answers_of c.transcript) (option_to_list turn.send)
           ∙ ap (λ (l : List Frame). option_to_list (first_of role id) ++ l) (sym (answers_on c.transcript x));
     }
-
--- a side at its begin, by what is known of its parts
-pub comes_first : {H : Type 0} (receives : H → List ℕ → Reply → H → Type 0) (generates : H → Reply → H → Type 0) (role : Role) (id : DocId) (h : H) (held : List ℕ) (s : SessionData) (first : Option Frame)
-    → held ≡ [] → s ≡ begun role id → first ≡ first_of s.role s.id
-    → Comes receives generates role id h [] held (option_to_list first) s h
-comes_first receives generates role id h held s first none begins is =
-    let one : first ≡ first_of role id = is ∙ ap (λ (q : SessionData). first_of q.role q.id) begins in
-    let a : Comes receives generates role id h [] [] (option_to_list first) (begun role id) h =
-    subst (λ (o : Option Frame). Comes receives generates role id h [] [] (option_to_list o) (begun role id) h) (sym one) (comes_begin receives generates role id h) in
-    let b : Comes receives generates role id h [] [] (option_to_list first) s h =
-    subst (λ (q : SessionData). Comes receives generates role id h [] [] (option_to_list first) q h) (sym begins) a in
-    subst (λ (l : List ℕ). Comes receives generates role id h [] l (option_to_list first) s h) (sym none) b

@@ -2,11 +2,10 @@
 use Rattle.std.proofs.Common.{◌≡◌, ◌⊎◌, inl, inr, ℕ, ◌+◌, List, [], ◌∷◌, ◌++◌, length, Option, Result, Ok, Err, refl, sym, ap, ◌∙◌, subst, append_assoc, append-nil, length-append, arith}
 use Rattle.std.specs.Prelude.{IfErr, OnOk}
 use Rattle.std.specs.Io.KnownBytes.{Appends, Keeps}
-use Rattle.std.proofs.KnownBytes.{Appends-kept, Appends-nil, Appends-trans}
+use Rattle.std.proofs.KnownBytes.{Appends-kept, Appends-trans}
 use Rattle.tp_opid.specs.declared.doc_id.DocId.{DocId}
 use Rattle.tp_opid.specs.declared.op_id.OpId.{OpId}
 use Rattle.tp_journal.specs.Layout.{IsDocId}
-use Rattle.tp_headline.specs.Headline.{Headline}
 use Rattle.tp_headline.specs.Reply.{Reply}
 use Rattle.tp_headline.specs.World.{World, beginning}
 use Rattle.tp_textpeer.specs.Output.{AppendsPart}
@@ -63,17 +62,6 @@ pub record Going (number : ℕ) (w : World) (marks : List Mark) (before after : 
   pub plays : Plays (beginning id) [] asked printed w marks
   pub count : length asked + 1 ≡ number
   pub written : Appends before after printed
-
-pub going_none : (id : DocId) → IsDocId id → (w : World) (M : List Mark) (c : Option (List ℕ)) → w ≡ beginning id → M ≡ [] → Going 1 w M c c
-going_none id is w M c at_first none = record {
-  id = id;
-  is_id = is;
-  asked = [];
-  printed = [];
-  plays = (refl, at_first, none);
-  count = refl;
-  written = Appends-nil c;
-}
 
 pub going_more : (n : ℕ) (w w' : World) (M M' : List Mark) (before mid after : Option (List ℕ)) (a : Asked) (r : Reply) → Going n w M before mid → Carries w M a r w' M'
     → Appends mid after (told a r) → Going (n + 1) w' M' before after
