@@ -1,8 +1,8 @@
 -- The next counter of a past is that of the changes that are named: what they depend on ends before they start.
-use Rattle.std.proofs.Common.{◌≡◌, ℕ, suc, zero, ◌+◌, ◌<◌, ◌≤◌, inl, inr, List, [], ◌∷◌, ◌++◌, length, true, false, ◌||◌, cond, Some, None, drop, get_or, refl, sym, ap, ◌∙◌, subst, arith, add-one, drop-cons}
+use Rattle.std.proofs.Common.{◌≡◌, ◌⊎◌, length-append, ℕ, suc, zero, ◌+◌, ◌<◌, ◌≤◌, inl, inr, List, [], ◌∷◌, ◌++◌, length, true, false, ◌||◌, cond, Some, None, drop, get_or, refl, sym, ap, ◌∙◌, subst, arith, add-one, drop-cons}
 use Rattle.std.specs.List.{slice_get}
 use Rattle.std.proofs.lemmas.List.{drop_all}
-use Rattle.std.proofs.lemmas.Option.{get_or_from_slice_get}
+use Rattle.std.proofs.lemmas.Option.{slice_get_within, get_or_from_slice_get}
 use Rattle.std.proofs.lemmas.Bool.Decides.{nat_tests}
 use Rattle.tp_list.specs.Members.{In, AllIn}
 use Rattle.tp_list.proofs.Tests.{truth, never, not_true, or_cases}
@@ -15,7 +15,8 @@ use Rattle.tp_change.specs.ChangeHash.{hash_of}
 use Rattle.tp_change.specs.Operations.{op_count}
 use Rattle.tp_change.specs.Elements.{later, next_counter}
 use Rattle.tp_change.proofs.ElementLaws.{later-left, later-right, later-most, next_counter-above, one-next_counter, next_counter-least, le_both, later-assoc, later-end}
-use Rattle.tp_graph.specs.Ends.{end_named, latest_end}
+use Rattle.tp_graph.specs.declared.lists.TheConstants.{WIDE}
+use Rattle.tp_graph.specs.Ends.{end_named, latest_end, AreEnds}
 use Rattle.tp_graph.specs.GraphState.{HashesOnce}
 use Rattle.tp_graph.specs.Named.{names, has, is_needed}
 use Rattle.tp_graph.specs.Past.{past}
@@ -25,7 +26,7 @@ use Rattle.tp_graph.proofs.NamedLaws.{names-In, In-has, has-In, has_all-In}
 use Rattle.tp_graph.proofs.PastLaws.{past-In, past-named, with_reached-In}
 use Rattle.tp_graph.proofs.SoundLaws.{Fits-at, hashes_apart}
 use Rattle.tp_graph.proofs.MarksLaws.{hashes_once}
-use Rattle.tp_graph.proofs.PlacesLaws.{place_from-low, has-from_place}
+use Rattle.tp_graph.proofs.PlacesLaws.{at_push, place_from-low, has-from_place}
 
 -- ---- by place
 
@@ -37,13 +38,31 @@ ends_of-at (x ∷ C) (suc i) c e = ends_of-at C i c e
 pub end_at : (C : List ChangeParts) (i : ℕ) (c : ChangeParts) → slice_get C i ≡ Some c → get_or (ends_of C) i 0 ≡ c.start + op_count c
 end_at C i c e = get_or_from_slice_get (ends_of C) i (c.start + op_count c) 0 (ends_of-at C i c e)
 
-pub length-ends_of : (C : List ChangeParts) → length (ends_of C) ≡ length C
-length-ends_of [] = refl
-length-ends_of (c ∷ C) = ap suc (length-ends_of C)
-
-pub ends_of-push : (C : List ChangeParts) (c : ChangeParts) → ends_of (C ++ c ∷ []) ≡ ends_of C ++ (c.start + op_count c) ∷ []
-ends_of-push [] c = refl
-ends_of-push (x ∷ C) c = ap (λ l. (x.start + op_count x) ∷ l) (ends_of-push C c)
+-- the ends where a change enters
+pub AreEnds-push : (C : List ChangeParts) (x : ChangeParts) (ns : List ℕ) (n : ℕ) → AreEnds C ns → (n < WIDE → n ≡ x.start + op_count x) → AreEnds (C ++ x ∷ []) (ns ++ n ∷ [])
+AreEnds-push C x ns n w own =
+    let same : length ns ≡ length C = w.each in
+    let one : length (ns ++ n ∷ []) ≡ length ns + 1 = length-append ns (n ∷ []) in
+    let two : length (C ++ x ∷ []) ≡ length C + 1 = length-append C (x ∷ []) in
+    record {
+      each = omega arith;
+      known = λ i c m at here small. by i c m (at_push C x i c at) (at_push ns n i m here) small;
+    } where
+      by : (i : ℕ) (c : ChangeParts) (m : ℕ) → ((slice_get C i ≡ Some c) ⊎ ((i ≡ length C) × (c ≡ x))) → ((slice_get ns i ≡ Some m) ⊎ ((i ≡ length ns) × (m ≡ n))) → m < WIDE → m ≡ c.start + op_count c
+      by i c m (inl at) (inl here) small = w.known i c m at here small
+      by i c m (inl at) (inr z) small =
+          let low : i < length C = slice_get_within C i c at in
+          let same : length ns ≡ length C = w.each in
+          let end : i ≡ length ns = z.0 in
+          absurd (omega arith)
+      by i c m (inr z) (inl here) small =
+          let low : i < length ns = slice_get_within ns i m here in
+          let same : length ns ≡ length C = w.each in
+          let end : i ≡ length C = z.0 in
+          absurd (omega arith)
+      by i c m (inr z) (inr y) small =
+          let below : n < WIDE = subst (λ (k : ℕ). k < WIDE) y.1 small in
+          y.1 ∙ own below ∙ ap (λ (d : ChangeParts). d.start + op_count d) (sym z.1)
 
 -- ---- of one hash
 

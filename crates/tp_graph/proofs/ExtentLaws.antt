@@ -21,14 +21,14 @@ use Rattle.tp_graph.specs.Named.{has, has_all}
 use Rattle.tp_graph.specs.Past.{past}
 use Rattle.tp_graph.specs.Reach.{Chain}
 use Rattle.tp_graph.specs.Marks.{marks, pick}
-use Rattle.tp_graph.specs.Extents.{same_author_of, same_author, reaches, is_reached, taken, is_held, held_from, ArePlaces, IsPlaced, IsExtent, IsKnown, AreExtents}
+use Rattle.tp_graph.specs.Extents.{same_author_of, same_author, reaches, is_reached, taken, is_held, held_from, ArePlaces, IsPlaced, IsExtent}
 use Rattle.tp_graph.specs.Places.{place_from}
 use Rattle.tp_graph.specs.GraphState.{HashesOnce}
 use Rattle.tp_graph.specs.Sound.{Sound, Fits}
 use Rattle.tp_graph.proofs.NamedLaws.{In-has}
 use Rattle.tp_graph.proofs.PastLaws.{past-In, past-named, past-more, past-push_other}
 use Rattle.tp_graph.proofs.PlacesLaws.{at_left, at_push, place_from-some, has-from_place}
-use Rattle.tp_graph.proofs.SoundLaws.{Fits-at, Sound-prefix, Sound-before, hashes_apart, deps_first, deps_there, not_among}
+use Rattle.tp_graph.proofs.SoundLaws.{Fits-at, Sound-prefix, Sound-before, hashes_apart, deps_first, not_among}
 use Rattle.tp_graph.proofs.ReachLaws.{InPast-from_past, past-from_InPast}
 use Rattle.tp_graph.proofs.MarksLaws.{hashes_once, length-marks, pick-marks, pick-marked, marked-pick}
 use Rattle.tp_graph.proofs.CountLaws.{own_past}
@@ -240,36 +240,6 @@ IsExtent-push C x H e s f all w =
         ],
         λ j. never (In-has C c (hash_of x) (past-In C H c (subst (λ (l : List ChangeParts). In c l) same j)) (ap hash_of z.1)) f.new,
       )
-
-IsKnown-push : (C : List ChangeParts) (x : ChangeParts) (H : List Hash) (o : Option Extent) → Sound C → Fits C x → has_all C H ≡ true → IsKnown C H o → IsKnown (C ++ x ∷ []) H o
-IsKnown-push C x H None s f all k = tt
-IsKnown-push C x H (Some e) s f all k = IsExtent-push C x H e s f all k
-
-pub AreExtents-push : (C : List ChangeParts) (x : ChangeParts) (es : List (Option Extent)) (o : Option Extent) → Sound C → Fits C x → AreExtents C es → IsKnown C x.deps o → AreExtents (C ++ x ∷ []) (es ++ o ∷ [])
-AreExtents-push C x es o s f w k =
-    let same : length es ≡ length C = w.each in
-    let one : length (es ++ o ∷ []) ≡ length es + 1 = length-append es (o ∷ []) in
-    let two : length (C ++ x ∷ []) ≡ length C + 1 = length-append C (x ∷ []) in
-    record {
-      each = omega arith;
-      known = λ i c p at here. by i c p (at_push C x i c at) (at_push es o i p here);
-    } where
-      by : (i : ℕ) (c : ChangeParts) (p : Option Extent)
-          → ((slice_get C i ≡ Some c) ⊎ ((i ≡ length C) × (c ≡ x))) → ((slice_get es i ≡ Some p) ⊎ ((i ≡ length es) × (p ≡ o))) → IsKnown (C ++ x ∷ []) c.deps p
-      by i c p (inl at) (inl here) = IsKnown-push C x c.deps p s f (deps_there C s c (In-slice_get C i c at)) (w.known i c p at here)
-      by i c p (inl at) (inr z) =
-          let small : i < length C = slice_get_within C i c at in
-          let same : length es ≡ length C = w.each in
-          let end : i ≡ length es = z.0 in
-          absurd (omega arith)
-      by i c p (inr z) (inl here) =
-          let small : i < length es = slice_get_within es i p here in
-          let same : length es ≡ length C = w.each in
-          let end : i ≡ length C = z.0 in
-          absurd (omega arith)
-      by i c p (inr z) (inr y) =
-          subst (λ (d : ChangeParts). IsKnown (C ++ x ∷ []) d.deps p) (sym z.1)
-          (subst (λ (q : Option Extent). IsKnown (C ++ x ∷ []) x.deps q) (sym y.1) (IsKnown-push C x x.deps o s f f.deps k))
 
 -- ---- an actor's changes
 

@@ -1,13 +1,9 @@
 -- What a graph keeps stays true where a change is made ready for, and where it enters.
-use Rattle.std.proofs.Common.{◌≡◌, ◌⊎◌, inl, inr, ℕ, ◌+◌, ◌<◌, ◌≤◌, ◌==◌, List, [], ◌∷◌, ◌++◌, length, Bool, true, false, cond, Option, Some, None, refl, sym, ap, ◌∙◌, subst, arith, length-append}
+use Rattle.std.proofs.Common.{◌≡◌, ◌⊎◌, inl, inr, ℕ, ◌+◌, ◌<◌, ◌≤◌, ◌==◌, List, [], ◌∷◌, ◌++◌, length, Bool, true, false, Option, Some, None, refl, sym, ap, ◌∙◌, subst, arith, length-append}
 use Rattle.std.proofs.lemmas.Bool.Decides.{nat_tests}
 use Rattle.std.proofs.lemmas.List.{take-append-le}
-use Rattle.tp_list.proofs.Tests.{never, not_true}
 use Rattle.tp_opid.specs.declared.hash.Hash.{Hash}
-use Rattle.tp_opid.specs.Same.{same_hash}
-use Rattle.tp_opid.proofs.Orders.{same_hash-same, same_hash-itself}
 use Rattle.tp_change.specs.declared.parts.ChangeParts.{ChangeParts}
-use Rattle.tp_change.specs.ChangeHash.{hash_of}
 use Rattle.tp_graph.specs.declared.applied.Applied.TheInside.{Inside}
 use Rattle.tp_graph.specs.declared.by_actor.ByActor.{ByActor}
 use Rattle.tp_graph.specs.declared.extent.Room.{Room}
@@ -17,13 +13,10 @@ use Rattle.tp_graph.specs.Before.{IsClear}
 use Rattle.tp_graph.specs.Extents.{IsKnown, room_hash}
 use Rattle.tp_graph.specs.Kept.{IsReady, IsReadyIf}
 use Rattle.tp_graph.specs.Lists.{HasRoom, HasSameItems}
-use Rattle.tp_graph.specs.Named.{has}
 use Rattle.tp_graph.specs.Fit.{defect, cause, or_full, most_changes}
-use Rattle.tp_graph.specs.Places.{noted, NotesFrom}
+use Rattle.tp_graph.specs.Places.{IsNotedAt}
 use Rattle.tp_graph.specs.Sound.{Fits}
-use Rattle.tp_graph.proofs.NamedLaws.{In-has}
 use Rattle.tp_graph.proofs.SoundLaws.{Fits-from_defect, defect-from_Fits}
-use Rattle.tp_graph.proofs.PlacesLaws.{NotesFrom-more}
 
 no_cause : (o : Option GraphError) (b : Bool) → or_full o b ≡ None → (o ≡ None) × (b ≡ false)
 no_cause (Some e) b h = cc
@@ -49,17 +42,6 @@ cause-from_Fits C c f small =
     let room : (length C == most_changes) ≡ false = grind (arith, nat_tests) in
     ap (λ o. or_full o (length C == most_changes)) (defect-from_Fits C c f) ∙ ap (or_full None) room
 
--- a new note for a hash that isn't there leaves the others
-pub NotesFrom-noted : (C : List ChangeParts) (old new : List (Hash × ℕ)) (h : Hash) (p : ℕ) → has C h ≡ false → ((other : Hash) → noted new other ≡ cond (same_hash h other) (Some p) (noted old other))
-    → NotesFrom 0 C old → NotesFrom 0 C new
-NotesFrom-noted C old new h p lacks notes = NotesFrom-more 0 C old new
-    (λ c i.
-    let apart : same_hash h (hash_of c) ≡ false = not_true (same_hash h (hash_of c)) (λ t. never (In-has C c h i (sym (same_hash-same h (hash_of c) t))) lacks) in
-    notes (hash_of c) ∙ ap (λ b. cond b (Some p) (noted old (hash_of c))) apart)
-
-pub noted_itself : (old new : List (Hash × ℕ)) (h : Hash) (p : ℕ) → ((other : Hash) → noted new other ≡ cond (same_hash h other) (Some p) (noted old other)) → noted new h ≡ Some p
-noted_itself old new h p notes = notes h ∙ ap (λ b. cond b (Some p) (noted old h)) (same_hash-itself h)
-
 -- the lists by actor where one more change enters, which isn't listed yet
 pub IsByActor-push : (C : List ChangeParts) (x : ChangeParts) (b : ByActor) → b.listed ≡ length C → IsByActor C b → IsByActor (C ++ x ∷ []) b
 IsByActor-push C x b all w =
@@ -73,9 +55,9 @@ IsByActor-push C x b all w =
 
 -- what was made ready for a change with the hash
 pub ready_for : (g : Inside) (o : Option Room) (h : Hash) → room_hash o ≡ Some h → IsReadyIf o g
-    → (noted g.index h ≡ Some (length g.lists.changes.items)) × (g.by_actor.listed ≡ length g.lists.changes.items) × HasRoom g.lists
+    → IsNotedAt g.index h (length g.lists.changes.items) × (g.by_actor.listed ≡ length g.lists.changes.items) × HasRoom g.lists
 ready_for g None h e k = cc
-ready_for g (Some r) h e k = let same : r.hash ≡ h = cc in (ap (noted g.index) (sym same) ∙ k.noted_is, k.listed, k.room)
+ready_for g (Some r) h e k = let same : r.hash ≡ h = cc in (subst (λ i. IsNotedAt g.index i (length g.lists.changes.items)) same k.noted, k.listed, k.room)
 
 pub ready_past : (g : Inside) (o : Option Room) (r : Room) → o ≡ Some r → IsReadyIf o g → IsKnown g.lists.changes.items r.deps.items r.past × IsClear r.deletes.items
 ready_past g o r e k = let ready : IsReady r g = subst (λ p. IsReadyIf p g) e k in (ready.past, ready.clear)
@@ -87,7 +69,7 @@ ready_stays a b None same room notes listed k = tt
 ready_stays a b (Some r) same room notes listed k = record {
   past = subst (λ C. IsKnown C r.deps.items r.past) (sym same.changes) k.past;
   clear = k.clear;
-  noted_is = ap (λ (es : List (Hash × ℕ)). noted es r.hash) notes ∙ k.noted_is ∙ ap (λ (C : List ChangeParts). Some (length C)) (sym same.changes);
+  noted = subst (λ (n : ℕ). IsNotedAt b.index r.hash n) (ap (λ (C : List ChangeParts). length C) (sym same.changes)) (subst (λ n. IsNotedAt n r.hash (length a.lists.changes.items)) (sym notes) k.noted);
   listed = counted listed ∙ ap (λ (C : List ChangeParts). length C) (sym same.changes);
   room = room k.room;
 } where

@@ -21,3 +21,5 @@ pub mod ClashLaws
 pub mod LawRules
 pub mod BeforeLaws
 pub mod MarkedLaws
+pub mod PastsLaws
+pub mod NotesLaws

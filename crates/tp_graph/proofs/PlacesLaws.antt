@@ -11,7 +11,7 @@ use Rattle.tp_opid.proofs.Orders.{same_hash-same, same_hash-itself}
 use Rattle.tp_change.specs.declared.parts.ChangeParts.{ChangeParts}
 use Rattle.tp_change.specs.ChangeHash.{hash_of}
 use Rattle.tp_graph.specs.Named.{has, has_all}
-use Rattle.tp_graph.specs.Places.{place_from, noted, NotesFrom, HasAt}
+use Rattle.tp_graph.specs.Places.{place_from, HasAt}
 use Rattle.tp_graph.proofs.NamedLaws.{In-has}
 
 -- ---- a list with one more
@@ -31,15 +31,6 @@ at_left (x ∷ xs) y (suc i) h = at_left xs y i (omega arith)
 pub at_last : {X : Type 0} (xs : List X) (y : X) → slice_get (xs ++ y ∷ []) (length xs) ≡ Some y
 at_last [] y = refl
 at_last (x ∷ xs) y = at_last xs y
-
--- a map that notes the places gives the place of each hash that is there
-pub place_from-noted : (n : ℕ) (C : List ChangeParts) (entries : List (Hash × ℕ)) (h : Hash) → NotesFrom n C entries → has C h ≡ true → noted entries h ≡ place_from n C h
-place_from-noted n [] entries h N e = cc
-place_from-noted n (c ∷ C) entries h N e =
-    elim (same_hash (hash_of c) h) as (λ b. same_hash (hash_of c) h ≡ b → (b || has C h) ≡ true → noted entries h ≡ cond b (Some n) (place_from (n + 1) C h)) [
-      | true ↦ λ s t. subst (λ g. noted entries g ≡ Some n) (same_hash-same (hash_of c) h s) N.0
-      | false ↦ λ s t. place_from-noted (n + 1) C entries h N.1 t
-    ] refl e
 
 pub place_from-none : (n : ℕ) (C : List ChangeParts) (h : Hash) → has C h ≡ false → place_from n C h ≡ None
 place_from-none n [] h e = refl
@@ -67,32 +58,6 @@ place_from-there n (c ∷ C) h e =
 pub HasAt-has : (C : List ChangeParts) (i : ℕ) (h : Hash) → HasAt C i h → has C h ≡ true
 HasAt-has C i h w = In-has C w.0 h (In-slice_get C i w.0 w.1) w.2
 
--- a place that the map notes, and that has the hash, is its place
-pub place_is : (C : List ChangeParts) (entries : List (Hash × ℕ)) (h : Hash) (i : ℕ) → NotesFrom 0 C entries → noted entries h ≡ Some i → HasAt C i h → Some i ≡ place_from 0 C h
-place_is C entries h i N e at = sym e ∙ place_from-noted 0 C entries h N (HasAt-has C i h at)
-
--- where the noted place hasn't the hash, nothing has
-pub lacks_by : (C : List ChangeParts) (entries : List (Hash × ℕ)) (h : Hash) (i : ℕ) → NotesFrom 0 C entries → noted entries h ≡ Some i → (HasAt C i h → ⊥) → has C h ≡ false
-lacks_by C entries h i N e no_at =
-    not_true (has C h)
-    (λ t. let w = place_from-there 0 C h t in
-    let k : ℕ = w.0 in
-    let zero_first : 0 + k ≡ k = omega arith in
-    let same : Some i ≡ Some k = sym e ∙ place_from-noted 0 C entries h N t ∙ w.1 ∙ ap Some zero_first in
-    let at : k ≡ i = cc in
-    no_at (subst (λ j. HasAt C j h) at w.3))
-
-pub place_is_none : (C : List ChangeParts) (entries : List (Hash × ℕ)) (h : Hash) (i : ℕ) → NotesFrom 0 C entries → noted entries h ≡ Some i → (HasAt C i h → ⊥) → None ≡ place_from 0 C h
-place_is_none C entries h i N e no_at = sym (place_from-none 0 C h (lacks_by C entries h i N e no_at))
-
-pub lacks_unnoted : (C : List ChangeParts) (entries : List (Hash × ℕ)) (h : Hash) → NotesFrom 0 C entries → noted entries h ≡ None → has C h ≡ false
-lacks_unnoted C entries h N e =
-    not_true (has C h)
-    (λ t. let w = place_from-there 0 C h t in let same : None ≡ Some (0 + w.0) = sym e ∙ place_from-noted 0 C entries h N t ∙ w.1 in cc)
-
-pub place_unnoted : (C : List ChangeParts) (entries : List (Hash × ℕ)) (h : Hash) → NotesFrom 0 C entries → noted entries h ≡ None → None ≡ place_from 0 C h
-place_unnoted C entries h N e = sym (place_from-none 0 C h (lacks_unnoted C entries h N e))
-
 -- the place that a hash has is within the list, and has it
 pub place_from-some : (C : List ChangeParts) (h : Hash) (i : ℕ) → Some i ≡ place_from 0 C h → (i < length C) × HasAt C i h
 place_from-some C h i e =
@@ -110,18 +75,6 @@ place_from-some C h i e =
 pub has-from_place : (C : List ChangeParts) (h : Hash) → None ≡ place_from 0 C h → has C h ≡ false
 has-from_place C h e =
     not_true (has C h) (λ t. let w = place_from-there 0 C h t in let bad : None ≡ Some (0 + w.0) = e ∙ w.1 in cc)
-
--- ---- noting one more
-
-pub NotesFrom-more : (n : ℕ) (C : List ChangeParts) (old new : List (Hash × ℕ)) → ((c : ChangeParts) → In c C → noted new (hash_of c) ≡ noted old (hash_of c)) → NotesFrom n C old → NotesFrom n C new
-NotesFrom-more n [] old new f N = tt
-NotesFrom-more n (c ∷ C) old new f N = (f c (inl refl) ∙ N.0, NotesFrom-more (n + 1) C old new (λ d i. f d (inr i)) N.1)
-
-pub NotesFrom-push : (n : ℕ) (C : List ChangeParts) (x : ChangeParts) (entries : List (Hash × ℕ)) → NotesFrom n C entries → noted entries (hash_of x) ≡ Some (n + length C) → NotesFrom n (C ++ x ∷ []) entries
-NotesFrom-push n [] x entries N e = (e ∙ ap Some (add-zero n), tt)
-NotesFrom-push n (c ∷ C) x entries N e =
-    let step : n + length (c ∷ C) ≡ n + 1 + length C = omega arith in
-    (N.0, NotesFrom-push (n + 1) C x entries N.1 (e ∙ ap Some step))
 
 -- places are counted on from the first
 pub place_from-low : (n : ℕ) (C : List ChangeParts) (h : Hash) (m : ℕ) → Some m ≡ place_from n C h → n ≤ m

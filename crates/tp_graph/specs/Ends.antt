@@ -1,11 +1,13 @@
 -- Where the counters of named changes end.
-use Rattle.std.specs.Prelude.{ℕ, ◌+◌, List, [], ◌∷◌, cond}
+use Rattle.std.specs.Prelude.{◌≡◌, ℕ, ◌+◌, ◌<◌, List, [], ◌∷◌, length, Some, cond}
+use Rattle.std.specs.List.{slice_get}
 use Rattle.tp_opid.specs.declared.hash.Hash.{Hash}
 use Rattle.tp_opid.specs.Same.{same_hash}
 use Rattle.tp_change.specs.declared.parts.ChangeParts.{ChangeParts}
 use Rattle.tp_change.specs.ChangeHash.{hash_of}
 use Rattle.tp_change.specs.Operations.{op_count}
 use Rattle.tp_change.specs.Elements.{later}
+use Rattle.tp_graph.specs.declared.lists.TheConstants.{WIDE}
 
 -- one more than the last counter of the change with the hash, or 0 where none has it
 abbrev pub end_named : List ChangeParts → Hash → ℕ
@@ -16,3 +18,8 @@ end_named (c ∷ C) h = cond (same_hash (hash_of c) h) (c.start + op_count c) (e
 abbrev pub latest_end : List ChangeParts → List Hash → ℕ
 latest_end C [] = 1
 latest_end C (h ∷ H) = later (end_named C h) (latest_end C H)
+
+-- There is a number for each change; below WIDE it is one more than the change's last counter.
+pub record AreEnds (C : List ChangeParts) (ends : List ℕ) : Type 0 where
+  pub each : length ends ≡ length C
+  pub known : (i : ℕ) → (c : ChangeParts) → (n : ℕ) → slice_get C i ≡ Some c → slice_get ends i ≡ Some n → n < WIDE → n ≡ c.start + op_count c

@@ -61,10 +61,13 @@ abbrev pub IsKnown : List ChangeParts → List Hash → Option Extent → Type 0
 IsKnown C H None = Unit {0}
 IsKnown C H (Some e) = IsExtent C H e
 
--- There is an extent for each change, and where it is known, it is that of the past of the change's dependencies.
-pub record AreExtents (C : List ChangeParts) (es : List (Option Extent)) : Type 0 where
-  pub each : length es ≡ length C
-  pub known : (i : ℕ) → (c : ChangeParts) → (o : Option Extent) → slice_get C i ≡ Some c → slice_get es i ≡ Some o → IsKnown C c.deps o
+-- The new extent holds what the old one held, the change at the place, and what an extent of the past of its dependencies
+-- holds.
+pub record HasTaken (C : List ChangeParts) (place : ℕ) (old new : Extent) : Type 0 where
+  pub placed : IsPlaced C new
+  pub own : Extent
+  pub known : (d : ChangeParts) → slice_get C place ≡ Some d → IsExtent C d.deps own
+  pub held : (i : ℕ) → is_held C new.prefix new.tips.items i ≡ ((reaches C place i || is_held C own.prefix own.tips.items i) || is_held C old.prefix old.tips.items i)
 
 -- the hash of the change that was made ready for
 abbrev pub room_hash : Option Room → Option Hash

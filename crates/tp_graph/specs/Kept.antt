@@ -7,12 +7,14 @@ use Rattle.tp_graph.specs.declared.applied.Applied.TheInside.{Inside}
 use Rattle.tp_graph.specs.declared.extent.Room.{Room}
 use Rattle.tp_graph.specs.Before.{IsClear}
 use Rattle.tp_graph.specs.ByActor.{IsByActor}
-use Rattle.tp_graph.specs.Extents.{AreExtents, IsKnown}
+use Rattle.tp_graph.specs.Ends.{AreEnds}
+use Rattle.tp_graph.specs.Extents.{IsKnown}
 use Rattle.tp_graph.specs.Fit.{most_changes}
 use Rattle.tp_graph.specs.Heads as head
 use Rattle.tp_graph.specs.Lists.{HasRoom}
 use Rattle.tp_graph.specs.Marked.{AreMarked}
-use Rattle.tp_graph.specs.Places.{noted, NotesFrom, ends_of}
+use Rattle.tp_graph.specs.Pasts.{ArePasts}
+use Rattle.tp_graph.specs.Places.{IsNotedAt, AreNoted}
 use Rattle.tp_graph.specs.Sound.{Sound}
 
 -- What was made ready is for the change: it has its hash and its dependencies, the extent is that of their past, and no
@@ -28,7 +30,7 @@ pub record IsRoomFor (C : List ChangeParts) (c : ChangeParts) (r : Room) : Type 
 pub record IsReady (r : Room) (a : Inside) : Type 0 where
   pub past : IsKnown a.lists.changes.items r.deps.items r.past
   pub clear : IsClear r.deletes.items
-  pub noted_is : noted a.index r.hash ≡ Some (length a.lists.changes.items)
+  pub noted : IsNotedAt a.index r.hash (length a.lists.changes.items)
   pub listed : a.by_actor.listed ≡ length a.lists.changes.items
   pub room : HasRoom a.lists
 
@@ -42,10 +44,10 @@ pub record IsKept (a : Inside) : Type 0 where
   pub sound : Sound a.lists.changes.items
   pub few : length a.lists.changes.items ≤ most_changes
   pub heads_are : a.lists.heads.items ≡ head.heads a.lists.changes.items
-  pub ends_are : a.lists.ends.items ≡ ends_of a.lists.changes.items
-  pub pasts : AreExtents a.lists.changes.items a.lists.pasts.items
+  pub ends_are : AreEnds a.lists.changes.items a.lists.ends.items
+  pub pasts : ArePasts a.lists.changes.items a.lists.pasts.prefixes.items a.lists.pasts.apart.items
   pub marked : AreMarked a.lists.changes.items a.lists.marked.items
   pub next_is : a.next ≡ made.next_counter a.lists.changes.items
-  pub notes : NotesFrom 0 a.lists.changes.items a.index
+  pub notes : AreNoted a.lists.changes.items a.index
   pub by_actor : IsByActor a.lists.changes.items a.by_actor
   pub ready : IsReadyIf a.room a

@@ -20,3 +20,4 @@ pub mod Answers
 pub mod Since
 pub mod Before
 pub mod Marked
+pub mod Pasts

@@ -1,5 +1,7 @@
 -- Places of changes in applied order, counted from 0, and the map from hashes to places.
-use Rattle.std.specs.Prelude.{◌≡◌, ℕ, ◌+◌, List, [], ◌∷◌, Option, Some, None, cond}
+use Rattle.std.specs.Prelude.{◌≡◌, ◌⊎◌, ℕ, ◌+◌, List, [], ◌∷◌, slice_index, Option, Some, None, cond}
+use Rattle.std.specs.Int.{w32, from_be_bytes}
+use Rattle.std.specs.Ordering.{is_eq, nat_cmp}
 use Rattle.std.specs.List.{slice_get}
 use Rattle.std.specs.Map.{lookup}
 use Rattle.tp_opid.specs.declared.hash.Hash.{Hash}
@@ -17,10 +19,26 @@ place_from n (c ∷ C) h = cond (same_hash (hash_of c) h) (Some n) (place_from (
 abbrev pub noted : List (Hash × ℕ) → Hash → Option ℕ
 noted entries h = lookup (same_hash h) entries
 
--- The map has the place of each change, the first at the place n. It may have more entries.
-abbrev pub NotesFrom : ℕ → List ChangeParts → List (Hash × ℕ) → Type 0
-NotesFrom n [] entries = Unit {0}
-NotesFrom n (c ∷ C) entries = (noted entries (hash_of c) ≡ Some n) × NotesFrom (n + 1) C entries
+-- what a map with these entries has at the number
+abbrev pub noted_word : List (ℕ × ℕ) → ℕ → Option ℕ
+noted_word entries w = lookup (λ v. is_eq (nat_cmp w v)) entries
+
+-- the first 4 bytes of a hash as a number
+unfoldable pub first_word : Hash → ℕ
+first_word h = from_be_bytes w32 (slice_index h.0 0 ∷ slice_index h.0 1 ∷ slice_index h.0 2 ∷ slice_index h.0 3 ∷ [])
+
+-- Places that are noted: by the first 4 bytes of hashes, and by whole hashes.
+pub record Notes : Type 0 where
+  pub words : List (ℕ × ℕ)
+  pub hashes : List (Hash × ℕ)
+
+-- The place is noted for the hash, in one way or the other.
+abbrev pub IsNotedAt : Notes → Hash → ℕ → Type 0
+IsNotedAt n h i = (noted_word n.words (first_word h) ≡ Some i) ⊎ (noted n.hashes h ≡ Some i)
+
+-- The place of each change is noted. There may be more notes.
+abbrev pub AreNoted : List ChangeParts → Notes → Type 0
+AreNoted C n = (i : ℕ) → (c : ChangeParts) → slice_get C i ≡ Some c → IsNotedAt n (hash_of c) i
 
 -- the change at the place i has the hash
 abbrev pub HasAt : List ChangeParts → ℕ → Hash → Type 0

@@ -8,12 +8,13 @@ ghost use Rattle.tp_change.specs.ChangeHash.{hash_of};
 ghost use Rattle.tp_change.specs.Elements as made;
 ghost use Rattle.tp_graph.specs.Answers.{Answers, TakesMemory};
 ghost use Rattle.tp_graph.specs.ByActor.{IsOwn};
-ghost use Rattle.tp_graph.specs.Extents.{IsKnown};
+ghost use Rattle.tp_graph.specs.Extents.{IsExtent, IsKnown};
 ghost use Rattle.tp_graph.specs.Fit as fit;
 ghost use Rattle.tp_graph.specs.Fit.{cause, most_changes};
 ghost use Rattle.tp_graph.specs.Heads as head;
 ghost use Rattle.tp_graph.specs.Kept.{IsRoomFor};
 ghost use Rattle.tp_graph.specs.Marked.{IsMarked};
+ghost use Rattle.tp_graph.specs.Pasts.{IsSpan};
 ghost use Rattle.tp_graph.specs.Places.{place_from, ends_of};
 ghost use Rattle.tp_graph.specs.Sound.{Sound};
 
@@ -22,11 +23,11 @@ use crate::error::GraphError;
 use crate::extent::{Extent, Room};
 use crate::index::{Index, place_of};
 use crate::judge::later;
-use crate::lists::Lists;
-use crate::marked;
+use crate::lists::{Lists, WIDE, narrow};
 use crate::own::Own;
 use crate::part::extent_in;
 use crate::walk::same_hashes;
+use crate::{marked, pasts};
 use std::alloc::Global;
 use std::marker::Model;
 use tp_change::Change;
@@ -117,21 +118,36 @@ impl Applied {
         &self.lists.changes[place]
     }
 
-    /// One more than the last counter of the change at the place.
+    /// One more than the last counter of the change at the place. A look-up, where four bytes hold it.
     pub(crate) fn end_at(&self, place: usize) -> u64
         requires { place < length self.now.changes }
         ensures { result ≡ slice_index (ends_of self.now.changes) place }
     {
-        self.lists.ends[place]
+        let end = self.lists.ends[place];
+        if end < WIDE {
+            end as u64
+        } else {
+            self.lists.changes[place].next_start()
+        }
     }
 
-    /// How far the past of the dependencies of the change at the place reaches, where that is known.
-    pub(crate) fn past_at(&self, place: usize) -> &Option<Extent>
+    /// Where the past of the dependencies of the change at the place is all that stands before a place: that place.
+    pub(crate) fn span_at(&self, place: usize) -> Option<usize>
         requires { place < length self.now.changes }
-        ensures { (c : ChangeParts) → slice_get self.now.changes place ≡ Some c
-            → IsKnown self.now.changes c.deps result.now }
+        ensures { IfSome result (λ prefix. (c : ChangeParts)
+            → slice_get self.now.changes place ≡ Some c
+            → IsSpan self.now.changes c.deps prefix) }
     {
-        &self.lists.pasts[place]
+        self.lists.pasts.span(place)
+    }
+
+    /// How far the past of the dependencies of any other change reaches, where that is known.
+    pub(crate) fn extent_at(&self, place: usize) -> Option<&Extent>
+        ensures { IfSome result (λ extent. (c : ChangeParts)
+            → slice_get self.now.changes place ≡ Some c
+            → IsExtent self.now.changes c.deps extent.now) }
+    {
+        pasts::find(self.lists.pasts.apart.as_slice(), place)
     }
 
     /// The marks of the change at the place, where they are kept: where it has many operations.
@@ -222,7 +238,7 @@ impl Applied {
         match self.room.take() {
             Some(room) => {
                 let past = extent_for(room.past, room.deps.as_slice(), change.deps());
-                self.lists.push(change, end, past, room.deletes);
+                self.lists.push(change, narrow(end), past, room.deletes);
             }
             None => unreachable!(),
         }

@@ -5,7 +5,7 @@ ghost use Rattle.std.specs.Prelude.{◌≡◌, ℕ, ◌+◌, ◌<◌, ◌≤◌,
 ghost use Rattle.std.specs.declared.cmp.Ordering.TheVariants.{Equal};
 ghost use Rattle.tp_change.specs.Elements as made;
 ghost use Rattle.tp_graph.specs.Extents as extents;
-ghost use Rattle.tp_graph.specs.Extents.{ArePlaces, IsPlaced, IsExtent, IsKnown};
+ghost use Rattle.tp_graph.specs.Extents.{ArePlaces, IsPlaced, IsExtent, IsKnown, HasTaken};
 ghost use Rattle.tp_graph.specs.Fit.{most_changes};
 
 use crate::applied::Applied;
@@ -261,6 +261,28 @@ impl Applied {
         next
     }
 
+    // Puts in the change at the place, and its past. False where its extent isn't known, or where there are too many tips
+    // then.
+    fn take_change(&self, extent: &mut Extent, place: usize) -> Result<bool, AllocError>
+        requires extent { IsPlaced self.now.changes extent.old }
+        requires place { place < length self.now.changes }
+        ensures { IfOk result (λ known. IsTrue known
+            → HasTaken self.now.changes place extent.old extent.new) }
+    {
+        let _changes = self.changes();
+        if let Some(prefix) = self.span_at(place) {
+            extent.take_in(self, &Extent::whole(self.alloc(), prefix), place)?;
+            return Ok(extent.tips.len() <= MOST_TIPS);
+        }
+        match self.extent_at(place) {
+            Some(past) => {
+                extent.take_in(self, past, place)?;
+                Ok(extent.tips.len() <= MOST_TIPS)
+            }
+            None => Ok(false),
+        }
+    }
+
     // Puts in the past of the hash with the given number. False where its extent isn't known, or where there are too
     // many tips then.
     fn take_hash(
@@ -276,13 +298,7 @@ impl Applied {
     {
         let _changes = self.changes();
         match self.place(&hashes[number]) {
-            Some(place) => match self.past_at(place) {
-                Some(past) => {
-                    extent.take_in(self, past, place)?;
-                    Ok(extent.tips.len() <= MOST_TIPS)
-                }
-                None => Ok(false),
-            },
+            Some(place) => self.take_change(extent, place),
             None => Ok(true),
         }
     }

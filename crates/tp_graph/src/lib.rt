@@ -22,6 +22,7 @@ mod marked;
 mod own;
 mod part;
 mod past;
+mod pasts;
 mod since;
 mod walk;
 

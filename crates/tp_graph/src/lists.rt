@@ -5,16 +5,23 @@ ghost use Rattle.tp_list.specs.Rising as list;
 ghost use Rattle.tp_opid.specs.Order.{hash_cmp};
 ghost use Rattle.tp_change.specs.ChangeHash.{hash_of};
 ghost use Rattle.tp_graph.specs.Before.{IsClear};
+ghost use Rattle.tp_graph.specs.Extents.{IsKnown};
 ghost use Rattle.tp_graph.specs.Heads as head;
 ghost use Rattle.tp_graph.specs.Lists.{HasRoom, HasSameItems, AreEmpty};
 ghost use Rattle.tp_graph.specs.Marked.{AreMarked};
+ghost use Rattle.tp_graph.specs.Pasts.{ArePasts};
+ghost use Rattle.tp_graph.specs.Sound.{Sound, Fits};
 
 use crate::extent::Extent;
 use crate::heads;
 use crate::marked::{self, Marked};
+use crate::pasts::Pasts;
 use std::alloc::{AllocError, Global};
 use tp_change::Change;
 use tp_opid::Hash;
+
+/// Stands for a counter that four bytes don't hold.
+pub(crate) const WIDE: u32 = 4_294_967_295;
 
 /// The applied changes in the order in which they entered, their heads, for each change where its counters end and how
 /// far the past of its dependencies reaches, and marks of the changes of many operations.
@@ -22,8 +29,8 @@ use tp_opid::Hash;
 pub(crate) struct Lists {
     pub(crate) changes: Vec<Change>,
     pub(crate) heads: Vec<Hash>,
-    pub(crate) ends: Vec<u64>,
-    pub(crate) pasts: Vec<Option<Extent>>,
+    pub(crate) ends: Vec<u32>,
+    pub(crate) pasts: Pasts,
     pub(crate) marked: Vec<Marked>,
 }
 
@@ -38,6 +45,17 @@ pub(crate) fn push_within<T: Drop>(items: &mut Vec<T>, item: T)
     }
 }
 
+/// The counter in four bytes, or `WIDE`.
+pub(crate) fn narrow(counter: u64) -> u32
+    ensures { result < WIDE → result ≡ counter }
+{
+    if counter < WIDE as u64 {
+        counter as u32
+    } else {
+        WIDE
+    }
+}
+
 impl Lists {
     /// No changes. It takes no memory.
     pub(crate) fn new(alloc: Global) -> Lists
@@ -47,7 +65,7 @@ impl Lists {
             changes: Vec::new(alloc),
             heads: Vec::new(alloc),
             ends: Vec::new(alloc),
-            pasts: Vec::new(alloc),
+            pasts: Pasts::new(alloc),
             marked: Vec::new(alloc),
         }
     }
@@ -61,7 +79,8 @@ impl Lists {
         self.changes.reserve(1)?;
         self.heads.reserve(1)?;
         self.ends.reserve(1)?;
-        self.pasts.reserve(1)?;
+        self.pasts.prefixes.reserve(1)?;
+        self.pasts.apart.reserve(1)?;
         self.marked.reserve(1)?;
         Ok(())
     }
@@ -70,7 +89,7 @@ impl Lists {
     pub(crate) fn push(
         &mut self,
         change: Change,
-        end: u64,
+        end: u32,
         past: Option<Extent>,
         deletes: Vec<bool>,
     )
@@ -80,14 +99,17 @@ impl Lists {
         ensures heads { self.new.heads.items ≡ list.put hash_cmp (hash_of change)
             (head.without change.deps self.old.heads.items) }
         ensures ends { self.new.ends.items ≡ self.old.ends.items ++ end ∷ [] }
-        ensures pasts { self.new.pasts.items ≡ self.old.pasts.items ++ past ∷ [] }
+        ensures pasts { Sound self.old.changes.items → Fits self.old.changes.items change
+            → ArePasts self.old.changes.items self.old.pasts.prefixes.items self.old.pasts.apart.items
+            → IsKnown self.old.changes.items change.deps past
+            → ArePasts self.new.changes.items self.new.pasts.prefixes.items self.new.pasts.apart.items }
         ensures marked { AreMarked self.old.changes.items self.old.marked.items
             → AreMarked self.new.changes.items self.new.marked.items }
     {
         heads::move_on(&mut self.heads, change.deps(), change.hash());
         marked::keep(&mut self.marked, self.changes.len(), &change, deletes);
         push_within(&mut self.ends, end);
-        push_within(&mut self.pasts, past);
+        self.pasts.push(past);
         push_within(&mut self.changes, change);
     }
 }

@@ -109,7 +109,10 @@ fn recover_behind<S: Sequence>(
         match enter_next(alloc, &mut document, rest, at) {
             Ok(Some(next)) => rest = next,
             Ok(None) => return Ok(Recovered { document, keep: at }),
-            Err(error) => return Err(error),
+            Err(error) => {
+                drop(document);
+                return Err(error);
+            }
         }
     }
 }

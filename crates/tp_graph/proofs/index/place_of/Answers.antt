@@ -1,16 +1,20 @@
-use Rattle.std.proofs.Common.{◌≡◌, sym, true, false}
-use Rattle.tp_graph.proofs.PlacesLaws.{place_is, place_is_none, place_unnoted, place_from-some}
+use Rattle.std.proofs.Common.{◌≡◌, ◌∙◌, ap, Some, None}
+use Rattle.tp_graph.specs.Places.{noted_word}
+use Rattle.tp_graph.proofs.MarksLaws.{hashes_once}
+use Rattle.tp_graph.proofs.NotesLaws.{place_is, place_by_hash}
 use Rattle.tp_graph.proofs.index.place_of.Goals as goal
 
-pub returns-then-has_at : goal.returns-then-has_at
-returns-then-has_at c =
-    let place = place_is c.args.changes.now c.args.index.now c.args.hash.now c.in-Some.place c.requires (sym c.in-Some.ensures) (c.has_at.ensures.0 c.if-has_at.true) in
-    record { place = place; within = (place_from-some c.args.changes.now c.args.hash.now c.in-Some.place place).0 }
+pub returns-in-Some : goal.returns-in-Some
+returns-in-Some c = record {
+  place = place_is c.args.changes.now c.args.hash.now c.in-Some.place (hashes_once c.args.changes.now c.requires.sound) c.in-Some.ensures.there;
+  within = c.in-Some.ensures.within;
+}
 
-pub returns-else-has_at-clause-place : goal.returns-else-has_at-clause-place
-returns-else-has_at-clause-place c =
-    place_is_none c.args.changes.now c.args.index.now c.args.hash.now c.in-Some.place c.requires (sym c.in-Some.ensures)
-    (λ at. let yes : c.has_at.result ≡ true = c.has_at.ensures.1 at in let no : c.has_at.result ≡ false = c.if-has_at.false in cc)
-
-pub returns-in-None-clause-place : goal.returns-in-None-clause-place
-returns-in-None-clause-place c = place_unnoted c.args.changes.now c.args.index.now c.args.hash.now c.requires (sym c.in-None.ensures)
+pub returns-clause-place : goal.returns-clause-place
+returns-clause-place c =
+    let C = c.args.changes.now in
+    let h = c.args.hash.now in
+    place_by_hash C c.args.index.now h c.trusted-2.result (hashes_once C c.requires.sound) c.requires.noted
+    (λ p e at. let bad : None ≡ Some p = c.in_default.ensures.found p (c.by_word.ensures ∙ ap (noted_word c.args.index.now.words) c.word_of.ensures ∙ e) at in cc)
+    c.trusted-2.ensures.there
+    (λ p e at. c.trusted-2.ensures.found p (c.by_hash.ensures ∙ e) at)

@@ -1,15 +1,13 @@
-use Rattle.std.proofs.Common.{◌≡◌, ℕ, ◌<◌, ◌≤◌, ◌+◌, ◌∙◌, ◌++◌, ◌∷◌, [], ap, sym, subst, Some, None, length, arith, length-append}
+use Rattle.std.proofs.Common.{◌≡◌, ◌<◌, ◌≤◌, ◌+◌, ◌∙◌, ◌++◌, ◌∷◌, [], ap, sym, subst, Some, None, length, arith, length-append}
 use Rattle.tp_change.specs.ChangeHash.{hash_of}
 use Rattle.tp_change.proofs.ElementLaws.{next_counter-push}
 use Rattle.tp_graph.specs.Fit.{cause, most_changes}
 use Rattle.tp_graph.specs.Extents.{IsKnown, room_hash}
 use Rattle.tp_graph.specs.AppliedState.{AppliedState}
-use Rattle.tp_graph.specs.Places.{noted}
-use Rattle.tp_graph.proofs.ExtentLaws.{AreExtents-push}
 use Rattle.tp_graph.proofs.HeadsLaws.{heads-push}
 use Rattle.tp_graph.proofs.KeptLaws.{IsByActor-push, Fits-from_cause, room_for_one, ready_for, ready_past}
-use Rattle.tp_graph.proofs.EndLaws.{ends_of-push}
-use Rattle.tp_graph.proofs.PlacesLaws.{NotesFrom-push}
+use Rattle.tp_graph.proofs.EndLaws.{AreEnds-push}
+use Rattle.tp_graph.proofs.NotesLaws.{AreNoted-push}
 use Rattle.tp_graph.proofs.SoundLaws.{Sound-push}
 use Rattle.tp_graph.proofs.applied.Applied.enter.Goals as goal
 
@@ -37,18 +35,15 @@ invariant_of-self c =
     let less : length C < most_changes = room_for_one C x none kept.few in
     let more : length (C ++ x ∷ []) ≡ length C + 1 = length-append C (x ∷ []) in
     let few : length (C ++ x ∷ []) ≤ most_changes = omega arith in
-    let at : noted g.index (hash_of x) ≡ Some (0 + length C) = ready.0 ∙ ap Some (counted (length C)) in
     record {
       sound = rw pushed.changes (Sound-push C x kept.sound f);
       few = rw pushed.changes few;
       heads_are = rw (pushed.heads, pushed.changes, kept.heads_are) (sym (heads-push C x kept.sound f));
-      ends_are = rw (pushed.ends, pushed.changes, kept.ends_are, c.next_start-end.ensures) (sym (ends_of-push C x));
-      pasts = rw (pushed.changes, pushed.pasts) (AreExtents-push C x g.lists.pasts.items c.extent_for-past.result kept.sound f kept.pasts known);
+      ends_are = rw (pushed.ends, pushed.changes) (AreEnds-push C x g.lists.ends.items c.narrow.result kept.ends_are (λ small. c.narrow.ensures small ∙ c.next_start-end.ensures));
+      pasts = pushed.pasts kept.sound f kept.pasts known;
       marked = pushed.marked kept.marked;
       next_is = rw (pushed.changes, c.later-self-inside.ensures, kept.next_is, c.next_start-end.ensures) (sym (next_counter-push C x));
-      notes = rw pushed.changes (NotesFrom-push 0 C x g.index kept.notes at);
+      notes = rw pushed.changes (AreNoted-push C x g.index kept.notes ready.0);
       by_actor = rw pushed.changes (IsByActor-push C x g.by_actor ready.1 kept.by_actor);
       ready = rw c.take.ensures.after tt;
-    } where
-      counted : (n : ℕ) → n ≡ 0 + n
-      counted n = omega arith
+    }

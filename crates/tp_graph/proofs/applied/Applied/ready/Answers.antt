@@ -1,12 +1,12 @@
-use Rattle.std.proofs.Common.{◌≡◌, ◌∙◌, refl, inl, inr, ap, sym, subst, length, arith, Some, None, false}
+use Rattle.std.proofs.Common.{◌≡◌, ℕ, ◌∙◌, refl, inl, inr, ap, sym, subst, length, arith, None, false}
 use Rattle.std.specs.Vec.{vec_len}
-use Rattle.tp_change.specs.ChangeHash.{hash_of}
 use Rattle.tp_graph.specs.AppliedState.{AppliedState}
 use Rattle.tp_graph.specs.Extents.{IsKnown}
 use Rattle.tp_graph.specs.Fit.{cause}
 use Rattle.tp_graph.specs.Kept.{IsRoomFor}
 use Rattle.tp_graph.specs.Named.{has}
-use Rattle.tp_graph.proofs.KeptLaws.{NotesFrom-noted, noted_itself, Fits-from_cause, ready_stays}
+use Rattle.tp_graph.specs.Places.{IsNotedAt}
+use Rattle.tp_graph.proofs.KeptLaws.{Fits-from_cause, ready_stays}
 use Rattle.tp_graph.proofs.applied.Applied.ready.Goals as goal
 
 pub invariant_of-self-2 : goal.invariant_of-self-2
@@ -27,15 +27,15 @@ invariant_of-self-2 c =
       few = rw same.changes kept.few;
       heads_are = rw (same.heads, same.changes) kept.heads_are;
       ends_are = rw (same.ends, same.changes) kept.ends_are;
-      pasts = rw (same.changes, same.pasts) kept.pasts;
+      pasts = rw (same.changes, same.prefixes, same.apart) kept.pasts;
       marked = rw (same.changes, same.marked) kept.marked;
       next_is = rw same.changes kept.next_is;
-      notes = rw same.changes (NotesFrom-noted C g.index c.note.new.self r.hash c.len.result lacks c.in_ok-note.ensures.ok kept.notes);
+      notes = rw same.changes (c.in_ok-note.ensures.notes C (c.len.ensures ∙ whole ∙ ap length same.changes) lacks kept.notes);
       by_actor = rw c.as_slice.ensures.value at c.catch_up.ensures.by_actor;
       ready = record {
         past = rw same.changes past;
         clear = made.clear;
-        noted_is = noted_itself g.index c.note.new.self r.hash c.len.result c.in_ok-note.ensures.ok ∙ ap Some (c.len.ensures ∙ whole);
+        noted = subst (λ (n : ℕ). IsNotedAt c.note.new.self r.hash n) (c.len.ensures ∙ whole) c.in_ok-note.ensures.at;
         listed = rw c.as_slice.ensures.value at c.in_ok-catch_up.ensures.ok;
         room = c.in_ok-grow.ensures.room;
       };
@@ -50,7 +50,7 @@ invariant_of-self-in_err-catch_up c =
       few = rw same.changes kept.few;
       heads_are = rw (same.heads, same.changes) kept.heads_are;
       ends_are = rw (same.ends, same.changes) kept.ends_are;
-      pasts = rw (same.changes, same.pasts) kept.pasts;
+      pasts = rw (same.changes, same.prefixes, same.apart) kept.pasts;
       marked = rw (same.changes, same.marked) kept.marked;
       next_is = rw same.changes kept.next_is;
       notes = rw same.changes kept.notes;
@@ -67,10 +67,27 @@ invariant_of-self-in_err-note c =
       few = rw same.changes kept.few;
       heads_are = rw (same.heads, same.changes) kept.heads_are;
       ends_are = rw (same.ends, same.changes) kept.ends_are;
-      pasts = rw (same.changes, same.pasts) kept.pasts;
+      pasts = rw (same.changes, same.prefixes, same.apart) kept.pasts;
       marked = rw (same.changes, same.marked) kept.marked;
       next_is = rw same.changes kept.next_is;
       notes = rw (same.changes, c.in_err-note.ensures.err) kept.notes;
       by_actor = rw c.as_slice.ensures.value at c.catch_up.ensures.by_actor;
       ready = ready_stays c.self.inside _ c.self.inside.room same c.grow.ensures.stays c.in_err-note.ensures.err (inr (rw (c.as_slice.ensures.value, same.changes) at c.in_ok-catch_up.ensures.ok)) kept.ready;
+    }
+
+pub invariant_of-self : goal.invariant_of-self
+invariant_of-self c =
+    let kept = c.self.invariant in
+    let same = c.grow.ensures.same in
+    record {
+      sound = rw same.changes kept.sound;
+      few = rw same.changes kept.few;
+      heads_are = rw (same.heads, same.changes) kept.heads_are;
+      ends_are = rw (same.ends, same.changes) kept.ends_are;
+      pasts = rw (same.changes, same.prefixes, same.apart) kept.pasts;
+      marked = rw (same.changes, same.marked) kept.marked;
+      next_is = rw same.changes kept.next_is;
+      notes = rw same.changes kept.notes;
+      by_actor = rw same.changes kept.by_actor;
+      ready = ready_stays c.self.inside _ c.self.inside.room same c.grow.ensures.stays refl (inl refl) kept.ready;
     }

@@ -1,0 +1,94 @@
+-- Laws of how far the pasts of changes reach, as it is kept.
+use Rattle.std.proofs.Common.{◌≡◌, ◌⊎◌, ℕ, ◌+◌, ◌<◌, inl, inr, List, [], ◌∷◌, ◌++◌, length, Some, Result, Ok, Err, IfOk, sym, ◌∙◌, subst, arith, length-append}
+use Rattle.std.specs.List.{slice_get}
+use Rattle.std.proofs.lemmas.Option.{slice_get_within}
+use Rattle.tp_list.proofs.Members.{In-slice_get}
+use Rattle.tp_change.specs.declared.parts.ChangeParts.{ChangeParts}
+use Rattle.tp_graph.specs.declared.extent.Extent.{Extent}
+use Rattle.tp_graph.specs.declared.pasts.Apart.{Apart}
+use Rattle.tp_graph.specs.declared.pasts.TheConstants.{APART}
+use Rattle.tp_graph.specs.Extents.{IsExtent}
+use Rattle.tp_graph.specs.Pasts.{IsSpan, IsApart, AreApart, ArePasts}
+use Rattle.tp_graph.specs.Sound.{Sound, Fits}
+use Rattle.tp_graph.proofs.ExtentLaws.{IsExtent-push}
+use Rattle.tp_graph.proofs.PlacesLaws.{at_push}
+use Rattle.tp_graph.proofs.SoundLaws.{deps_there}
+
+one_more : (C : List ChangeParts) (x : ChangeParts) → length (C ++ x ∷ []) ≡ length C + 1
+one_more C x = length-append C (x ∷ [])
+
+kept : (C : List ChangeParts) (x c : ChangeParts) (i : ℕ) (e : Extent) → Sound C → Fits C x → slice_get C i ≡ Some c → IsExtent C c.deps e → IsExtent (C ++ x ∷ []) c.deps e
+kept C x c i e s f at w = IsExtent-push C x c.deps e s f (deps_there C s c (In-slice_get C i c at)) w
+
+IsApart-push : (C : List ChangeParts) (x : ChangeParts) (a : Apart) → Sound C → Fits C x → IsApart C a → IsApart (C ++ x ∷ []) a
+IsApart-push C x a s f w =
+    let small : a.place < length C = w.place in
+    let more : length (C ++ x ∷ []) ≡ length C + 1 = one_more C x in
+    record {
+      place = omega arith;
+      known = λ c at. by c (at_push C x a.place c at);
+    } where
+      by : (c : ChangeParts) → ((slice_get C a.place ≡ Some c) ⊎ ((a.place ≡ length C) × (c ≡ x))) → IsExtent (C ++ x ∷ []) c.deps a.extent
+      by c (inl at) = kept C x c a.place a.extent s f at (w.known c at)
+      by c (inr z) =
+          let small : a.place < length C = w.place in
+          let end : a.place ≡ length C = z.0 in
+          absurd (omega arith)
+
+IsApart-last : (C : List ChangeParts) (x : ChangeParts) (a : Apart) → Sound C → Fits C x → a.place ≡ length C → IsExtent C x.deps a.extent → IsApart (C ++ x ∷ []) a
+IsApart-last C x a s f end w =
+    let more : length (C ++ x ∷ []) ≡ length C + 1 = one_more C x in
+    record {
+      place = omega arith;
+      known = λ c at. by c (at_push C x a.place c at);
+    } where
+      by : (c : ChangeParts) → ((slice_get C a.place ≡ Some c) ⊎ ((a.place ≡ length C) × (c ≡ x))) → IsExtent (C ++ x ∷ []) c.deps a.extent
+      by c (inl at) =
+          let small : a.place < length C = slice_get_within C a.place c at in
+          absurd (omega arith)
+      by c (inr z) = subst (λ (d : ChangeParts). IsExtent (C ++ x ∷ []) d.deps a.extent) (sym z.1) (IsExtent-push C x x.deps a.extent s f f.deps w)
+
+-- the extents that are kept apart stay so where a change enters
+pub AreApart-more : (C : List ChangeParts) (x : ChangeParts) (xs : List Apart) → Sound C → Fits C x → AreApart C xs → AreApart (C ++ x ∷ []) xs
+AreApart-more C x xs s f w k a at = IsApart-push C x a s f (w k a at)
+
+-- and its own comes to them
+pub AreApart-push : (C : List ChangeParts) (x : ChangeParts) (xs : List Apart) (a : Apart) → Sound C → Fits C x → a.place ≡ length C → IsExtent C x.deps a.extent → AreApart C xs → AreApart (C ++ x ∷ []) (xs ++ a ∷ [])
+AreApart-push C x xs a s f end known w k b at = by (at_push xs a k b at) where
+  by : ((slice_get xs k ≡ Some b) ⊎ ((k ≡ length xs) × (b ≡ a))) → IsApart (C ++ x ∷ []) b
+  by (inl here) = IsApart-push C x b s f (w k b here)
+  by (inr z) = subst (IsApart (C ++ x ∷ [])) (sym z.1) (IsApart-last C x a s f end known)
+
+-- the pasts where a change enters
+pub ArePasts-push : (C : List ChangeParts) (x : ChangeParts) (ns : List ℕ) (xs ys : List Apart) (n : ℕ) → Sound C → Fits C x → ArePasts C ns xs → (n < APART → IsSpan C x.deps n)
+    → AreApart (C ++ x ∷ []) ys → ArePasts (C ++ x ∷ []) (ns ++ n ∷ []) ys
+ArePasts-push C x ns xs ys n s f w span ys_are =
+    let same : length ns ≡ length C = w.each in
+    let one : length (ns ++ n ∷ []) ≡ length ns + 1 = length-append ns (n ∷ []) in
+    let two : length (C ++ x ∷ []) ≡ length C + 1 = one_more C x in
+    record {
+      each = omega arith;
+      spans = λ i c m at here small. by i c m (at_push C x i c at) (at_push ns n i m here) small;
+      apart = ys_are;
+    } where
+      by : (i : ℕ) (c : ChangeParts) (m : ℕ) → ((slice_get C i ≡ Some c) ⊎ ((i ≡ length C) × (c ≡ x))) → ((slice_get ns i ≡ Some m) ⊎ ((i ≡ length ns) × (m ≡ n))) → m < APART → IsSpan (C ++ x ∷ []) c.deps m
+      by i c m (inl at) (inl here) small = λ e prefix tips. kept C x c i e s f at (w.spans i c m at here small e prefix tips)
+      by i c m (inl at) (inr z) small =
+          let low : i < length C = slice_get_within C i c at in
+          let same : length ns ≡ length C = w.each in
+          let end : i ≡ length ns = z.0 in
+          absurd (omega arith)
+      by i c m (inr z) (inl here) small =
+          let low : i < length ns = slice_get_within ns i m here in
+          let same : length ns ≡ length C = w.each in
+          let end : i ≡ length C = z.0 in
+          absurd (omega arith)
+      by i c m (inr z) (inr y) small =
+          let below : n < APART = subst (λ (k : ℕ). k < APART) y.1 small in
+          subst (λ (d : ChangeParts). IsSpan (C ++ x ∷ []) d.deps m) (sym z.1)
+          (λ e prefix tips. IsExtent-push C x x.deps e s f f.deps (span below e (prefix ∙ y.1) tips))
+
+-- what an answer says goes on to what follows from it
+pub if_ok-map : {T E : Type 0} {P Q : T → Type 0} (r : Result T E) → ((x : T) → P x → Q x) → IfOk r P → IfOk r Q
+if_ok-map (Ok x) f p = f x p
+if_ok-map (Err e) f p = tt
