@@ -13,6 +13,16 @@ use std::marker::Model;
 use tp_change::Change;
 use tp_opid::Hash;
 
+/// Whether the two are one hash. Where their first bytes differ it looks at no others.
+pub(crate) fn is_one(x: &Hash, y: &Hash) -> bool
+    ensures { result ≡ same_hash x.now y.now }
+{
+    if x.0[0] != y.0[0] {
+        return false;
+    }
+    x.is(y)
+}
+
 /// A set of hashes. It is an ordered one: whatever hashes strangers choose, a look-up takes a number of comparisons
 /// that grows with the logarithm of how many there are.
 #[derive(Drop)]

@@ -9,6 +9,7 @@ ghost use Rattle.tp_change.specs.declared.parts.ChangeParts.{ChangeParts};
 ghost use Rattle.tp_graph.specs.Named as named;
 ghost use Rattle.tp_receive.specs.Lacking.{GainsOnly, KnowsLack, Lacks};
 
+use crate::hashes::is_one;
 use crate::replica::Replica;
 use std::alloc::{AllocError, AllocFailed, Global};
 use std::marker::Model;
@@ -92,7 +93,7 @@ fn still_lacks(lack: Option<Hash>, change: &Change, entered: &Hash) -> Option<Ha
     match lack {
         None => None,
         Some(hash) => {
-            if entered.is(&hash) || entered.is(&change.hash()) {
+            if is_one(entered, &hash) || is_one(entered, &change.hash()) {
                 None
             } else {
                 Some(hash)

@@ -11,6 +11,7 @@ ghost use Rattle.tp_receive.specs.Trying.{IsHeld, so_far};
 
 use crate::admit::{Outcome, admit};
 use crate::error::ReceiveError;
+use crate::hashes::is_one;
 use crate::keeper::Keeper;
 use crate::lacking::Lacking;
 use crate::replica::Replica;
@@ -25,7 +26,7 @@ pub(crate) fn has_hash(changes: &[Change], hash: &Hash) -> bool
     ensures { result ≡ named.has changes.now hash.now }
 {
     for change in changes {
-        if change.hash().is(hash) {
+        if is_one(&change.hash(), hash) {
             return true;
         }
     }
