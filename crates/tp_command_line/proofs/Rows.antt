@@ -21,7 +21,7 @@ use Rattle.tp_command_line.specs.CommandLine.{numbers}
 
 -- the arguments whose values are numbers
 abbrev pub is_numeric : Text → Bool
-is_numeric id = list_any (λ n. bytes_eq n id) (codes "AT" ∷ codes "at" ∷ codes "del" ∷ codes "time" ∷ [])
+is_numeric id = list_any (λ n. bytes_eq n id) (codes "AT" ∷ codes "at" ∷ codes "del" ∷ codes "time" ∷ codes "sessions" ∷ [])
 
 -- what reads the values of an argument
 abbrev pub parser_named : Text → ValueParser

@@ -92,6 +92,12 @@ log_sound = single_sound String (placed 1 (required_rule (codes "LOG"))) refl re
 script_sound : IsSound (placed 1 (required_rule (codes "SCRIPT")))
 script_sound = single_sound String (placed 1 (required_rule (codes "SCRIPT"))) refl refl refl
 
+addr_sound : IsSound (placed 2 (required_rule (codes "ADDR")))
+addr_sound = single_sound String (placed 2 (required_rule (codes "ADDR"))) refl refl refl
+
+sessions_sound : IsSound (placed 2 (mandatory (numeric (option_rule (codes "sessions")))))
+sessions_sound = single_sound numbers (placed 2 (mandatory (numeric (option_rule (codes "sessions"))))) refl refl refl
+
 heads_sound : (i : ℕ) (required : Bool) → IsSound (placed i (record (several (codes "HASH")) { required = required }))
 heads_sound i required = record { fills = many_fills (placed i (record (several (codes "HASH")) { required = required })) refl; defaults = refl; reading = refl }
 
@@ -135,7 +141,13 @@ all_sound = (
                   (saved_sound, (second_file_sound, (help_sound, tt))),
                   (
                     (log_sound, (help_sound, tt)),
-                    ((script_sound, (help_sound, tt)), tt),
+                    (
+                      (script_sound, (help_sound, tt)),
+                      (
+                        (file_sound, (addr_sound, (sessions_sound, (key_sound, (help_sound, tt))))),
+                        ((file_sound, (addr_sound, (key_sound, (help_sound, tt)))), tt),
+                      ),
+                    ),
                   ),
                 ),
               ),
@@ -153,7 +165,7 @@ AllNamed [] = Unit {0}
 AllNamed (s ∷ shapes) = (shape_named s.name ≡ Some s) × AllNamed shapes
 
 all_named : AllNamed (built textpeer_app).subs
-all_named = (refl, (refl, (refl, (refl, (refl, (refl, (refl, (refl, (refl, (refl, (refl, tt)))))))))))
+all_named = (refl, (refl, (refl, (refl, (refl, (refl, (refl, (refl, (refl, (refl, (refl, (refl, (refl, tt)))))))))))))
 
 found_named : (test : Shape → Bool) (shapes : List Shape) → AllNamed shapes → (s : Shape) → find test shapes ≡ Some s → shape_named s.name ≡ Some s
 found_named test [] named s e = absurd (cc)

@@ -110,6 +110,18 @@ show_shape = with_rules (codes "show") (required_rule (codes "LOG") ∷ [])
 abbrev pub simulate_shape : Shape
 simulate_shape = with_rules (codes "simulate") (required_rule (codes "SCRIPT") ∷ [])
 
+-- `serve FILE ADDR`
+abbrev pub serve_at_shape : Shape
+serve_at_shape = with_rules (codes "serve") (file_rule ∷ required_rule (codes "ADDR") ∷ [])
+
+-- the same, and `--sessions N [--key HEX]`
+abbrev pub serve_shape : Shape
+serve_shape = with_rules (codes "serve") (serve_at_shape.rules ++ mandatory (numeric (option_rule (codes "sessions"))) ∷ key_rule ∷ [])
+
+-- `sync FILE ADDR [--key HEX]`
+abbrev pub sync_shape : Shape
+sync_shape = with_rules (codes "sync") (file_rule ∷ required_rule (codes "ADDR") ∷ key_rule ∷ [])
+
 -- the command has this shape, and no subcommand and no argument that subcommands have too
 pub record IsLeaf (s : Shape) (c : Command) : Type 0 where
   pub app : app_of c ≡ record { top = s; subs = [] }
@@ -133,8 +145,12 @@ journals_app = record {
   subs = new_shape ∷ edit_shape ∷ text_shape ∷ heads_shape ∷ log_shape ∷ cursor_shape ∷ [];
 }
 
--- `textpeer` with all its subcommands
-abbrev pub textpeer_app : App
-textpeer_app = record journals_app {
+-- `textpeer` with the subcommands that need no network
+abbrev pub files_app : App
+files_app = record journals_app {
   subs = journals_app.subs ++ merge_shape ∷ save_shape ∷ load_shape ∷ show_shape ∷ simulate_shape ∷ [];
 }
+
+-- `textpeer` with all its subcommands
+abbrev pub textpeer_app : App
+textpeer_app = record files_app { subs = files_app.subs ++ serve_shape ∷ sync_shape ∷ [] }

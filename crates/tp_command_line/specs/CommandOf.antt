@@ -3,7 +3,7 @@ use Rattle.std.specs.Prelude.{◌≡◌, ◌≢◌, List, [], ◌∷◌, Option,
 use Rattle.std.specs.Borrow.{Bor}
 use Rattle.clap.specs.Words.{Row, Text, all_of, first_of}
 use Rattle.tp_command_line.specs.declared.command.Command.{Command}
-use Rattle.tp_command_line.specs.declared.command.Command.TheVariants.{New, Edit, Text as ReadText, Heads, Log, Cursor, Merge, Save, Load, Show, Simulate}
+use Rattle.tp_command_line.specs.declared.command.Command.TheVariants.{New, Edit, Text as ReadText, Heads, Log, Cursor, Merge, Save, Load, Show, Simulate, Serve, Sync}
 use Rattle.tp_command_line.specs.Values.{HasNumber}
 
 -- the first value of an argument is the text
@@ -39,6 +39,10 @@ IsCommandOf name rows (Load saved file) = (name ≡ codes "load") × HasText (co
     × HasText (codes "FILE") rows file
 IsCommandOf name rows (Show log) = (name ≡ codes "show") × HasText (codes "LOG") rows log
 IsCommandOf name rows (Simulate script) = (name ≡ codes "simulate") × HasText (codes "SCRIPT") rows script
+IsCommandOf name rows (Serve file addr sessions key) = (name ≡ codes "serve") × HasText (codes "FILE") rows file
+    × HasText (codes "ADDR") rows addr × HasNumber (codes "sessions") rows sessions × HasKey rows key
+IsCommandOf name rows (Sync file addr key) = (name ≡ codes "sync") × HasText (codes "FILE") rows file
+    × HasText (codes "ADDR") rows addr × HasKey rows key
 
 -- the command is that of the subcommand that was found
 abbrev pub IsFoundAs : Option (Text × List Row) → Command → Type 0

@@ -87,4 +87,24 @@ pub enum Command<'a> {
         /// The path of the script.
         script: &'a str,
     },
+    /// Serves a journal to others over a network.
+    Serve {
+        /// The path of the journal.
+        file: &'a str,
+        /// The address that is listened on.
+        addr: &'a str,
+        /// How many sessions are held.
+        sessions: u64,
+        /// The key of the generator of random numbers, where it is given.
+        key: Option<&'a str>,
+    },
+    /// Exchanges changes with a server, once.
+    Sync {
+        /// The path of the journal.
+        file: &'a str,
+        /// The address of the server.
+        addr: &'a str,
+        /// The key of the generator of random numbers, where it is given.
+        key: Option<&'a str>,
+    },
 }

@@ -3,8 +3,8 @@
 ghost use Rattle.std.specs.Prelude.{◌≡◌, IfOk, [], false, codes};
 ghost use Rattle.clap.specs.Words.{Shape, app_of, rule_of, with_subcommand};
 ghost use Rattle.tp_command_line.specs.CommandLine.{mandatory, message_rule, numeric, option_rule, required_rule, several, time_rule};
-ghost use Rattle.tp_command_line.specs.CommandLine.{IsLeaf, bare_app, journals_app, textpeer_app, with_rules};
-ghost use Rattle.tp_command_line.specs.CommandLine.{cursor_shape, edit_at_shape, edit_shape, heads_shape, load_shape, log_shape, merge_shape, new_shape, save_shape, show_shape, simulate_shape, text_shape};
+ghost use Rattle.tp_command_line.specs.CommandLine.{IsLeaf, bare_app, files_app, journals_app, textpeer_app, with_rules};
+ghost use Rattle.tp_command_line.specs.CommandLine.{cursor_shape, edit_at_shape, edit_shape, heads_shape, load_shape, log_shape, merge_shape, new_shape, save_shape, serve_at_shape, serve_shape, show_shape, simulate_shape, sync_shape, text_shape};
 
 use clap::{Arg, ArgAction, Command, value_parser};
 use std::alloc::{AllocError, Global};
@@ -12,6 +12,15 @@ use std::alloc::{AllocError, Global};
 /// The definition of the program's command line.
 pub(crate) fn textpeer_command<'a>(alloc: Global) -> Result<Command<'a>, AllocError>
     ensures { IfOk result (λ c. app_of c ≡ textpeer_app) }
+{
+    let on_files = file_commands(alloc)?;
+    let served = with(on_files, serve_command(alloc))?;
+    with(served, sync_command(alloc))
+}
+
+// The program with the commands that need no network.
+fn file_commands<'a>(alloc: Global) -> Result<Command<'a>, AllocError>
+    ensures { IfOk result (λ c. app_of c ≡ files_app) }
 {
     let journals = journal_commands(alloc)?;
     let merged = with(journals, merge_command(alloc))?;
@@ -139,6 +148,14 @@ fn count<'a>(alloc: Global, id: &'a str, help: &'a str) -> Arg<'a>
     option(alloc, id, "N", help)
         .value_parser(value_parser!(u64))
         .required(true)
+}
+
+// The address of a server.
+fn address<'a>(alloc: Global, help: &'a str) -> Arg<'a>
+    ensures rule { rule_of result ≡ required_rule (codes "ADDR") }
+    ensures local { result.global ≡ false }
+{
+    required(alloc, "ADDR", help)
 }
 
 fn text<'a>(alloc: Global) -> Arg<'a>
@@ -353,4 +370,47 @@ fn simulate_command<'a>(alloc: Global) -> Result<Command<'a>, AllocError>
         "SCRIPT",
         "a script: an event on each line, as `start ACTOR`, `edit P AT DEL TEXT` or `read P`",
     ))
+}
+
+// `serve` with the address.
+fn serve_at<'a>(alloc: Global) -> Result<Command<'a>, AllocError>
+    ensures { IfOk result (IsLeaf serve_at_shape) }
+{
+    named(
+        alloc,
+        "serve",
+        "Serves a journal: prints the port once it listens, then holds as many sessions as said, two at a time",
+        "Example:\n  textpeer serve notes.journal 127.0.0.1:7000 --sessions 2",
+    )
+    .arg(journal(alloc))?
+    .arg(address(
+        alloc,
+        "the address to listen on, as IP:PORT; with port 0 a free one is taken",
+    ))
+}
+
+fn serve_command<'a>(alloc: Global) -> Result<Command<'a>, AllocError>
+    ensures { IfOk result (IsLeaf serve_shape) }
+{
+    serve_at(alloc)?
+        .arg(count(
+            alloc,
+            "sessions",
+            "how many sessions are held; then it ends",
+        ))?
+        .arg(key(alloc))
+}
+
+fn sync_command<'a>(alloc: Global) -> Result<Command<'a>, AllocError>
+    ensures { IfOk result (IsLeaf sync_shape) }
+{
+    named(
+        alloc,
+        "sync",
+        "Exchanges changes with a server of the document, and prints how many entered here",
+        "Example:\n  textpeer sync copy.journal 127.0.0.1:7000",
+    )
+    .arg(journal(alloc))?
+    .arg(address(alloc, "the address of the server, as IP:PORT"))?
+    .arg(key(alloc))
 }

@@ -109,6 +109,17 @@ pub(crate) fn command_of<'a>(
         "simulate" => Ok(Command::Simulate {
             script: text_of(found, "SCRIPT"),
         }),
+        "serve" => Ok(Command::Serve {
+            file: text_of(found, "FILE"),
+            addr: text_of(found, "ADDR"),
+            sessions: number_of(found, "sessions"),
+            key: key_of(found),
+        }),
+        "sync" => Ok(Command::Sync {
+            file: text_of(found, "FILE"),
+            addr: text_of(found, "ADDR"),
+            key: key_of(found),
+        }),
         _ => unreachable!(),
     }
 }

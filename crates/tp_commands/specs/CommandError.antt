@@ -6,6 +6,8 @@ use Rattle.tp_opid.specs.declared.hex_text.HexError.{HexError}
 use Rattle.tp_opid.specs.declared.hex_text.HexError.TheVariants as hex
 use Rattle.tp_peer.specs.declared.error.PeerError.{PeerError}
 use Rattle.tp_peer.specs.declared.error.PeerError.TheVariants as peer
+use Rattle.tp_session.specs.declared.error.NetError.{NetError}
+use Rattle.tp_session.specs.declared.error.NetError.TheVariants as net
 use Rattle.tp_simulate.specs.declared.error.SimError.{SimError}
 use Rattle.tp_simulate.specs.declared.error.SimError.TheVariants as script
 use Rattle.tp_store.specs.declared.error.StoreError.{StoreError}
@@ -14,7 +16,7 @@ use Rattle.tp_textpeer.specs.declared.error.ShowError.{ShowError}
 use Rattle.tp_textpeer.specs.declared.error.ShowFault.{ShowFault}
 use Rattle.tp_textpeer.specs.declared.error.ShowFault.TheVariants as show
 use Rattle.tp_commands.specs.declared.error.CommandError.{CommandError}
-use Rattle.tp_commands.specs.declared.error.CommandError.TheVariants.{BadHex, Io, OutOfMemory, Peer, Doc, Store, Show, Line}
+use Rattle.tp_commands.specs.declared.error.CommandError.TheVariants.{BadHex, Io, OutOfMemory, Peer, Doc, Store, Show, Line, Session}
 
 -- the number of a refusal
 abbrev pub code_of : CommandError → ℕ
@@ -26,6 +28,7 @@ code_of (Doc e) = 5
 code_of (Store e) = 6
 code_of (Show e) = 7
 code_of (Line number) = 8
+code_of (Session e) = 9
 
 -- a file or a stream failed, or a growth was refused
 abbrev pub IsOfSystem : CommandError → Type 0
@@ -61,3 +64,9 @@ abbrev pub refusal_of_script : SimError → CommandError
 refusal_of_script (script.Line number) = Line number
 refusal_of_script script.Io = Io
 refusal_of_script script.OutOfMemory = OutOfMemory
+
+abbrev pub refusal_of_session : NetError → CommandError
+refusal_of_session net.Io = Io
+refusal_of_session net.OutOfMemory = OutOfMemory
+refusal_of_session (net.Peer e) = refusal_of_peer e
+refusal_of_session e = Session e

@@ -4,5 +4,6 @@ pub mod Keys
 pub mod Reading
 pub mod Log
 pub mod Editing
+pub mod Network
 pub mod Output
 pub mod Words

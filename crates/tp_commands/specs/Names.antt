@@ -7,13 +7,15 @@ use Rattle.tp_graph.specs.declared.error.GraphError.{GraphError}
 use Rattle.tp_graph.specs.declared.error.GraphError.TheVariants as graph
 use Rattle.tp_peer.specs.declared.error.PeerError.{PeerError}
 use Rattle.tp_peer.specs.declared.error.PeerError.TheVariants as peer
+use Rattle.tp_session.specs.declared.error.NetError.{NetError}
+use Rattle.tp_session.specs.declared.error.NetError.TheVariants as net
 use Rattle.tp_store.specs.declared.error.StoreError.{StoreError}
 use Rattle.tp_store.specs.declared.error.StoreError.TheVariants as store
 use Rattle.tp_sync.specs.declared.error.SyncError.{SyncError}
 use Rattle.tp_sync.specs.declared.error.SyncError.TheVariants as sync
 use Rattle.tp_textpeer.specs.Refusal.{refusal_text as text_of_log_refusal}
 use Rattle.tp_commands.specs.declared.error.CommandError.{CommandError}
-use Rattle.tp_commands.specs.declared.error.CommandError.TheVariants.{BadHex, Io, OutOfMemory, Peer, Doc, Store, Show, Line}
+use Rattle.tp_commands.specs.declared.error.CommandError.TheVariants.{BadHex, Io, OutOfMemory, Peer, Doc, Store, Show, Line, Session}
 
 abbrev pub name_of_graph : GraphError → List ℕ
 name_of_graph graph.Known = codes "Known"
@@ -71,6 +73,16 @@ name_of_peer (peer.Sync e) = name_of_sync e
 name_of_peer (peer.Store e) = name_of_bytes e
 name_of_peer peer.OutOfMemory = codes "OutOfMemory"
 
+abbrev pub name_of_session : NetError → List ℕ
+name_of_session net.Io = codes "Io"
+name_of_session net.Frame = codes "Frame"
+name_of_session net.OtherDocument = codes "OtherDocument"
+name_of_session net.Version = codes "Version"
+name_of_session net.Unexpected = codes "Unexpected"
+name_of_session (net.RefusedByOther code) = codes "RefusedByOther"
+name_of_session (net.Peer e) = name_of_peer e
+name_of_session net.OutOfMemory = codes "OutOfMemory"
+
 -- what is printed of a refusal, without a newline
 abbrev pub refusal_text : CommandError → List ℕ
 refusal_text BadHex = codes "textpeer: BadHex"
@@ -81,3 +93,4 @@ refusal_text (Doc e) = codes "textpeer: " ++ name_of_document e
 refusal_text (Store e) = codes "textpeer: " ++ name_of_bytes e
 refusal_text (Show r) = text_of_log_refusal r.0
 refusal_text (Line number) = codes "textpeer: line " ++ decimal number
+refusal_text (Session e) = codes "textpeer: " ++ name_of_session e

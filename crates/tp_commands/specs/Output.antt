@@ -4,7 +4,7 @@ use Rattle.std.specs.Io.KnownBytes.{Appends, Keeps}
 use Rattle.std.specs.Str.{chars}
 use Rattle.tp_opid.specs.declared.hash.Hash.{Hash}
 use Rattle.tp_command_line.specs.declared.command.Command.{Command}
-use Rattle.tp_command_line.specs.declared.command.Command.TheVariants.{New, Edit, Text, Heads, Log, Cursor, Merge, Save, Load, Show, Simulate}
+use Rattle.tp_command_line.specs.declared.command.Command.TheVariants.{New, Edit, Text, Heads, Log, Cursor, Merge, Save, Load, Show, Simulate, Serve, Sync}
 use Rattle.tp_simulate.specs.Script.{IsPrinted as IsScriptPrinted, PrintsPart, StopsAt}
 use Rattle.tp_textpeer.specs.Output.{AppendsPart}
 use Rattle.tp_textpeer.specs.Show.{HasText, line as text_line}
@@ -14,6 +14,7 @@ use Rattle.tp_commands.specs.Editing.{IsEditLine, IsMergeLine, IsNewLine}
 use Rattle.tp_commands.specs.Keys.{AreHashes}
 use Rattle.tp_commands.specs.Log.{AreChangeLines}
 use Rattle.tp_commands.specs.Names.{refusal_text}
+use Rattle.tp_commands.specs.Network.{IsServed, applied_line}
 use Rattle.tp_commands.specs.Reading.{AreHeadLines, IsCursorLine, IsTextLine, line}
 
 -- the bytes are the text of a log, and a newline
@@ -23,7 +24,8 @@ IsShown printed = (log : List ℕ) × (text : List ℕ) × HasText log text × (
 -- The bytes are what the command prints where it was done, on files that held some bytes: of `text`, `heads`, `log` and
 -- `cursor` what these bytes say; of `show` the text of the log that they are; of `new` the identifier that is drawn; of
 -- `edit` the hash of the change that was made, or `nothing`; of `merge` how many changes entered; of `save` and `load`
--- nothing; of `simulate` the replies to the lines of a script, and the one list of its world.
+-- nothing; of `simulate` the replies to the lines of a script, and the one list of its world; of `serve` the port and how
+-- many sessions were held; of `sync` how many changes entered.
 abbrev pub IsPrinted : Command → List ℕ → Type 0
 IsPrinted (New file key) printed = IsNewLine key printed
 IsPrinted (Edit file at del text time message key) printed = IsEditLine key (record { at = at; del = del; text = text }) time (chars message.now) printed
@@ -36,6 +38,8 @@ IsPrinted (Save file out) printed = printed ≡ []
 IsPrinted (Load saved file) printed = printed ≡ []
 IsPrinted (Show log) printed = IsShown printed
 IsPrinted (Simulate script) printed = IsScriptPrinted printed
+IsPrinted (Serve file addr sessions key) printed = IsServed sessions printed
+IsPrinted (Sync file addr key) printed = (applied : ℕ) × (printed ≡ applied_line applied)
 
 -- What the writer holds grew by bytes of which P holds.
 abbrev pub Grows : (List ℕ → Type 0) → Option (List ℕ) → Option (List ℕ) → Type 0
@@ -56,9 +60,11 @@ abbrev pub LeavesScript : CommandError → Option (List ℕ) → Option (List �
 LeavesScript (Line number) before after = StopsAt number before after
 LeavesScript e before after = Keeps before after ⊎ PrintsPart before after
 
--- What the output holds after the refusal of a command. A script is printed as it goes on, all else at the end.
+-- What the output holds after the refusal of a command. A script is printed as it goes on, and a server's port once it
+-- listens; all else at the end.
 abbrev pub LeavesOf : Command → CommandError → Option (List ℕ) → Option (List ℕ) → Type 0
 LeavesOf (Simulate script) e before after = LeavesScript e before after
+LeavesOf (Serve file addr sessions key) e before after = Keeps before after ⊎ GrowsPart (IsServed sessions) before after
 LeavesOf command e before after = Leaves (IsPrinted command) e before after
 
 -- The bytes are the line of the refusal; or of `OutOfMemory`, where there was no memory for that line.

@@ -2,7 +2,7 @@
 
 ghost use Rattle.std.specs.Prelude.{◌≡◌};
 ghost use Rattle.tp_commands.specs.declared.error.CommandError.TheVariants.{OutOfMemory};
-ghost use Rattle.tp_commands.specs.CommandError.{code_of, IsOfSystem, refusal_of_bytes, refusal_of_document, refusal_of_hex, refusal_of_log, refusal_of_peer, refusal_of_script};
+ghost use Rattle.tp_commands.specs.CommandError.{code_of, IsOfSystem, refusal_of_bytes, refusal_of_document, refusal_of_hex, refusal_of_log, refusal_of_peer, refusal_of_script, refusal_of_session};
 
 use std::alloc::{AllocError, AllocFailed};
 use std::io;
@@ -10,6 +10,7 @@ use std::io::ErrorKind;
 use tp_document::DocError;
 use tp_opid::HexError;
 use tp_peer::PeerError;
+use tp_session::NetError;
 use tp_simulate::SimError;
 use tp_store::StoreError;
 use tp_textpeer::{Refusal, ShowError, ShowFault};
@@ -35,6 +36,8 @@ pub enum CommandError {
     /// The line of a script with this number, from 1, has another shape than docs/FORMATS.md says, or names a mark that
     /// isn't set.
     Line(u64),
+    /// A session with another was broken off. It is never `Io`, `OutOfMemory` or `Peer`.
+    Session(NetError),
 }
 
 impl CommandError {
@@ -51,6 +54,7 @@ impl CommandError {
             CommandError::Store(_) => 6,
             CommandError::Show(_) => 7,
             CommandError::Line(_) => 8,
+            CommandError::Session(_) => 9,
         }
     }
 }
@@ -147,6 +151,19 @@ impl From<SimError> for CommandError {
             SimError::Line(number) => CommandError::Line(number),
             SimError::Io => CommandError::Io,
             SimError::OutOfMemory => CommandError::OutOfMemory,
+        }
+    }
+}
+
+impl From<NetError> for CommandError {
+    ghost from_gives = { λ error e. e ≡ refusal_of_session error };
+
+    fn from(error: NetError) -> CommandError {
+        match error {
+            NetError::Io => CommandError::Io,
+            NetError::OutOfMemory => CommandError::OutOfMemory,
+            NetError::Peer(error) => CommandError::from(error),
+            error => CommandError::Session(error),
         }
     }
 }

@@ -1,6 +1,7 @@
 //! Hashes and keys from text, and the generator of random numbers.
 
 ghost use Rattle.std.specs.Prelude.{◌≡◌, IfOk};
+ghost use Rattle.rand_chacha.specs.ChaCha.{ChaCha};
 ghost use Rattle.tp_opid.specs.HexText.{IsHexOf};
 ghost use Rattle.tp_commands.specs.Keys.{AreHashes, IsKeyed, after_draw, drawn};
 
@@ -59,4 +60,12 @@ pub(crate) fn draw(generator: &mut ChaCha20Rng) -> Actor
     ensures after { generator.new ≡ after_draw generator.old }
 {
     fresh_actor(generator)
+}
+
+/// An actor that is drawn from the generator with the key, or with one that nobody can guess where none is given. A key
+/// that isn't 64 hexadecimal digits is refused as `BadHex`.
+pub fn draw_actor<R: Files>(rt: &R, key: Option<&str>) -> Result<Actor, CommandError>
+    ensures { IfOk result (λ actor. (g : ChaCha) × IsKeyed key.entry g × (actor ≡ drawn g)) }
+{
+    Ok(draw(&mut generator(rt, key)?))
 }

@@ -1,4 +1,4 @@
-//! What the commands of `textpeer` do, and the program but for its `main`.
+//! What the commands of `textpeer` do that need no network.
 #![tactic(auto)]
 
 mod editing;
@@ -12,5 +12,6 @@ mod reading;
 mod running;
 
 pub use error::CommandError;
-pub use program::{run, run_words, run_words_on};
-pub use running::run_command;
+pub use keys::draw_actor;
+pub use program::{Errors, MISUSED, explain, run_words, run_words_on};
+pub use running::{DONE, REFUSED, ended, put, run_command};

@@ -1,13 +1,14 @@
 //! What is printed of a refusal.
 
 ghost use Rattle.std.specs.Prelude.{◌≡◌, Some};
-ghost use Rattle.tp_commands.specs.Names.{name_of_bytes, name_of_document, name_of_graph, name_of_peer, name_of_sync, refusal_text};
+ghost use Rattle.tp_commands.specs.Names.{name_of_bytes, name_of_document, name_of_graph, name_of_peer, name_of_session, name_of_sync, refusal_text};
 
 use crate::error::CommandError;
 use std::fmt;
 use tp_document::DocError;
 use tp_graph::GraphError;
 use tp_peer::PeerError;
+use tp_session::NetError;
 use tp_store::StoreError;
 use tp_sync::SyncError;
 
@@ -97,6 +98,22 @@ fn peer_name(error: PeerError) -> &'static str
     }
 }
 
+// The name of the innermost cause for which a session was broken off.
+fn session_name(error: NetError) -> &'static str
+    ensures { result.now ≡ name_of_session error }
+{
+    match error {
+        NetError::Io => "Io",
+        NetError::Frame => "Frame",
+        NetError::OtherDocument => "OtherDocument",
+        NetError::Version => "Version",
+        NetError::Unexpected => "Unexpected",
+        NetError::RefusedByOther { .. } => "RefusedByOther",
+        NetError::Peer(error) => peer_name(error),
+        NetError::OutOfMemory => "OutOfMemory",
+    }
+}
+
 impl fmt::Display for CommandError {
     ghost output = { λ e. Some (refusal_text e) };
 
@@ -108,6 +125,7 @@ impl fmt::Display for CommandError {
             CommandError::Peer(error) => peer_name(error),
             CommandError::Doc(error) => document_name(error),
             CommandError::Store(error) => bytes_name(error),
+            CommandError::Session(error) => session_name(error),
             CommandError::Show(refusal) => return write!(f, "{refusal}"),
             CommandError::Line(number) => return write!(f, "textpeer: line {number}"),
         };

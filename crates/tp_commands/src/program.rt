@@ -16,18 +16,20 @@ use crate::running::{DONE, REFUSED, ended, run_command};
 use std::alloc::Global;
 use std::convert::AsStr;
 use std::fmt::Display;
+use std::io;
 use std::io::{ErrorKind, Write};
-use std::rt::{Env, Files};
-use std::{env, io};
+use std::rt::Files;
 use tp_command_line::{LineError, line};
 use tp_textpeer::write_out;
 
-const MISUSED: u8 = 2;
+/// The exit status of words that are at fault.
+pub const MISUSED: u8 = 2;
 
-// The standard error, as what prints.
+/// The standard error, as what prints.
 #[derive(Drop)]
-struct Errors<'a, R> {
-    rt: &'a R,
+pub struct Errors<'a, R> {
+    /// What has the standard error.
+    pub rt: &'a R,
 }
 
 impl<R: Eprint> Print for Errors<'_, R> {
@@ -45,21 +47,6 @@ impl<R: Eprint> Print for Errors<'_, R> {
             Err(_) => Err(io::Error::from(ErrorKind::InvalidData)),
         }
     }
-}
-
-/// Does what the process's own words ask for, and returns the exit status, as `run_words` does. Words that can't be
-/// read, as those that are no UTF-8, are refused as `textpeer: Io`.
-pub fn run<R: Env + Files + Print + Eprint + AllocGlobal>(rt: &R) -> u8
-    ensures { result ≤ MISUSED }
-{
-    match own_words(rt) {
-        Ok(words) => run_words(rt, words.as_slice()),
-        Err(e) => refused(rt, CommandError::from(e)),
-    }
-}
-
-fn own_words<R: Env + AllocGlobal>(rt: &R) -> io::Result<Vec<String>> {
-    Ok(env::args(rt)?.collect(rt.alloc())?)
 }
 
 /// Does what the words ask for, of which the first is the program's name, and returns the exit status: 0 where it was
@@ -99,8 +86,9 @@ pub fn run_words_on<R: Files + AllocGlobal, S: AsStr, W: Write, E: Write>(
     }
 }
 
-// Prints why there is no command.
-fn explain<W: Write, E: Write>(alloc: Global, fault: &LineError, out: &mut W, err: &mut E) -> u8
+/// Prints why the words ask for no command, and returns the exit status: 0 where help or the version was asked for, 1 where
+/// memory ran out or that text could not be written, and 2 where the words are at fault.
+pub fn explain<W: Write, E: Write>(alloc: Global, fault: &LineError, out: &mut W, err: &mut E) -> u8
     ensures status { result ≤ MISUSED }
     ensures done { result ≡ DONE → Keeps (E.contents err.old) (E.contents err.new)
         × IsForHelp (kind_of (parser_fault fault.now)) }
@@ -131,11 +119,4 @@ fn put_fault<W: Write>(alloc: Global, fault: &LineError, out: &mut W) -> Result<
         Ok(()) => Ok(()),
         Err(_) => Err(CommandError::Io),
     }
-}
-
-fn refused<R: Eprint + AllocGlobal>(rt: &R, error: CommandError) -> u8
-    ensures { result ≡ REFUSED }
-{
-    let errors = Errors { rt };
-    ended(rt.alloc(), Err(error), &mut io::writer(&errors))
 }

@@ -33,15 +33,19 @@ use tp_simulate::simulate;
 use tp_store::load;
 use tp_textpeer::{show, write_out};
 
-pub(crate) const DONE: u8 = 0;
+/// The exit status of what was done.
+pub const DONE: u8 = 0;
 
-pub(crate) const REFUSED: u8 = 1;
+/// The exit status of what was refused.
+pub const REFUSED: u8 = 1;
 
 /// Carries out a command, and returns the exit status: 0 where it was done, and all that it prints was written to `out`
 /// and flushed; 1 where it was refused, with one line on `err`, as [`CommandError`] prints it. A refusal writes nothing to
 /// `out`; where `out` itself failed, which is refused as `Io`, it has taken a beginning of what the command prints. A
 /// script is printed line by line as it goes on, and what was printed before a refusal stays. Where `err` fails it has
 /// taken a beginning of the line.
+///
+/// There is no network here: `serve` and `sync` are refused as `Io`.
 pub fn run_command<R: Files + AllocGlobal, W: Write, E: Write>(
     rt: &R,
     command: Command,
@@ -59,7 +63,7 @@ pub fn run_command<R: Files + AllocGlobal, W: Write, E: Write>(
 }
 
 /// The exit status of what was done or refused, once the refusal is printed.
-pub(crate) fn ended<E: Write>(alloc: Global, done: Result<(), CommandError>, err: &mut E) -> u8
+pub fn ended<E: Write>(alloc: Global, done: Result<(), CommandError>, err: &mut E) -> u8
     ensures status { MatchResult done (λ _. result ≡ DONE) (λ _. result ≡ REFUSED) }
     ensures quiet { OnOk done (Keeps (E.contents err.old) (E.contents err.new)) }
     ensures told { IfErr done
@@ -92,8 +96,8 @@ fn refusal_line(alloc: Global, error: CommandError) -> Result<String, AllocError
     format!(in alloc; "{error}\n")
 }
 
-// Writes what a command prints, where it was done.
-fn put<W: Write>(out: &mut W, printed: Result<String, CommandError>) -> Result<(), CommandError>
+/// Writes what a command prints, where it was done, and flushes.
+pub fn put<W: Write>(out: &mut W, printed: Result<String, CommandError>) -> Result<(), CommandError>
     ensures ok { OnOk result (IsOkAnd printed
         (λ text. Appends (W.contents out.old) (W.contents out.new) (string_bytes text))) }
     ensures err { IfErr result (λ e. Keeps (W.contents out.old) (W.contents out.new)
@@ -147,6 +151,7 @@ fn carry_out<R: Files + AllocGlobal, W: Write>(
         Command::Load { saved, file } => put(out, load_from(rt, saved, file)),
         Command::Show { log } => show_file(rt, log, out),
         Command::Simulate { script } => simulate_file(rt, script, out),
+        Command::Serve { .. } | Command::Sync { .. } => Err(CommandError::Io),
     }
 }
 

@@ -44,8 +44,23 @@ text_of-requires-in-show c = named_value (codes "show") (codes "LOG") c.in-show.
 pub text_of-requires-in-simulate : goal.text_of-requires-in-simulate
 text_of-requires-in-simulate c = named_value (codes "simulate") (codes "SCRIPT") c.in-simulate.is c.requires refl
 
+pub text_of-requires-in-serve : goal.text_of-requires-in-serve
+text_of-requires-in-serve c = named_value (codes "serve") (codes "FILE") c.in-serve.is c.requires refl
+
+pub text_of-requires-in-serve-2 : goal.text_of-requires-in-serve-2
+text_of-requires-in-serve-2 c = named_value (codes "serve") (codes "ADDR") c.in-serve.is c.requires refl
+
+pub number_of-requires-in-serve : goal.number_of-requires-in-serve
+number_of-requires-in-serve c = named_number (codes "serve") (codes "sessions") c.in-serve.is c.requires refl refl
+
+pub text_of-requires-in-sync : goal.text_of-requires-in-sync
+text_of-requires-in-sync c = named_value (codes "sync") (codes "FILE") c.in-sync.is c.requires refl
+
+pub text_of-requires-in-sync-2 : goal.text_of-requires-in-sync-2
+text_of-requires-in-sync-2 c = named_value (codes "sync") (codes "ADDR") c.in-sync.is c.requires refl
+
 -- there is no other subcommand
 pub unreachable-requires : goal.unreachable-requires
 unreachable-requires c =
     let d = c.in_default in
-    no_other_name _ _ c.requires d.not-new d.not-edit d.not-text d.not-heads d.not-log d.not-cursor d.not-merge d.not-save d.not-load d.not-show d.not-simulate
+    no_other_name _ _ c.requires d.not-new d.not-edit d.not-text d.not-heads d.not-log d.not-cursor d.not-merge d.not-save d.not-load d.not-show d.not-simulate d.not-serve d.not-sync

@@ -1,0 +1,3 @@
+pub mod LastSeat
+pub mod DurableLaws
+pub mod ServedLines

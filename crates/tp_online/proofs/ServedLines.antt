@@ -1,0 +1,62 @@
+-- What a server prints, and where it stops.
+use Rattle.std.proofs.Common.{◌≡◌, ◌∙◌, ◌⊎◌, ⊎_elim, ap, refl, subst, sym, ℕ, List, [], ◌++◌, Option, None, Some, Result, Ok, Err, append_assoc, append-nil}
+use Rattle.std.specs.Prelude.{IfErr, IfOk, IsOkAnd, OnOk}
+use Rattle.std.specs.Io.KnownBytes.{Appends, Keeps}
+use Rattle.std.proofs.KnownBytes.{Appends-trans}
+use Rattle.tp_textpeer.specs.Output.{AppendsPart}
+use Rattle.tp_commands.specs.Network.{IsServed, listening_line, served_line}
+use Rattle.tp_commands.specs.Output.{Grows, GrowsPart}
+
+-- what stayed grew by none of the bytes
+pub part_of_none : (old new : Option (List ℕ)) (bs : List ℕ) → Keeps old new → AppendsPart old new bs
+part_of_none old new bs kept = record { part = []; rest = bs; begins = refl; grown = appended old new kept }
+  where
+    appended : (a b : Option (List ℕ)) → Keeps a b → Appends a b []
+    appended None b h = tt
+    appended (Some x) None h = absurd h
+    appended (Some x) (Some y) h = h ∙ sym (append-nil x)
+
+-- a line that was refused, or written in part
+pub told : {A S E : Type 0} (done : Result A E) (printed : Result S E) (bytes : S → List ℕ) (is : E → Type 0) (line : List ℕ) (old new : Option (List ℕ))
+    → IfOk printed (λ l. bytes l ≡ line)
+    → IfErr done (λ e. Keeps old new ⊎ (is e × IsOkAnd printed (λ l. AppendsPart old new (bytes l))))
+    → IfErr done (λ e. AppendsPart old new line)
+told (Ok x) printed bytes is line old new spelled wrote = tt
+told (Err e) (Ok l) bytes is line old new spelled wrote =
+    ⊎_elim (λ kept. part_of_none old new line kept) (λ part. subst (AppendsPart old new) spelled part.1) wrote
+told (Err e) (Err f) bytes is line old new spelled wrote = ⊎_elim (λ kept. part_of_none old new line kept) (λ part. absurd part.1) wrote
+
+-- both lines were written
+pub served : {A E : Type 0} (done : Result A E) (old mid new : Option (List ℕ)) (port sessions : ℕ) → Appends old mid (listening_line port)
+    → OnOk done (Appends mid new (served_line sessions)) → OnOk done (Grows (IsServed sessions) old new)
+served (Ok x) old mid new port sessions wrote more =
+    (listening_line port ++ served_line sessions, (port, refl), Appends-trans old mid new (listening_line port) (served_line sessions) wrote more)
+served (Err e) old mid new port sessions wrote more = tt
+
+-- a part of the first line
+pub stopped_first : (old new : Option (List ℕ)) (port sessions : ℕ) → AppendsPart old new (listening_line port) → GrowsPart (IsServed sessions) old new
+stopped_first old new port sessions p = (
+  listening_line port ++ served_line sessions,
+  (port, refl),
+  record {
+    part = p.part;
+    rest = p.rest ++ served_line sessions;
+    begins = ap (λ (l : List ℕ). l ++ served_line sessions) p.begins ∙ append_assoc p.part p.rest (served_line sessions);
+    grown = p.grown;
+  },
+)
+
+-- the first line, and a part of the second
+pub stopped_then : {A E : Type 0} (done : Result A E) (old mid new : Option (List ℕ)) (port sessions : ℕ) → Appends old mid (listening_line port)
+    → IfErr done (λ e. AppendsPart mid new (served_line sessions)) → IfErr done (λ e. GrowsPart (IsServed sessions) old new)
+stopped_then (Ok x) old mid new port sessions wrote part = tt
+stopped_then (Err e) old mid new port sessions wrote p = (
+  listening_line port ++ served_line sessions,
+  (port, refl),
+  record {
+    part = listening_line port ++ p.part;
+    rest = p.rest;
+    begins = ap (λ (l : List ℕ). listening_line port ++ l) p.begins ∙ sym (append_assoc (listening_line port) p.part p.rest);
+    grown = Appends-trans old mid new (listening_line port) p.part wrote p.grown;
+  },
+)

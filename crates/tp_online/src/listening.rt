@@ -1,0 +1,70 @@
+//! What a server and a client begin with: a peer on a journal, and an address.
+
+use crate::durable::DurableJournal;
+use std::fs::OpenFile;
+use std::io::Write;
+use std::net::{Net, OpenListener, SocketAddr};
+use std::rt::Files;
+use tp_commands::CommandError;
+use tp_opid::Actor;
+use tp_peer::Peer;
+
+/// A server that listens, and has accepted nothing yet.
+#[derive(Drop)]
+pub(crate) struct Listening<L: Drop, F: Write + OpenFile + Drop> {
+    /// What accepts.
+    pub listener: L,
+    /// The port.
+    pub port: u16,
+    /// The peer that is served.
+    pub peer: Peer<DurableJournal<F>>,
+}
+
+/// The peer on the journal in the file.
+pub(crate) fn opened<R: Files + AllocGlobal>(
+    rt: &R,
+    file: &str,
+    actor: Actor,
+) -> Result<Peer<DurableJournal<R::File>>, CommandError> {
+    let journal = DurableJournal::at(rt, rt.alloc(), file)?;
+    match Peer::reopen(rt.alloc(), journal, actor) {
+        Ok(peer) => Ok(peer),
+        Err(unopened) => Err(CommandError::from(unopened.error)),
+    }
+}
+
+/// The address that the text is, `IP:PORT`; else `Io`.
+pub(crate) fn address(text: &str) -> Result<SocketAddr, CommandError> {
+    match text.parse::<SocketAddr>() {
+        Ok(addr) => Ok(addr),
+        Err(_) => Err(CommandError::Io),
+    }
+}
+
+// Listens at the address; also answers the port.
+fn bound<R: Net>(rt: &R, addr: &str) -> Result<(R::Listener, u16), CommandError> {
+    let listener = rt.bind(address(addr)?)?;
+    let local = listener.local_addr()?;
+    Ok((listener, local.port()))
+}
+
+/// Opens the journal in the file under the actor, and then listens at the address.
+pub(crate) fn listen<R: Files + Net + AllocGlobal>(
+    rt: &R,
+    file: &str,
+    addr: &str,
+    actor: Actor,
+) -> Result<Listening<R::Listener, R::File>, CommandError> {
+    let peer = opened(rt, file, actor)?;
+    match bound(rt, addr) {
+        Ok((listener, port)) => Ok(Listening {
+            listener,
+            port,
+            peer,
+        }),
+        Err(error) => {
+            drop(peer);
+            Err(error)
+        }
+    }
+}
