@@ -3,3 +3,4 @@ pub mod Journals
 pub mod LogLines
 pub mod TextLines
 pub mod HelpWords
+pub mod Refusals

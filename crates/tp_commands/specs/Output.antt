@@ -1,5 +1,6 @@
 -- What a command prints, where it was done and where it was refused.
-use Rattle.std.specs.Prelude.{◌≡◌, ◌⊎◌, ℕ, List, [], Option}
+use Rattle.std.specs.Prelude.{◌≡◌, ◌⊎◌, ℕ, List, [], Any, Option}
+use Rattle.std.specs.Borrow.{Bor}
 use Rattle.std.specs.Io.KnownBytes.{Appends, Keeps}
 use Rattle.std.specs.Str.{chars}
 use Rattle.tp_opid.specs.declared.hash.Hash.{Hash}
@@ -9,9 +10,9 @@ use Rattle.tp_simulate.specs.Script.{IsPrinted as IsScriptPrinted, PrintsPart, S
 use Rattle.tp_textpeer.specs.Output.{AppendsPart}
 use Rattle.tp_textpeer.specs.Show.{HasText, line as text_line}
 use Rattle.tp_commands.specs.declared.error.CommandError.{CommandError}
-use Rattle.tp_commands.specs.declared.error.CommandError.TheVariants.{Io, OutOfMemory, Line}
+use Rattle.tp_commands.specs.declared.error.CommandError.TheVariants.{BadHex, Io, OutOfMemory, Line}
 use Rattle.tp_commands.specs.Editing.{IsEditLine, IsMergeLine, IsNewLine}
-use Rattle.tp_commands.specs.Keys.{AreHashes}
+use Rattle.tp_commands.specs.Keys.{AreHashes, IsNoHash, IsNoKey}
 use Rattle.tp_commands.specs.Log.{AreChangeLines}
 use Rattle.tp_commands.specs.Names.{refusal_text}
 use Rattle.tp_commands.specs.Network.{IsServed, applied_line}
@@ -66,6 +67,21 @@ abbrev pub LeavesOf : Command → CommandError → Option (List ℕ) → Option 
 LeavesOf (Simulate script) e before after = LeavesScript e before after
 LeavesOf (Serve file addr sessions key) e before after = Keeps before after ⊎ GrowsPart (IsServed sessions) before after
 LeavesOf command e before after = Leaves (IsPrinted command) e before after
+
+-- one of the hashes that the command names, or its key, isn't the hexadecimal digits of 32 bytes
+abbrev pub HasNoHash : Command → Type 0
+HasNoHash (New file key) = IsNoKey key
+HasNoHash (Edit file at del text time message key) = IsNoKey key
+HasNoHash (Text file heads) = Any (λ (text : Bor (List ℕ)). IsNoHash text.now) heads.items
+HasNoHash (Cursor file at heads) = Any (λ (text : Bor (List ℕ)). IsNoHash text.now) heads.items
+HasNoHash (Merge file other key) = IsNoKey key
+HasNoHash (Serve file addr sessions key) = IsNoKey key
+HasNoHash (Sync file addr key) = IsNoKey key
+HasNoHash command = ⊥
+
+-- The command was refused, as `BadHex` only for one of its hashes or its key, and what the output holds then.
+abbrev pub IsRefused : Command → CommandError → Option (List ℕ) → Option (List ℕ) → Type 0
+IsRefused command e before after = (e ≡ BadHex → HasNoHash command) × LeavesOf command e before after
 
 -- The bytes are the line of the refusal; or of `OutOfMemory`, where there was no memory for that line.
 abbrev pub IsLineOf : CommandError → List ℕ → Type 0

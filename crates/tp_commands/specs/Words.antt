@@ -8,8 +8,8 @@ use Rattle.tp_command_line.specs.CommandLine.{textpeer_app}
 use Rattle.tp_command_line.specs.CommandOf.{IsFoundAs}
 use Rattle.tp_command_line.specs.declared.command.Command.{Command}
 use Rattle.tp_commands.specs.declared.error.CommandError.{CommandError}
-use Rattle.tp_commands.specs.declared.error.CommandError.TheVariants.{Io}
-use Rattle.tp_commands.specs.Output.{Grows, IsPrinted, LeavesOf}
+use Rattle.tp_commands.specs.declared.error.CommandError.TheVariants.{Io, OutOfMemory}
+use Rattle.tp_commands.specs.Output.{Grows, IsPrinted, IsRefused}
 
 -- the parser was asked for help or for the version
 abbrev pub IsForHelp : ErrorKind → Type 0
@@ -27,8 +27,8 @@ AskFor words command = (fault_of textpeer_app words ≡ []) × IsFoundAs (subcom
 abbrev pub WasDone : List Text → Option (List ℕ) → Option (List ℕ) → Type 0
 WasDone words before after = AskForHelp words ⊎ ((command : Command) × AskFor words command × Grows (IsPrinted command) before after)
 
--- What the output holds after a refusal: what it held; but where the output itself failed perhaps a part of the help; or
--- what the command leaves there.
+-- The words were refused: memory ran out before a command was found, and the output holds what it held; or they ask for
+-- help, and the output failed, which may hold a part of the help; or the command that they ask for was refused.
 abbrev pub WasRefused : List Text → CommandError → Option (List ℕ) → Option (List ℕ) → Type 0
-WasRefused words e before after = Keeps before after
-    ⊎ (((e ≡ Io) × AskForHelp words) ⊎ ((command : Command) × AskFor words command × LeavesOf command e before after))
+WasRefused words e before after = ((e ≡ OutOfMemory) × Keeps before after)
+    ⊎ (((e ≡ Io) × AskForHelp words) ⊎ ((command : Command) × AskFor words command × IsRefused command e before after))

@@ -1,10 +1,11 @@
 //! What is done to a journal.
 
-ghost use Rattle.std.specs.Prelude.{◌≡◌, [], true, IfOk, OnOk};
+ghost use Rattle.std.specs.Prelude.{◌≡◌, ◌≢◌, [], true, IfOk, IfErr, OnOk};
 ghost use Rattle.std.specs.Str.{chars};
 ghost use Rattle.tp_journal.specs.Layout.{journal as journal_bytes};
 ghost use Rattle.tp_peer.specs.Opening.{IsUnused, Reopens};
 ghost use Rattle.tp_peer.specs.Appending.{journal_state};
+ghost use Rattle.tp_commands.specs.declared.error.CommandError.TheVariants.{BadHex};
 ghost use Rattle.tp_commands.specs.Editing.{EditsJournal, TakesJournal};
 
 use crate::error::CommandError;
@@ -25,6 +26,7 @@ pub(crate) fn begin<J: Journal>(
 ) -> Result<J, CommandError>
     ensures unused { OnOk result (IsUnused (J.content journal)) }
     ensures begun { IfOk result (λ j. J.content j ≡ journal_bytes id []) }
+    ensures err { IfErr result (λ e. e ≢ BadHex) }
 {
     match Peer::create(alloc, journal, id, actor) {
         Ok(peer) => Ok(peer.stop()),
@@ -42,8 +44,9 @@ pub(crate) fn edit<J: Journal>(
     time: u64,
     message: &str,
 ) -> Result<(J, Option<Hash>), CommandError>
-    ensures { IfOk result (λ r. EditsJournal (J.content journal) actor splice.entry time
+    ensures ok { IfOk result (λ r. EditsJournal (J.content journal) actor splice.entry time
         (chars message.now) r.1 (J.content r.0)) }
+    ensures err { IfErr result (λ e. e ≢ BadHex) }
 {
     match Peer::reopen(alloc, journal, actor) {
         Ok(mut peer) => {
@@ -60,8 +63,9 @@ pub(crate) fn reopen<J: Journal>(
     journal: J,
     actor: Actor,
 ) -> Result<Peer<J>, CommandError>
-    ensures { IfOk result
+    ensures ok { IfOk result
         (λ p. Reopens (journal_state (J.content journal) (J.failures journal)) actor p) }
+    ensures err { IfErr result (λ e. e ≢ BadHex) }
 {
     match Peer::reopen(alloc, journal, actor) {
         Ok(peer) => Ok(peer),
@@ -76,7 +80,8 @@ pub(crate) fn take<J: Journal>(
     other: Vec<u8>,
     actor: Actor,
 ) -> Result<(J, usize), CommandError>
-    ensures { IfOk result (λ r. TakesJournal peer other.items actor r.1 (J.content r.0)) }
+    ensures ok { IfOk result (λ r. TakesJournal peer other.items actor r.1 (J.content r.0)) }
+    ensures err { IfErr result (λ e. e ≢ BadHex) }
 {
     let other = reopen(alloc, MemJournal::new(other), actor)?;
     let taken = peer.merge(&other)?;
@@ -85,7 +90,8 @@ pub(crate) fn take<J: Journal>(
 
 // Whether no header was written yet in a journal.
 fn is_unused(alloc: Global, bytes: &[u8]) -> Result<bool, CommandError>
-    ensures { IfOk result (λ unused. unused ≡ true → IsUnused bytes.now) }
+    ensures ok { IfOk result (λ unused. unused ≡ true → IsUnused bytes.now) }
+    ensures err { IfErr result (λ e. e ≢ BadHex) }
 {
     match recover::<PeerSequence>(alloc, bytes) {
         Err(StoreError::NoHeader) => Ok(true),
@@ -96,8 +102,9 @@ fn is_unused(alloc: Global, bytes: &[u8]) -> Result<bool, CommandError>
 
 // The journal of a document.
 fn journal_of(alloc: Global, document: &Document<PeerSequence>) -> Result<Vec<u8>, CommandError>
-    ensures { IfOk result
+    ensures ok { IfOk result
         (λ bytes. bytes.items ≡ journal_bytes document.now.id document.now.applied) }
+    ensures err { IfErr result (λ e. e ≢ BadHex) }
 {
     let mut bytes = header(alloc, document.id())?;
     for change in document.changes() {
@@ -116,6 +123,7 @@ pub(crate) fn fill<J: Journal>(
     ensures unused { OnOk result (IsUnused (J.content journal.old)) }
     ensures filled { OnOk result
         (J.content journal.new ≡ journal_bytes document.now.id document.now.applied) }
+    ensures err { IfErr result (λ e. e ≢ BadHex) }
 {
     let bytes = journal_of(alloc, document)?;
     let held = journal.read_all()?;

@@ -1,7 +1,7 @@
 //! Why a command was refused.
 
-ghost use Rattle.std.specs.Prelude.{◌≡◌};
-ghost use Rattle.tp_commands.specs.declared.error.CommandError.TheVariants.{OutOfMemory};
+ghost use Rattle.std.specs.Prelude.{◌≡◌, ◌≢◌};
+ghost use Rattle.tp_commands.specs.declared.error.CommandError.TheVariants.{BadHex, OutOfMemory};
 ghost use Rattle.tp_commands.specs.CommandError.{code_of, IsOfSystem, refusal_of_bytes, refusal_of_document, refusal_of_hex, refusal_of_log, refusal_of_peer, refusal_of_script, refusal_of_session};
 
 use std::alloc::{AllocError, AllocFailed};
@@ -98,7 +98,7 @@ impl From<HexError> for CommandError {
 }
 
 impl From<PeerError> for CommandError {
-    ghost from_gives = { λ error e. e ≡ refusal_of_peer error };
+    ghost from_gives = { λ error e. (e ≡ refusal_of_peer error) × (e ≢ BadHex) };
 
     fn from(error: PeerError) -> CommandError {
         match error {
@@ -109,7 +109,7 @@ impl From<PeerError> for CommandError {
 }
 
 impl From<DocError> for CommandError {
-    ghost from_gives = { λ error e. e ≡ refusal_of_document error };
+    ghost from_gives = { λ error e. (e ≡ refusal_of_document error) × (e ≢ BadHex) };
 
     fn from(error: DocError) -> CommandError {
         match error {
@@ -120,7 +120,7 @@ impl From<DocError> for CommandError {
 }
 
 impl From<StoreError> for CommandError {
-    ghost from_gives = { λ error e. e ≡ refusal_of_bytes error };
+    ghost from_gives = { λ error e. (e ≡ refusal_of_bytes error) × (e ≢ BadHex) };
 
     fn from(error: StoreError) -> CommandError {
         match error {
@@ -132,7 +132,7 @@ impl From<StoreError> for CommandError {
 }
 
 impl From<ShowError> for CommandError {
-    ghost from_gives = { λ error e. e ≡ refusal_of_log error };
+    ghost from_gives = { λ error e. (e ≡ refusal_of_log error) × (e ≢ BadHex) };
 
     fn from(error: ShowError) -> CommandError {
         match error.fault {
@@ -144,7 +144,7 @@ impl From<ShowError> for CommandError {
 }
 
 impl From<SimError> for CommandError {
-    ghost from_gives = { λ error e. e ≡ refusal_of_script error };
+    ghost from_gives = { λ error e. (e ≡ refusal_of_script error) × (e ≢ BadHex) };
 
     fn from(error: SimError) -> CommandError {
         match error {
@@ -156,7 +156,7 @@ impl From<SimError> for CommandError {
 }
 
 impl From<NetError> for CommandError {
-    ghost from_gives = { λ error e. e ≡ refusal_of_session error };
+    ghost from_gives = { λ error e. (e ≡ refusal_of_session error) × (e ≢ BadHex) };
 
     fn from(error: NetError) -> CommandError {
         match error {

@@ -1,5 +1,8 @@
 //! Files that a command reads and writes.
 
+ghost use Rattle.std.specs.Prelude.{◌≢◌, IfErr};
+ghost use Rattle.tp_commands.specs.declared.error.CommandError.TheVariants.{BadHex};
+
 use crate::error::CommandError;
 use std::alloc::Global;
 use std::fs;
@@ -9,10 +12,9 @@ use std::rt::Files;
 use tp_journal::FileJournal;
 
 /// All bytes of a file.
-pub(crate) fn read_file<R: Files + AllocGlobal>(
-    rt: &R,
-    path: &str,
-) -> Result<Vec<u8>, CommandError> {
+pub(crate) fn read_file<R: Files + AllocGlobal>(rt: &R, path: &str) -> Result<Vec<u8>, CommandError>
+    ensures { IfErr result (λ e. e ≢ BadHex) }
+{
     Ok(fs::read(rt, path)?)
 }
 
@@ -21,12 +23,16 @@ pub(crate) fn journal_at<R: Files + AllocGlobal>(
     rt: &R,
     path: &str,
     make: bool,
-) -> Result<FileJournal<R::File>, CommandError> {
+) -> Result<FileJournal<R::File>, CommandError>
+    ensures { IfErr result (λ e. e ≢ BadHex) }
+{
     Ok(FileJournal::at(rt, rt.alloc(), path, make)?)
 }
 
 // Writes a new file, and brings it to the disk.
-fn write_new<R: Files>(rt: &R, path: &str, bytes: &[u8]) -> Result<(), CommandError> {
+fn write_new<R: Files>(rt: &R, path: &str, bytes: &[u8]) -> Result<(), CommandError>
+    ensures { IfErr result (λ e. e ≢ BadHex) }
+{
     let mut file = fs::create(rt, path)?;
     file.write_all(bytes)?;
     file.sync_all()?;
@@ -39,7 +45,9 @@ fn write_and_rename<R: Files>(
     part: &str,
     path: &str,
     bytes: &[u8],
-) -> Result<(), CommandError> {
+) -> Result<(), CommandError>
+    ensures { IfErr result (λ e. e ≢ BadHex) }
+{
     write_new(rt, part, bytes)?;
     Ok(fs::rename(rt, part, path)?)
 }
@@ -52,7 +60,9 @@ pub(crate) fn replace_file<R: Files>(
     alloc: Global,
     path: &str,
     bytes: &[u8],
-) -> Result<(), CommandError> {
+) -> Result<(), CommandError>
+    ensures { IfErr result (λ e. e ≢ BadHex) }
+{
     let part = format!(in alloc; "{path}.part")?;
     let replaced = write_and_rename(rt, part.as_str(), path, bytes);
     if replaced.is_err() {

@@ -1,9 +1,10 @@
 //! Hashes and keys from text, and the generator of random numbers.
 
-ghost use Rattle.std.specs.Prelude.{◌≡◌, IfOk};
+ghost use Rattle.std.specs.Prelude.{◌≡◌, ◌≢◌, IfOk, IfErr};
 ghost use Rattle.rand_chacha.specs.ChaCha.{ChaCha};
 ghost use Rattle.tp_opid.specs.HexText.{IsHexOf};
-ghost use Rattle.tp_commands.specs.Keys.{AreHashes, IsKeyed, after_draw, drawn};
+ghost use Rattle.tp_commands.specs.declared.error.CommandError.TheVariants.{BadHex};
+ghost use Rattle.tp_commands.specs.Keys.{AreHashes, IsKeyed, IsNoHash, IsNoKey, RefusesHashes, after_draw, drawn};
 
 use crate::error::CommandError;
 use rand_chacha::ChaCha20Rng;
@@ -17,7 +18,8 @@ use tp_peer::fresh_actor;
 
 /// The hashes that the texts are, in their order. The first text that isn't 64 hexadecimal digits is refused as `BadHex`.
 pub(crate) fn hashes_in(alloc: Global, texts: &[&str]) -> Result<Vec<Hash>, CommandError>
-    ensures { IfOk result (λ hashes. AreHashes texts.now hashes.items) }
+    ensures ok { IfOk result (λ hashes. AreHashes texts.now hashes.items) }
+    ensures err { IfErr result (RefusesHashes texts.now) }
 {
     let mut hashes = Vec::with_capacity(alloc, texts.len())?;
     for text in texts {
@@ -28,14 +30,17 @@ pub(crate) fn hashes_in(alloc: Global, texts: &[&str]) -> Result<Vec<Hash>, Comm
 
 // The 32 bytes that 64 hexadecimal digits are.
 fn key_in(text: &str) -> Result<[u8; 32], CommandError>
-    ensures { IfOk result (λ key. IsHexOf text.now key) }
+    ensures ok { IfOk result (λ key. IsHexOf text.now key) }
+    ensures err { IfErr result (λ e. (e ≡ BadHex) × IsNoHash text.now) }
 {
     let Hash(key) = Hash::from_text(text)?;
     Ok(key)
 }
 
 // 32 bytes that nobody can guess.
-fn random_key<R: Files>(rt: &R) -> Result<[u8; 32], CommandError> {
+fn random_key<R: Files>(rt: &R) -> Result<[u8; 32], CommandError>
+    ensures { IfErr result (λ e. e ≢ BadHex) }
+{
     let mut key = [0; 32];
     let mut source = fs::open(rt, "/dev/urandom")?;
     source.read_exact(&mut key)?;
@@ -44,7 +49,8 @@ fn random_key<R: Files>(rt: &R) -> Result<[u8; 32], CommandError> {
 
 /// A generator of random numbers with the key, or with one that nobody can guess where none is given.
 pub(crate) fn generator<R: Files>(rt: &R, key: Option<&str>) -> Result<ChaCha20Rng, CommandError>
-    ensures { IfOk result (λ g. IsKeyed key.entry g) }
+    ensures ok { IfOk result (λ g. IsKeyed key.entry g) }
+    ensures err { IfErr result (λ e. e ≡ BadHex → IsNoKey key.entry) }
 {
     let key = match key {
         Some(text) => key_in(text)?,
@@ -65,7 +71,8 @@ pub(crate) fn draw(generator: &mut ChaCha20Rng) -> Actor
 /// An actor that is drawn from the generator with the key, or with one that nobody can guess where none is given. A key
 /// that isn't 64 hexadecimal digits is refused as `BadHex`.
 pub fn draw_actor<R: Files>(rt: &R, key: Option<&str>) -> Result<Actor, CommandError>
-    ensures { IfOk result (λ actor. (g : ChaCha) × IsKeyed key.entry g × (actor ≡ drawn g)) }
+    ensures ok { IfOk result (λ actor. (g : ChaCha) × IsKeyed key.entry g × (actor ≡ drawn g)) }
+    ensures err { IfErr result (λ e. e ≡ BadHex → IsNoKey key.entry) }
 {
     Ok(draw(&mut generator(rt, key)?))
 }

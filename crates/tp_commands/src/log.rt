@@ -1,9 +1,10 @@
 //! The changes of a document, a line each.
 
-ghost use Rattle.std.specs.Prelude.{◌≡◌, ◌≤◌, ◌++◌, IfOk, OnOk};
+ghost use Rattle.std.specs.Prelude.{◌≡◌, ◌≢◌, ◌≤◌, ◌++◌, IfOk, IfErr, OnOk};
 ghost use Rattle.std.specs.List.{flat_map};
 ghost use Rattle.std.specs.Str.{chars};
 ghost use Rattle.std.specs.String.{string_bytes};
+ghost use Rattle.tp_commands.specs.declared.error.CommandError.TheVariants.{BadHex};
 ghost use Rattle.tp_commands.specs.Log.{AreChangeLines, change_line as line_of_change, delete_count, deleted_count, escaped, fields_part, inserted_count, message_part};
 
 use crate::error::CommandError;
@@ -76,7 +77,8 @@ fn put_message(line: &mut String, message: &str) -> Result<(), AllocError>
 
 // What the line of a change begins with.
 fn fields(alloc: Global, change: &Change) -> Result<String, CommandError>
-    ensures { IfOk result (λ l. string_bytes l ≡ fields_part change.now) }
+    ensures ok { IfOk result (λ l. string_bytes l ≡ fields_part change.now) }
+    ensures err { IfErr result (λ e. e ≢ BadHex) }
 {
     let hash = change.hash().to_text(alloc)?;
     let actor = change.actor().to_text(alloc)?;
@@ -89,7 +91,8 @@ fn fields(alloc: Global, change: &Change) -> Result<String, CommandError>
 
 // The line of a change.
 fn change_line(alloc: Global, change: &Change) -> Result<String, CommandError>
-    ensures { IfOk result (λ l. string_bytes l ≡ line_of_change change.now) }
+    ensures ok { IfOk result (λ l. string_bytes l ≡ line_of_change change.now) }
+    ensures err { IfErr result (λ e. e ≢ BadHex) }
 {
     let mut line = fields(alloc, change)?;
     put_message(&mut line, change.message())?;
@@ -101,7 +104,8 @@ fn change_line(alloc: Global, change: &Change) -> Result<String, CommandError>
 /// time, `+` and how many characters it inserts, `-` and how many it deletes, and its message if it has one, with control
 /// characters escaped.
 pub(crate) fn log_lines(alloc: Global, journal: &[u8]) -> Result<String, CommandError>
-    ensures { IfOk result (λ lines. AreChangeLines journal.now (string_bytes lines)) }
+    ensures ok { IfOk result (λ lines. AreChangeLines journal.now (string_bytes lines)) }
+    ensures err { IfErr result (λ e. e ≢ BadHex) }
 {
     let document = document_in(alloc, journal)?;
     let mut lines = String::new(alloc);

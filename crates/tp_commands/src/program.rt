@@ -94,7 +94,7 @@ pub fn explain<W: Write, E: Write>(alloc: Global, fault: &LineError, out: &mut W
         × IsForHelp (kind_of (parser_fault fault.now)) }
     ensures refused { result ≡ REFUSED → (e : Refusal)
         × GrowsPart (IsLineOf e) (E.contents err.old) (E.contents err.new)
-        × (Keeps (W.contents out.old) (W.contents out.new)
+        × (((e ≡ CommandError.OutOfMemory) × Keeps (W.contents out.old) (W.contents out.new))
         ⊎ ((e ≡ Io) × IsForHelp (kind_of (parser_fault fault.now)))) }
     ensures misused { result ≡ MISUSED → (kind_of (parser_fault fault.now) ≢ OutOfMemory)
         × Keeps (W.contents out.old) (W.contents out.new) }
@@ -112,7 +112,8 @@ pub fn explain<W: Write, E: Write>(alloc: Global, fault: &LineError, out: &mut W
 // Prints the parser's text.
 fn put_fault<W: Write>(alloc: Global, fault: &LineError, out: &mut W) -> Result<(), CommandError>
     ensures { IfErr result
-        (λ e. (e ≡ Io) ⊎ Keeps (W.contents out.old) (W.contents out.new)) }
+        (λ e. (e ≡ Io)
+        ⊎ ((e ≡ CommandError.OutOfMemory) × Keeps (W.contents out.old) (W.contents out.new))) }
 {
     let text = format!(in alloc; "{fault}")?;
     match write_out(out, text.as_str().as_bytes()) {

@@ -1,10 +1,11 @@
 //! What is read of the bytes of a journal or of a saved file, as the text to print.
 
-ghost use Rattle.std.specs.Prelude.{◌≡◌, ◌⊎◌, ℕ, IfOk, IfErr};
+ghost use Rattle.std.specs.Prelude.{◌≡◌, ◌≢◌, ◌⊎◌, ℕ, IfOk, IfErr};
 ghost use Rattle.std.specs.String.{string_bytes};
 ghost use Rattle.tp_journal.specs.Refusals.{IsRefusal};
 ghost use Rattle.tp_journal.specs.Recovery.{Recovers};
 ghost use Rattle.tp_store.specs.declared.error.StoreError.{StoreError as StoreFault};
+ghost use Rattle.tp_commands.specs.declared.error.CommandError.TheVariants.{BadHex};
 ghost use Rattle.tp_commands.specs.CommandError.{refusal_of_bytes};
 ghost use Rattle.tp_commands.specs.Reading.{AreHeadLines, IsCursorLine, IsTextLine, Saves, hash_line as line_of_hash, line as line_of};
 
@@ -23,6 +24,7 @@ pub(crate) fn document_in(alloc: Global, journal: &[u8]) -> Result<Text, Command
     ensures ok { IfOk result (λ d. (keep : ℕ) × Recovers journal.now d.id d.applied keep) }
     ensures err { IfErr result (λ e. (e ≡ CommandError.OutOfMemory)
         ⊎ ((fault : StoreFault) × (e ≡ refusal_of_bytes fault) × IsRefusal journal.now fault)) }
+    ensures of_bytes { IfErr result (λ e. e ≢ BadHex) }
 {
     match recover(alloc, journal) {
         Ok(recovered) => Ok(recovered.document),
@@ -44,7 +46,8 @@ pub(crate) fn text_line(
     journal: &[u8],
     heads: &[Hash],
 ) -> Result<String, CommandError>
-    ensures { IfOk result (λ l. IsTextLine journal.now heads.now (string_bytes l)) }
+    ensures ok { IfOk result (λ l. IsTextLine journal.now heads.now (string_bytes l)) }
+    ensures err { IfErr result (λ e. e ≢ BadHex) }
 {
     let document = document_in(alloc, journal)?;
     let text = if heads.is_empty() {
@@ -57,14 +60,16 @@ pub(crate) fn text_line(
 
 /// The hash in hexadecimal digits, and a newline.
 pub(crate) fn hash_line(alloc: Global, hash: &Hash) -> Result<String, CommandError>
-    ensures { IfOk result (λ l. string_bytes l ≡ line_of_hash hash.now) }
+    ensures ok { IfOk result (λ l. string_bytes l ≡ line_of_hash hash.now) }
+    ensures err { IfErr result (λ e. e ≢ BadHex) }
 {
     Ok(line(hash.to_text(alloc)?)?)
 }
 
 /// The heads of a journal's bytes, rising, a line each.
 pub(crate) fn head_lines(alloc: Global, journal: &[u8]) -> Result<String, CommandError>
-    ensures { IfOk result (λ lines. AreHeadLines journal.now (string_bytes lines)) }
+    ensures ok { IfOk result (λ lines. AreHeadLines journal.now (string_bytes lines)) }
+    ensures err { IfErr result (λ e. e ≢ BadHex) }
 {
     let document = document_in(alloc, journal)?;
     let mut lines = String::new(alloc);
@@ -82,7 +87,8 @@ pub(crate) fn cursor_line(
     at: usize,
     heads: &[Hash],
 ) -> Result<String, CommandError>
-    ensures { IfOk result (λ l. IsCursorLine journal.now at heads.now (string_bytes l)) }
+    ensures ok { IfOk result (λ l. IsCursorLine journal.now at heads.now (string_bytes l)) }
+    ensures err { IfErr result (λ e. e ≢ BadHex) }
 {
     let document = document_in(alloc, journal)?;
     let cursor = document.cursor_at(at, heads)?;
@@ -92,7 +98,8 @@ pub(crate) fn cursor_line(
 
 /// The saved file of a journal's document.
 pub(crate) fn saved(alloc: Global, journal: &[u8]) -> Result<Vec<u8>, CommandError>
-    ensures { IfOk result (λ bytes. Saves journal.now bytes.items) }
+    ensures ok { IfOk result (λ bytes. Saves journal.now bytes.items) }
+    ensures err { IfErr result (λ e. e ≢ BadHex) }
 {
     let document = document_in(alloc, journal)?;
     Ok(save(alloc, &document)?)

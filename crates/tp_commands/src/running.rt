@@ -1,6 +1,7 @@
 //! Carrying out a command.
 
-ghost use Rattle.std.specs.Prelude.{◌≡◌, ◌≤◌, ◌⊎◌, ℕ, List, [], IfOk, IfErr, OnOk, IsOkAnd, MatchResult};
+ghost use Rattle.std.specs.Prelude.{◌≡◌, ◌≢◌, ◌≤◌, ◌⊎◌, ℕ, List, [], Err, Any, IfOk, IfErr, OnOk, IsOkAnd, MatchResult};
+ghost use Rattle.std.specs.Borrow.{Bor};
 ghost use Rattle.std.specs.Io.KnownBytes.{Appends, Keeps};
 ghost use Rattle.std.specs.Str.{chars};
 ghost use Rattle.std.specs.String.{string_bytes};
@@ -9,10 +10,11 @@ ghost use Rattle.tp_simulate.specs.Script.{Prints};
 ghost use Rattle.tp_textpeer.specs.Output.{AppendsPart};
 ghost use Rattle.tp_commands.specs.declared.error.CommandError.{CommandError as Refusal};
 ghost use Rattle.tp_commands.specs.Editing.{IsEditLine, IsMergeLine, IsNewLine, made_line as line_of_made};
-ghost use Rattle.tp_commands.specs.Keys.{AreHashes};
+ghost use Rattle.tp_commands.specs.declared.error.CommandError.TheVariants.{BadHex};
+ghost use Rattle.tp_commands.specs.Keys.{AreHashes, IsNoHash, IsNoKey};
 ghost use Rattle.tp_commands.specs.Log.{AreChangeLines};
 ghost use Rattle.tp_commands.specs.Names.{refusal_text};
-ghost use Rattle.tp_commands.specs.Output.{Grows, GrowsPart, IsLineOf, IsPrinted, IsShown, Leaves, LeavesOf, LeavesScript};
+ghost use Rattle.tp_commands.specs.Output.{Grows, GrowsPart, IsLineOf, IsPrinted, IsRefused, IsShown, Leaves, LeavesScript};
 ghost use Rattle.tp_commands.specs.Reading.{AreHeadLines, IsCursorLine, IsTextLine, line};
 
 use crate::editing::{begin, edit, fill, reopen, take};
@@ -57,7 +59,7 @@ pub fn run_command<R: Files + AllocGlobal, W: Write, E: Write>(
         × Grows (IsPrinted command.entry) (W.contents out.old) (W.contents out.new) }
     ensures refused { result ≡ REFUSED → (e : Refusal)
         × GrowsPart (IsLineOf e) (E.contents err.old) (E.contents err.new)
-        × LeavesOf command.entry e (W.contents out.old) (W.contents out.new) }
+        × IsRefused command.entry e (W.contents out.old) (W.contents out.new) }
 {
     ended(rt.alloc(), carry_out(rt, command, out), err)
 }
@@ -103,6 +105,7 @@ pub fn put<W: Write>(out: &mut W, printed: Result<String, CommandError>) -> Resu
     ensures err { IfErr result (λ e. Keeps (W.contents out.old) (W.contents out.new)
         ⊎ ((e ≡ CommandError.Io) × IsOkAnd printed
         (λ text. AppendsPart (W.contents out.old) (W.contents out.new) (string_bytes text)))) }
+    ensures passed { IfErr result (λ e. (e ≡ CommandError.Io) ⊎ (printed ≡ Err e)) }
 {
     match printed {
         Ok(text) => match write_out(out, text.as_str().as_bytes()) {
@@ -121,7 +124,7 @@ fn carry_out<R: Files + AllocGlobal, W: Write>(
 ) -> Result<(), CommandError>
     ensures prints { OnOk result
         (Grows (IsPrinted command.entry) (W.contents out.old) (W.contents out.new)) }
-    ensures err { IfErr result (λ e. LeavesOf command.entry e
+    ensures err { IfErr result (λ e. IsRefused command.entry e
         (W.contents out.old) (W.contents out.new)) }
 {
     match command {
@@ -163,6 +166,7 @@ fn show_file<R: Files + AllocGlobal, W: Write>(
 ) -> Result<(), CommandError>
     ensures ok { OnOk result (Grows IsShown (W.contents out.old) (W.contents out.new)) }
     ensures err { IfErr result (λ e. Leaves IsShown e (W.contents out.old) (W.contents out.new)) }
+    ensures of_log { IfErr result (λ e. e ≢ BadHex) }
 {
     let file = fs::open(rt, log)?;
     let mut reader = BufReader::new(rt.alloc(), file)?;
@@ -181,6 +185,7 @@ fn simulate_file<R: Files + AllocGlobal, W: Write>(
     ensures ok { OnOk result (Prints (W.contents out.old) (W.contents out.new)) }
     ensures err { IfErr result
         (λ e. LeavesScript e (W.contents out.old) (W.contents out.new)) }
+    ensures of_script { IfErr result (λ e. e ≢ BadHex) }
 {
     let file = fs::open(rt, script)?;
     let mut reader = BufReader::new(rt.alloc(), file)?;
@@ -191,21 +196,25 @@ fn simulate_file<R: Files + AllocGlobal, W: Write>(
 }
 
 fn text<R: Files + AllocGlobal>(rt: &R, file: &str, heads: &[&str]) -> Result<String, CommandError>
-    ensures { IfOk result (λ l. (journal : List ℕ) × (hs : List HashOf) × AreHashes heads.now hs
+    ensures ok { IfOk result (λ l. (journal : List ℕ) × (hs : List HashOf) × AreHashes heads.now hs
         × IsTextLine journal hs (string_bytes l)) }
+    ensures err { IfErr result
+        (λ e. e ≡ BadHex → Any (λ (text : Bor (List ℕ)). IsNoHash text.now) heads.now) }
 {
     let hashes = hashes_in(rt.alloc(), heads)?;
     text_line(rt.alloc(), &read_file(rt, file)?, &hashes)
 }
 
 fn heads<R: Files + AllocGlobal>(rt: &R, file: &str) -> Result<String, CommandError>
-    ensures { IfOk result (λ l. (journal : List ℕ) × AreHeadLines journal (string_bytes l)) }
+    ensures ok { IfOk result (λ l. (journal : List ℕ) × AreHeadLines journal (string_bytes l)) }
+    ensures err { IfErr result (λ e. e ≢ BadHex) }
 {
     head_lines(rt.alloc(), &read_file(rt, file)?)
 }
 
 fn log<R: Files + AllocGlobal>(rt: &R, file: &str) -> Result<String, CommandError>
-    ensures { IfOk result (λ l. (journal : List ℕ) × AreChangeLines journal (string_bytes l)) }
+    ensures ok { IfOk result (λ l. (journal : List ℕ) × AreChangeLines journal (string_bytes l)) }
+    ensures err { IfErr result (λ e. e ≢ BadHex) }
 {
     log_lines(rt.alloc(), &read_file(rt, file)?)
 }
@@ -216,8 +225,10 @@ fn cursor<R: Files + AllocGlobal>(
     at: u64,
     heads: &[&str],
 ) -> Result<String, CommandError>
-    ensures { IfOk result (λ l. (journal : List ℕ) × (hs : List HashOf) × AreHashes heads.now hs
+    ensures ok { IfOk result (λ l. (journal : List ℕ) × (hs : List HashOf) × AreHashes heads.now hs
         × IsCursorLine journal at hs (string_bytes l)) }
+    ensures err { IfErr result
+        (λ e. e ≡ BadHex → Any (λ (text : Bor (List ℕ)). IsNoHash text.now) heads.now) }
 {
     let hashes = hashes_in(rt.alloc(), heads)?;
     cursor_line(rt.alloc(), &read_file(rt, file)?, at as usize, &hashes)
@@ -229,7 +240,8 @@ fn new<R: Files + AllocGlobal>(
     file: &str,
     key: Option<&str>,
 ) -> Result<String, CommandError>
-    ensures { IfOk result (λ l. IsNewLine key.entry (string_bytes l)) }
+    ensures ok { IfOk result (λ l. IsNewLine key.entry (string_bytes l)) }
+    ensures err { IfErr result (λ e. e ≡ BadHex → IsNoKey key.entry) }
 {
     let mut generator = generator(rt, key)?;
     let Actor(drawn) = draw(&mut generator);
@@ -250,8 +262,9 @@ fn edited<R: Files + AllocGlobal>(
     message: &str,
     key: Option<&str>,
 ) -> Result<String, CommandError>
-    ensures { IfOk result (λ l. IsEditLine key.entry splice.entry time (chars message.now)
+    ensures ok { IfOk result (λ l. IsEditLine key.entry splice.entry time (chars message.now)
         (string_bytes l)) }
+    ensures err { IfErr result (λ e. e ≡ BadHex → IsNoKey key.entry) }
 {
     let actor = draw(&mut generator(rt, key)?);
     let journal = journal_at(rt, file, false)?;
@@ -263,7 +276,8 @@ fn edited<R: Files + AllocGlobal>(
 
 // The line of what an edit made.
 fn made_line(alloc: Global, made: Option<Hash>) -> Result<String, CommandError>
-    ensures { IfOk result (λ l. string_bytes l ≡ line_of_made made) }
+    ensures ok { IfOk result (λ l. string_bytes l ≡ line_of_made made) }
+    ensures err { IfErr result (λ e. e ≢ BadHex) }
 {
     match made {
         Some(hash) => hash_line(alloc, &hash),
@@ -277,7 +291,8 @@ fn merged<R: Files + AllocGlobal>(
     other: &str,
     key: Option<&str>,
 ) -> Result<String, CommandError>
-    ensures { IfOk result (λ l. IsMergeLine key.entry (string_bytes l)) }
+    ensures ok { IfOk result (λ l. IsMergeLine key.entry (string_bytes l)) }
+    ensures err { IfErr result (λ e. e ≡ BadHex → IsNoKey key.entry) }
 {
     let mut generator = generator(rt, key)?;
     let actor = draw(&mut generator);
@@ -290,7 +305,8 @@ fn merged<R: Files + AllocGlobal>(
 }
 
 fn save_to<R: Files + AllocGlobal>(rt: &R, file: &str, out: &str) -> Result<String, CommandError>
-    ensures { IfOk result (λ l. string_bytes l ≡ []) }
+    ensures ok { IfOk result (λ l. string_bytes l ≡ []) }
+    ensures err { IfErr result (λ e. e ≢ BadHex) }
 {
     let bytes = saved(rt.alloc(), &read_file(rt, file)?)?;
     replace_file(rt, rt.alloc(), out, &bytes)?;
@@ -302,7 +318,8 @@ fn load_from<R: Files + AllocGlobal>(
     saved: &str,
     file: &str,
 ) -> Result<String, CommandError>
-    ensures { IfOk result (λ l. string_bytes l ≡ []) }
+    ensures ok { IfOk result (λ l. string_bytes l ≡ []) }
+    ensures err { IfErr result (λ e. e ≢ BadHex) }
 {
     let document = load::<PeerSequence>(rt.alloc(), &read_file(rt, saved)?)?;
     let mut journal = journal_at(rt, file, true)?;

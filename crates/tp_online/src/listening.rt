@@ -1,5 +1,8 @@
 //! What a server and a client begin with: a peer on a journal, and an address.
 
+ghost use Rattle.std.specs.Prelude.{◌≢◌, IfErr};
+ghost use Rattle.tp_commands.specs.declared.error.CommandError.TheVariants.{BadHex};
+
 use crate::durable::DurableJournal;
 use std::fs::OpenFile;
 use std::io::Write;
@@ -25,7 +28,9 @@ pub(crate) fn opened<R: Files + AllocGlobal>(
     rt: &R,
     file: &str,
     actor: Actor,
-) -> Result<Peer<DurableJournal<R::File>>, CommandError> {
+) -> Result<Peer<DurableJournal<R::File>>, CommandError>
+    ensures { IfErr result (λ e. e ≢ BadHex) }
+{
     let journal = DurableJournal::at(rt, rt.alloc(), file)?;
     match Peer::reopen(rt.alloc(), journal, actor) {
         Ok(peer) => Ok(peer),
@@ -34,7 +39,9 @@ pub(crate) fn opened<R: Files + AllocGlobal>(
 }
 
 /// The address that the text is, `IP:PORT`; else `Io`.
-pub(crate) fn address(text: &str) -> Result<SocketAddr, CommandError> {
+pub(crate) fn address(text: &str) -> Result<SocketAddr, CommandError>
+    ensures { IfErr result (λ e. e ≢ BadHex) }
+{
     match text.parse::<SocketAddr>() {
         Ok(addr) => Ok(addr),
         Err(_) => Err(CommandError::Io),
@@ -42,7 +49,9 @@ pub(crate) fn address(text: &str) -> Result<SocketAddr, CommandError> {
 }
 
 // Listens at the address; also answers the port.
-fn bound<R: Net>(rt: &R, addr: &str) -> Result<(R::Listener, u16), CommandError> {
+fn bound<R: Net>(rt: &R, addr: &str) -> Result<(R::Listener, u16), CommandError>
+    ensures { IfErr result (λ e. e ≢ BadHex) }
+{
     let listener = rt.bind(address(addr)?)?;
     let local = listener.local_addr()?;
     Ok((listener, local.port()))
@@ -54,7 +63,9 @@ pub(crate) fn listen<R: Files + Net + AllocGlobal>(
     file: &str,
     addr: &str,
     actor: Actor,
-) -> Result<Listening<R::Listener, R::File>, CommandError> {
+) -> Result<Listening<R::Listener, R::File>, CommandError>
+    ensures { IfErr result (λ e. e ≢ BadHex) }
+{
     let peer = opened(rt, file, actor)?;
     match bound(rt, addr) {
         Ok((listener, port)) => Ok(Listening {

@@ -5,7 +5,7 @@ ghost use Rattle.std.specs.Io.KnownBytes.{Keeps};
 ghost use Rattle.clap.specs.Words.{fault_of};
 ghost use Rattle.tp_command_line.specs.CommandLine.{textpeer_app};
 ghost use Rattle.tp_commands.specs.declared.error.CommandError.{CommandError as Refusal};
-ghost use Rattle.tp_commands.specs.Output.{GrowsPart, IsLineOf, IsPrinted, Grows, LeavesOf};
+ghost use Rattle.tp_commands.specs.Output.{Grows, GrowsPart, IsLineOf, IsPrinted, IsRefused};
 ghost use Rattle.tp_commands.specs.Words.{WasDone, WasRefused};
 
 use crate::serving::{serve_file, synced};
@@ -93,7 +93,7 @@ where
         × Grows (IsPrinted command.entry) (W.contents out.old) (W.contents out.new) }
     ensures refused { result ≡ REFUSED → (e : Refusal)
         × GrowsPart (IsLineOf e) (E.contents err.old) (E.contents err.new)
-        × LeavesOf command.entry e (W.contents out.old) (W.contents out.new) }
+        × IsRefused command.entry e (W.contents out.old) (W.contents out.new) }
 {
     let alloc = rt.alloc();
     match command {

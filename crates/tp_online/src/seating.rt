@@ -1,6 +1,7 @@
 //! Sessions on the seats of a peer.
 
-ghost use Rattle.std.specs.Prelude.{◌≡◌, IfOk, OnOk, false};
+ghost use Rattle.std.specs.Prelude.{◌≡◌, ◌≢◌, IfOk, IfErr, OnOk, false};
+ghost use Rattle.tp_commands.specs.declared.error.CommandError.TheVariants.{BadHex};
 ghost use Rattle.tp_net.specs.Turns.{Enters, Sits};
 ghost use Rattle.tp_served.specs.Calls.{AreOf};
 
@@ -21,7 +22,8 @@ pub(crate) fn seated<J: Journal>(
     peer: Peer<J>,
     seats: usize,
 ) -> Result<(Served<J>, Vec<Seat>), CommandError>
-    ensures { IfOk result (λ r. (r.0.opened ≡ peer) × AreOf r.0.served r.1.items) }
+    ensures ok { IfOk result (λ r. (r.0.opened ≡ peer) × AreOf r.0.served r.1.items) }
+    ensures fault { IfErr result (λ e. e ≢ BadHex) }
 {
     match Served::open(alloc, peer, seats) {
         Ok(opened) => Ok(opened),
@@ -31,7 +33,8 @@ pub(crate) fn seated<J: Journal>(
 
 // Refuses a peer that has stopped, since its journal failed.
 fn still_runs<J: Journal>(peer: &Peer<J>) -> Result<(), CommandError>
-    ensures { OnOk result (peer.now.stopped ≡ false) }
+    ensures runs { OnOk result (peer.now.stopped ≡ false) }
+    ensures fault { IfErr result (λ e. e ≢ BadHex) }
 {
     if peer.is_stopped() {
         return Err(CommandError::Peer(PeerError::JournalFailed));
@@ -42,6 +45,7 @@ fn still_runs<J: Journal>(peer: &Peer<J>) -> Result<(), CommandError>
 // Ends the serving. A peer whose journal failed meanwhile is refused.
 fn ended<J: Journal>(served: Served<J>, seats: Vec<Seat>) -> Result<(), CommandError>
     requires { AreOf served.served seats.items }
+    ensures { IfErr result (λ e. e ≢ BadHex) }
 {
     match served.close(seats) {
         Ok(peer) => still_runs(&peer),
@@ -64,6 +68,7 @@ pub(crate) fn hold<
     sessions: u64,
 ) -> Result<(), CommandError>
     requires { AreOf served.served seats.items }
+    ensures { IfErr result (λ e. e ≢ BadHex) }
 {
     match serve(rt, alloc, listener, &served, seats, sessions, &AlwaysOpen) {
         Ok(seats) => ended(served, seats),
@@ -82,6 +87,7 @@ pub(crate) fn meet<R: Net + Wait, J: Journal>(
     requires { seat.old.served ≡ served.now.served }
     ensures sits { Sits seat.old seat.new }
     ensures told { IfOk result (λ n. Enters n seat.old seat.new) }
+    ensures fault { IfErr result (λ e. e ≢ BadHex) }
 {
     match connect(rt, alloc, addr, served, seat) {
         Ok(applied) => Ok(applied),
@@ -98,6 +104,7 @@ pub(crate) fn meet_on<R: Net + Wait, J: Journal>(
     seats: Vec<Seat>,
 ) -> Result<u64, CommandError>
     requires { AreOf served.now.served seats.items }
+    ensures { IfErr result (λ e. e ≢ BadHex) }
 {
     let mut seats = seats;
     match seats.pop() {

@@ -1,9 +1,11 @@
 //! The commands `serve` and `sync`.
 
-ghost use Rattle.std.specs.Prelude.{◌≡◌, ◌⊎◌, ℕ, IfOk, IfErr, OnOk};
+ghost use Rattle.std.specs.Prelude.{◌≡◌, ◌≢◌, ◌⊎◌, ℕ, IfOk, IfErr, OnOk};
 ghost use Rattle.std.specs.Io.KnownBytes.{Appends, Keeps};
 ghost use Rattle.std.specs.String.{string_bytes};
 ghost use Rattle.tp_textpeer.specs.Output.{AppendsPart};
+ghost use Rattle.tp_commands.specs.declared.error.CommandError.TheVariants.{BadHex};
+ghost use Rattle.tp_commands.specs.Keys.{IsNoKey};
 ghost use Rattle.tp_commands.specs.Network.{IsServed, applied_line as line_of_applied, listening_line as line_of_port, served_line as line_of_sessions};
 ghost use Rattle.tp_commands.specs.Output.{Grows, GrowsPart};
 
@@ -22,14 +24,16 @@ const WORKERS: usize = 2;
 
 // The line of the port on which a server listens.
 fn listening_line(alloc: Global, port: u16) -> Result<String, CommandError>
-    ensures { IfOk result (λ l. string_bytes l ≡ line_of_port port) }
+    ensures ok { IfOk result (λ l. string_bytes l ≡ line_of_port port) }
+    ensures fault { IfErr result (λ e. e ≢ BadHex) }
 {
     Ok(format!(in alloc; "listening {port}\n")?)
 }
 
 // The line of how many sessions were held.
 fn served_line(alloc: Global, sessions: u64) -> Result<String, CommandError>
-    ensures { IfOk result (λ l. string_bytes l ≡ line_of_sessions sessions) }
+    ensures ok { IfOk result (λ l. string_bytes l ≡ line_of_sessions sessions) }
+    ensures fault { IfErr result (λ e. e ≢ BadHex) }
 {
     Ok(format!(in alloc; "served {sessions}\n")?)
 }
@@ -40,6 +44,7 @@ fn tell_port<W: Write>(alloc: Global, port: u16, out: &mut W) -> Result<(), Comm
         (Appends (W.contents out.old) (W.contents out.new) (line_of_port port)) }
     ensures err { IfErr result
         (λ _. AppendsPart (W.contents out.old) (W.contents out.new) (line_of_port port)) }
+    ensures fault { IfErr result (λ e. e ≢ BadHex) }
 {
     put(out, listening_line(alloc, port))
 }
@@ -50,6 +55,7 @@ fn tell_sessions<W: Write>(alloc: Global, sessions: u64, out: &mut W) -> Result<
         (Appends (W.contents out.old) (W.contents out.new) (line_of_sessions sessions)) }
     ensures err { IfErr result
         (λ _. AppendsPart (W.contents out.old) (W.contents out.new) (line_of_sessions sessions)) }
+    ensures fault { IfErr result (λ e. e ≢ BadHex) }
 {
     put(out, served_line(alloc, sessions))
 }
@@ -63,6 +69,7 @@ fn held<R: Files + Net + Threads + Wait + AllocGlobal + Sync>(
 where
     R::File: Send,
     R::Stream: Send,
+    ensures { IfErr result (λ e. e ≢ BadHex) }
 {
     let Listening {
         listener,
@@ -89,6 +96,7 @@ where
         (Appends (W.contents out.old) (W.contents out.new) (line_of_sessions sessions)) }
     ensures err { IfErr result
         (λ _. AppendsPart (W.contents out.old) (W.contents out.new) (line_of_sessions sessions)) }
+    ensures fault { IfErr result (λ e. e ≢ BadHex) }
 {
     match held(rt, listening, sessions) {
         Ok(()) => tell_sessions(rt.alloc(), sessions, out),
@@ -110,6 +118,7 @@ where
         (Grows (IsServed sessions) (W.contents out.old) (W.contents out.new)) }
     ensures err { IfErr result
         (λ _. GrowsPart (IsServed sessions) (W.contents out.old) (W.contents out.new)) }
+    ensures fault { IfErr result (λ e. e ≢ BadHex) }
 {
     match tell_port(rt.alloc(), listening.port, out) {
         Ok(()) => held_and_told(rt, listening, sessions, out),
@@ -137,6 +146,7 @@ where
         (Grows (IsServed sessions) (W.contents out.old) (W.contents out.new)) }
     ensures err { IfErr result (λ _. Keeps (W.contents out.old) (W.contents out.new)
         ⊎ GrowsPart (IsServed sessions) (W.contents out.old) (W.contents out.new)) }
+    ensures fault { IfErr result (λ e. e ≡ BadHex → IsNoKey key.entry) }
 {
     let actor = draw_actor(rt, key)?;
     match listen(rt, file, addr, actor) {
@@ -151,7 +161,9 @@ fn applied_by<R: Files + Net + Wait + AllocGlobal>(
     file: &str,
     addr: &str,
     key: Option<&str>,
-) -> Result<u64, CommandError> {
+) -> Result<u64, CommandError>
+    ensures { IfErr result (λ e. e ≡ BadHex → IsNoKey key.entry) }
+{
     let actor = draw_actor(rt, key)?;
     let peer = opened(rt, file, actor)?;
     let addr = match address(addr) {
@@ -174,7 +186,8 @@ pub(crate) fn synced<R: Files + Net + Wait + AllocGlobal>(
     addr: &str,
     key: Option<&str>,
 ) -> Result<String, CommandError>
-    ensures { IfOk result (λ l. (applied : ℕ) × (string_bytes l ≡ line_of_applied applied)) }
+    ensures ok { IfOk result (λ l. (applied : ℕ) × (string_bytes l ≡ line_of_applied applied)) }
+    ensures fault { IfErr result (λ e. e ≡ BadHex → IsNoKey key.entry) }
 {
     let applied = applied_by(rt, file, addr, key)?;
     Ok(format!(in rt.alloc(); "applied {applied}\n")?)

@@ -5,12 +5,12 @@ use Rattle.hex.specs.Hex.{encode_lower}
 use Rattle.tp_commands.specs.Keys.{drawn}
 use Rattle.tp_commands.proofs.running.new.Goals as goal
 
-pub returns : goal.returns
-returns g c =
+pub returns-clause-ok : goal.returns-clause-ok
+returns-clause-ok g c =
     let spelled : string_bytes c.in_ok-line.line ≡ encode_lower (drawn c.in_ok-generator.generator).0 =
     c.in_ok-line.ensures.text ∙ ap (λ a. encode_lower a.0) c.draw.ensures.actor in
     record {
       generator = c.in_ok-generator.generator;
-      keyed = c.in_ok-generator.ensures;
+      keyed = c.in_ok-generator.ensures.ok;
       spelled = grind (arith, common_steps, spelled);
     }
