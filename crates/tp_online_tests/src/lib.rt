@@ -1,0 +1,7 @@
+//! Tests of the program over loopback.
+#![tactic(auto)]
+
+#[cfg(test)]
+mod runs;
+#[cfg(test)]
+mod tests;
