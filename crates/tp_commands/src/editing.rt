@@ -1,6 +1,6 @@
 //! What is done to a journal.
 
-ghost use Rattle.std.specs.Prelude.{◌≡◌, ◌≢◌, [], true, IfOk, IfErr, OnOk};
+ghost use Rattle.std.specs.Prelude.{◌≡◌, ◌≢◌, ◌⊎◌, [], IfOk, IfErr, IsOkUnless, MatchBool, OnErr, OnOk};
 ghost use Rattle.std.specs.Str.{chars};
 ghost use Rattle.tp_journal.specs.Layout.{journal as journal_bytes};
 ghost use Rattle.tp_peer.specs.Opening.{IsUnused, Reopens};
@@ -12,7 +12,7 @@ use crate::error::CommandError;
 use std::alloc::Global;
 use tp_document::Document;
 use tp_edit::Splice;
-use tp_journal::{Journal, MemJournal, header, put_record, recover};
+use tp_journal::{HEADER_BYTES, Journal, MemJournal, header, put_record, recover};
 use tp_opid::{Actor, DocId, Hash};
 use tp_peer::{Peer, PeerError, PeerSequence};
 use tp_store::StoreError;
@@ -88,15 +88,23 @@ pub(crate) fn take<J: Journal>(
     Ok((peer.stop(), taken.applied.len()))
 }
 
-// Whether no header was written yet in a journal.
+// Whether no header was written yet in a journal. Only fewer bytes than a header has are looked at.
 fn is_unused(alloc: Global, bytes: &[u8]) -> Result<bool, CommandError>
-    ensures ok { IfOk result (λ unused. unused ≡ true → IsUnused bytes.now) }
-    ensures err { IfErr result (λ e. e ≢ BadHex) }
+    ensures ok { IfOk result
+        (λ unused. MatchBool unused (IsUnused bytes.now) (IsUnused bytes.now → ⊥)) }
+    ensures err { IsOkUnless result CommandError.OutOfMemory }
 {
+    if bytes.len() >= HEADER_BYTES {
+        return Ok(false);
+    }
     match recover::<PeerSequence>(alloc, bytes) {
+        Ok(recovered) => {
+            drop(recovered);
+            Ok(false)
+        }
         Err(StoreError::NoHeader) => Ok(true),
         Err(StoreError::OutOfMemory) => Err(CommandError::OutOfMemory),
-        _ => Ok(false),
+        Err(_) => Ok(false),
     }
 }
 
@@ -114,7 +122,7 @@ fn journal_of(alloc: Global, document: &Document<PeerSequence>) -> Result<Vec<u8
 }
 
 /// Begins the journal with the document's header and records, in one append. One that has a header or other bytes is
-/// refused as `JournalNotEmpty`.
+/// refused as `JournalNotEmpty`, and stays as it was.
 pub(crate) fn fill<J: Journal>(
     alloc: Global,
     journal: &mut J,
@@ -123,6 +131,8 @@ pub(crate) fn fill<J: Journal>(
     ensures unused { OnOk result (IsUnused (J.content journal.old)) }
     ensures filled { OnOk result
         (J.content journal.new ≡ journal_bytes document.now.id document.now.applied) }
+    ensures stays { OnErr result ((J.content journal.new ≡ J.content journal.old)
+        ⊎ IsUnused (J.content journal.old)) }
     ensures err { IfErr result (λ e. e ≢ BadHex) }
 {
     let bytes = journal_of(alloc, document)?;
