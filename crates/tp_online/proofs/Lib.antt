@@ -1,3 +1,4 @@
 pub mod LastSeat
 pub mod DurableLaws
 pub mod ServedLines
+pub mod SessionLaws

@@ -1,9 +1,12 @@
 //! Sessions on the seats of a peer.
 
-ghost use Rattle.std.specs.Prelude.{◌≡◌, ◌≢◌, IfOk, IfErr, OnOk, false};
+ghost use Rattle.std.specs.Prelude.{◌≡◌, ◌≢◌, ◌<◌, length, IfOk, IfErr, OnOk, false};
+ghost use Rattle.tp_peer.specs.PeerData.{PeerData};
 ghost use Rattle.tp_commands.specs.declared.error.CommandError.TheVariants.{BadHex};
 ghost use Rattle.tp_net.specs.Turns.{Enters, Sits};
-ghost use Rattle.tp_served.specs.Calls.{AreOf};
+ghost use Rattle.tp_served.specs.Calls.{AreOf, Closes};
+ghost use Rattle.tp_served.specs.Seats.{states_of};
+ghost use Rattle.tp_online.specs.Sessions.{EndsWell, Meets};
 
 use std::alloc::Global;
 use std::io::{Read, Write};
@@ -23,6 +26,7 @@ pub(crate) fn seated<J: Journal>(
     seats: usize,
 ) -> Result<(Served<J>, Vec<Seat>), CommandError>
     ensures ok { IfOk result (λ r. (r.0.opened ≡ peer) × AreOf r.0.served r.1.items) }
+    ensures all { IfOk result (λ r. (length r.1.items ≡ r.0.count) × (r.0.count ≡ seats) × (0 < seats)) }
     ensures fault { IfErr result (λ e. e ≢ BadHex) }
 {
     match Served::open(alloc, peer, seats) {
@@ -42,18 +46,22 @@ fn still_runs<J: Journal>(peer: &Peer<J>) -> Result<(), CommandError>
     Ok(())
 }
 
-// Ends the serving. A peer whose journal failed meanwhile is refused.
+// Ends the serving, with all seats. A peer whose journal failed meanwhile is refused.
 fn ended<J: Journal>(served: Served<J>, seats: Vec<Seat>) -> Result<(), CommandError>
-    requires { AreOf served.served seats.items }
-    ensures { IfErr result (λ e. e ≢ BadHex) }
+    requires of { AreOf served.served seats.items }
+    requires all { length seats.items ≡ served.count }
+    ensures ok { OnOk result ((p : PeerData)
+        × Closes served.opened served.count (states_of seats.items) p × (p.stopped ≡ false)) }
+    ensures fault { IfErr result (λ e. e ≢ BadHex) }
 {
     match served.close(seats) {
         Ok(peer) => still_runs(&peer),
-        Err(_) => Ok(()),
+        Err(_) => unreachable!(),
     }
 }
 
-/// Holds as many sessions as said with those that connect, on the seats.
+/// Holds as many sessions as said with those that connect, on the seats, which are all of them. A peer whose journal
+/// failed meanwhile is refused.
 pub(crate) fn hold<
     R: Threads + Wait + Sync,
     S: Read + Write + OpenStream + Send + Drop,
@@ -67,8 +75,10 @@ pub(crate) fn hold<
     seats: Vec<Seat>,
     sessions: u64,
 ) -> Result<(), CommandError>
-    requires { AreOf served.served seats.items }
-    ensures { IfErr result (λ e. e ≢ BadHex) }
+    requires of { AreOf served.served seats.items }
+    requires all { length seats.items ≡ served.count }
+    ensures ok { OnOk result (EndsWell served seats.items) }
+    ensures fault { IfErr result (λ e. e ≢ BadHex) }
 {
     match serve(rt, alloc, listener, &served, seats, sessions, &AlwaysOpen) {
         Ok(seats) => ended(served, seats),
@@ -103,12 +113,14 @@ pub(crate) fn meet_on<R: Net + Wait, J: Journal>(
     served: &Served<J>,
     seats: Vec<Seat>,
 ) -> Result<u64, CommandError>
-    requires { AreOf served.now.served seats.items }
-    ensures { IfErr result (λ e. e ≢ BadHex) }
+    requires of { AreOf served.now.served seats.items }
+    requires some { 0 < length seats.items }
+    ensures told { IfOk result (λ n. Meets seats.items n) }
+    ensures fault { IfErr result (λ e. e ≢ BadHex) }
 {
     let mut seats = seats;
     match seats.pop() {
         Some(mut seat) => meet(rt, alloc, addr, served, &mut seat),
-        None => Ok(0),
+        None => unreachable!(),
     }
 }

@@ -8,6 +8,7 @@ ghost use Rattle.tp_commands.specs.declared.error.CommandError.TheVariants.{BadH
 ghost use Rattle.tp_commands.specs.Keys.{IsNoKey};
 ghost use Rattle.tp_commands.specs.Network.{IsServed, applied_line as line_of_applied, listening_line as line_of_port, served_line as line_of_sessions};
 ghost use Rattle.tp_commands.specs.Output.{Grows, GrowsPart};
+ghost use Rattle.tp_online.specs.Sessions.{ServesWell};
 
 use crate::listening::{Listening, address, listen, opened};
 use crate::seating::{hold, meet_on, seated};
@@ -60,7 +61,7 @@ fn tell_sessions<W: Write>(alloc: Global, sessions: u64, out: &mut W) -> Result<
     put(out, served_line(alloc, sessions))
 }
 
-// Holds the sessions.
+// Holds the sessions. Where it ends well, all seats came back, and the journal never failed.
 fn held<R: Files + Net + Threads + Wait + AllocGlobal + Sync>(
     rt: &R,
     listening: Listening<R::Listener, R::File>,
@@ -69,7 +70,8 @@ fn held<R: Files + Net + Threads + Wait + AllocGlobal + Sync>(
 where
     R::File: Send,
     R::Stream: Send,
-    ensures { IfErr result (λ e. e ≢ BadHex) }
+    ensures ok { OnOk result (ServesWell listening.peer) }
+    ensures fault { IfErr result (λ e. e ≢ BadHex) }
 {
     let Listening {
         listener,
