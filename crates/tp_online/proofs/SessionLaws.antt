@@ -8,7 +8,7 @@ use Rattle.tp_peer.specs.PeerData.{PeerData}
 use Rattle.tp_net.specs.Turns.{AllSit, Enters, Sits}
 use Rattle.tp_served.specs.Calls.{Closes}
 use Rattle.tp_served.specs.Seats.{SeatData, ServedData, fresh_from, seats_of, states_of}
-use Rattle.tp_online.specs.Sessions.{EndsWell, Meets, ServesWell}
+use Rattle.tp_online.specs.Sessions.{ClosesWell, Meets, ServesWell}
 
 -- the seats of a served peer that was just opened are as many as its count
 fresh_long : (p : PeerData) (n count : ℕ) → length (fresh_from p n count) ≡ count
@@ -37,10 +37,10 @@ ended_by (Ok x) served seats p closes runs = (p, closes, runs)
 ended_by (Err e) served seats p closes runs = tt
 
 pub ended_well : {E : Type 0} (r : Result (Unit {0}) E) (served : ServedData) (seats back : List SeatData) → AllSit seats back
-    → OnOk r ((q : PeerData) × Closes served.opened served.count (states_of back) q × (q.stopped ≡ false)) → OnOk r (EndsWell served seats)
+    → OnOk r ((q : PeerData) × Closes served.opened served.count (states_of back) q × (q.stopped ≡ false)) → OnOk r (ClosesWell served seats)
 ended_well (Ok x) served seats back sat ended = record { back = back; sat = sat; peer = ended.0; closes = ended.1; runs = ended.2 }
 ended_well (Err e) served seats back sat ended = tt
 
-pub served_well : {E : Type 0} (r : Result (Unit {0}) E) (p : PeerData) (served : ServedData) (seats : List SeatData) → served.opened ≡ p → OnOk r (EndsWell served seats) → OnOk r (ServesWell p)
+pub served_well : {E : Type 0} (r : Result (Unit {0}) E) (p : PeerData) (served : ServedData) (seats : List SeatData) → served.opened ≡ p → OnOk r (ClosesWell served seats) → OnOk r (ServesWell p)
 served_well (Ok x) p served seats opened ends = record { served = served; opened = opened; seats = seats; ends = ends }
 served_well (Err e) p served seats opened ends = tt

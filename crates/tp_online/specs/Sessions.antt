@@ -15,7 +15,7 @@ pub record Meets (seats : List SeatData) (n : ℕ) : Type 0 where
   pub enters : Enters n seat after
 
 -- The seats held sessions and came back, and what was served ended with them: as a peer that its journal didn't stop.
-pub record EndsWell (served : ServedData) (seats : List SeatData) : Type 0 where
+pub record ClosesWell (served : ServedData) (seats : List SeatData) : Type 0 where
   pub back : List SeatData
   pub sat : AllSit seats back
   pub peer : PeerData
@@ -27,4 +27,4 @@ pub record ServesWell (p : PeerData) : Type 0 where
   pub served : ServedData
   pub opened : served.opened ≡ p
   pub seats : List SeatData
-  pub ends : EndsWell served seats
+  pub ends : ClosesWell served seats

@@ -6,7 +6,7 @@ ghost use Rattle.tp_commands.specs.declared.error.CommandError.TheVariants.{BadH
 ghost use Rattle.tp_net.specs.Turns.{Enters, Sits};
 ghost use Rattle.tp_served.specs.Calls.{AreOf, Closes};
 ghost use Rattle.tp_served.specs.Seats.{states_of};
-ghost use Rattle.tp_online.specs.Sessions.{EndsWell, Meets};
+ghost use Rattle.tp_online.specs.Sessions.{ClosesWell, Meets};
 
 use std::alloc::Global;
 use std::io::{Read, Write};
@@ -77,7 +77,7 @@ pub(crate) fn hold<
 ) -> Result<(), CommandError>
     requires of { AreOf served.served seats.items }
     requires all { length seats.items ≡ served.count }
-    ensures ok { OnOk result (EndsWell served seats.items) }
+    ensures ok { OnOk result (ClosesWell served seats.items) }
     ensures fault { IfErr result (λ e. e ≢ BadHex) }
 {
     match serve(rt, alloc, listener, &served, seats, sessions, &AlwaysOpen) {
