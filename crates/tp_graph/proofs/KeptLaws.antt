@@ -1,5 +1,5 @@
 -- What a graph keeps stays true where a change is made ready for, and where it enters.
-use Rattle.std.proofs.Common.{◌≡◌, ◌⊎◌, inl, inr, ℕ, ◌+◌, ◌<◌, ◌≤◌, ◌==◌, List, [], ◌∷◌, ◌++◌, length, Bool, true, false, Option, Some, None, refl, sym, ap, ◌∙◌, subst, arith, length-append}
+use Rattle.std.proofs.Common.{◌≡◌, ◌⊎◌, inl, inr, ℕ, ◌+◌, ◌<◌, ◌≤◌, ◌==◌, List, [], ◌∷◌, ◌++◌, length, take, Bool, true, false, Option, Some, None, refl, sym, ap, ◌∙◌, subst, arith, length-append}
 use Rattle.std.proofs.lemmas.Bool.Decides.{nat_tests}
 use Rattle.std.proofs.lemmas.List.{take-append-le}
 use Rattle.tp_opid.specs.declared.hash.Hash.{Hash}
@@ -8,7 +8,7 @@ use Rattle.tp_graph.specs.declared.applied.Applied.TheInside.{Inside}
 use Rattle.tp_graph.specs.declared.by_actor.ByActor.{ByActor}
 use Rattle.tp_graph.specs.declared.extent.Room.{Room}
 use Rattle.tp_graph.specs.declared.error.GraphError.{GraphError}
-use Rattle.tp_graph.specs.ByActor.{places_of, IsOwn, IsByActor}
+use Rattle.tp_graph.specs.ByActor.{listed_places, IsOwn, IsByActor}
 use Rattle.tp_graph.specs.Before.{IsClear}
 use Rattle.tp_graph.specs.Extents.{IsKnown, room_hash}
 use Rattle.tp_graph.specs.Kept.{IsReady, IsReadyIf}
@@ -17,6 +17,7 @@ use Rattle.tp_graph.specs.Fit.{defect, cause, or_full, most_changes}
 use Rattle.tp_graph.specs.Places.{IsNotedAt}
 use Rattle.tp_graph.specs.Sound.{Fits}
 use Rattle.tp_graph.proofs.SoundLaws.{Fits-from_defect, defect-from_Fits}
+use Rattle.tp_graph.proofs.ListedLaws.{listed-push}
 
 no_cause : (o : Option GraphError) (b : Bool) → or_full o b ≡ None → (o ≡ None) × (b ≡ false)
 no_cause (Some e) b h = cc
@@ -50,7 +51,9 @@ IsByActor-push C x b all w =
     record {
       within = omega arith;
       near = omega arith;
-      own = λ a. subst (λ D. IsOwn D a (places_of b.lists.entries a)) (sym (take-append-le b.listed C (x ∷ []) within)) (w.own a);
+      below = w.below;
+      own = λ a. subst (IsOwn (take b.listed (C ++ x ∷ [])) a) (sym (listed-push C x b a w.below within))
+          (subst (λ D. IsOwn D a (listed_places C b a)) (sym (take-append-le b.listed C (x ∷ []) within)) (w.own a));
     }
 
 -- what was made ready for a change with the hash

@@ -15,6 +15,7 @@ pub mod SetLaws
 pub mod PlaceLists
 pub mod WaitingLaws
 pub mod OwnLaws
+pub mod ListedLaws
 pub mod ExtentLaws
 pub mod EndLaws
 pub mod ClashLaws

@@ -19,7 +19,7 @@ use Rattle.tp_change.specs.Elements.{inserts_in, inserts, is_inserted, next_coun
 use Rattle.tp_change.proofs.ElementLaws.{is_inserted-append, next_counter-above}
 use Rattle.tp_graph.specs.declared.by_actor.ByActor.{ByActor}
 use Rattle.tp_graph.specs.declared.part.Part.{Part}
-use Rattle.tp_graph.specs.ByActor.{places_of, IsOwn, IsByActor, HasOp, IsMaker}
+use Rattle.tp_graph.specs.ByActor.{listed_places, IsOwn, IsByActor, HasOp, IsMaker}
 use Rattle.tp_graph.specs.Fit.{count_by}
 use Rattle.tp_graph.specs.Parts.{holds, picked}
 use Rattle.tp_graph.specs.Past.{past}
@@ -99,16 +99,16 @@ IsOwn-push C x a ps s f o = by (same_actor x.actor a) refl where
 
 -- the actor's changes, where the last one isn't listed
 pub unlisted : (C : List ChangeParts) (b : ByActor) (a : Actor) (c : ChangeParts) → Sound C → IsByActor C b → b.listed < length C → c ≡ get_or C b.listed c
-    → IsOwn C a (places_of b.lists.entries a ++ cond (same_actor c.actor a) (b.listed ∷ []) [])
+    → IsOwn C a (listed_places C b a ++ cond (same_actor c.actor a) (b.listed ∷ []) [])
 unlisted C b a c s w small at =
     let n = b.listed in
     let near : length C ≤ b.listed + 1 = w.near in
     let split : take n C ++ c ∷ [] ≡ C = ap (λ x. take n C ++ x ∷ []) at ∙ sym (take_more C n c small) ∙ take_all (n + 1) C near in
     let whole = subst Sound (sym split) s in
     let count : length (take n C) ≡ n = length-take-le n C w.within in
-    subst (λ m. IsOwn C a (places_of b.lists.entries a ++ cond (same_actor c.actor a) (m ∷ []) [])) count
-    (subst (λ D. IsOwn D a (places_of b.lists.entries a ++ cond (same_actor c.actor a) (length (take n C) ∷ []) [])) split
-    (IsOwn-push (take n C) c a (places_of b.lists.entries a) (Sound-prefix (take n C) (c ∷ []) whole) (Fits-at (take n C) c [] whole) (w.own a)))
+    subst (λ m. IsOwn C a (listed_places C b a ++ cond (same_actor c.actor a) (m ∷ []) [])) count
+    (subst (λ D. IsOwn D a (listed_places C b a ++ cond (same_actor c.actor a) (length (take n C) ∷ []) [])) split
+    (IsOwn-push (take n C) c a (listed_places C b a) (Sound-prefix (take n C) (c ∷ []) whole) (Fits-at (take n C) c [] whole) (w.own a)))
 
 pub own_within : (C : List ChangeParts) (a : Actor) (ps : List ℕ) (k p : ℕ) → IsOwn C a ps → k < length ps → p ≡ get_or ps k 0 → p < length C
 own_within C a ps k p o small e = let w = o.each k small in subst (λ q. q < length C) (sym e) (slice_get_within C (get_or ps k 0) w.0 w.1)

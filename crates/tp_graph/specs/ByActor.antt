@@ -1,5 +1,6 @@
 -- Places of changes by their actors.
-use Rattle.std.specs.Prelude.{◌≡◌, ℕ, ◌+◌, ◌<◌, ◌≤◌, List, [], ◌∷◌, length, take, get_or, true, Option, Some, None}
+use Rattle.std.specs.Prelude.{◌≡◌, ℕ, ◌+◌, ◌<◌, ◌≤◌, List, [], ◌∷◌, ◌++◌, length, take, get_or, slice_index, true, cond, Option, Some, None}
+use Rattle.std.specs.Int.{w32, from_be_bytes}
 use Rattle.std.specs.List.{slice_get}
 use Rattle.std.specs.Map.{lookup}
 use Rattle.tp_list.specs.Members.{In}
@@ -10,6 +11,7 @@ use Rattle.tp_change.specs.declared.parts.ChangeParts.{ChangeParts}
 use Rattle.tp_change.specs.Operations.{op_count}
 use Rattle.tp_graph.specs.declared.by_actor.ByActor.{ByActor}
 use Rattle.tp_graph.specs.Fit.{count_by}
+use Rattle.tp_graph.specs.Places.{noted_word}
 
 -- the item, where there is one, as a list
 abbrev pub option_items : Option ℕ → List ℕ
@@ -25,16 +27,40 @@ list_or_none (Some xs) = xs
 abbrev pub places_of : List (Actor × List ℕ) → Actor → List ℕ
 places_of entries a = list_or_none (lookup (same_actor a) entries)
 
+-- the first 4 bytes of an actor as a number
+unfoldable pub actor_word : Actor → ℕ
+actor_word a = from_be_bytes w32 (slice_index a.0 0 ∷ slice_index a.0 1 ∷ slice_index a.0 2 ∷ slice_index a.0 3 ∷ [])
+
+-- the place, where what stands there is a change of the actor's
+abbrev pub place_if_by : ℕ → Option ChangeParts → Actor → List ℕ
+place_if_by p None a = []
+place_if_by p (Some c) a = cond (same_actor c.actor a) (p ∷ []) []
+
+-- the noted place, where the change there is the actor's
+abbrev pub place_by : List ChangeParts → Option ℕ → Actor → List ℕ
+place_by C None a = []
+place_by C (Some p) a = place_if_by p (slice_get C p) a
+
+-- The places that are listed for the actor: the one that is noted for its first 4 bytes, where the change there is the
+-- actor's, and those in its list.
+abbrev pub listed_places : List ChangeParts → ByActor → Actor → List ℕ
+listed_places C b a = place_by C (noted_word b.firsts.entries (actor_word a)) a ++ places_of b.lists.entries a
+
+-- Each place that is noted is less than n.
+abbrev pub AreBelow : ℕ → List (ℕ × ℕ) → Type 0
+AreBelow n entries = (w p : ℕ) → noted_word entries w ≡ Some p → p < n
+
 -- The places are those of the actor's changes: as many as there are, each at its sequence number.
 pub record IsOwn (C : List ChangeParts) (a : Actor) (places : List ℕ) : Type 0 where
   pub all : length places ≡ count_by a C
   pub each : (k : ℕ) → k < length places → (c : ChangeParts) × (slice_get C (get_or places k 0) ≡ Some c) × (same_actor c.actor a ≡ true) × (c.seq ≡ k + 1)
 
--- All changes are listed or all but the last, each actor's among them in order.
+-- All changes are listed or all but the last, each actor's among them in order. Only their places are noted.
 pub record IsByActor (C : List ChangeParts) (b : ByActor) : Type 0 where
   pub within : b.listed ≤ length C
   pub near : length C ≤ b.listed + 1
-  pub own : (a : Actor) → IsOwn (take b.listed C) a (places_of b.lists.entries a)
+  pub below : AreBelow b.listed b.firsts.entries
+  pub own : (a : Actor) → IsOwn (take b.listed C) a (listed_places C b a)
 
 -- d has the actor of the identifier and an operation with its counter.
 pub record HasOp (id : OpId) (d : ChangeParts) : Type 0 where

@@ -1,13 +1,16 @@
 //! The places of each actor's changes, in the order of their sequence numbers.
 
-ghost use Rattle.std.specs.Prelude.{◌≡◌, ◌≤◌, ◌<◌, [], ◌∷◌, ◌++◌, cond, length, IfOk, OnOk, OnErr};
+ghost use Rattle.std.specs.Prelude.{◌≡◌, ◌≤◌, ◌<◌, ◌+◌, [], ◌∷◌, ◌++◌, List, Some, None, cond, length, true, IfOk, OnOk, OnErr};
+ghost use Rattle.std.specs.List.{slice_get};
 ghost use Rattle.tp_opid.specs.declared.actor.Actor.{Actor};
 ghost use Rattle.tp_opid.specs.Same.{same_actor};
-ghost use Rattle.tp_graph.specs.ByActor.{places_of, IsOwn, IsByActor};
+ghost use Rattle.tp_change.specs.declared.parts.ChangeParts.{ChangeParts};
+ghost use Rattle.tp_graph.specs.ByActor.{actor_word, listed_places, option_items, place_by, place_if_by, places_of, AreBelow, IsOwn, IsByActor};
 ghost use Rattle.tp_graph.specs.Fit.{most_changes};
+ghost use Rattle.tp_graph.specs.Places.{noted_word};
 ghost use Rattle.tp_graph.specs.Sound.{Sound};
 
-use crate::own::Own;
+use crate::own::{Listed, Own};
 use std::alloc::{AllocError, Global};
 use std::collections::BTreeMap;
 use std::marker::Model;
@@ -54,12 +57,53 @@ impl Places {
 
 /// The places of each actor's changes among the first `listed` changes, which are all or all but the last.
 ///
-/// A change enters without memory, so it is listed only when the next one is made ready for. The map is ordered: a
-/// look-up takes a number of comparisons that grows with the logarithm of the number of actors.
+/// The place of an actor's first change is noted in `firsts` by the first 4 bytes of the actor, where no earlier actor's
+/// is noted under the same 4; the places of its other changes, or of all where its 4 bytes clash, have a list in
+/// `lists`. So an actor with one change takes an entry of 8 bytes and no list. A noted place is trusted only where the
+/// change there is the actor's.
+///
+/// A change enters without memory, so it is listed only when the next one is made ready for. The maps are ordered:
+/// whatever actors strangers choose, a look-up takes a number of comparisons that grows with the logarithm of the number
+/// of actors.
 #[derive(Drop)]
 pub(crate) struct ByActor {
+    firsts: BTreeMap<u32, u32>,
     lists: BTreeMap<Actor, Places>,
     listed: usize,
+}
+
+// The first 4 bytes of the actor as a number.
+#[tactic(auto, unfolding(crate::specs::ByActor::actor_word))]
+fn word_of(actor: &Actor) -> u32
+    ensures { result ≡ actor_word actor.now }
+{
+    let bytes = actor.0;
+    u32::from_be_bytes([bytes[0], bytes[1], bytes[2], bytes[3]])
+}
+
+// The place, where there is a change of the actor's.
+fn if_by(changes: &[Change], place: usize, actor: &Actor) -> Option<usize>
+    ensures { option_items result ≡ place_if_by place (slice_get changes.now place) actor.now }
+{
+    if place < changes.len() {
+        if changes[place].actor().is(actor) {
+            Some(place)
+        } else {
+            None
+        }
+    } else {
+        None
+    }
+}
+
+// The noted place, where the change there is the actor's.
+fn trusted(changes: &[Change], noted: Option<u32>, actor: &Actor) -> Option<usize>
+    ensures { option_items result ≡ place_by changes.now noted actor.now }
+{
+    match noted {
+        Some(place) => if_by(changes, place as usize, actor),
+        None => None,
+    }
 }
 
 impl ByActor {
@@ -68,19 +112,38 @@ impl ByActor {
         ensures { IsByActor [] result }
     {
         ByActor {
+            firsts: BTreeMap::new(alloc),
             lists: BTreeMap::new(alloc),
             listed: 0,
         }
     }
 
-    // The places that are listed for the actor.
+    // The place noted for the first 4 bytes of an actor.
+    fn by_word(&self, word: u32) -> Option<u32>
+        ensures { result ≡ noted_word self.now.firsts.entries word }
+    {
+        self.firsts.get(&word).copied()
+    }
+
+    // The places that stand in the list of the actor.
     #[tactic(auto, unfolding(tp_opid::specs::Order::actor_cmp, tp_opid::specs::Same::same_actor))]
-    fn places(&self, actor: &Actor) -> &[u32]
+    fn more(&self, actor: &Actor) -> &[u32]
         ensures { result.now ≡ places_of self.now.lists.entries actor.now }
     {
         match self.lists.get(actor) {
             Some(places) => places.as_slice(),
             None => &[],
+        }
+    }
+
+    // The places that are listed for the actor.
+    fn places(&self, changes: &[Change], actor: &Actor) -> Listed<'_>
+        ensures { option_items result.first ++ result.more.now
+            ≡ listed_places changes.now self.now actor.now }
+    {
+        Listed {
+            first: trusted(changes, self.by_word(word_of(actor)), actor),
+            more: self.more(actor),
         }
     }
 
@@ -91,7 +154,7 @@ impl ByActor {
         requires by_actor { IsByActor changes.now self.now }
         ensures { IsOwn changes.now actor.now result }
     {
-        let places = self.places(actor);
+        let places = self.places(changes, actor);
         if self.listed == changes.len() {
             return Own::new(places);
         }
@@ -102,9 +165,21 @@ impl ByActor {
         }
     }
 
-    // Puts a place at the end of those of an actor.
-    fn put(&mut self, alloc: Global, actor: Actor, place: u32) -> Result<(), AllocError>
+    // Whether no place is noted for the first 4 bytes of the actor, and it has no list.
+    fn is_new(&self, actor: &Actor) -> bool
+        ensures noted { result ≡ true → noted_word self.now.firsts.entries (actor_word actor.now) ≡ None }
+        ensures more { result ≡ true → places_of self.now.lists.entries actor.now ≡ [] }
+    {
+        if self.by_word(word_of(actor)).is_some() {
+            return false;
+        }
+        self.more(actor).is_empty()
+    }
+
+    // Puts a place at the end of the list of an actor.
+    fn put_more(&mut self, alloc: Global, actor: Actor, place: u32) -> Result<(), AllocError>
         ensures listed { self.new.listed ≡ self.old.listed }
+        ensures firsts { self.new.firsts ≡ self.old.firsts }
         ensures ok { OnOk result ((a : Actor) → places_of self.new.lists.entries a
             ≡ places_of self.old.lists.entries a ++ cond (same_actor actor a) (place ∷ []) []) }
         ensures err { OnErr result ((a : Actor) → places_of self.new.lists.entries a
@@ -118,6 +193,25 @@ impl ByActor {
             }
         }
         Ok(())
+    }
+
+    // Puts the place of a change of the actor's behind those of its earlier ones.
+    fn put(&mut self, alloc: Global, actor: Actor, place: u32) -> Result<(), AllocError>
+        ensures listed { self.new.listed ≡ self.old.listed }
+        ensures below { OnOk result (AreBelow place self.old.firsts.entries
+            → AreBelow (place + 1) self.new.firsts.entries) }
+        ensures ok { OnOk result ((C : List ChangeParts) (c : ChangeParts) (a : Actor)
+            → slice_get C place ≡ Some c → c.actor ≡ actor → listed_places C self.new a
+            ≡ listed_places C self.old a ++ cond (same_actor actor a) (place ∷ []) []) }
+        ensures firsts { OnErr result (self.new.firsts.entries ≡ self.old.firsts.entries) }
+        ensures more { OnErr result ((a : Actor) → places_of self.new.lists.entries a
+            ≡ places_of self.old.lists.entries a) }
+    {
+        if self.is_new(&actor) {
+            self.firsts.insert(word_of(&actor), place)?;
+            return Ok(());
+        }
+        self.put_more(alloc, actor, place)
     }
 
     /// Lists the last change, where it isn't listed yet.

@@ -1,13 +1,21 @@
 //! One actor's changes.
 
-ghost use Rattle.std.specs.Prelude.{◌≡◌, ◌<◌, [], ◌∷◌, ◌++◌, length, slice_index};
+ghost use Rattle.std.specs.Prelude.{◌≡◌, ◌<◌, ◌≤◌, [], ◌∷◌, ◌++◌, length, slice_index};
+ghost use Rattle.tp_graph.specs.ByActor.{option_items};
 
 use std::marker::Model;
+
+/// Places of an actor's changes, rising: that of its first one, where it is kept apart, and more behind it.
+#[derive(Drop)]
+pub(crate) struct Listed<'a> {
+    pub(crate) first: Option<usize>,
+    pub(crate) more: &'a [u32],
+}
 
 /// The places of an actor's changes, rising: the n-th is that of the change with the sequence number n.
 #[derive(Drop)]
 pub(crate) struct Own<'a> {
-    listed: &'a [u32],
+    places: Listed<'a>,
     last: Option<usize>,
 }
 
@@ -17,23 +25,48 @@ impl<'a> Model for Own<'a> {
 
     ghost Value = { List ℕ };
 
-    ghost view = { λ o. o.listed.now ++ option_items o.last };
+    ghost view = { λ o. (option_items o.places.first ++ o.places.more.now) ++ option_items o.last };
+}
+
+// How many places there are: none or one.
+fn count(place: Option<usize>) -> usize
+    ensures count { result ≡ length (option_items place) }
+    ensures few { result ≤ 1 }
+{
+    match place {
+        Some(_) => 1,
+        None => 0,
+    }
+}
+
+// The place with the number, from 0, of these and another one behind them.
+fn nth(places: &[u32], last: Option<usize>, number: usize) -> usize
+    requires { number < length (places.now ++ option_items last) }
+    ensures { result ≡ slice_index (places.now ++ option_items last) number }
+{
+    if number < places.len() {
+        return places[number] as usize;
+    }
+    match last {
+        Some(place) => place,
+        None => 0,
+    }
 }
 
 impl<'a> Own<'a> {
     /// These places.
-    pub(crate) fn new(listed: &'a [u32]) -> Own<'a>
-        ensures { result ≡ listed.now }
+    pub(crate) fn new(places: Listed<'a>) -> Own<'a>
+        ensures { result ≡ option_items places.entry.first ++ places.entry.more.now }
     {
-        Own { listed, last: None }
+        Own { places, last: None }
     }
 
     /// These places, and another one behind them.
-    pub(crate) fn with_last(listed: &'a [u32], last: usize) -> Own<'a>
-        ensures { result ≡ listed.now ++ last ∷ [] }
+    pub(crate) fn with_last(places: Listed<'a>, last: usize) -> Own<'a>
+        ensures { result ≡ (option_items places.entry.first ++ places.entry.more.now) ++ last ∷ [] }
     {
         Own {
-            listed,
+            places,
             last: Some(last),
         }
     }
@@ -42,10 +75,7 @@ impl<'a> Own<'a> {
     pub(crate) fn len(&self) -> usize
         ensures { result ≡ length self.now }
     {
-        match self.last {
-            Some(_) => self.listed.len() + 1,
-            None => self.listed.len(),
-        }
+        count(self.places.first) + self.places.more.len() + count(self.last)
     }
 
     /// The place with the number, from 0.
@@ -53,12 +83,15 @@ impl<'a> Own<'a> {
         requires { number < length self.now }
         ensures { result ≡ slice_index self.now number }
     {
-        if number < self.listed.len() {
-            return self.listed[number] as usize;
-        }
-        match self.last {
-            Some(place) => place,
-            None => 0,
+        match self.places.first {
+            Some(first) => {
+                if number == 0 {
+                    first
+                } else {
+                    nth(self.places.more, self.last, number - 1)
+                }
+            }
+            None => nth(self.places.more, self.last, number),
         }
     }
 }

@@ -10,9 +10,9 @@ use tp_opid::{Actor, Hash, Place};
 /// Whose changes they are.
 pub const AUTHOR: Actor = Actor([7; 16]);
 
-/// The actor with the number.
+/// The actor with the number. Actors of numbers that follow one another are spread as chance would spread them.
 pub fn actor_of(number: u32) -> Actor {
-    let [a, b, c, d] = number.to_be_bytes();
+    let [a, b, c, d] = number.wrapping_mul(2_654_435_769).to_be_bytes();
     Actor([a, b, c, d, 7, 7, 7, 7, 7, 7, 7, 7, 7, 7, 7, 7])
 }
 

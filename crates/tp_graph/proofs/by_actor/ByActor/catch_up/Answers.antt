@@ -1,7 +1,9 @@
-use Rattle.std.proofs.Common.{◌+◌, ◌<◌, ◌++◌, ◌∷◌, [], cond, length, sym, subst, arith}
+use Rattle.std.proofs.Common.{◌≡◌, ◌+◌, ◌<◌, ◌++◌, ◌∷◌, [], Some, cond, length, refl, sym, subst, arith}
+use Rattle.std.specs.List.{slice_get}
 use Rattle.std.proofs.lemmas.List.{take_all}
+use Rattle.std.proofs.lemmas.Option.{slice_get_read}
 use Rattle.tp_opid.specs.Same.{same_actor}
-use Rattle.tp_graph.specs.ByActor.{places_of, IsOwn}
+use Rattle.tp_graph.specs.ByActor.{listed_places, IsOwn}
 use Rattle.tp_graph.proofs.OwnLaws.{unlisted}
 use Rattle.tp_graph.proofs.by_actor.ByActor.catch_up.Goals as goal
 
@@ -9,11 +11,14 @@ pub returns-clause-by_actor : goal.returns-clause-by_actor
 returns-clause-by_actor c =
     let C = c.args.changes.now in
     let b = c.args.self.now in
+    let x = c.index-changes-place.result in
     let small : b.listed < length C = omega (arith, c.requires.by_actor.within, c.if-place-changes.false) in
     let near = c.requires.by_actor.near in
+    let there : slice_get C b.listed ≡ Some x = slice_get_read C (length C) b.listed x refl small c.index-changes-place.is in
     record {
       within = omega arith;
       near = omega arith;
-      own = λ a. rw (take_all (b.listed + 1) C near) (subst (IsOwn C a) (sym (c.in_ok-put.ensures.ok a))
-          (subst (λ d. IsOwn C a (places_of b.lists.entries a ++ cond (same_actor d a) (b.listed ∷ []) [])) (sym c.actor.ensures) (unlisted C b a c.index-changes-place.result c.requires.sound c.requires.by_actor small c.index-changes-place.is)));
+      below = c.in_ok-put.ensures.below c.requires.by_actor.below;
+      own = λ a. rw (take_all (b.listed + 1) C near) (subst (IsOwn C a) (sym (c.in_ok-put.ensures.ok C x a there (sym c.actor.ensures)))
+          (subst (λ d. IsOwn C a (listed_places C b a ++ cond (same_actor d a) (b.listed ∷ []) [])) (sym c.actor.ensures) (unlisted C b a x c.requires.sound c.requires.by_actor small c.index-changes-place.is)));
     }

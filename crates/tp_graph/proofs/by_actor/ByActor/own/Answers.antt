@@ -1,6 +1,6 @@
 use Rattle.std.proofs.Common.{◌≡◌, ◌<◌, ◌++◌, ◌∷◌, [], cond, length, subst, arith, true, false, append-nil}
 use Rattle.tp_opid.specs.Same.{same_actor}
-use Rattle.tp_graph.specs.ByActor.{places_of, IsOwn}
+use Rattle.tp_graph.specs.ByActor.{listed_places, IsOwn}
 use Rattle.tp_graph.proofs.OwnLaws.{unlisted}
 use Rattle.tp_graph.proofs.by_actor.ByActor.own.Goals as goal
 
@@ -12,7 +12,7 @@ returns-then-is c =
     let small : b.listed < length c.args.changes.now = omega (arith, c.requires.by_actor.within, c.if-self-changes.false) in
     let mine : same_actor d.actor a ≡ true = cc in
     rw (c.with_last.ensures, c.places-places.ensures)
-    (subst (λ t. IsOwn c.args.changes.now a (places_of b.lists.entries a ++ cond t (b.listed ∷ []) [])) mine (unlisted c.args.changes.now b a d c.requires.sound c.requires.by_actor small c.index-changes-self.is))
+    (subst (λ t. IsOwn c.args.changes.now a (listed_places c.args.changes.now b a ++ cond t (b.listed ∷ []) [])) mine (unlisted c.args.changes.now b a d c.requires.sound c.requires.by_actor small c.index-changes-self.is))
 
 pub returns-else-is : goal.returns-else-is
 returns-else-is c =
@@ -21,5 +21,5 @@ returns-else-is c =
     let d = c.index-changes-self.result in
     let small : b.listed < length c.args.changes.now = omega (arith, c.requires.by_actor.within, c.if-self-changes.false) in
     let other : same_actor d.actor a ≡ false = cc in
-    rw (c.new-else-is.ensures, c.places-places.ensures, ← append-nil (places_of b.lists.entries a))
-    (subst (λ t. IsOwn c.args.changes.now a (places_of b.lists.entries a ++ cond t (b.listed ∷ []) [])) other (unlisted c.args.changes.now b a d c.requires.sound c.requires.by_actor small c.index-changes-self.is))
+    rw (c.new-else-is.ensures, c.places-places.ensures, ← append-nil (listed_places c.args.changes.now b a))
+    (subst (λ t. IsOwn c.args.changes.now a (listed_places c.args.changes.now b a ++ cond t (b.listed ∷ []) [])) other (unlisted c.args.changes.now b a d c.requires.sound c.requires.by_actor small c.index-changes-self.is))
