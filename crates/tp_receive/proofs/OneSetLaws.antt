@@ -1,5 +1,5 @@
 -- Any two results of receiving one list have the same members.
-use Rattle.std.proofs.Common.{◌≡◌, ◌==◌, ◌<◌, ◌&&◌, inl, inr, List, [], ◌∷◌, ◌++◌, length, false, None, IsSome, refl, sym, ap, subst, append_assoc, append-nil}
+use Rattle.std.proofs.Common.{◌≡◌, ◌<◌, inl, inr, List, [], ◌∷◌, ◌++◌, length, false, None, IsSome, refl, sym, ap, subst, append_assoc, append-nil}
 use Rattle.tp_list.specs.Members.{In, AllIn, SameMembers}
 use Rattle.tp_opid.proofs.Orders.{same_actor-same}
 use Rattle.tp_change.specs.declared.parts.ChangeParts.{ChangeParts}

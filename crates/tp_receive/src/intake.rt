@@ -45,7 +45,7 @@ fn take_all<R: Replica, K: Keeper>(
         coming.changes.items reported.old)
         e keeper.new (R.applied replica.new) (R.waiting replica.new)) }
 {
-    settle(replica, keeper, lacking, reported)?;
+    settle(replica, keeper, lacking, 0, reported)?;
     let mut reserved = coming.reserved;
     for (change, slot) in coming.changes {
         if slot {
@@ -93,8 +93,8 @@ pub struct Applied {
 /// to come again.
 ///
 /// A pending change is checked once, and again where the dependency that it was found to lack entered, or a change with
-/// its own hash. Any other entry costs two comparisons of hashes for each pending change, of which there are 1,024 at
-/// most.
+/// its own hash. Any other entry costs one comparison of hashes for each pending change, of which there are 1,024 at
+/// most, and one more where the change that entered came with this call.
 pub fn receive<R: Replica, K: Keeper>(
     alloc: Global,
     replica: &mut R,

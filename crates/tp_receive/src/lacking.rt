@@ -1,13 +1,14 @@
 //! What the pending changes are known to lack: one of them isn't checked again before that came.
 
-ghost use Rattle.std.specs.Prelude.{◌≡◌, ◌<◌, ◌++◌, ◌∷◌, [], List, Option, Some, None, true, false, length, set, IfOk, MatchOption};
+ghost use Rattle.std.specs.Prelude.{◌≡◌, ◌<◌, ◌++◌, ◌∷◌, [], List, Option, Some, None, true, false, length, set, take, IfOk, MatchOption};
 ghost use Rattle.std.specs.List.{slice_get, remove};
 ghost use Rattle.std.specs.Option.{is_some};
 ghost use Rattle.tp_list.specs.Members.{In};
 ghost use Rattle.tp_opid.specs.declared.hash.Hash.{Hash as HashOf};
 ghost use Rattle.tp_change.specs.declared.parts.ChangeParts.{ChangeParts};
 ghost use Rattle.tp_graph.specs.Named as named;
-ghost use Rattle.tp_receive.specs.Lacking.{GainsOnly, KnowsLack, Lacks};
+ghost use Rattle.tp_receive.specs.Receiving.{AllWait};
+ghost use Rattle.tp_receive.specs.Lacking.{GainsOnly, KnowsApart, KnowsLack, lacks_it};
 
 use crate::hashes::is_one;
 use crate::replica::Replica;
@@ -72,33 +73,48 @@ impl Lacking {
         let _lack = self.hashes.remove(i);
     }
 
-    /// A change with the hash entered: what that changed isn't known any more. Two comparisons of hashes at most for
-    /// each pending change.
-    pub(crate) fn forget(&mut self, pending: &[Change], entered: &Hash)
+    /// Nothing is known any more of the pending changes that have the hash of one that came and entered. One comparison
+    /// of hashes for each.
+    pub(crate) fn forget_alike(&mut self, pending: &[Change], entered: &Hash)
         requires { length self.old ≡ length pending.now }
-        ensures { (C D : List ChangeParts) → GainsOnly C D entered.now
-            → KnowsLack C pending.now self.old → KnowsLack D pending.now self.new }
+        ensures { (C : List ChangeParts) → KnowsLack C pending.now self.old
+            → KnowsApart C entered.now pending.now self.new }
     {
         for i in 0..pending.len() {
-            self.hashes[i] = still_lacks(self.hashes[i], &pending[i], entered);
+            if is_one(entered, &pending[i].hash()) {
+                self.hashes[i] = None;
+            }
         }
+    }
+
+    /// A change with the hash entered, and no pending change of which something is known has that hash: what is known of
+    /// those that lacked it isn't known any more. Returns how many, from the first on, are known to lack another. One
+    /// comparison of hashes for each pending change.
+    pub(crate) fn forget_lacked(&mut self, entered: &Hash) -> usize
+        ensures knows { (C D W : List ChangeParts) → GainsOnly C D entered.now
+            → KnowsApart C entered.now W self.old → KnowsLack D W self.new }
+        ensures waits { (D W : List ChangeParts) → KnowsLack D W self.new
+            → AllWait D (take result W) }
+    {
+        let mut known = 0;
+        for i in 0..self.hashes.len() {
+            if is_lacked(&self.hashes[i], entered) {
+                self.hashes[i] = None;
+            } else if known == i && self.hashes[i].is_some() {
+                known = i + 1;
+            }
+        }
+        known
     }
 }
 
-// What is still known of the change where one with the hash entered.
-fn still_lacks(lack: Option<Hash>, change: &Change, entered: &Hash) -> Option<Hash>
-    ensures { (C D : List ChangeParts) → GainsOnly C D entered.now
-        → Lacks C change.now lack → Lacks D change.now result }
+// Whether the hash is the one that is known to be lacked.
+fn is_lacked(lack: &Option<Hash>, entered: &Hash) -> bool
+    ensures { result ≡ lacks_it entered.now lack.now }
 {
     match lack {
-        None => None,
-        Some(hash) => {
-            if is_one(entered, &hash) || is_one(entered, &change.hash()) {
-                None
-            } else {
-                Some(hash)
-            }
-        }
+        Some(hash) => is_one(entered, hash),
+        None => false,
     }
 }
 

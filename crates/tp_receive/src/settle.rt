@@ -1,6 +1,6 @@
 //! Trying the changes that wait.
 
-ghost use Rattle.std.specs.Prelude.{◌≡◌, ◌+◌, ◌<◌, ◌++◌, ◌∷◌, [], Bool, List, None, Some, length, OnOk, OnErr, IfOk, IfErr, MatchOption};
+ghost use Rattle.std.specs.Prelude.{◌≡◌, ◌+◌, ◌<◌, ◌++◌, ◌∷◌, [], Bool, List, None, Some, length, take, OnOk, OnErr, IfOk, IfErr, MatchOption};
 ghost use Rattle.std.specs.List.{slice_get, remove};
 ghost use Rattle.tp_change.specs.declared.parts.ChangeParts.{ChangeParts};
 ghost use Rattle.tp_change.specs.ChangeHash.{hash_of};
@@ -53,12 +53,15 @@ fn waits_at<R: Replica>(replica: &R, lacking: &mut Lacking, i: usize) -> Result<
     Ok(true)
 }
 
-// The number of the earliest pending change that needn't wait. Each that isn't known to lack a dependency is checked.
+// The number of the earliest pending change that needn't wait, where those before the number `from` must. Each of the
+// others that isn't known to lack a dependency is checked.
 fn first_ready<R: Replica>(
     replica: &R,
     lacking: &mut Lacking,
+    from: usize,
 ) -> Result<Option<usize>, ReceiveError>
-    requires { KnowsLack (R.applied replica.now) (R.waiting replica.now) lacking.old }
+    requires knows { KnowsLack (R.applied replica.now) (R.waiting replica.now) lacking.old }
+    requires waits { AllWait (R.applied replica.now) (take from (R.waiting replica.now)) }
     ensures knows { KnowsLack (R.applied replica.now) (R.waiting replica.now) lacking.new }
     ensures ok { IfOk result
         (λ found. MatchOption found (AllWait (R.applied replica.now) (R.waiting replica.now))
@@ -66,7 +69,7 @@ fn first_ready<R: Replica>(
     ensures err { IfErr result (λ e. e ≡ ReceiveError.OutOfMemory) }
 {
     let count = replica.pending().len();
-    for i in 0..count {
+    for i in from..count {
         if !waits_at(replica, lacking, i)? {
             return Ok(Some(i));
         }
@@ -158,14 +161,15 @@ fn settle_one<R: Replica, K: Keeper>(
     }
 }
 
-// Gives the earliest pending change that needn't wait its turn, and keeps what is known of the others.
+// Gives the earliest pending change that needn't wait its turn, and keeps what is known of the others. Returns how many,
+// from the first on, are known to wait.
 fn settle_next<R: Replica, K: Keeper>(
     replica: &mut R,
     keeper: &mut K,
     lacking: &mut Lacking,
     i: usize,
     reported: &mut Report,
-) -> Result<(), ReceiveError>
+) -> Result<usize, ReceiveError>
     requires earliest { IsEarliest (R.applied replica.old) (R.waiting replica.old) i }
     requires knows { KnowsLack (R.applied replica.old) (R.waiting replica.old) lacking.old }
     ensures id { R.id replica.new ≡ R.id replica.old }
@@ -179,24 +183,27 @@ fn settle_next<R: Replica, K: Keeper>(
         (length (R.waiting replica.new) + 1 ≡ length (R.waiting replica.old)) }
     ensures knows { OnOk result
         (KnowsLack (R.applied replica.new) (R.waiting replica.new) lacking.new) }
+    ensures waits { IfOk result
+        (λ known. AllWait (R.applied replica.new) (take known (R.waiting replica.new))) }
 {
     let hash = replica.pending()[i].hash();
     settle_one(replica, keeper, i, reported)?;
     lacking.remove(i);
-    lacking.forget(replica.pending(), &hash);
-    Ok(())
+    Ok(lacking.forget_lacked(&hash))
 }
 
-/// Gives the pending changes their turns, from the earliest, until each of those left must wait. After each turn it
-/// begins again from the earliest, where one that is known to lack a dependency isn't checked, and two hashes at most are
-/// compared for it. An error loses none of them.
+/// Gives the pending changes their turns, from the earliest, until each of those left must wait, where those before the
+/// number `from` must. After each turn it goes on from the earliest that isn't known to lack a dependency. For one that is
+/// known to, one hash is compared a turn. An error loses none of them.
 pub(crate) fn settle<R: Replica, K: Keeper>(
     replica: &mut R,
     keeper: &mut K,
     lacking: &mut Lacking,
+    from: usize,
     reported: &mut Report,
 ) -> Result<(), ReceiveError>
-    requires { KnowsLack (R.applied replica.old) (R.waiting replica.old) lacking.old }
+    requires knows { KnowsLack (R.applied replica.old) (R.waiting replica.old) lacking.old }
+    requires waits { AllWait (R.applied replica.old) (take from (R.waiting replica.old)) }
     ensures id { R.id replica.new ≡ R.id replica.old }
     ensures ok { (P : List (ChangeParts × Bool)) → OnOk result (Run K.keeps
         (so_far keeper.old (R.applied replica.old) (R.waiting replica.old) P reported.old)
@@ -208,8 +215,9 @@ pub(crate) fn settle<R: Replica, K: Keeper>(
     ensures knows { OnOk result
         (KnowsLack (R.applied replica.new) (R.waiting replica.new) lacking.new) }
 {
-    while let Some(i) = first_ready(replica, lacking)? {
-        settle_next(replica, keeper, lacking, i, reported)?;
+    let mut known = from;
+    while let Some(i) = first_ready(replica, lacking, known)? {
+        known = settle_next(replica, keeper, lacking, i, reported)?;
     }
     Ok(())
 }

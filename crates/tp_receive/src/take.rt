@@ -102,8 +102,9 @@ pub(crate) fn take<R: Replica, K: Keeper>(
     let hash = change.hash();
     match admit(replica, keeper, change, reported)? {
         Outcome::Entered => {
-            lacking.forget(replica.pending(), &hash);
-            settle(replica, keeper, lacking, reported)
+            lacking.forget_alike(replica.pending(), &hash);
+            let known = lacking.forget_lacked(&hash);
+            settle(replica, keeper, lacking, known, reported)
         }
         Outcome::Refused => Ok(()),
         Outcome::Waits(change) => let_wait(replica, lacking, change, reserved, reported),

@@ -15,12 +15,13 @@ returns-in_err-i-clause-err g c P =
 pub loop-i-preserved : goal.loop-i-preserved
 loop-i-preserved g c = record {
   id = c.settle_next.ensures.id ∙ c.loop-i.invariant.id;
-  knows = c.in_ok-settle_next.ensures.knows;
-  run = λ P. Run-then g.K.Keeper.keeps _ _ _ (c.loop-i.invariant.run P) (Run-one g.K.Keeper.keeps _ _ (c.in_ok-settle_next.ensures.ok P));
+  knows = c.in_ok-known.ensures.knows;
+  waits = c.in_ok-known.ensures.waits;
+  run = λ P. Run-then g.K.Keeper.keeps _ _ _ (c.loop-i.invariant.run P) (Run-one g.K.Keeper.keeps _ _ (c.in_ok-known.ensures.ok P));
 }
 
-pub returns-in_err-settle_next-clause-err : goal.returns-in_err-settle_next-clause-err
-returns-in_err-settle_next-clause-err g c P =
+pub returns-in_err-known-clause-err : goal.returns-in_err-known-clause-err
+returns-in_err-known-clause-err g c P =
     let R = g.R.Replica in
     stops_on g.K.Keeper.keeps g.K.Keeper.refuses _ _ c.settle_next.new.keeper (R.applied c.settle_next.new.replica) (R.waiting c.settle_next.new.replica)
-    c.from_residual-in_err-settle_next.result c.in_err-settle_next.field-0.0 (c.loop-i.invariant.run P) (c.in_err-settle_next.ensures.err P) c.from_residual-in_err-settle_next.ensures.1
+    c.from_residual-in_err-known.result c.in_err-known.field-0.0 (c.loop-i.invariant.run P) (c.in_err-known.ensures.err P) c.from_residual-in_err-known.ensures.1

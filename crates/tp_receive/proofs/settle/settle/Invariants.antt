@@ -1,6 +1,7 @@
-use Rattle.std.proofs.Common.{◌≡◌, List, Bool, length}
+use Rattle.std.proofs.Common.{◌≡◌, List, Bool, length, take}
 use Rattle.tp_change.specs.declared.parts.ChangeParts.{ChangeParts}
 use Rattle.tp_receive.specs.Intake.{Run, intake}
+use Rattle.tp_receive.specs.Receiving.{AllWait}
 use Rattle.tp_receive.specs.Lacking.{KnowsLack}
 use Rattle.tp_receive.proofs.settle.settle.Given as goal
 
@@ -8,6 +9,7 @@ abbrev pub invariant-loop-i : goal.invariant-loop-i
 invariant-loop-i g l = record {
   id : g.R.Replica.id l.replica ≡ g.R.Replica.id l.initial.replica;
   knows : KnowsLack (g.R.Replica.applied l.replica) (g.R.Replica.waiting l.replica) l.lacking;
+  waits : AllWait (g.R.Replica.applied l.replica) (take l.known (g.R.Replica.waiting l.replica));
   run : (P : List (ChangeParts × Bool)) → Run g.K.Keeper.keeps
       (intake l.initial.keeper (g.R.Replica.applied l.initial.replica) (g.R.Replica.waiting l.initial.replica) P l.initial.reported.applied.items l.initial.reported.refused.items)
       (intake l.keeper (g.R.Replica.applied l.replica) (g.R.Replica.waiting l.replica) P l.reported.applied.items l.reported.refused.items);

@@ -4,7 +4,7 @@ use Rattle.tp_opid.specs.declared.hash.Hash.{Hash}
 use Rattle.tp_change.specs.declared.parts.ChangeParts.{ChangeParts}
 use Rattle.tp_change.specs.ChangeHash.{hash_of}
 use Rattle.tp_receive.specs.Intake.{intake}
-use Rattle.tp_receive.specs.Lacking.{GainsOnly, KnowsLack, Lacks}
+use Rattle.tp_receive.specs.Lacking.{GainsOnly, KnowsApart, KnowsLack, Lacks}
 use Rattle.tp_receive.proofs.TurnLaws.{Run-none, Run-one, Run-turn}
 use Rattle.tp_receive.proofs.TakingLaws.{OnOk-map, came, meets_entered, meets_refused, meets_held, next_comes, Stopped-trying, stops_later, stops_on, turn_unreported, wait_held}
 use Rattle.tp_receive.proofs.LackingLaws.{gains_last}
@@ -88,18 +88,24 @@ returns-in-Waits-clause-err g c slot P few =
     c.admit.new.keeper (R.applied c.let_wait.new.replica) (R.waiting c.let_wait.new.replica) c.let_wait.result
     c.let_wait.ensures.err a.3 (c.let_wait.ensures.applied ∙ a.4) (rw c.admit.ensures.waiting at c.let_wait.ensures.stays)
 
-pub forget-requires : goal.forget-requires
-forget-requires g c =
+pub forget_alike-requires : goal.forget_alike-requires
+forget_alike-requires g c =
     let C = g.R.Replica.applied c.args.replica.now in
     AllZip-long (Lacks C) c.pending.result.now c.args.lacking.now
     (subst (λ (W : List ChangeParts). KnowsLack C W c.args.lacking.now) (sym (c.pending.ensures.pending ∙ c.admit.ensures.waiting)) c.requires.knows)
 
-pub settle-requires : goal.settle-requires
-settle-requires g c =
+pub settle-requires-clause-knows : goal.settle-requires-clause-knows
+settle-requires-clause-knows g c =
     let C = g.R.Replica.applied c.args.replica.now in
     let D = g.R.Replica.applied c.admit.new.replica in
+    let V = g.R.Replica.waiting c.admit.new.replica in
     let a = rw c.in-Entered.is at c.in_ok-admit.ensures.ok in
     let gains : GainsOnly C D c.hash-hash.result = subst (λ (x : Hash). GainsOnly C D x) (sym c.hash-hash.ensures.hash)
     (subst (λ (l : List ChangeParts). GainsOnly C l (hash_of c.args.change)) (sym a.2) (gains_last C c.args.change)) in
-    subst (λ (W : List ChangeParts). KnowsLack D W c.forget.new.self) c.pending.ensures.pending
-    (c.forget.ensures C D gains (subst (λ (W : List ChangeParts). KnowsLack C W c.args.lacking.now) (sym (c.pending.ensures.pending ∙ c.admit.ensures.waiting)) c.requires.knows))
+    c.forget_lacked-known.ensures.knows C D V gains
+    (subst (λ (W : List ChangeParts). KnowsApart C c.hash-hash.result W c.forget_alike.new.self) c.pending.ensures.pending
+    (c.forget_alike.ensures C (subst (λ (W : List ChangeParts). KnowsLack C W c.args.lacking.now) (sym (c.pending.ensures.pending ∙ c.admit.ensures.waiting)) c.requires.knows)))
+
+pub settle-requires-clause-waits : goal.settle-requires-clause-waits
+settle-requires-clause-waits g c =
+    c.forget_lacked-known.ensures.waits (g.R.Replica.applied c.admit.new.replica) (g.R.Replica.waiting c.admit.new.replica) (settle-requires-clause-knows g c)
