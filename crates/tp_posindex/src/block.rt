@@ -1,8 +1,8 @@
 //! One block: the numbers of up to 128 elements that stand one after another.
 
-ghost use Rattle.std.specs.Prelude.{◌≡◌, ◌<◌, ◌≤◌, [], ◌∷◌, length, take, drop, insert, IfOk};
+ghost use Rattle.std.specs.Prelude.{◌≡◌, ◌<◌, ◌≤◌, [], ◌∷◌, length, take, drop, insert};
 
-use std::alloc::{AllocError, Global};
+use arrayvec::ArrayVec;
 use std::marker::Model;
 
 /// How many elements a block holds at most.
@@ -11,30 +11,28 @@ pub(crate) const MOST: usize = 128;
 /// How many elements each half of a split block holds, and so each of several blocks at least.
 pub(crate) const HALF: usize = 64;
 
-/// The numbers of up to 128 elements, in list order. There is room for all 128 from the beginning.
+/// The numbers of up to 128 elements, in list order. They lie in the block itself, so no change of it takes memory.
 #[derive(Drop)]
 pub(crate) struct Block {
-    numbers: Vec<u32>,
+    numbers: ArrayVec<u32, 128>,
 }
 
 impl Model for Block {
-    ghost use Rattle.std.specs.Prelude.{List, ℕ, ◌≤◌};
-    ghost use Rattle.std.specs.Vec.{vec_len, vec_capacity};
+    ghost use Rattle.std.specs.Prelude.{List, ℕ};
 
     ghost Value = { List ℕ };
 
     ghost view = { λ b. b.numbers.items };
-
-    ghost invariant = { λ b. (vec_len b.numbers ≤ 128) × (128 ≤ vec_capacity b.numbers) };
 }
 
 impl Block {
-    /// A block without elements.
-    pub fn new(alloc: Global) -> Result<Block, AllocError>
-        ensures { IfOk result (λ b. b ≡ []) }
+    /// A block with one number.
+    pub fn start(number: u32) -> Block
+        ensures { result ≡ number ∷ [] }
     {
-        let numbers = Vec::with_capacity(alloc, MOST)?;
-        Ok(Block { numbers })
+        let mut numbers = ArrayVec::new();
+        numbers.push(number);
+        Block { numbers }
     }
 
     /// The numbers, in list order.
@@ -45,41 +43,29 @@ impl Block {
         self.numbers.as_slice()
     }
 
-    /// Puts a number in at an offset. It moves those behind it, and takes no memory.
+    /// Puts a number in at an offset. It moves those behind it.
     pub fn put(&mut self, offset: usize, number: u32)
         requires offset { offset ≤ length self.old }
         requires room { length self.old < MOST }
         ensures { self.new ≡ insert self.old offset number }
     {
-        if self.numbers.insert(offset, number).is_err() {
-            unreachable!()
-        }
+        self.numbers.insert(offset, number);
     }
 
-    /// Moves the second half of a full block into another, in place of what that holds. It takes no memory.
-    pub fn split(&mut self, back: &mut Block)
+    /// Moves the second half of a full block into a block of its own.
+    pub fn split(&mut self) -> Block
         requires { length self.old ≡ MOST }
         ensures prefix { self.new ≡ take HALF self.old }
-        ensures back { back.new ≡ drop HALF self.old }
+        ensures back { result ≡ drop HALF self.old }
     {
-        back.numbers.clear();
+        let mut back = ArrayVec::new();
         if back
-            .numbers
-            .extend_from_slice(&self.numbers[HALF..])
+            .try_extend_from_slice(&self.numbers.as_slice()[HALF..])
             .is_err()
         {
             unreachable!()
         }
         self.numbers.truncate(HALF);
-    }
-
-    /// Makes a number the only one, in place of what the block holds. It takes no memory.
-    pub fn start(&mut self, number: u32)
-        ensures { self.new ≡ number ∷ [] }
-    {
-        self.numbers.clear();
-        if self.numbers.push(number).is_err() {
-            unreachable!()
-        }
+        Block { numbers: back }
     }
 }

@@ -1,6 +1,6 @@
 //! The numbers of elements in blocks, in the order of the text, with a flag for each that is deleted.
 
-ghost use Rattle.std.specs.Prelude.{◌≡◌, ℕ, ◌+◌, ◌-◌, ◌^◌, ◌<◌, ◌≤◌, Bool, true, false, not, [], ◌∷◌, ◌++◌, length, take, drop, filter, insert, slice_set, vec_len, slice_index_or, IfSome, IfNone, IsOk, IsTrue, OnOk, OnErr};
+ghost use Rattle.std.specs.Prelude.{◌≡◌, ℕ, ◌+◌, ◌-◌, ◌^◌, ◌<◌, ◌≤◌, Bool, true, false, not, [], ◌∷◌, ◌++◌, length, take, drop, filter, insert, slice_set, slice_index_or, IfSome, IfNone, IsOk, IsTrue, OnOk, OnErr};
 ghost use Rattle.std.specs.List.{All};
 ghost use Rattle.tp_list.specs.Members.{In};
 ghost use Rattle.tp_posindex.specs.Layout.{joined, block_at, index_at, IsGap, StandsAt, AreSized};
@@ -27,13 +27,11 @@ pub(crate) struct Spot {
 ///
 /// `pool` has the blocks by their own numbers, `order` these in list order, and `index` for each where it stands in the
 /// order; `lens` has for each block in list order how many numbers it holds, and `visible` how many of them have their
-/// flag down; `home` has for each number the block that holds it, and `spare` has blocks to be opened. `recent` is the
-/// spot that the latest number went to, and is looked at first.
+/// flag down; `home` has for each number the block that holds it. `recent` is the spot that the latest number went to, and
+/// is looked at first.
 #[derive(Drop)]
 pub(crate) struct Blocks {
-    alloc: Global,
     pool: Vec<Block>,
-    spare: Vec<Block>,
     order: Vec<u32>,
     index: Vec<u32>,
     lens: Counts,
@@ -55,7 +53,7 @@ impl Model for Blocks {
       blocks = laid b.pool.items b.order.items;
       flags = b.deleted.items;
       spare = min
-          (min (vec_len b.spare) (vec_capacity b.pool - vec_len b.pool))
+          (vec_capacity b.pool - vec_len b.pool)
           (min
           (min (vec_capacity b.order - vec_len b.order) (vec_capacity b.index - vec_len b.index))
           (min b.lens.room b.visible.room));
@@ -75,9 +73,7 @@ impl Blocks {
         ensures flags { result.flags ≡ [] }
     {
         Blocks {
-            alloc,
             pool: Vec::new(alloc),
-            spare: Vec::new(alloc),
             order: Vec::new(alloc),
             index: Vec::new(alloc),
             lens: Counts::new(alloc),
@@ -125,8 +121,7 @@ impl Blocks {
         self.order.reserve(n)?;
         self.index.reserve(n)?;
         self.lens.reserve(n)?;
-        self.visible.reserve(n)?;
-        fill(self.alloc, &mut self.spare, n)
+        self.visible.reserve(n)
     }
 
     /// How many blocks there are. Every block holds from 1 to 128 numbers, and each of several at least 64.
@@ -354,11 +349,8 @@ impl Blocks {
     {
         let prefix = self.order[index];
         let back = self.order.len() as u32;
-        let Some(mut half) = self.spare.pop() else {
-            unreachable!()
-        };
         let block = &mut self.pool[prefix as usize];
-        block.split(&mut half);
+        let half = block.split();
         let count = count_down(half.numbers(), &self.deleted) as u32;
         rename(&mut self.home, half.numbers(), back);
         self.lens.split(index, HALF as u32);
@@ -383,10 +375,7 @@ impl Blocks {
         ensures spare { self.old.spare ≤ self.new.spare + 1 }
         ensures slots { self.old.slots ≤ self.new.slots + 1 }
     {
-        let Some(mut block) = self.spare.pop() else {
-            unreachable!()
-        };
-        block.start(0);
+        let block = Block::start(0);
         self.lens.insert(0, 1);
         self.visible.insert(0, 1);
         if self.pool.push(block).is_err()
@@ -437,17 +426,4 @@ fn renumber(index: &mut [u32], order: &[u32], from: usize)
     for p in from..order.len() {
         index[order[p] as usize] = p as u32;
     }
-}
-
-/// Sees to it that there are `n` spare blocks.
-fn fill(alloc: Global, spare: &mut Vec<Block>, n: usize) -> Result<(), AllocError>
-    ensures ok { OnOk result (n ≤ vec_len spare.new) }
-    ensures succeeds { n ≤ vec_len spare.old → IsOk result }
-    ensures grows { vec_len spare.old ≤ vec_len spare.new }
-{
-    spare.reserve(n.saturating_sub(spare.len()))?;
-    while spare.len() < n {
-        spare.push(Block::new(alloc)?)?;
-    }
-    Ok(())
 }

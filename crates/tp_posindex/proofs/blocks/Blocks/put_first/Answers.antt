@@ -17,6 +17,6 @@ invariant_of-self c =
     let index_is = rw indexed at c.push-else-is_err-2.ensures.items in
     let home_is = rw housed at c.push-else-is_err-3.ensures.items in
     let flags_is = rw flagged at c.push-else-is_err-4.ensures.items in
-    let block_is : c.start.new.self ≡ 0 ∷ [] = c.start.ensures in
+    let block_is : c.start-block.result ≡ 0 ∷ [] = c.start-block.ensures in
     let none = ap (λ (v : Layout). v.blocks) c.self.view_is ∙ c.requires.blocks in
     rw (pool_is, order_is, index_is, home_is, flags_is, block_is, c.insert.ensures.counts, c.insert-2.ensures.counts) (IsKept-first s.pool.items s.order.items s.index.items s.lens.counts s.visible.counts s.home.items s.deleted.items c.self.invariant none)

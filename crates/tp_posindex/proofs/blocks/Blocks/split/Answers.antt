@@ -26,8 +26,8 @@ index_mut-block-requires c =
     let within = order_within s.pool.items s.order.items c.args.index c.index-prefix.result.now c.self.invariant.blocks.ordered at c.index-prefix.ensures in
     omega (arith, within)
 
-pub split-requires : goal.split-requires
-split-requires c =
+pub split-half-requires : goal.split-half-requires
+split-half-requires c =
     let s = c.self.inside in
     let at : c.args.index < length s.order.items = omega (arith, length-laid s.pool.items s.order.items, ap (λ (v : Layout). length v.blocks) c.self.view_is, c.requires.block) in
     let read = block_read s.pool.items s.order.items c.args.index c.index-prefix.result.now c.index_mut-block.result.now c.self.invariant.blocks.ordered at c.index-prefix.ensures c.index_mut-block.ensures.value ∙ ap (λ (v : Layout). block_at v.blocks c.args.index) c.self.view_is in
@@ -40,7 +40,7 @@ count_down-count-requires c =
     let at : c.args.index < length s.order.items = omega (arith, length-laid s.pool.items s.order.items, ap (λ (v : Layout). length v.blocks) c.self.view_is, c.requires.block) in
     let at_bs : c.args.index < length bs = omega (arith, length-laid s.pool.items s.order.items) in
     let read = block_read s.pool.items s.order.items c.args.index c.index-prefix.result.now c.index_mut-block.result.now c.self.invariant.blocks.ordered at c.index-prefix.ensures c.index_mut-block.ensures.value in
-    let half_is : c.split.new.back ≡ drop 64 (block_at bs c.args.index) = c.split.ensures.back ∙ ap (drop 64) read in
+    let half_is : c.split-half.result ≡ drop 64 (block_at bs c.args.index) = c.split-half.ensures.back ∙ ap (drop 64) read in
     let numbers_is : c.numbers.result.now ≡ drop 64 (block_at bs c.args.index) = c.numbers.ensures.value ∙ half_is in
     subst (λ (z : List Bool). (k d : ℕ) → k < length c.numbers.result.now → get_or c.numbers.result.now k d < length z) (sym c.deref.ensures.value) (half_below (length s.deleted.items) bs c.args.index c.numbers.result.now c.self.invariant.blocks.numbered at_bs numbers_is)
 
@@ -56,18 +56,18 @@ rename-requires c =
     let at : c.args.index < length s.order.items = omega (arith, length-laid s.pool.items s.order.items, ap (λ (v : Layout). length v.blocks) c.self.view_is, c.requires.block) in
     let at_bs : c.args.index < length bs = omega (arith, length-laid s.pool.items s.order.items) in
     let read = block_read s.pool.items s.order.items c.args.index c.index-prefix.result.now c.index_mut-block.result.now c.self.invariant.blocks.ordered at c.index-prefix.ensures c.index_mut-block.ensures.value in
-    let half_is : c.split.new.back ≡ drop 64 (block_at bs c.args.index) = c.split.ensures.back ∙ ap (drop 64) read in
+    let half_is : c.split-half.result ≡ drop 64 (block_at bs c.args.index) = c.split-half.ensures.back ∙ ap (drop 64) read in
     let numbers_is : c.numbers-2.result.now ≡ drop 64 (block_at bs c.args.index) = c.numbers-2.ensures.value ∙ half_is in
     let homes : length c.deref_mut.result.now ≡ length s.deleted.items = ap (λ (z : List ℕ). length z) c.deref_mut.ensures.value ∙ c.self.invariant.blocks.homes in
     subst (λ (n : ℕ). (k d : ℕ) → k < length c.numbers-2.result.now → get_or c.numbers-2.result.now k d < n) (sym homes) (half_below (length s.deleted.items) bs c.args.index c.numbers-2.result.now c.self.invariant.blocks.numbered at_bs numbers_is)
 
-pub split-requires-3-clause-enough : goal.split-requires-3-clause-enough
-split-requires-3-clause-enough c =
+pub split-requires-2-clause-enough : goal.split-requires-2-clause-enough
+split-requires-2-clause-enough c =
     let s = c.self.inside in
     let bs = laid s.pool.items s.order.items in
     let at : c.args.index < length s.order.items = omega (arith, length-laid s.pool.items s.order.items, ap (λ (v : Layout). length v.blocks) c.self.view_is, c.requires.block) in
     let read = block_read s.pool.items s.order.items c.args.index c.index-prefix.result.now c.index_mut-block.result.now c.self.invariant.blocks.ordered at c.index-prefix.ensures c.index_mut-block.ensures.value in
-    let half_is : c.split.new.back ≡ drop 64 (block_at bs c.args.index) = c.split.ensures.back ∙ ap (drop 64) read in
+    let half_is : c.split-half.result ≡ drop 64 (block_at bs c.args.index) = c.split-half.ensures.back ∙ ap (drop 64) read in
     let numbers_is : c.numbers.result.now ≡ drop 64 (block_at bs c.args.index) = c.numbers.ensures.value ∙ half_is in
     let many = many_kept s.pool.items s.order.items s.index.items s.lens.counts s.visible.counts s.home.items s.deleted.items c.self.invariant in
     let v = get_or s.visible.counts c.args.index 0 in
@@ -136,7 +136,7 @@ invariant_of-self c =
     let at : c.args.index < length s.order.items = omega (arith, length-laid s.pool.items s.order.items, ap (λ (v : Layout). length v.blocks) c.self.view_is, c.requires.block) in
     let at_bs : c.args.index < length bs = omega (arith, length-laid s.pool.items s.order.items) in
     let read = block_read s.pool.items s.order.items c.args.index c.index-prefix.result.now c.index_mut-block.result.now c.self.invariant.blocks.ordered at c.index-prefix.ensures c.index_mut-block.ensures.value in
-    let half_is : c.split.new.back ≡ drop 64 (block_at bs c.args.index) = c.split.ensures.back ∙ ap (drop 64) read in
+    let half_is : c.split-half.result ≡ drop 64 (block_at bs c.args.index) = c.split-half.ensures.back ∙ ap (drop 64) read in
     let in_pool = order_within s.pool.items s.order.items c.args.index c.index-prefix.result.now c.self.invariant.blocks.ordered at c.index-prefix.ensures in
     let held : c.index_mut-block.result.now ≡ block_at s.pool.items c.index-prefix.result.now = c.index_mut-block.ensures.value ∙ get_or-any s.pool.items c.index-prefix.result.now c.index_mut-block.result.now [] in_pool in
     let pushed : is_ok c.push.result ≡ true = c.is_err.ensures.negation ∙ ap not c.if-is_err.false in
@@ -149,23 +149,23 @@ invariant_of-self c =
     let last : c.len-back.result ≡ length s.order.items = omega arith in
     let homes : length c.rename.new.home ≡ length s.home.items = c.rename.auto.home ∙ ap (λ (z : List ℕ). length z) c.deref_mut.ensures.value in
     let home_is : take s.home.len (c.rename.new.home ++ drop (length c.rename.new.home) s.home.items) ≡ c.rename.new.home = written_whole c.rename.new.home s.home.items s.home.len homes (omega arith) in
-    let count : c.count_down-count.result ≡ count_of s.deleted.items c.split.new.back = c.count_down-count.ensures ∙ ap (λ (z : List Bool). count_of z c.numbers.result.now) c.deref.ensures.value ∙ ap (count_of s.deleted.items) c.numbers.ensures.value in
+    let count : c.count_down-count.result ≡ count_of s.deleted.items c.split-half.result = c.count_down-count.ensures ∙ ap (λ (z : List Bool). count_of z c.numbers.result.now) c.deref.ensures.value ∙ ap (count_of s.deleted.items) c.numbers.ensures.value in
     let full : length (block_at s.pool.items c.index-prefix.result.now) ≡ 128 = ap (λ (z : List ℕ). length z) (sym held ∙ read) ∙ ap (λ (v : Layout). length (block_at v.blocks c.args.index)) c.self.view_is ∙ c.requires.full in
-    let renamed : (k : ℕ) → In k c.split.new.back → get_or c.rename.new.home k 0 ≡ c.len-back.result = (λ k i. c.rename.ensures.renamed k (subst (In k) (sym c.numbers-2.ensures.value) i)) in
-    let others : (k : ℕ) → (In k c.split.new.back → ⊥) → get_or c.rename.new.home k 0 ≡ get_or s.home.items k 0 = (λ k n. c.rename.ensures.others k (λ i. n (subst (In k) c.numbers-2.ensures.value i)) ∙ ap (λ (z : List ℕ). get_or z k 0) c.deref_mut.ensures.value) in
+    let renamed : (k : ℕ) → In k c.split-half.result → get_or c.rename.new.home k 0 ≡ c.len-back.result = (λ k i. c.rename.ensures.renamed k (subst (In k) (sym c.numbers-2.ensures.value) i)) in
+    let others : (k : ℕ) → (In k c.split-half.result → ⊥) → get_or c.rename.new.home k 0 ≡ get_or s.home.items k 0 = (λ k n. c.rename.ensures.others k (λ i. n (subst (In k) c.numbers-2.ensures.value i)) ∙ ap (λ (z : List ℕ). get_or z k 0) c.deref_mut.ensures.value) in
     let many = many_kept s.pool.items s.order.items s.index.items s.lens.counts s.visible.counts s.home.items s.deleted.items c.self.invariant in
     let v = get_or s.visible.counts c.args.index 0 in
     let v_is : v ≡ get_or s.visible.counts c.args.index v = get_or-any s.visible.counts c.args.index 0 v (omega (arith, many.1, length-laid s.pool.items s.order.items)) in
-    let prefix : c.split.new.self ≡ take 64 (block_at s.pool.items c.index-prefix.result.now) = c.split.ensures.prefix ∙ ap (take 64) held in
-    let back : c.split.new.back ≡ drop 64 (block_at s.pool.items c.index-prefix.result.now) = c.split.ensures.back ∙ ap (drop 64) held in
+    let prefix : c.split-half.new.self ≡ take 64 (block_at s.pool.items c.index-prefix.result.now) = c.split-half.ensures.prefix ∙ ap (take 64) held in
+    let back : c.split-half.result ≡ drop 64 (block_at s.pool.items c.index-prefix.result.now) = c.split-half.ensures.back ∙ ap (drop 64) held in
     let full_at : length (block_at bs c.args.index) ≡ 128 = ap (λ (v : Layout). length (block_at v.blocks c.args.index)) c.self.view_is ∙ c.requires.full in
     let order_now : c.deref-2.result.now ≡ insert s.order.items (c.args.index + 1) c.len-back.result = c.deref-2.ensures.value ∙ order_is in
     let index_now : c.deref_mut-2.result.now ≡ s.index.items ++ c.len-back.result ∷ [] = c.deref_mut-2.ensures.value ∙ pushed_index in
     let sizes : length c.renumber.new.index ≡ length c.push-else-is_err-2.new.self.items = c.renumber.auto.index ∙ ap (λ (z : List ℕ). length z) c.deref_mut-2.ensures.value in
     let index_is : take c.push-else-is_err-2.new.self.len (c.renumber.new.index ++ drop (length c.renumber.new.index) c.push-else-is_err-2.new.self.items) ≡ c.renumber.new.index = written_whole c.renumber.new.index c.push-else-is_err-2.new.self.items c.push-else-is_err-2.new.self.len sizes (omega arith) in
-    let cut = laid_split s.pool.items s.order.items c.args.index (c.args.index + 1) c.index-prefix.result.now c.len-back.result c.split.new.self c.split.new.back c.self.invariant.blocks.ordered at next c.index-prefix.ensures last prefix back in
-    rw (pool_is, order_is, home_is, index_is, c.split-2.ensures.counts, c.split-3.ensures.counts) (record {
-      blocks = IsLaid-split s.pool.items s.order.items s.visible.counts s.home.items c.rename.new.home s.deleted.items c.args.index (c.args.index + 1) c.index-prefix.result.now c.len-back.result v c.count_down-count.result c.split.new.self c.split.new.back c.self.invariant.blocks at next c.index-prefix.ensures last v_is count prefix back full homes renamed others;
+    let cut = laid_split s.pool.items s.order.items c.args.index (c.args.index + 1) c.index-prefix.result.now c.len-back.result c.split-half.new.self c.split-half.result c.self.invariant.blocks.ordered at next c.index-prefix.ensures last prefix back in
+    rw (pool_is, order_is, home_is, index_is, c.split.ensures.counts, c.split-2.ensures.counts) (record {
+      blocks = IsLaid-split s.pool.items s.order.items s.visible.counts s.home.items c.rename.new.home s.deleted.items c.args.index (c.args.index + 1) c.index-prefix.result.now c.len-back.result v c.count_down-count.result c.split-half.new.self c.split-half.result c.self.invariant.blocks at next c.index-prefix.ensures last v_is count prefix back full homes renamed others;
       many = sizes ∙ ap (λ (z : List ℕ). length z) pushed_index ∙ length-append s.index.items (c.len-back.result ∷ []) ∙ omega (arith, c.self.invariant.many, length-inserted s.order.items (c.args.index + 1) c.len-back.result);
       indexed = subst (λ (z : List ℕ). AreIndexed z c.renumber.new.index) order_now c.renumber.ensures;
       measured = measured_cut bs s.lens.counts c.args.index c.self.invariant.measured at_bs full_at ∙ ap (map (λ (z : List ℕ). length z)) (sym cut);
@@ -178,7 +178,7 @@ returns-clause-blocks c =
     let at : c.args.index < length s.order.items = omega (arith, length-laid s.pool.items s.order.items, ap (λ (v : Layout). length v.blocks) c.self.view_is, c.requires.block) in
     let at_bs : c.args.index < length bs = omega (arith, length-laid s.pool.items s.order.items) in
     let read = block_read s.pool.items s.order.items c.args.index c.index-prefix.result.now c.index_mut-block.result.now c.self.invariant.blocks.ordered at c.index-prefix.ensures c.index_mut-block.ensures.value in
-    let half_is : c.split.new.back ≡ drop 64 (block_at bs c.args.index) = c.split.ensures.back ∙ ap (drop 64) read in
+    let half_is : c.split-half.result ≡ drop 64 (block_at bs c.args.index) = c.split-half.ensures.back ∙ ap (drop 64) read in
     let in_pool = order_within s.pool.items s.order.items c.args.index c.index-prefix.result.now c.self.invariant.blocks.ordered at c.index-prefix.ensures in
     let held : c.index_mut-block.result.now ≡ block_at s.pool.items c.index-prefix.result.now = c.index_mut-block.ensures.value ∙ get_or-any s.pool.items c.index-prefix.result.now c.index_mut-block.result.now [] in_pool in
     let pushed : is_ok c.push.result ≡ true = c.is_err.ensures.negation ∙ ap not c.if-is_err.false in
@@ -187,5 +187,5 @@ returns-clause-blocks c =
     let order_is = rw placed at c.insert.ensures.items in
     let next : c.args.index + 1 ≡ suc c.args.index = omega arith in
     let last : c.len-back.result ≡ length s.order.items = omega arith in
-    let cut = laid_split s.pool.items s.order.items c.args.index (suc c.args.index) c.index-prefix.result.now c.len-back.result c.split.new.self c.split.new.back c.self.invariant.blocks.ordered at refl c.index-prefix.ensures last (c.split.ensures.prefix ∙ ap (take 64) held) (c.split.ensures.back ∙ ap (drop 64) held) in
+    let cut = laid_split s.pool.items s.order.items c.args.index (suc c.args.index) c.index-prefix.result.now c.len-back.result c.split-half.new.self c.split-half.result c.self.invariant.blocks.ordered at refl c.index-prefix.ensures last (c.split-half.ensures.prefix ∙ ap (take 64) held) (c.split-half.ensures.back ∙ ap (drop 64) held) in
     rw (pool_is, order_is, next) (cut ∙ ap (λ (v : Layout). cut_at v.blocks c.args.index 64) c.self.view_is)
