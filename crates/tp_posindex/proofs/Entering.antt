@@ -17,7 +17,7 @@ use Rattle.tp_posindex.specs.declared.entry.Reference.TheVariants.{Start as AtSt
 use Rattle.tp_posindex.specs.Blocked.{blank, element_at}
 use Rattle.tp_posindex.specs.Indexed.{actor_at}
 use Rattle.tp_posindex.specs.Entered.{no_entry, entry_at, author_at, id_of, place_of, insert_of, inserts, IsNumberBelow, place_in, AreEntered}
-use Rattle.tp_posindex.proofs.Laying.{get_or-prefix, get_or-last, get_or-any, get_or-of_map}
+use Rattle.tp_posindex.proofs.Laying.{get_or-prefix, get_or-last, get_or-of_map}
 use Rattle.tp_posindex.proofs.Linking.{position_nowhere}
 
 -- ---- reading
@@ -29,13 +29,6 @@ length-inserts entries actors = length-map entries (insert_of entries actors)
 -- the element with a number
 pub element_is : (entries : List Entry) (actors : List Actor) (k : ℕ) → k < length entries → element_at (inserts entries actors) k ≡ insert_of entries actors (entry_at entries k)
 element_is entries actors k lt = get_or-of_map (insert_of entries actors) entries k blank no_entry lt
-
--- the element of an entry that was read
-pub element_read : (entries : List Entry) (actors : List Actor) (k : ℕ) (e d : Entry) → k < length (inserts entries actors) → e ≡ get_or entries k d → insert_of entries actors e ≡ element_at (inserts entries actors) k
-element_read entries actors k e d lt read =
-    let size = length-inserts entries actors in
-    let short : k < length entries = omega arith in
-    ap (insert_of entries actors) (read ∙ get_or-any entries k d no_entry short) ∙ sym (element_is entries actors k short)
 
 -- a reference by number stands for the same among entries and among their elements
 pub place_is : (entries : List Entry) (actors : List Actor) (r : Reference) → IsNumberBelow (length entries) r → place_of entries actors r ≡ place_in (inserts entries actors) r
@@ -140,13 +133,12 @@ pushed_new entries actors x id kept below count last most =
     )
 
 -- an element of the actor of another is put in
-pub pushed_sibling : (entries new : List Entry) (actors : List Actor) (E : List Insert) (x d : Entry) (id : OpId) (k : ℕ) → AreEntered entries actors → inserts entries actors ≡ E → IsNumberBelow (length E) x.after → x.counter ≡ id.counter → (k < length E) × (actor_at E k ≡ id.actor) → d ≡ get_or entries k d → x.author ≡ d.author → length entries < 4294967295 → new ≡ entries ++ x ∷ [] → inserts new actors ≡ E ++ record { id = id; after = place_in E x.after; ch = x.ch } ∷ []
-pushed_sibling entries new actors E x d id k kept view below count sibling read by most new_is =
+pub pushed_sibling : (entries new : List Entry) (actors : List Actor) (E : List Insert) (x : Entry) (id : OpId) (k : ℕ) → AreEntered entries actors → inserts entries actors ≡ E → IsNumberBelow (length E) x.after → x.counter ≡ id.counter → (k < length E) × (actor_at E k ≡ id.actor) → x.author ≡ (entry_at entries k).author → length entries < 4294967295 → new ≡ entries ++ x ∷ [] → inserts new actors ≡ E ++ record { id = id; after = place_in E x.after; ch = x.ch } ∷ []
+pushed_sibling entries new actors E x id k kept view below count sibling by most new_is =
     let size : length E ≡ length entries = sym (ap length view) ∙ length-inserts entries actors in
     let lt : k < length entries = (let s = sibling.0 in omega arith) in
-    let same : x.author ≡ (entry_at entries k).author = by ∙ ap (λ (w : Entry). w.author) (read ∙ get_or-any entries k d no_entry lt) in
     let actor : actor_at (inserts entries actors) k ≡ id.actor = ap (λ z. actor_at z k) view ∙ sibling.1 in
-    let r = pushed_known entries actors x id k kept (subst (λ n. IsNumberBelow n x.after) size below) count lt same actor most in
+    let r = pushed_known entries actors x id k kept (subst (λ n. IsNumberBelow n x.after) size below) count lt by actor most in
     ap (λ z. inserts z actors) new_is ∙ r.1 ∙ ap (λ (z : List Insert). z ++ record { id = id; after = place_in z x.after; ch = x.ch } ∷ []) view
 
 -- an element of a new actor is put in

@@ -7,4 +7,5 @@ pub mod Seeking
 pub mod Sequencing
 pub mod ByActor
 pub mod Linking
+pub mod Columning
 pub mod Entering

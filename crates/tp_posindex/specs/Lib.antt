@@ -5,6 +5,7 @@ pub mod Kept
 pub mod Counted
 pub mod Blocked
 pub mod Came
+pub mod Columns
 pub mod Entered
 pub mod Actors
 pub mod Indexed

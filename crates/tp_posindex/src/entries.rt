@@ -1,4 +1,4 @@
-//! The elements by number, as entries of 24 bytes.
+//! The elements by number, as entries of 20 bytes.
 
 ghost use Rattle.std.specs.Prelude.{◌≡◌, ◌+◌, ◌-◌, ◌^◌, ◌<◌, ◌≤◌, [], ◌∷◌, ◌++◌, length, position, vec_len, vec_capacity, IsOk, OnOk, IfSome};
 ghost use Rattle.tp_opid.specs.Insert.{Insert};
@@ -7,6 +7,7 @@ ghost use Rattle.tp_posindex.specs.Blocked.{element_at};
 ghost use Rattle.tp_posindex.specs.Entered.{IsNumberBelow, place_in};
 ghost use Rattle.tp_posindex.specs.Indexed.{actor_at, counter_at};
 
+use crate::columns::Columns;
 use crate::entry::{Entry, Reference};
 use std::alloc::{AllocError, Global};
 use std::marker::Model;
@@ -16,18 +17,18 @@ use tp_rga::Insertion;
 /// How many elements there are at most: 4,294,967,295.
 const MOST_ENTRIES: usize = 4_294_967_295;
 
-/// The elements in the order in which they came, an entry of 24 bytes each: the number of an element is how many came
+/// The elements in the order in which they came, an entry of 20 bytes each: the number of an element is how many came
 /// before it.
 ///
 /// An entry names its actor by an index of `actors`, and its reference by the number of the element.
 #[derive(Drop)]
 pub(crate) struct Entries {
-    entries: Vec<Entry>,
+    columns: Columns,
     actors: Vec<Actor>,
 }
 
 impl Model for Entries {
-    ghost use Rattle.std.specs.Prelude.{◌-◌, min};
+    ghost use Rattle.std.specs.Prelude.{◌-◌, length, min};
     ghost use Rattle.std.specs.Vec.{vec_len, vec_capacity};
     ghost use Rattle.tp_posindex.specs.Came.{Came};
     ghost use Rattle.tp_posindex.specs.Entered.{AreEntered, inserts};
@@ -35,13 +36,13 @@ impl Model for Entries {
     ghost Value = { Came };
 
     ghost view = { λ e. record {
-      items = inserts e.entries.items e.actors.items;
+      items = inserts e.columns.items e.actors.items;
       room = min
-          (min (4294967295 - vec_len e.entries) (vec_capacity e.entries - vec_len e.entries))
+          (min (4294967295 - length e.columns.items) e.columns.room)
           (vec_capacity e.actors - vec_len e.actors);
     } };
 
-    ghost invariant = { λ e. AreEntered e.entries.items e.actors.items };
+    ghost invariant = { λ e. AreEntered e.columns.items e.actors.items };
 }
 
 impl Entries {
@@ -50,7 +51,7 @@ impl Entries {
         ensures { result.items ≡ [] }
     {
         Entries {
-            entries: Vec::new(alloc),
+            columns: Columns::new(alloc),
             actors: Vec::new(alloc),
         }
     }
@@ -63,10 +64,10 @@ impl Entries {
         ensures succeeds { n ≤ self.old.room → IsOk result }
         ensures room { self.old.room ≤ self.new.room }
     {
-        if n > MOST_ENTRIES.saturating_sub(self.entries.len()) {
+        if n > MOST_ENTRIES.saturating_sub(self.columns.len()) {
             return Err(AllocError);
         }
-        self.entries.reserve(n)?;
+        self.columns.reserve(n)?;
         self.actors.reserve(n)
     }
 
@@ -76,7 +77,7 @@ impl Entries {
         ensures most { result ≤ 4294967295 }
         ensures more { 0 < self.now.room → result < 4294967295 }
     {
-        self.entries.len()
+        self.columns.len()
     }
 
     /// An element's counter.
@@ -84,7 +85,7 @@ impl Entries {
         requires { number < length self.now.items }
         ensures { result ≡ counter_at self.now.items number }
     {
-        self.entries[number].counter
+        self.columns.counter(number)
     }
 
     /// An element's character.
@@ -92,7 +93,7 @@ impl Entries {
         requires { number < length self.now.items }
         ensures { result ≡ (element_at self.now.items number).ch }
     {
-        self.entries[number].ch
+        self.columns.ch(number)
     }
 
     /// An element's identifier.
@@ -100,10 +101,9 @@ impl Entries {
         requires { number < length self.now.items }
         ensures { result ≡ (element_at self.now.items number).id }
     {
-        let entry = self.entries[number];
         OpId {
-            counter: entry.counter,
-            actor: self.actors[entry.author as usize],
+            counter: self.columns.counter(number),
+            actor: self.actors[self.columns.author(number) as usize],
         }
     }
 
@@ -112,7 +112,7 @@ impl Entries {
         requires { number < length self.now.items }
         ensures { result ≡ element_at self.now.items number }
     {
-        let after = match self.entries[number].after {
+        let after = match self.columns.after(number) {
             Reference::Start => Place::Start,
             Reference::After(reference) => Place::After(self.id(reference as usize)),
         };
@@ -148,33 +148,24 @@ impl Entries {
     {
         match sibling {
             Some(number) => {
-                let author = self.entries[number as usize].author;
-                put(&mut self.entries, id.counter, author, after, ch);
+                let author = self.columns.author(number as usize);
+                self.columns.push(Entry {
+                    counter: id.counter,
+                    author,
+                    after,
+                    ch,
+                });
             }
             None => {
                 let author = add(&mut self.actors, id.actor);
-                put(&mut self.entries, id.counter, author, after, ch);
+                self.columns.push(Entry {
+                    counter: id.counter,
+                    author,
+                    after,
+                    ch,
+                });
             }
         }
-    }
-}
-
-/// Puts an entry at the end. It takes no memory.
-fn put(entries: &mut Vec<Entry>, counter: u64, author: u32, after: Reference, ch: char)
-    requires { vec_len entries.old < vec_capacity entries.old }
-    ensures entries { entries.new.items ≡ entries.old.items
-        ++ record { counter = counter; author = author; after = after; ch = ch } ∷ [] }
-    ensures room { vec_capacity entries.old - vec_len entries.old
-        ≤ vec_capacity entries.new - vec_len entries.new + 1 }
-{
-    let entry = Entry {
-        counter,
-        author,
-        after,
-        ch,
-    };
-    if entries.push(entry).is_err() {
-        unreachable!()
     }
 }
 

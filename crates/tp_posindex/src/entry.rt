@@ -1,4 +1,4 @@
-//! An element as it is held.
+//! An element as it is put in.
 
 /// The reference of an element: the start, or the element with a number.
 #[derive(Clone, Copy)]
@@ -7,7 +7,7 @@ pub(crate) enum Reference {
     After(u32),
 }
 
-/// An element, by its counter, its actor's index in a table, its reference and its character: 24 bytes.
+/// An element, by its counter, its actor's index in a table, its reference and its character.
 #[derive(Clone, Copy)]
 pub(crate) struct Entry {
     pub counter: u64,
