@@ -7,8 +7,6 @@ use tp_change::Change;
 use tp_graph::Graph;
 use tp_measure::{Tip, actor_of, change_on, tip_of};
 
-const CHANGES: u64 = 100_000;
-
 const TENTHS: u64 = 10;
 
 /// A chain of changes by actors in turn.
@@ -40,31 +38,37 @@ impl Chain {
     }
 }
 
-// Adds a tenth of the changes, and prints what it took, in nanoseconds a change.
-fn add_tenth<R: Clock + Print + AllocGlobal>(
+// Adds so many of the changes, and prints what it took, in nanoseconds a change.
+fn add_some<R: Clock + Print + AllocGlobal>(
     rt: &R,
     graph: &mut Graph,
     chain: &mut Chain,
+    count: u64,
 ) -> anyhow::Result<()> {
-    let batch = chain.next(rt.alloc(), CHANGES / TENTHS)?;
+    let batch = chain.next(rt.alloc(), count)?;
     let micros = add_all(rt, graph, batch)?;
-    Ok(print!(rt; " {:>6}", micros / (CHANGES / TENTHS / 1000))?)
+    Ok(print!(rt; " {:>6}", micros.saturating_mul(1000) / count.max(1))?)
 }
 
-// Adds the changes to the graph.
+// Adds so many changes to the graph, by tenths.
 fn add_tenths<R: Clock + Print + AllocGlobal>(
     rt: &R,
     graph: &mut Graph,
     chain: &mut Chain,
+    changes: u64,
 ) -> anyhow::Result<()> {
     for _ in 0..TENTHS {
-        add_tenth(rt, graph, chain)?;
+        add_some(rt, graph, chain, changes / TENTHS)?;
     }
     Ok(println!(rt;)?)
 }
 
-/// A chain of 100,000 changes, each on the one before it, by so many actors in turn.
-pub fn run<R: Files + Clock + Print + AllocGlobal>(rt: &R, actors: u32) -> anyhow::Result<()> {
+/// A chain of so many changes, each on the one before it, by so many actors in turn.
+pub fn run<R: Files + Clock + Print + AllocGlobal>(
+    rt: &R,
+    actors: u32,
+    changes: u64,
+) -> anyhow::Result<()> {
     report_held(rt)?;
     let mut chain = Chain {
         actors,
@@ -72,6 +76,6 @@ pub fn run<R: Files + Clock + Print + AllocGlobal>(rt: &R, actors: u32) -> anyho
         tip: None,
     };
     let mut graph = Graph::new(rt.alloc());
-    add_tenths(rt, &mut graph, &mut chain)?;
+    add_tenths(rt, &mut graph, &mut chain, changes)?;
     report_held(rt)
 }

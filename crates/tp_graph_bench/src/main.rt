@@ -14,6 +14,7 @@ const USAGE: &str = "usage: tp_graph_bench NAME
 Adds changes of one character to a graph, one by one, and prints what each tenth took a change:
 
   chain            a chain of 100,000 changes of one actor
+  long-chain       a chain of 400,000, as many as the branches come to
   actors           a chain of 100,000 changes, each by an actor of its own
   two-by-turns     two branches of 20,000 changes by turns, and their merge; the same behind it, ten times in all
   two-whole        the same, one branch after the other
@@ -32,8 +33,9 @@ fn main(rt: HostRuntime) -> anyhow::Result<()> {
 // Runs the benchmark of the name, or says which there are.
 fn run_named<R: Files + Clock + Print + AllocGlobal>(rt: &R, name: &str) -> anyhow::Result<()> {
     match name {
-        "chain" => chains::run(rt, 1),
-        "actors" => chains::run(rt, u32::MAX),
+        "chain" => chains::run(rt, 1, 100_000),
+        "long-chain" => chains::run(rt, 1, 400_000),
+        "actors" => chains::run(rt, u32::MAX, 100_000),
         "two-by-turns" => branches::run(rt, 2, true),
         "two-whole" => branches::run(rt, 2, false),
         "twenty-by-turns" => branches::run(rt, 20, true),
