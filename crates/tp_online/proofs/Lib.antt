@@ -1,4 +1,3 @@
-pub mod LastSeat
 pub mod DurableLaws
 pub mod ServedLines
 pub mod SessionLaws

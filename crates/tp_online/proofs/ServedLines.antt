@@ -1,11 +1,14 @@
 -- What a server prints, and where it stops.
-use Rattle.std.proofs.Common.{◌≡◌, ◌∙◌, ◌⊎◌, ⊎_elim, ap, refl, subst, sym, ℕ, List, [], ◌++◌, Option, None, Some, Result, Ok, Err, append_assoc, append-nil}
+use Rattle.std.proofs.Common.{◌≡◌, ◌∙◌, ◌⊎◌, ⊎_elim, inl, inr, ap, refl, subst, sym, ℕ, List, [], ◌++◌, Option, None, Some, Result, Ok, Err, append_assoc, append-nil}
 use Rattle.std.specs.Prelude.{IfErr, IfOk, IsOkAnd, OnOk}
 use Rattle.std.specs.Io.KnownBytes.{Appends, Keeps}
 use Rattle.std.proofs.KnownBytes.{Appends-trans}
 use Rattle.tp_textpeer.specs.Output.{AppendsPart}
-use Rattle.tp_commands.specs.Network.{IsServed, listening_line, served_line}
-use Rattle.tp_commands.specs.Output.{Grows, GrowsPart}
+use Rattle.tp_commands.specs.declared.error.CommandError.{CommandError}
+use Rattle.tp_commands.specs.declared.error.CommandError.TheVariants.{Io}
+use Rattle.tp_commands.specs.Network.{IsServed, applied_line, listening_line, served_line}
+use Rattle.tp_commands.specs.Output.{Grows, GrowsPart, Leaves}
+use Rattle.tp_online.specs.Sessions.{IsSynced}
 
 -- what stayed grew by none of the bytes
 pub part_of_none : (old new : Option (List ℕ)) (bs : List ℕ) → Keeps old new → AppendsPart old new bs
@@ -25,6 +28,16 @@ told (Ok x) printed bytes is line old new spelled wrote = tt
 told (Err e) (Ok l) bytes is line old new spelled wrote =
     ⊎_elim (λ kept. part_of_none old new line kept) (λ part. subst (AppendsPart old new) spelled part.1) wrote
 told (Err e) (Err f) bytes is line old new spelled wrote = ⊎_elim (λ kept. part_of_none old new line kept) (λ part. absurd part.1) wrote
+
+-- the line of how many changes entered, refused, or written in part since the output failed
+pub leaves : {A S : Type 0} (done : Result A CommandError) (printed : Result S CommandError) (bytes : S → List ℕ) (applied : ℕ) (old new : Option (List ℕ))
+    → IfOk printed (λ l. bytes l ≡ applied_line applied)
+    → IfErr done (λ e. Keeps old new ⊎ ((e ≡ Io) × IsOkAnd printed (λ l. AppendsPart old new (bytes l))))
+    → IfErr done (λ e. Leaves IsSynced e old new)
+leaves (Ok x) printed bytes applied old new spelled wrote = tt
+leaves (Err e) (Ok l) bytes applied old new spelled wrote =
+    ⊎_elim (λ kept. inl kept) (λ part. inr (part.0, (bytes l, (applied, spelled), part.1))) wrote
+leaves (Err e) (Err f) bytes applied old new spelled wrote = ⊎_elim (λ kept. inl kept) (λ part. absurd part.1) wrote
 
 -- both lines were written
 pub served : {A E : Type 0} (done : Result A E) (old mid new : Option (List ℕ)) (port sessions : ℕ) → Appends old mid (listening_line port)

@@ -1,30 +1,40 @@
 -- What sessions on the seats of a served peer came to.
 use Rattle.std.specs.Prelude.{◌≡◌, ℕ, List, false}
-use Rattle.tp_list.specs.Members.{In}
 use Rattle.tp_peer.specs.PeerData.{PeerData}
 use Rattle.tp_net.specs.Turns.{AllSit, Enters, Sits}
 use Rattle.tp_served.specs.Calls.{Closes}
-use Rattle.tp_served.specs.Seats.{SeatData, ServedData, states_of}
+use Rattle.tp_served.specs.Seats.{SeatData, ServedData, fresh, fresh_from, seats_of, states_of}
+use Rattle.tp_commands.specs.Network.{applied_line}
 
--- One of the seats held a session, by which n changes entered.
-pub record Meets (seats : List SeatData) (n : ℕ) : Type 0 where
-  pub seat : SeatData
-  pub member : In seat seats
-  pub after : SeatData
-  pub sits : Sits seat after
-  pub enters : Enters n seat after
+-- the seats of a served peer, as its opening gives them
+abbrev pub opened_seats : ServedData → List SeatData
+opened_seats d = seats_of d.served (fresh_from d.opened 0 d.count)
 
--- The seats held sessions and came back, and what was served ended with them: as a peer that its journal didn't stop.
-pub record ClosesWell (served : ServedData) (seats : List SeatData) : Type 0 where
-  pub back : List SeatData
-  pub sat : AllSit seats back
-  pub peer : PeerData
-  pub closes : Closes served.opened served.count (states_of back) peer
-  pub runs : peer.stopped ≡ false
+-- the first of them
+abbrev pub opening_seat : ServedData → SeatData
+opening_seat d = record { served = d.served; state = fresh d.opened 0 }
 
--- The same of a peer that was served on some seats.
-pub record ServesWell (p : PeerData) : Type 0 where
+-- The seat is the first one of the served peer, and since the opening calls of its own led it to where it is, by which n
+-- changes entered: all that the seat has ever entered, up to 2^64 - 1.
+pub record HasEntered (served : ServedData) (seat : SeatData) (n : ℕ) : Type 0 where
+  pub sits : Sits (opening_seat served) seat
+  pub enters : Enters n (opening_seat served) seat
+
+-- The peer p is what the closing of the served peer gives back for the seats, and its journal didn't stop it.
+pub record EndsRunning (served : ServedData) (seats : List SeatData) (p : PeerData) : Type 0 where
+  pub closes : Closes served.opened served.count (states_of seats) p
+  pub runs : p.stopped ≡ false
+
+-- The peer p was opened, and served on as many seats as said; with these, as calls of their own led them from the opening
+-- on, the closing gives back the peer p'. Its journal didn't stop it.
+pub record WasServed (p : PeerData) (count : ℕ) (p' : PeerData) : Type 0 where
   pub served : ServedData
   pub opened : served.opened ≡ p
-  pub seats : List SeatData
-  pub ends : ClosesWell served seats
+  pub number : served.count ≡ count
+  pub back : List SeatData
+  pub sat : AllSit (opened_seats served) back
+  pub ends : EndsRunning served back p'
+
+-- the bytes are what a client prints: how many changes entered
+abbrev pub IsSynced : List ℕ → Type 0
+IsSynced printed = (applied : ℕ) × (printed ≡ applied_line applied)

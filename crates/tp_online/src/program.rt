@@ -1,6 +1,6 @@
 //! The program, but for its `main`.
 
-ghost use Rattle.std.specs.Prelude.{◌≡◌, ◌≢◌, ◌≤◌, [], map};
+ghost use Rattle.std.specs.Prelude.{◌≡◌, ◌≢◌, ◌≤◌, [], map, Err, IsOk, MatchResult};
 ghost use Rattle.std.specs.Io.KnownBytes.{Keeps};
 ghost use Rattle.clap.specs.Words.{fault_of};
 ghost use Rattle.tp_command_line.specs.CommandLine.{textpeer_app};
@@ -8,7 +8,7 @@ ghost use Rattle.tp_commands.specs.declared.error.CommandError.{CommandError as 
 ghost use Rattle.tp_commands.specs.Output.{Grows, GrowsPart, IsLineOf, IsPrinted, IsRefused};
 ghost use Rattle.tp_commands.specs.Words.{WasDone, WasRefused};
 
-use crate::serving::{serve_file, synced};
+use crate::serving::{serve_file, sync_file};
 use std::convert::AsStr;
 use std::io::Write;
 use std::net::Net;
@@ -17,7 +17,7 @@ use std::sync::Wait;
 use std::thread::Threads;
 use std::{env, io};
 use tp_command_line::{Command, line};
-use tp_commands::{CommandError, DONE, Errors, MISUSED, REFUSED, ended, explain, put, run_command};
+use tp_commands::{CommandError, DONE, Errors, MISUSED, REFUSED, ended, explain, run_command};
 
 /// Does what the process's own words ask for, and returns the exit status, as [`run_words_on`] does over its streams.
 /// Words that can't be read, as those that are no UTF-8, are refused as `textpeer: Io`.
@@ -102,10 +102,24 @@ where
             addr,
             sessions,
             key,
-        } => ended(alloc, serve_file(rt, file, addr, sessions, key, out), err),
+        } => ended(
+            alloc,
+            done(serve_file(rt, file, addr, sessions, key, out)),
+            err,
+        ),
         Command::Sync { file, addr, key } => {
-            ended(alloc, put(out, synced(rt, file, addr, key)), err)
+            ended(alloc, done(sync_file(rt, file, addr, key, out)), err)
         }
         command => run_command(rt, command, out, err),
+    }
+}
+
+// Whether it was done, without what it gave back.
+fn done<T: Drop>(outcome: Result<T, CommandError>) -> Result<(), CommandError>
+    ensures { MatchResult outcome (λ _. IsOk result) (λ e. result ≡ Err e) }
+{
+    match outcome {
+        Ok(_) => Ok(()),
+        Err(error) => Err(error),
     }
 }

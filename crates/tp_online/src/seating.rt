@@ -1,12 +1,10 @@
 //! Sessions on the seats of a peer.
 
-ghost use Rattle.std.specs.Prelude.{◌≡◌, ◌≢◌, ◌<◌, length, IfOk, IfErr, OnOk, false};
-ghost use Rattle.tp_peer.specs.PeerData.{PeerData};
+ghost use Rattle.std.specs.Prelude.{◌≡◌, ◌≢◌, length, IfOk, IfErr, false};
 ghost use Rattle.tp_commands.specs.declared.error.CommandError.TheVariants.{BadHex};
-ghost use Rattle.tp_net.specs.Turns.{Enters, Sits};
-ghost use Rattle.tp_served.specs.Calls.{AreOf, Closes};
-ghost use Rattle.tp_served.specs.Seats.{states_of};
-ghost use Rattle.tp_online.specs.Sessions.{ClosesWell, Meets};
+ghost use Rattle.tp_net.specs.Turns.{AllSit, Enters, Sits};
+ghost use Rattle.tp_served.specs.Calls.{AreOf};
+ghost use Rattle.tp_online.specs.Sessions.{EndsRunning, opened_seats, opening_seat};
 
 use std::alloc::Global;
 use std::io::{Read, Write};
@@ -25,8 +23,9 @@ pub(crate) fn seated<J: Journal>(
     peer: Peer<J>,
     seats: usize,
 ) -> Result<(Served<J>, Vec<Seat>), CommandError>
-    ensures ok { IfOk result (λ r. (r.0.opened ≡ peer) × AreOf r.0.served r.1.items) }
-    ensures all { IfOk result (λ r. (length r.1.items ≡ r.0.count) × (r.0.count ≡ seats) × (0 < seats)) }
+    ensures ok { IfOk result (λ r. (r.0.opened ≡ peer) × (r.0.count ≡ seats)
+        × (r.1.items ≡ opened_seats r.0)) }
+    ensures of { IfOk result (λ r. AreOf r.0.served r.1.items × (length r.1.items ≡ r.0.count)) }
     ensures fault { IfErr result (λ e. e ≢ BadHex) }
 {
     match Served::open(alloc, peer, seats) {
@@ -35,33 +34,51 @@ pub(crate) fn seated<J: Journal>(
     }
 }
 
-// Refuses a peer that has stopped, since its journal failed.
-fn still_runs<J: Journal>(peer: &Peer<J>) -> Result<(), CommandError>
-    ensures runs { OnOk result (peer.now.stopped ≡ false) }
+/// The same, to one thread: with its seat.
+pub(crate) fn seated_alone<J: Journal>(
+    alloc: Global,
+    peer: Peer<J>,
+) -> Result<(Served<J>, Seat), CommandError>
+    ensures ok { IfOk result (λ r. (r.0.opened ≡ peer) × (r.0.count ≡ 1)
+        × (r.1 ≡ opening_seat r.0)) }
+    ensures fault { IfErr result (λ e. e ≢ BadHex) }
+{
+    let (served, mut seats) = seated(alloc, peer, 1)?;
+    match seats.pop() {
+        Some(seat) => Ok((served, seat)),
+        None => unreachable!(),
+    }
+}
+
+// The peer, if it still runs. One that has stopped, since its journal failed, is refused.
+fn still_runs<J: Journal>(peer: Peer<J>) -> Result<Peer<J>, CommandError>
+    ensures runs { IfOk result (λ p. (p ≡ peer) × (p.stopped ≡ false)) }
     ensures fault { IfErr result (λ e. e ≢ BadHex) }
 {
     if peer.is_stopped() {
+        drop(peer);
         return Err(CommandError::Peer(PeerError::JournalFailed));
     }
-    Ok(())
+    Ok(peer)
 }
 
-// Ends the serving, with all seats. A peer whose journal failed meanwhile is refused.
-fn ended<J: Journal>(served: Served<J>, seats: Vec<Seat>) -> Result<(), CommandError>
+/// Ends the serving, with all seats: the peer that the closing gives back. One whose journal failed meanwhile is refused.
+pub(crate) fn ended<J: Journal>(
+    served: Served<J>,
+    seats: Vec<Seat>,
+) -> Result<Peer<J>, CommandError>
     requires of { AreOf served.served seats.items }
     requires all { length seats.items ≡ served.count }
-    ensures ok { OnOk result ((p : PeerData)
-        × Closes served.opened served.count (states_of seats.items) p × (p.stopped ≡ false)) }
+    ensures ok { IfOk result (λ p. EndsRunning served seats.items p) }
     ensures fault { IfErr result (λ e. e ≢ BadHex) }
 {
     match served.close(seats) {
-        Ok(peer) => still_runs(&peer),
+        Ok(peer) => still_runs(peer),
         Err(_) => unreachable!(),
     }
 }
 
-/// Holds as many sessions as said with those that connect, on the seats, which are all of them. A peer whose journal
-/// failed meanwhile is refused.
+/// Holds as many sessions as said with those that connect, on the seats: they come back, in their order.
 pub(crate) fn hold<
     R: Threads + Wait + Sync,
     S: Read + Write + OpenStream + Send + Drop,
@@ -71,17 +88,18 @@ pub(crate) fn hold<
     rt: &R,
     alloc: Global,
     listener: &L,
-    served: Served<J>,
+    served: &Served<J>,
     seats: Vec<Seat>,
     sessions: u64,
-) -> Result<(), CommandError>
-    requires of { AreOf served.served seats.items }
-    requires all { length seats.items ≡ served.count }
-    ensures ok { OnOk result (ClosesWell served seats.items) }
+) -> Result<Vec<Seat>, CommandError>
+    requires { AreOf served.now.served seats.items }
+    ensures sat { IfOk result (λ back. AllSit seats.items back.items) }
+    ensures of { IfOk result (λ back. AreOf served.now.served back.items
+        × (length back.items ≡ length seats.items)) }
     ensures fault { IfErr result (λ e. e ≢ BadHex) }
 {
-    match serve(rt, alloc, listener, &served, seats, sessions, &AlwaysOpen) {
-        Ok(seats) => ended(served, seats),
+    match serve(rt, alloc, listener, served, seats, sessions, &AlwaysOpen) {
+        Ok(back) => Ok(back),
         Err(interrupted) => Err(CommandError::from(interrupted.error)),
     }
 }
@@ -102,25 +120,5 @@ pub(crate) fn meet<R: Net + Wait, J: Journal>(
     match connect(rt, alloc, addr, served, seat) {
         Ok(applied) => Ok(applied),
         Err(error) => Err(CommandError::from(error)),
-    }
-}
-
-/// The same, on the last of the seats, of which there is one at least.
-pub(crate) fn meet_on<R: Net + Wait, J: Journal>(
-    rt: &R,
-    alloc: Global,
-    addr: SocketAddr,
-    served: &Served<J>,
-    seats: Vec<Seat>,
-) -> Result<u64, CommandError>
-    requires of { AreOf served.now.served seats.items }
-    requires some { 0 < length seats.items }
-    ensures told { IfOk result (λ n. Meets seats.items n) }
-    ensures fault { IfErr result (λ e. e ≢ BadHex) }
-{
-    let mut seats = seats;
-    match seats.pop() {
-        Some(mut seat) => meet(rt, alloc, addr, served, &mut seat),
-        None => unreachable!(),
     }
 }

@@ -1,24 +1,40 @@
 //! The commands `serve` and `sync`.
 
-ghost use Rattle.std.specs.Prelude.{◌≡◌, ◌≢◌, ◌⊎◌, ℕ, IfOk, IfErr, OnOk};
+ghost use Rattle.std.specs.Prelude.{◌≡◌, ◌≢◌, ◌⊎◌, IfOk, IfErr, OnOk};
 ghost use Rattle.std.specs.Io.KnownBytes.{Appends, Keeps};
 ghost use Rattle.std.specs.String.{string_bytes};
 ghost use Rattle.tp_textpeer.specs.Output.{AppendsPart};
 ghost use Rattle.tp_commands.specs.declared.error.CommandError.TheVariants.{BadHex};
 ghost use Rattle.tp_commands.specs.Keys.{IsNoKey};
 ghost use Rattle.tp_commands.specs.Network.{IsServed, applied_line as line_of_applied, listening_line as line_of_port, served_line as line_of_sessions};
-ghost use Rattle.tp_commands.specs.Output.{Grows, GrowsPart};
-ghost use Rattle.tp_online.specs.Sessions.{ServesWell};
+ghost use Rattle.tp_commands.specs.Output.{Grows, GrowsPart, Leaves};
+ghost use Rattle.tp_peer.specs.PeerData.{PeerData};
+ghost use Rattle.tp_online.specs.Sessions.{HasEntered, IsSynced, WasServed};
 
+use crate::durable::DurableJournal;
 use crate::listening::{Listening, address, listen, opened};
-use crate::seating::{hold, meet_on, seated};
+use crate::seating::{ended, hold, meet, seated, seated_alone};
 use std::alloc::Global;
+use std::fs::OpenFile;
 use std::io::Write;
 use std::net::Net;
 use std::rt::Files;
 use std::sync::Wait;
 use std::thread::Threads;
 use tp_commands::{CommandError, draw_actor, put};
+use tp_peer::Peer;
+use tp_served::{Seat, Served};
+
+/// A peer that is served to one thread, once a session was held on its seat.
+#[derive(Drop)]
+pub(crate) struct Met<F: Write + OpenFile + Drop> {
+    /// The served peer.
+    pub served: Served<DurableJournal<F>>,
+    /// Its seat.
+    pub seat: Seat,
+    /// How many changes entered by the session.
+    pub applied: u64,
+}
 
 // How many sessions a server holds at once.
 const WORKERS: usize = 2;
@@ -61,16 +77,36 @@ fn tell_sessions<W: Write>(alloc: Global, sessions: u64, out: &mut W) -> Result<
     put(out, served_line(alloc, sessions))
 }
 
-// Holds the sessions. Where it ends well, all seats came back, and the journal never failed.
+// The line of how many changes entered.
+fn applied_line(alloc: Global, applied: u64) -> Result<String, CommandError>
+    ensures ok { IfOk result (λ l. string_bytes l ≡ line_of_applied applied) }
+    ensures fault { IfErr result (λ e. e ≢ BadHex) }
+{
+    Ok(format!(in alloc; "applied {applied}\n")?)
+}
+
+// Prints how many changes entered.
+fn tell_applied<W: Write>(alloc: Global, applied: u64, out: &mut W) -> Result<(), CommandError>
+    ensures ok { OnOk result
+        (Appends (W.contents out.old) (W.contents out.new) (line_of_applied applied)) }
+    ensures err { IfErr result
+        (λ e. Leaves IsSynced e (W.contents out.old) (W.contents out.new)) }
+    ensures fault { IfErr result (λ e. e ≢ BadHex) }
+{
+    put(out, applied_line(alloc, applied))
+}
+
+// Holds the sessions, and ends the serving with the seats that came back: the peer that the closing gives. One whose
+// journal failed meanwhile is refused.
 fn held<R: Files + Net + Threads + Wait + AllocGlobal + Sync>(
     rt: &R,
     listening: Listening<R::Listener, R::File>,
     sessions: u64,
-) -> Result<(), CommandError>
+) -> Result<Peer<DurableJournal<R::File>>, CommandError>
 where
     R::File: Send,
     R::Stream: Send,
-    ensures ok { OnOk result (ServesWell listening.peer) }
+    ensures ok { IfOk result (λ p. WasServed listening.peer WORKERS p) }
     ensures fault { IfErr result (λ e. e ≢ BadHex) }
 {
     let Listening {
@@ -79,7 +115,12 @@ where
         peer,
     } = listening;
     match seated(rt.alloc(), peer, WORKERS) {
-        Ok((served, seats)) => hold(rt, rt.alloc(), &listener, served, seats, sessions),
+        Ok((served, seats)) => {
+            match hold(rt, rt.alloc(), &listener, &served, seats, sessions) {
+                Ok(back) => ended(served, back),
+                Err(error) => Err(error),
+            }
+        }
         Err(error) => Err(error),
     }
 }
@@ -90,10 +131,11 @@ fn held_and_told<R: Files + Net + Threads + Wait + AllocGlobal + Sync, W: Write>
     listening: Listening<R::Listener, R::File>,
     sessions: u64,
     out: &mut W,
-) -> Result<(), CommandError>
+) -> Result<Peer<DurableJournal<R::File>>, CommandError>
 where
     R::File: Send,
     R::Stream: Send,
+    ensures served { IfOk result (λ p. WasServed listening.peer WORKERS p) }
     ensures ok { OnOk result
         (Appends (W.contents out.old) (W.contents out.new) (line_of_sessions sessions)) }
     ensures err { IfErr result
@@ -101,21 +143,28 @@ where
     ensures fault { IfErr result (λ e. e ≢ BadHex) }
 {
     match held(rt, listening, sessions) {
-        Ok(()) => tell_sessions(rt.alloc(), sessions, out),
+        Ok(peer) => match tell_sessions(rt.alloc(), sessions, out) {
+            Ok(()) => Ok(peer),
+            Err(error) => {
+                drop(peer);
+                Err(error)
+            }
+        },
         Err(error) => Err(error),
     }
 }
 
-// Prints the port, holds the sessions, and prints how many they were.
+// Prints the port, holds the sessions, and prints how many they were. The peer that the closing gave back.
 fn serve_on<R: Files + Net + Threads + Wait + AllocGlobal + Sync, W: Write>(
     rt: &R,
     listening: Listening<R::Listener, R::File>,
     sessions: u64,
     out: &mut W,
-) -> Result<(), CommandError>
+) -> Result<Peer<DurableJournal<R::File>>, CommandError>
 where
     R::File: Send,
     R::Stream: Send,
+    ensures served { IfOk result (λ p. WasServed listening.peer WORKERS p) }
     ensures ok { OnOk result
         (Grows (IsServed sessions) (W.contents out.old) (W.contents out.new)) }
     ensures err { IfErr result
@@ -132,7 +181,7 @@ where
 }
 
 /// Serves the journal at a path. The port on which it listens is printed before the first session, and how many sessions
-/// there were behind the last.
+/// there were behind the last. The peer that the closing gave back; one whose journal failed meanwhile is refused.
 pub(crate) fn serve_file<R: Files + Net + Threads + Wait + AllocGlobal + Sync, W: Write>(
     rt: &R,
     file: &str,
@@ -140,10 +189,11 @@ pub(crate) fn serve_file<R: Files + Net + Threads + Wait + AllocGlobal + Sync, W
     sessions: u64,
     key: Option<&str>,
     out: &mut W,
-) -> Result<(), CommandError>
+) -> Result<Peer<DurableJournal<R::File>>, CommandError>
 where
     R::File: Send,
     R::Stream: Send,
+    ensures served { IfOk result (λ p. (opened : PeerData) × WasServed opened WORKERS p) }
     ensures ok { OnOk result
         (Grows (IsServed sessions) (W.contents out.old) (W.contents out.new)) }
     ensures err { IfErr result (λ _. Keeps (W.contents out.old) (W.contents out.new)
@@ -157,14 +207,15 @@ where
     }
 }
 
-// How many changes entered by one session with the server at the address.
+// Holds one session with the server at the address, on the one seat of the peer that is opened for it.
 fn applied_by<R: Files + Net + Wait + AllocGlobal>(
     rt: &R,
     file: &str,
     addr: &str,
     key: Option<&str>,
-) -> Result<u64, CommandError>
-    ensures { IfErr result (λ e. e ≡ BadHex → IsNoKey key.entry) }
+) -> Result<Met<R::File>, CommandError>
+    ensures entered { IfOk result (λ met. HasEntered met.served met.seat met.applied) }
+    ensures fault { IfErr result (λ e. e ≡ BadHex → IsNoKey key.entry) }
 {
     let actor = draw_actor(rt, key)?;
     let peer = opened(rt, file, actor)?;
@@ -175,22 +226,39 @@ fn applied_by<R: Files + Net + Wait + AllocGlobal>(
             return Err(error);
         }
     };
-    match seated(rt.alloc(), peer, 1) {
-        Ok((served, seats)) => meet_on(rt, rt.alloc(), addr, &served, seats),
+    let (served, mut seat) = seated_alone(rt.alloc(), peer)?;
+    match meet(rt, rt.alloc(), addr, &served, &mut seat) {
+        Ok(applied) => Ok(Met {
+            served,
+            seat,
+            applied,
+        }),
         Err(error) => Err(error),
     }
 }
 
-/// The line of how many changes entered by one session with the server at the address.
-pub(crate) fn synced<R: Files + Net + Wait + AllocGlobal>(
+/// Holds one session with the server at the address, and prints how many changes entered by it: those that the seat on
+/// which it was held entered. Served peer and seat are given back.
+pub(crate) fn sync_file<R: Files + Net + Wait + AllocGlobal, W: Write>(
     rt: &R,
     file: &str,
     addr: &str,
     key: Option<&str>,
-) -> Result<String, CommandError>
-    ensures ok { IfOk result (λ l. (applied : ℕ) × (string_bytes l ≡ line_of_applied applied)) }
+    out: &mut W,
+) -> Result<Met<R::File>, CommandError>
+    ensures entered { IfOk result (λ met. HasEntered met.served met.seat met.applied) }
+    ensures ok { IfOk result (λ met. Appends (W.contents out.old) (W.contents out.new)
+        (line_of_applied met.applied)) }
+    ensures err { IfErr result
+        (λ e. Leaves IsSynced e (W.contents out.old) (W.contents out.new)) }
     ensures fault { IfErr result (λ e. e ≡ BadHex → IsNoKey key.entry) }
 {
-    let applied = applied_by(rt, file, addr, key)?;
-    Ok(format!(in rt.alloc(); "applied {applied}\n")?)
+    let met = applied_by(rt, file, addr, key)?;
+    match tell_applied(rt.alloc(), met.applied, out) {
+        Ok(()) => Ok(met),
+        Err(error) => {
+            drop(met);
+            Err(error)
+        }
+    }
 }

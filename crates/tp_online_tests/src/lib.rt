@@ -2,6 +2,10 @@
 #![tactic(auto)]
 
 #[cfg(test)]
+mod disk;
+#[cfg(test)]
+mod patience;
+#[cfg(test)]
 mod runs;
 #[cfg(test)]
 mod strangers;

@@ -1,9 +1,11 @@
 //! A server and its clients as runs of the program, in threads of one process.
 
-use crate::runs::{run, sync};
-use crate::strangers::{beside_a_silent_one, stranger};
+use crate::disk::{Disk, OverDisk};
+use crate::runs::{insert, run, serve, sync, sync_once};
+use crate::strangers::{connected, is_silent_until, stranger};
 use std::fs;
 use std::net::{Ipv4Addr, OpenListener, SocketAddr, TcpListener};
+use std::sync::atomic::{AtomicBool, Ordering};
 use std::test::Fail;
 use std::thread::join;
 
@@ -39,23 +41,14 @@ fn a_server_and_two_clients(rt: HostRuntime) -> Result<(), Fail> {
     ];
     assert!(rt; run(&rt, &comma).status == 0);
     let addr = text_of(&rt, free(&rt)?)?;
-    let (served, synced) = join(
+    let (served, ()) = join(
         &rt,
+        || serve(&rt, "ann", addr.as_str(), "2"),
         || {
-            run(
-                &rt,
-                &["textpeer", "serve", "ann", addr.as_str(), "--sessions", "2"],
-            )
-        },
-        || {
-            (
-                sync(&rt, "ben", addr.as_str()),
-                sync(&rt, "cat", addr.as_str()),
-            )
+            assert!(rt; sync(&rt, "ben", addr.as_str()).printed("applied 0\n"));
+            assert!(rt; sync_once(&rt, "cat", addr.as_str()).printed("applied 1\n"));
         },
     );
-    assert!(rt; synced.0.printed("applied 0\n"));
-    assert!(rt; synced.1.printed("applied 1\n"));
     let port = addr.as_str().trim_start_matches("127.0.0.1:");
     let lines = format!(in rt.alloc(); "listening {port}\nserved 2\n")?;
     assert!(rt; served.printed(lines.as_str()));
@@ -70,8 +63,8 @@ const HELLO: &[u8] =
     b"\x00\x00\x00\x12\x00\x01\xad\xe0\xb8\x76\x90\x3d\xf1\xa0\xe5\x6a\x5d\x40\x28\xbd\x86\x53";
 
 // What a client sends behind that hello, if it sends one, before it ends its side; and what it is answered behind the
-// server's hello. The session of each ends alone: Eve, who keeps to the rules, is served behind them all, and the texts
-// are what they were.
+// server's hello. The last one says done twice, at once: it is answered by the one done that ends its session. The session
+// of each ends alone: Eve, who keeps to the rules, is served behind them all, and the texts are what they were.
 #[test]
 fn clients_that_keep_to_no_rule(rt: HostRuntime) -> Result<(), Fail> {
     let before = [
@@ -107,24 +100,17 @@ fn clients_that_keep_to_no_rule(rt: HostRuntime) -> Result<(), Fail> {
     ];
     assert!(rt; run(&rt, &text).status == 0);
     fs::copy(&rt, "dora", "eve")?;
+    let twice = b"\x00\x00\x00\x01\x02\x00\x00\x00\x01\x02".as_slice();
     let addr = free(&rt)?;
     let named = text_of(&rt, addr)?;
-    let count = before.len() + behind.len() + 1;
+    let count = before.len() + behind.len() + 2;
     let sessions = format!(in rt.alloc(); "{count}")?;
-    let words = [
-        "textpeer",
-        "serve",
-        "dora",
-        named.as_str(),
-        "--sessions",
-        sessions.as_str(),
-    ];
-    let (served, synced) = join(
+    let (served, ()) = join(
         &rt,
-        || run(&rt, &words),
+        || serve(&rt, "dora", named.as_str(), sessions.as_str()),
         || {
             for (sent, wanted) in before {
-                let back = stranger(&rt, addr, sent);
+                let back = stranger(&rt, addr, sent, b"");
                 let is_wanted = back.is_some_and(|bytes| bytes.as_slice() == wanted);
                 assert!(rt; is_wanted, "{sent:?}");
             }
@@ -133,10 +119,13 @@ fn clients_that_keep_to_no_rule(rt: HostRuntime) -> Result<(), Fail> {
                 let is_wanted = back.is_some_and(|bytes| bytes.strip_prefix(HELLO) == Some(wanted));
                 assert!(rt; is_wanted, "{sent:?}");
             }
-            sync(&rt, "eve", named.as_str())
+            let back = stranger(&rt, addr, HELLO, twice);
+            let is_wanted = back.is_some_and(|bytes| bytes.strip_prefix(HELLO)
+                == Some(&twice[..5]));
+            assert!(rt; is_wanted);
+            assert!(rt; sync_once(&rt, "eve", named.as_str()).printed("applied 0\n"));
         },
     );
-    assert!(rt; synced.printed("applied 0\n"));
     let port = addr.port();
     let lines = format!(in rt.alloc(); "listening {port}\nserved {count}\n")?;
     assert!(rt; served.printed(lines.as_str()));
@@ -150,10 +139,11 @@ fn clients_that_keep_to_no_rule(rt: HostRuntime) -> Result<(), Fail> {
 fn after_hello(rt: &HostRuntime, addr: SocketAddr, bytes: &[u8]) -> Option<Vec<u8>> {
     let mut sent = Vec::from_slice(rt.alloc(), HELLO).ok()?;
     sent.extend_from_slice(bytes).ok()?;
-    stranger(rt, addr, sent.as_slice())
+    stranger(rt, addr, sent.as_slice(), b"")
 }
 
-// A client that says nothing holds one of the two workers; the session of another one goes on beside it to its end.
+// A client that says nothing holds one of the two workers until the session of another one has gone on beside it to its
+// end. Were there one worker alone, the silent one would lose its patience first.
 #[test]
 fn a_silent_client_holds_one_worker(rt: HostRuntime) -> Result<(), Fail> {
     assert!(rt; run(&rt, &["textpeer", "new", "fay", "--key", DOCUMENT]).status == 0);
@@ -164,29 +154,80 @@ fn a_silent_client_holds_one_worker(rt: HostRuntime) -> Result<(), Fail> {
     assert!(rt; run(&rt, &text).status == 0);
     let addr = free(&rt)?;
     let named = text_of(&rt, addr)?;
-    let (served, synced) = join(
+    let is_done = AtomicBool::new(false);
+    let (served, ()) = join(
         &rt,
+        || serve(&rt, "fay", named.as_str(), "2"),
         || {
-            run(
+            let silent = connected(&rt, addr).expect(&rt, "a connection");
+            let (was_silent, ()) = join(
                 &rt,
-                &[
-                    "textpeer",
-                    "serve",
-                    "fay",
-                    named.as_str(),
-                    "--sessions",
-                    "2",
-                ],
-            )
+                || is_silent_until(&rt, silent, &is_done),
+                || {
+                    assert!(rt; sync_once(&rt, "gus", named.as_str()).printed("applied 0\n"));
+                    is_done.store(true, Ordering::SeqCst);
+                },
+            );
+            assert!(rt; was_silent);
         },
-        || beside_a_silent_one(&rt, addr, "gus", named.as_str()),
     );
-    assert!(rt; synced.is_some_and(|ran| ran.printed("applied 0\n")));
     let port = addr.port();
     let lines = format!(in rt.alloc(); "listening {port}\nserved 2\n")?;
     assert!(rt; served.printed(lines.as_str()));
     for file in ["fay", "gus"] {
         assert!(rt; run(&rt, &["textpeer", "text", file]).printed("gus\n"));
+    }
+    Ok(())
+}
+
+// Hal's disk fails while he serves his journal: it takes Ida's change, and of Joe's nothing, a part, or all, but doesn't
+// bring that to its ground. Joe's session is refused, and so is Kim's, behind which the serving ends with the error. Hal's
+// journal has what Ida was told; once Hal has a disk again, Joe's change enters, if it didn't.
+#[test]
+fn a_journal_fails_while_it_is_served(rt: HostRuntime) -> Result<(), Fail> {
+    let rows = [
+        (Disk::new(1, 0, 9), "ida hal\n"),
+        (Disk::new(1, 40, 9), "ida hal\n"),
+        (Disk::new(9, 0, 1), "ida hal joe\n"),
+    ];
+    assert!(rt; run(&rt, &["textpeer", "new", "first", "--key", DOCUMENT]).status == 0);
+    assert!(rt; insert(&rt, "first", "0", "hal").status == 0);
+    for (disk, text) in rows {
+        for file in ["hal", "ida", "joe", "kim"] {
+            fs::copy(&rt, "first", file)?;
+        }
+        assert!(rt; insert(&rt, "ida", "0", "ida ").status == 0);
+        assert!(rt; insert(&rt, "joe", "3", " joe").status == 0);
+        let hal = OverDisk {
+            rt: &rt,
+            disk: &disk,
+        };
+        let addr = free(&rt)?;
+        let named = text_of(&rt, addr)?;
+        let (served, ()) = join(
+            &rt,
+            || serve(&hal, "hal", named.as_str(), "3"),
+            || {
+                assert!(rt; sync(&rt, "ida", named.as_str()).printed("applied 0\n"));
+                let joe = sync_once(&rt, "joe", named.as_str());
+                assert!(rt; joe.refused("", "textpeer: RefusedByOther\n"));
+                let kim = sync_once(&rt, "kim", named.as_str());
+                assert!(rt; kim.refused("", "textpeer: Io\n"));
+            },
+        );
+        let port = addr.port();
+        let line = format!(in rt.alloc(); "listening {port}\n")?;
+        assert!(rt; served.refused(line.as_str(), "textpeer: JournalFailed\n"));
+        assert!(rt; run(&rt, &["textpeer", "text", "hal"]).printed(text));
+        assert!(rt; run(&rt, &["textpeer", "text", "joe"]).printed("ida hal joe\n"));
+        let again = text_of(&rt, free(&rt)?)?;
+        let (served, ()) = join(
+            &rt,
+            || serve(&rt, "hal", again.as_str(), "1"),
+            || assert!(rt; sync(&rt, "joe", again.as_str()).printed("applied 0\n")),
+        );
+        assert!(rt; served.status == 0);
+        assert!(rt; run(&rt, &["textpeer", "text", "hal"]).printed("ida hal joe\n"));
     }
     Ok(())
 }

@@ -1,0 +1,203 @@
+//! Files on a disk that fails.
+
+ghost use Rattle.std.specs.Prelude.{◌≤◌, IfOk};
+
+use std::alloc::{Allocator, Global};
+use std::fs::{Metadata, OpenFile, OpenOptions};
+use std::io;
+use std::io::{ErrorKind, Read, Seek, SeekFrom, Write};
+use std::net::{Net, SocketAddr};
+use std::rt::Files;
+use std::sync::Wait;
+use std::sync::atomic::{AtomicU64, AtomicUsize, Ordering};
+use std::thread::Threads;
+
+/// A disk that takes so many writes whole, then a part of one and none behind it, and that brings what it took to its
+/// ground so often.
+#[derive(Drop)]
+pub struct Disk {
+    writes: AtomicU64,
+    part: AtomicUsize,
+    syncs: AtomicU64,
+}
+
+fn fault() -> io::Error {
+    io::Error::from(ErrorKind::StorageFull)
+}
+
+// One of the number is spent, if one is left. One thread at a time has the journal, so none comes between.
+fn spends(left: &AtomicU64) -> bool {
+    match left.load(Ordering::SeqCst).checked_sub(1) {
+        Some(less) => {
+            left.store(less, Ordering::SeqCst);
+            true
+        }
+        None => false,
+    }
+}
+
+impl Disk {
+    /// So many writes, so many bytes of the next one, so many syncs.
+    pub fn new(writes: u64, part: usize, syncs: u64) -> Disk {
+        Disk {
+            writes: AtomicU64::new(writes),
+            part: AtomicUsize::new(part),
+            syncs: AtomicU64::new(syncs),
+        }
+    }
+
+    // How many of the bytes of the next write it takes.
+    fn takes(&self, len: usize) -> io::Result<usize>
+        ensures { IfOk result (λ n. n ≤ len) }
+    {
+        if spends(&self.writes) {
+            return Ok(len);
+        }
+        match self.part.swap(0, Ordering::SeqCst) {
+            0 => Err(fault()),
+            part => Ok(len.min(part)),
+        }
+    }
+
+    fn syncs(&self) -> io::Result<()> {
+        if spends(&self.syncs) {
+            Ok(())
+        } else {
+            Err(fault())
+        }
+    }
+}
+
+/// An open file on the disk.
+#[derive(Drop)]
+pub struct OnDisk<'a, F> {
+    file: F,
+    disk: &'a Disk,
+}
+
+impl<F: Read> Read for OnDisk<'_, F> {
+    fn read(&mut self, buf: &mut [u8]) -> io::Result<usize> {
+        self.file.read(buf)
+    }
+}
+
+impl<F: Write> Write for OnDisk<'_, F> {
+    fn write(&mut self, buf: &[u8]) -> io::Result<usize> {
+        let count = self.disk.takes(buf.len())?;
+        self.file.write(&buf[..count])
+    }
+
+    fn flush(&mut self) -> io::Result<()> {
+        self.file.flush()
+    }
+}
+
+impl<F: Seek> Seek for OnDisk<'_, F> {
+    fn seek(&mut self, to: SeekFrom) -> io::Result<u64> {
+        self.file.seek(to)
+    }
+}
+
+impl<F: OpenFile> OpenFile for OnDisk<'_, F> {
+    fn metadata(&self) -> io::Result<Metadata> {
+        self.file.metadata()
+    }
+
+    fn set_len(&self, size: u64) -> io::Result<()> {
+        self.file.set_len(size)
+    }
+
+    fn sync_all(&self) -> io::Result<()> {
+        self.disk.syncs()?;
+        self.file.sync_all()
+    }
+
+    fn sync_data(&self) -> io::Result<()> {
+        self.disk.syncs()?;
+        self.file.sync_data()
+    }
+}
+
+/// A runtime over another one, all of whose files lie on the disk.
+#[derive(Drop)]
+pub struct OverDisk<'a, R> {
+    /// The other one.
+    pub rt: &'a R,
+    /// The disk.
+    pub disk: &'a Disk,
+}
+
+impl<R: AllocGlobal> Alloc for OverDisk<'_, R> {
+    type A = Global;
+
+    fn alloc(&self) -> Global {
+        self.rt.alloc()
+    }
+}
+
+impl<R: Threads> Threads for OverDisk<'_, R> {}
+
+impl<R: Wait> Wait for OverDisk<'_, R> {}
+
+impl<R: Net> Net for OverDisk<'_, R> {
+    type Stream = R::Stream;
+
+    type Listener = R::Listener;
+
+    fn bind(&self, addr: SocketAddr) -> io::Result<R::Listener> {
+        self.rt.bind(addr)
+    }
+
+    fn connect(&self, addr: SocketAddr) -> io::Result<R::Stream> {
+        self.rt.connect(addr)
+    }
+}
+
+impl<'a, R: Files> Files for OverDisk<'a, R> {
+    type File = OnDisk<'a, R::File>;
+
+    type Dir = R::Dir;
+
+    fn open_file(&self, how: &OpenOptions, path: &str) -> io::Result<OnDisk<'a, R::File>> {
+        Ok(OnDisk {
+            file: self.rt.open_file(how, path)?,
+            disk: self.disk,
+        })
+    }
+
+    fn open_dir(&self, path: &str) -> io::Result<R::Dir> {
+        self.rt.open_dir(path)
+    }
+
+    fn metadata(&self, path: &str) -> io::Result<Metadata> {
+        self.rt.metadata(path)
+    }
+
+    fn symlink_metadata(&self, path: &str) -> io::Result<Metadata> {
+        self.rt.symlink_metadata(path)
+    }
+
+    fn copy(&self, from: &str, to: &str) -> io::Result<u64> {
+        self.rt.copy(from, to)
+    }
+
+    fn rename(&self, from: &str, to: &str) -> io::Result<()> {
+        self.rt.rename(from, to)
+    }
+
+    fn remove_file(&self, path: &str) -> io::Result<()> {
+        self.rt.remove_file(path)
+    }
+
+    fn create_dir(&self, path: &str) -> io::Result<()> {
+        self.rt.create_dir(path)
+    }
+
+    fn remove_dir(&self, path: &str) -> io::Result<()> {
+        self.rt.remove_dir(path)
+    }
+
+    fn remove_dir_all<B: Allocator>(&self, alloc: B, path: &str) -> io::Result<()> {
+        self.rt.remove_dir_all(alloc, path)
+    }
+}
