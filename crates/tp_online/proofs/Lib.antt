@@ -1,3 +1,4 @@
 pub mod DurableLaws
+pub mod ProgramLaws
 pub mod ServedLines
 pub mod SessionLaws

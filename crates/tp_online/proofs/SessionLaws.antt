@@ -1,12 +1,12 @@
 -- What sessions on the seats of a served peer came to.
-use Rattle.std.proofs.Common.{◌≡◌, ℕ, suc, zero, ◌+◌, List, [], ◌∷◌, length, false, Result, Ok, Err, IfOk, refl, sym, ap, ◌∙◌, subst}
+use Rattle.std.proofs.Common.{◌≡◌, ℕ, suc, zero, ◌+◌, List, [], ◌∷◌, length, refl, sym, ap, ◌∙◌, subst}
 use Rattle.std.proofs.lemmas.List.{length-map}
 use Rattle.tp_peer.specs.PeerData.{PeerData}
 use Rattle.tp_net.specs.Turns.{AllSit}
-use Rattle.tp_served.specs.Calls.{AreOf, Closes}
-use Rattle.tp_served.specs.Seats.{SeatData, ServedData, fresh_from, seats_of, states_of}
+use Rattle.tp_served.specs.Calls.{AreOf}
+use Rattle.tp_served.specs.Seats.{SeatData, ServedData, fresh_from, seats_of}
 use Rattle.tp_served.proofs.SeatLaws.{AreOf-seats}
-use Rattle.tp_online.specs.Sessions.{EndsRunning, opened_seats}
+use Rattle.tp_online.specs.Sessions.{opened_seats}
 
 -- the seats of a served peer that was just opened are as many as its count
 fresh_long : (p : PeerData) (n count : ℕ) → length (fresh_from p n count) ≡ count
@@ -30,10 +30,3 @@ sat_long [] [] sat = refl
 sat_long [] (b ∷ back) sat = absurd sat
 sat_long (s ∷ seats) [] sat = absurd sat
 sat_long (s ∷ seats) (b ∷ back) sat = ap suc (sat_long seats back sat.1)
-
--- the peer that was given back isn't stopped
-pub ended_by : {E : Type 0} (r : Result PeerData E) (served : ServedData) (seats : List SeatData) (p : PeerData) → Closes served.opened served.count (states_of seats) p
-    → IfOk r (λ q. (q ≡ p) × (q.stopped ≡ false)) → IfOk r (λ q. EndsRunning served seats q)
-ended_by (Ok q) served seats p closes runs =
-    record { closes = subst (Closes served.opened served.count (states_of seats)) (sym runs.0) closes; runs = runs.1 }
-ended_by (Err e) served seats p closes runs = tt
