@@ -120,14 +120,14 @@ impl<F: OpenFile> OpenFile for OnDisk<'_, F> {
 
 /// A runtime over another one, all of whose files lie on the disk.
 #[derive(Drop)]
-pub struct OverDisk<'a, R> {
+pub struct OverDisk<'r, 'd, R> {
     /// The other one.
-    pub rt: &'a R,
+    pub rt: &'r R,
     /// The disk.
-    pub disk: &'a Disk,
+    pub disk: &'d Disk,
 }
 
-impl<R: AllocGlobal> Alloc for OverDisk<'_, R> {
+impl<R: AllocGlobal> Alloc for OverDisk<'_, '_, R> {
     type A = Global;
 
     fn alloc(&self) -> Global {
@@ -135,11 +135,11 @@ impl<R: AllocGlobal> Alloc for OverDisk<'_, R> {
     }
 }
 
-impl<R: Threads> Threads for OverDisk<'_, R> {}
+impl<R: Threads> Threads for OverDisk<'_, '_, R> {}
 
-impl<R: Wait> Wait for OverDisk<'_, R> {}
+impl<R: Wait> Wait for OverDisk<'_, '_, R> {}
 
-impl<R: Net> Net for OverDisk<'_, R> {
+impl<R: Net> Net for OverDisk<'_, '_, R> {
     type Stream = R::Stream;
 
     type Listener = R::Listener;
@@ -153,12 +153,12 @@ impl<R: Net> Net for OverDisk<'_, R> {
     }
 }
 
-impl<'a, R: Files> Files for OverDisk<'a, R> {
-    type File = OnDisk<'a, R::File>;
+impl<'d, R: Files> Files for OverDisk<'_, 'd, R> {
+    type File = OnDisk<'d, R::File>;
 
     type Dir = R::Dir;
 
-    fn open_file(&self, how: &OpenOptions, path: &str) -> io::Result<OnDisk<'a, R::File>> {
+    fn open_file(&self, how: &OpenOptions, path: &str) -> io::Result<OnDisk<'d, R::File>> {
         Ok(OnDisk {
             file: self.rt.open_file(how, path)?,
             disk: self.disk,

@@ -198,15 +198,17 @@ fn a_journal_fails_while_it_is_served(rt: HostRuntime) -> Result<(), Fail> {
         }
         assert!(rt; insert(&rt, "ida", "0", "ida ").status == 0);
         assert!(rt; insert(&rt, "joe", "3", " joe").status == 0);
-        let hal = OverDisk {
-            rt: &rt,
-            disk: &disk,
-        };
         let addr = free(&rt)?;
         let named = text_of(&rt, addr)?;
         let (served, ()) = join(
             &rt,
-            || serve(&hal, "hal", named.as_str(), "3"),
+            || {
+                let hal = OverDisk {
+                    rt: &rt,
+                    disk: &disk,
+                };
+                serve(&hal, "hal", named.as_str(), "3")
+            },
             || {
                 assert!(rt; sync(&rt, "ida", named.as_str()).printed("applied 0\n"));
                 let joe = sync_once(&rt, "joe", named.as_str());
