@@ -100,6 +100,7 @@ fn clients_that_keep_to_no_rule(rt: HostRuntime) -> Result<(), Fail> {
     ];
     assert!(rt; run(&rt, &text).status == 0);
     fs::copy(&rt, "dora", "eve")?;
+    let once = b"\x00\x00\x00\x01\x02".as_slice();
     let twice = b"\x00\x00\x00\x01\x02\x00\x00\x00\x01\x02".as_slice();
     let addr = free(&rt)?;
     let named = text_of(&rt, addr)?;
@@ -120,8 +121,7 @@ fn clients_that_keep_to_no_rule(rt: HostRuntime) -> Result<(), Fail> {
                 assert!(rt; is_wanted, "{sent:?}");
             }
             let back = stranger(&rt, addr, HELLO, twice);
-            let is_wanted = back.is_some_and(|bytes| bytes.strip_prefix(HELLO)
-                == Some(&twice[..5]));
+            let is_wanted = back.is_some_and(|bytes| bytes.strip_prefix(HELLO) == Some(once));
             assert!(rt; is_wanted);
             assert!(rt; sync_once(&rt, "eve", named.as_str()).printed("applied 0\n"));
         },
