@@ -4,7 +4,6 @@ use Rattle.std.specs.Ordering.{is_eq, nat_cmp}
 use Rattle.std.specs.Cmp.{nat_cmp_is}
 use Rattle.std.specs.List.{slice_get}
 use Rattle.std.specs.declared.cmp.Ordering.TheVariants.{Equal}
-use Rattle.std.proofs.lemmas.List.{append_assoc}
 use Rattle.std.proofs.lemmas.Map.Lookups.{exact_unsigned}
 use Rattle.std.proofs.lemmas.Map.Views.{tells_apart}
 use Rattle.tp_opid.specs.declared.actor.Actor.{Actor}
@@ -49,9 +48,6 @@ AreBelow-note old new word p notes below w q e = by (is_eq (nat_cmp word w)) ref
       let low : q < p = below w q (sym (notes w ∙ ap (λ b. cond b (Some p) (noted_word old w)) t) ∙ e) in
       omega arith
 
-pub AreBelow-more : (n : ℕ) (entries : List (ℕ × ℕ)) → AreBelow n entries → AreBelow (n + 1) entries
-AreBelow-more n entries below w p e = let low : p < n = below w p e in omega arith
-
 itself : (n : ℕ) → is_eq (nat_cmp n n) ≡ true
 itself n = ap is_eq (sym (nat_cmp_is n n Equal refl))
 
@@ -93,8 +89,3 @@ listed-note C c old new lists b a p free none notes at mine =
       by false t =
           let P : List ℕ = place_by C (noted_word old (actor_word a)) a in
           ap (λ ps. ps ++ places_of lists a) (append-nil P) ∙ sym (append-nil (P ++ places_of lists a))
-
--- ---- one more in a list
-
-pub listed-more : (ps was more now : List ℕ) → now ≡ was ++ more → ps ++ now ≡ ps ++ was ++ more
-listed-more ps was more now e = ap (λ xs. ps ++ xs) e ∙ sym (append_assoc ps was more)
