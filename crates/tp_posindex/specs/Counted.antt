@@ -10,17 +10,25 @@ pub record Counted : Type 0 where
 abbrev pub split_at : List ℕ → ℕ → ℕ → List ℕ
 split_at counts i back = insert (slice_set counts i (slice_index_or counts i 0 - back)) (i + 1) back
 
--- how many counts a group has
+-- how many counts a group has, and how many groups a range
 abbrev pub group_size : ℕ
 group_size = 128
 
--- The sums are those of the groups of counts that follow one another, as far as there are sums.
-abbrev pub AreSums : List ℕ → List ℕ → Type 0
-AreSums counts sums = (g : ℕ) → g ≤ length sums → sum (take g sums) ≡ sum (take (group_size * g) counts)
+abbrev pub range_size : ℕ
+range_size = 16
+
+-- The sums are those of the groups, each of so many counts that follow one another, as far as there are sums.
+abbrev pub AreSums : ℕ → List ℕ → List ℕ → Type 0
+AreSums size counts sums = (g : ℕ) → g ≤ length sums → sum (take g sums) ≡ sum (take (size * g) counts)
 
 -- Each group has its sum, and there are no further ones.
-pub record IsGrouped (counts sums : List ℕ) : Type 0 where
+pub record IsGrouped (size : ℕ) (counts sums : List ℕ) : Type 0 where
   pub fits : sum counts < 2 ^ 32
-  pub many : length counts ≤ group_size * length sums
-  pub few : group_size * length sums < length counts + group_size
-  pub summed : AreSums counts sums
+  pub many : length counts ≤ size * length sums
+  pub few : size * length sums < length counts + size
+  pub summed : AreSums size counts sums
+
+-- Each group of counts has its sum, and each range of groups.
+pub record IsSummed (counts sums range_sums : List ℕ) : Type 0 where
+  pub groups : IsGrouped group_size counts sums
+  pub ranges : IsGrouped range_size sums range_sums

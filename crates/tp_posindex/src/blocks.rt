@@ -206,8 +206,8 @@ impl Blocks {
         }
     }
 
-    /// The index in the whole list of the first number of a block. It passes over four bytes for each 128 blocks before,
-    /// and for up to 128 more.
+    /// The index in the whole list of the first number of a block. It passes over four bytes for each 2,048 blocks before,
+    /// and for up to 144 more.
     pub fn first_of(&self, block: usize) -> usize
         requires { block < length self.now.blocks }
         ensures { result ≡ index_at self.now.blocks block 0 }
@@ -216,7 +216,7 @@ impl Blocks {
     }
 
     /// Where the number at an index of the whole list stands, or `None` past its end. It passes over four bytes for each
-    /// 128 blocks before, and for up to 128 more.
+    /// 2,048 blocks before, and for up to 144 more.
     pub fn spot_at(&self, index: usize) -> Option<Spot>
         ensures found { IfSome result
             (λ s. (s.block < length self.now.blocks)
@@ -229,7 +229,7 @@ impl Blocks {
     }
 
     /// Where the number stands whose flag is down and before which `i` others have theirs down, or `None` where fewer
-    /// have. It passes over four bytes for each 128 blocks before, and for up to 128 more, and over one block.
+    /// have. It passes over four bytes for each 2,048 blocks before, and for up to 144 more, and over one block.
     pub fn nth_visible(&self, i: usize) -> Option<Spot>
         ensures found { IfSome result
             (λ s. (s.block < length self.now.blocks)
@@ -247,8 +247,8 @@ impl Blocks {
         }
     }
 
-    /// How many flags are down before a spot. It passes over four bytes for each 128 blocks before, and for up to 128
-    /// more, and over one block.
+    /// How many flags are down before a spot. It passes over four bytes for each 2,048 blocks before, and for up to
+    /// 144 more, and over one block.
     pub fn visible_before(&self, spot: Spot) -> usize
         requires block { spot.block < length self.now.blocks }
         requires offset { spot.offset ≤ length (block_at self.now.blocks spot.block) }

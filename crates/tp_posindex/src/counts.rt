@@ -1,7 +1,7 @@
 //! Counts in an order, with sums of groups of them.
 
 ghost use Rattle.std.specs.Prelude.{◌≡◌, ◌+◌, ◌-◌, ◌*◌, ◌^◌, ◌<◌, ◌≤◌, [], length, take, sum, insert, slice_set, slice_index_or, vec_capacity, IsOk, OnOk, IfSome, IfNone};
-ghost use Rattle.tp_posindex.specs.Counted.{group_size, AreSums, IsGrouped, split_at};
+ghost use Rattle.tp_posindex.specs.Counted.{AreSums, IsGrouped, split_at};
 
 use crate::numbers::{nth_counted, total};
 use std::alloc::{AllocError, Global};
@@ -10,30 +10,37 @@ use std::marker::Model;
 /// How many counts a group has.
 const GROUP: usize = 128;
 
+/// How many groups a range has.
+const RANGE: usize = 16;
+
 /// Counts in an order; together they are less than 4,294,967,296.
 ///
-/// The sum of each group of 128 counts that follow one another is kept. So what the first counts are together, and where
-/// the n-th of what is counted falls, take a pass over four bytes for each group before, and over one group. A count
-/// that is put in moves those behind it, and makes the sums from its group on anew.
+/// The sum of each group of 128 counts that follow one another is kept, and that of each range of 16 groups. So what the
+/// first counts are together, and where the n-th of what is counted falls, take a pass over four bytes for each range
+/// before, over one range and over one group. A count that is put in moves those behind it, and makes the sums from its
+/// group and its range on anew.
 #[derive(Drop)]
 pub(crate) struct Counts {
     counts: Vec<u32>,
     sums: Vec<u32>,
+    range_sums: Vec<u32>,
 }
 
 impl Model for Counts {
     ghost use Rattle.std.specs.Prelude.{◌-◌, ◌*◌, min};
     ghost use Rattle.std.specs.Vec.{vec_len, vec_capacity};
-    ghost use Rattle.tp_posindex.specs.Counted.{Counted, IsGrouped};
+    ghost use Rattle.tp_posindex.specs.Counted.{Counted, IsSummed};
 
     ghost Value = { Counted };
 
     ghost view = { λ c. record {
       counts = c.counts.items;
-      room = min (vec_capacity c.counts - vec_len c.counts) (128 * vec_capacity c.sums - vec_len c.counts);
+      room = min
+          (vec_capacity c.counts - vec_len c.counts)
+          (min (128 * vec_capacity c.sums - vec_len c.counts) (2048 * vec_capacity c.range_sums - vec_len c.counts));
     } };
 
-    ghost invariant = { λ c. IsGrouped c.counts.items c.sums.items };
+    ghost invariant = { λ c. IsSummed c.counts.items c.sums.items c.range_sums.items };
 }
 
 impl Counts {
@@ -44,6 +51,7 @@ impl Counts {
         Counts {
             counts: Vec::new(alloc),
             sums: Vec::new(alloc),
+            range_sums: Vec::new(alloc),
         }
     }
 
@@ -56,7 +64,10 @@ impl Counts {
     {
         self.counts.reserve(n)?;
         let groups = self.counts.len().saturating_add(n).div_ceil(GROUP);
-        self.sums.reserve(groups.saturating_sub(self.sums.len()))
+        self.sums.reserve(groups.saturating_sub(self.sums.len()))?;
+        let ranges = groups.div_ceil(RANGE);
+        self.range_sums
+            .reserve(ranges.saturating_sub(self.range_sums.len()))
     }
 
     /// The count at an index.
@@ -73,7 +84,10 @@ impl Counts {
         ensures { result ≡ sum (take index self.now.counts) }
     {
         let group = index / GROUP;
-        total(&self.sums[..group]) + total(&self.counts[group * GROUP..index])
+        let range = group / RANGE;
+        total(&self.range_sums[..range])
+            + total(&self.sums[range * RANGE..group])
+            + total(&self.counts[group * GROUP..index])
     }
 
     /// The index of the count in which the `n`-th of what is counted falls, from 0, and how many of it come before in
@@ -85,7 +99,8 @@ impl Counts {
             × (r.1 < slice_index_or self.now.counts r.0 0)) }
         ensures none { IfNone result (sum self.now.counts ≤ n) }
     {
-        let (group, left) = nth_counted(&self.sums, 0, n)?;
+        let (range, left) = nth_counted(&self.range_sums, 0, n)?;
+        let (group, left) = nth_counted(&self.sums, range * RANGE, left)?;
         nth_counted(&self.counts, group * GROUP, left)
     }
 
@@ -97,8 +112,10 @@ impl Counts {
             ≡ slice_set self.old.counts index (slice_index_or self.old.counts index 0 + 1) }
         ensures room { self.new.room ≡ self.old.room }
     {
+        let group = index / GROUP;
         self.counts[index] += 1;
-        self.sums[index / GROUP] += 1;
+        self.sums[group] += 1;
+        self.range_sums[group / RANGE] += 1;
     }
 
     /// Takes something off a count.
@@ -109,8 +126,10 @@ impl Counts {
             ≡ slice_set self.old.counts index (slice_index_or self.old.counts index 0 - by) }
         ensures room { self.new.room ≡ self.old.room }
     {
+        let group = index / GROUP;
         self.counts[index] -= by;
-        self.sums[index / GROUP] -= by;
+        self.sums[group] -= by;
+        self.range_sums[group / RANGE] -= by;
     }
 
     /// Puts a count in at an index. It takes no memory.
@@ -124,8 +143,11 @@ impl Counts {
         if self.counts.insert(index, count).is_err() {
             unreachable!()
         }
-        self.sums.truncate(index / GROUP);
-        sum_up(&self.counts, &mut self.sums);
+        let group = index / GROUP;
+        self.sums.truncate(group);
+        sum_up(&self.counts, GROUP, &mut self.sums);
+        self.range_sums.truncate(group / RANGE);
+        sum_up(&self.sums, RANGE, &mut self.range_sums);
     }
 
     /// Takes something off a count, and puts it in as the next count. It takes no memory.
@@ -142,20 +164,21 @@ impl Counts {
     }
 }
 
-/// Adds the sums of the groups that have none. It takes no memory.
-fn sum_up(counts: &[u32], sums: &mut Vec<u32>)
+/// Adds the sums of the groups of so many counts that have none. It takes no memory.
+fn sum_up(counts: &[u32], size: usize, sums: &mut Vec<u32>)
+    requires size { 0 < size }
     requires fits { sum counts.now < 2 ^ 32 }
-    requires few { group_size * length sums.old.items < length counts.now + group_size }
-    requires room { length counts.now ≤ group_size * vec_capacity sums.old }
-    requires begun { AreSums counts.now sums.old.items }
-    ensures grouped { IsGrouped counts.now sums.new.items }
+    requires few { size * length sums.old.items < length counts.now + size }
+    requires room { length counts.now ≤ size * vec_capacity sums.old }
+    requires begun { AreSums size counts.now sums.old.items }
+    ensures grouped { IsGrouped size counts.now sums.new.items }
     ensures capacity { vec_capacity sums.old ≤ vec_capacity sums.new }
 {
-    let groups = counts.len().div_ceil(GROUP);
+    let groups = counts.len().div_ceil(size);
     'groups: while sums.len() < groups {
-        let from = sums.len() * GROUP;
-        let size = GROUP.min(counts.len() - from);
-        let sum = total(&counts[from..from + size]) as u32;
+        let from = sums.len() * size;
+        let whole = size.min(counts.len() - from);
+        let sum = total(&counts[from..from + whole]) as u32;
         if sums.push(sum).is_err() {
             unreachable!()
         }

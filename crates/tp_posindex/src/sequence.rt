@@ -19,9 +19,9 @@ use tp_rga::{Element, Sequence};
 /// A sequence whose elements stand in blocks of up to 128, at most 4,294,967,295 of them with the deleted ones.
 ///
 /// An insert moves no element, and at most 128 numbers of four bytes; it splits a full block into two of 64. A look-up
-/// by identifier takes as many steps as the logarithm of how many elements its actor has, and a pass over the actors.
-/// What goes by position, and where an element stands, passes over four bytes for each block before it and looks into one
-/// block; `len` and `all` pass over nothing.
+/// by identifier takes as many steps as the logarithms of how many elements its actor has and of how many actors there are.
+/// What goes by position, and where an element stands, passes over four bytes for each 2,048 blocks before it and for up
+/// to 144 more, and looks into one block; `len` and `all` pass over nothing.
 #[derive(Drop)]
 pub struct BlockSequence {
     elements: Elements,
@@ -59,8 +59,8 @@ impl BlockSequence {
         self.blocks.count()
     }
 
-    /// What the block with a number, in list order from 0, holds; `None` past the last block. It adds up the lengths
-    /// of the blocks before.
+    /// What the block with a number, in list order from 0, holds; `None` past the last block. It passes over four
+    /// bytes for each 2,048 blocks before, and for up to 144 more.
     pub fn block(&self, i: usize) -> Option<BlockInfo>
         ensures { MatchOption result (length self.now.blocks ≤ i) (IsInfoOf self.now i) }
     {
@@ -75,7 +75,7 @@ impl BlockSequence {
     }
 
     /// The number of the block, in list order from 0, that holds the element with an identifier, deleted or not; `None`
-    /// where no element has it. It passes over four bytes for each block before.
+    /// where no element has it. It takes a look-up, and passes over one block.
     pub fn block_of(&self, id: &OpId) -> Option<usize>
         ensures { MatchOption result
             (IsNew (joined self.now.blocks) id.now)

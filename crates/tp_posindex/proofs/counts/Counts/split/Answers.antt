@@ -13,7 +13,7 @@ insert-requires-clause-fits c =
     let s = c.self.inside in
     let i = c.args.index in
     let C = c.args.self.now.counts in
-    let fits : total C < 2 ^ 32 = subst (λ (v : Counted). total v.counts < 2 ^ 32) c.self.view_is c.self.invariant.fits in
+    let fits : total C < 2 ^ 32 = subst (λ (v : Counted). total v.counts < 2 ^ 32) c.self.view_is c.self.invariant.groups.fits in
     let is = ap total c.lower.ensures.counts in
     let set = sum-set C i (get_or C i 0 - c.args.back) c.requires.index in
     omega (arith, is, set, fits, c.requires.enough)
