@@ -24,11 +24,20 @@ use tp_store::StoreError;
 /// answered Ok.
 ///
 /// Contracts see its content and how often its device failed.
-#[derive(Drop)]
 pub struct FileJournal<F: Write + OpenFile + Drop> {
     file: F,
     copy: Vec<u8>,
     failures: u64,
+}
+
+impl<F: Write + OpenFile + Drop> Drop for FileJournal<F> {
+    fn drop(self) {
+        let FileJournal {
+            file: _,
+            copy: _,
+            failures: _,
+        } = self;
+    }
 }
 
 impl<F: Write + OpenFile + Drop> Model for FileJournal<F> {

@@ -5,6 +5,7 @@
 //! next recovery. docs/FORMATS.md says every byte.
 #![tactic(auto)]
 
+mod durable;
 mod file;
 mod journal;
 mod laws;
@@ -16,6 +17,7 @@ mod recovering;
 mod tests;
 mod writing;
 
+pub use durable::DurableJournal;
 pub use file::FileJournal;
 pub use journal::Journal;
 pub use laws::{

@@ -1,11 +1,9 @@
-//! The program but for its `main`: the commands over a network, by TCP and threads, and all others as tp_commands does them.
+//! The program but for its `main`: the network of its commands, TCP and threads, on journals whose appends are on the disk.
 #![tactic(auto)]
 
-mod durable;
 mod listening;
-mod program;
 mod seating;
 mod serving;
+mod tcp;
 
-pub use durable::DurableJournal;
-pub use program::{run, run_words_on};
+pub use tcp::{Tcp, run};

@@ -1,0 +1,13 @@
+use Rattle.std.proofs.Common.{inl, inr, ⊎_elim}
+use Rattle.tp_command_line.specs.LineError.{parser_fault}
+use Rattle.tp_shell.proofs.HelpWords.{help_asked}
+use Rattle.tp_shell.proofs.program.run_words_on.Goals as goal
+
+-- what explains a fault leaves the output, or was asked for help
+pub returns-in-Err-clause-refused : goal.returns-in-Err-clause-refused
+returns-in-Err-clause-refused g c refused =
+    let r = c.explain.ensures.refused refused in (
+      r.0,
+      r.1,
+      ⊎_elim (λ kept. inl kept) (λ told. inr (inl (told.0, help_asked _ (parser_fault c.in-Err.fault) c.in-Err.ensures.fails told.1))) r.2,
+    )
