@@ -4,7 +4,7 @@ use crate::lists::hashes;
 use crate::world::World;
 use tp_document::{Cursor, DocError};
 use tp_rga::Sequence;
-use tp_runner::{Fault, Shelf, Words, count, put_id, refusal};
+use tp_test_runner::{Fault, Shelf, Words, count, put_id, refusal};
 
 // Gives a cursor its name, and answers the element that it stands at, or why there is none.
 fn keep(

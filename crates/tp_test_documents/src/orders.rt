@@ -1,26 +1,24 @@
 //! The call `orders`: documents that receive changes in each order.
 
-use crate::history::text_of;
-use crate::lists::changes;
 use crate::world::World;
 use std::alloc::Global;
 use tp_change::Change;
 use tp_document::{Applied, DocError, Document};
 use tp_opid::DocId;
 use tp_rga::Sequence;
-use tp_runner::{Fault, Words, copy, refusal};
+use tp_test_runner::{Fault, Words, copies, copy, refusal, text_of};
 
-fn copies(alloc: Global, all: &[Change]) -> Result<Vec<Change>, Fault> {
-    let mut copies = Vec::new(alloc);
+fn copied(alloc: Global, all: &[Change]) -> Result<Vec<Change>, Fault> {
+    let mut made = Vec::new(alloc);
     for change in all {
-        copies.push(copy(change)?)?;
+        made.push(copy(change)?)?;
     }
-    Ok(copies)
+    Ok(made)
 }
 
 // The changes in their order number `turn`: at each step the number says which of those that are left comes.
 fn ordered(alloc: Global, all: &[Change], turn: usize) -> Result<Vec<Change>, Fault> {
-    let mut left = copies(alloc, all)?;
+    let mut left = copied(alloc, all)?;
     let mut made = Vec::new(alloc);
     let mut turn = turn;
     for _ in all {
@@ -131,7 +129,7 @@ fn in_all_orders<S: Sequence>(alloc: Global, all: &[Change], first: &str) -> Res
 /// `orders CHANGES`: the text of new documents that receive the changes, in each order of theirs, one by one and as one
 /// list; `TEXT and TEXT` are the first two that differ.
 pub fn call<S: Sequence>(world: &World<S>, words: &mut Words) -> Result<String, Fault> {
-    let all = changes(world, words.next()?)?;
+    let all = copies(&world.changes, &world.documents, words.next()?)?;
     let first = text_in_order::<S>(world.alloc, &all, 0, true)?;
     in_all_orders::<S>(world.alloc, &all, first.as_str())
 }

@@ -3,21 +3,9 @@
 use crate::lists::hashes;
 use crate::world::World;
 use std::alloc::Global;
-use tp_document::{DocError, Document};
+use tp_document::Document;
 use tp_rga::Sequence;
-use tp_runner::{Fault, Words, count, done, names, names_of, quoted, refusal};
-
-fn answer_text(alloc: Global, answer: Result<String, DocError>) -> Result<String, Fault> {
-    match answer {
-        Ok(text) => quoted(alloc, text.as_str()),
-        Err(error) => refusal(alloc, error),
-    }
-}
-
-/// The text of a document, or the refusal.
-pub fn text_of<S: Sequence>(alloc: Global, document: &Document<S>) -> Result<String, Fault> {
-    answer_text(alloc, document.text())
-}
+use tp_test_runner::{Fault, Words, answer_text, count, done, names, names_of, refusal};
 
 // `text_at DOCUMENT HASHES`.
 fn text_at<S: Sequence>(
@@ -100,15 +88,11 @@ pub fn call<S: Sequence>(
     words: &mut Words,
 ) -> Result<String, Fault> {
     match word {
-        "text" => text_of(world.alloc, document),
         "text_at" => text_at(document, world, words),
         "len" => len(world.alloc, document),
         "char_at" => char_at(world.alloc, document, words),
         "position" => position(document, world, words),
         "check" => check(document, world, words),
-        "heads" => names(&world.changes, document.heads()),
-        "changes" => names_of(&world.changes, document.changes()),
-        "pending" => names_of(&world.changes, document.pending()),
         "missing" => missing(document, world),
         "since" => since(document, world, words),
         _ => Err(Fault::Row("no such call")),

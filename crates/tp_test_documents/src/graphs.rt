@@ -5,7 +5,9 @@ use std::alloc::Global;
 use tp_change::Change;
 use tp_graph::Graph;
 use tp_rga::Sequence;
-use tp_runner::{Fault, Shelf, Words, actor, copy, count, done, hashes, names, names_of, refusal};
+use tp_test_runner::{
+    Fault, Shelf, Words, actor, copy, count, done, hashes, names, names_of, refusal,
+};
 
 // `graph NAME`: a graph with no changes.
 fn make(graphs: &mut Shelf<Graph>, words: &mut Words) -> Result<String, Fault> {

@@ -5,7 +5,7 @@ use std::fmt::Display;
 use tp_document::{DocError, KeepError};
 use tp_graph::GraphError;
 use tp_receive::ReceiveError;
-use tp_runner::{Fault, Words, put_error};
+use tp_test_runner::{Fault, Words, put_error};
 
 // Adds the name of an error.
 fn put_name(out: &mut String, error: impl Display + Drop) -> Result<(), Fault> {
@@ -68,8 +68,8 @@ fn of_receiving(out: &mut String) -> Result<(), Fault> {
     Ok(())
 }
 
-// `errors WHAT`: the numbers and names of what may be refused.
-fn list(alloc: Global, words: &mut Words) -> Result<String, Fault> {
+/// `errors WHAT`: the numbers and names of what may be refused.
+pub fn call(alloc: Global, words: &mut Words) -> Result<String, Fault> {
     let mut out = String::new(alloc);
     match words.next()? {
         "graph" => of_graphs(&mut out)?,
@@ -78,12 +78,4 @@ fn list(alloc: Global, words: &mut Words) -> Result<String, Fault> {
         _ => return Err(Fault::Row("no such errors")),
     }
     Ok(out)
-}
-
-/// Makes a call on errors; `None` where the word is none of these.
-pub fn call(alloc: Global, word: &str, words: &mut Words) -> Option<Result<String, Fault>> {
-    match word {
-        "errors" => Some(list(alloc, words)),
-        _ => None,
-    }
 }

@@ -1,66 +1,13 @@
 //! Calls that receive: lists that are applied, and merges.
 
-use crate::keepers::Few;
-use crate::lists::changes;
 use crate::world::World;
 use std::alloc::Global;
-use std::fmt::Display;
 use tp_change::Change;
 use tp_document::{Applied, DocError, Document};
-use tp_graph::{Graph, GraphError};
-use tp_opid::Hash;
+use tp_graph::Graph;
 use tp_receive::{ReceiveError, receive};
 use tp_rga::Sequence;
-use tp_runner::{Fault, Shelf, Words, count, put_name, put_names, refusal};
-
-/// More refusals than this are printed as their number.
-const MOST_REFUSED: usize = 12;
-
-fn put_refused(
-    changes: &Shelf<Change>,
-    out: &mut String,
-    refused: &[(Hash, GraphError)],
-) -> Result<(), Fault> {
-    let count = refused.len();
-    if count > MOST_REFUSED {
-        write!(out, "[{count} changes]")?;
-        return Ok(());
-    }
-    out.push('[')?;
-    for (i, (hash, error)) in refused.iter().enumerate() {
-        if i > 0 {
-            out.push(',')?;
-        }
-        put_name(changes, out, hash)?;
-        write!(out, ":{error}")?;
-    }
-    out.push(']')?;
-    Ok(())
-}
-
-// What became of the changes: `entered [..] held [..] refused [..]`.
-fn put_applied(changes: &Shelf<Change>, out: &mut String, applied: &Applied) -> Result<(), Fault> {
-    out.push_str("entered ")?;
-    put_names(changes, out, &applied.applied)?;
-    out.push_str(" held ")?;
-    put_names(changes, out, &applied.held)?;
-    out.push_str(" refused ")?;
-    put_refused(changes, out, &applied.refused)
-}
-
-fn reply<E: Display + Drop>(
-    changes: &Shelf<Change>,
-    answer: Result<Applied, E>,
-) -> Result<String, Fault> {
-    match answer {
-        Ok(applied) => {
-            let mut out = String::new(changes.alloc());
-            put_applied(changes, &mut out, &applied)?;
-            Ok(out)
-        }
-        Err(error) => refusal(changes.alloc(), error),
-    }
-}
+use tp_test_runner::{Fault, Few, Shelf, Words, copies, count, reply};
 
 // A graph receives.
 fn receive_some(
@@ -92,7 +39,7 @@ fn apply<S: Sequence>(
     words: &mut Words,
 ) -> Result<String, Fault> {
     let on = words.next()?;
-    let came = changes(world, words.next()?)?;
+    let came = copies(&world.changes, &world.documents, words.next()?)?;
     if let Ok(graph) = world.graphs.get_mut(on) {
         let answer = receive_some(world.alloc, graph, left.unwrap_or(usize::MAX), came);
         return reply(&world.changes, answer);

@@ -1,11 +1,10 @@
 //! Calls that show all elements of a text, deleted ones among them.
 
-use crate::lists::range;
 use crate::world::World;
 use std::alloc::Global;
 use tp_change::{Change, Op};
 use tp_rga::{Element, Sequence};
-use tp_runner::{Fault, Shelf, Words, done, put_id};
+use tp_test_runner::{Fault, Shelf, Words, done, put_id, range};
 
 // Puts an operation into a sequence that has what it refers to.
 fn put_op<S: Sequence>(sequence: &mut S, op: Op) -> Result<(), Fault> {

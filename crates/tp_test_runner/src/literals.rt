@@ -12,6 +12,11 @@ pub fn number(word: &str) -> Result<u64, Fault> {
     word.parse::<u64>().ok().ok_or(Fault::Row("no number"))
 }
 
+/// A number up to 255.
+pub fn byte(word: &str) -> Result<u8, Fault> {
+    word.parse::<u8>().ok().ok_or(Fault::Row("no number"))
+}
+
 /// A number of things in memory.
 pub fn count(word: &str) -> Result<usize, Fault> {
     word.parse::<usize>().ok().ok_or(Fault::Row("no number"))
