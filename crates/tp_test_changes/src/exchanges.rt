@@ -1,11 +1,10 @@
 //! The call `exchange`.
 
-use crate::replies::put_applied;
 use crate::world::{Doc, World};
 use std::alloc::Global;
 use tp_change::Change;
-use tp_runner::{Fault, Shelf, Words, refusal};
 use tp_sync::{Exchanged, SyncError, exchange};
+use tp_test_runner::{Fault, Shelf, Words, put_applied, refusal};
 
 // Takes out the first document, so that the second one can be lent beside it.
 fn exchange_named(
@@ -34,16 +33,9 @@ fn exchanged(changes: &Shelf<Change>, done: &Exchanged) -> Result<String, Fault>
     Ok(out)
 }
 
-/// Makes the call `exchange DOCUMENT DOCUMENT`, which answers what entered, is held and was refused in the first and in
-/// the second one, and `cut` where changes were left out; `None` where the word is another.
-pub fn call(world: &mut World, word: &str, words: &mut Words) -> Option<Result<String, Fault>> {
-    match word {
-        "exchange" => Some(make(world, words)),
-        _ => None,
-    }
-}
-
-fn make(world: &mut World, words: &mut Words) -> Result<String, Fault> {
+/// The call `exchange DOCUMENT DOCUMENT`, which answers what entered, is held and was refused in the first and in the
+/// second one, and `cut` where changes were left out.
+pub fn call(world: &mut World, words: &mut Words) -> Result<String, Fault> {
     let (a, b) = (words.next()?, words.next()?);
     match exchange_named(world.alloc, &mut world.documents, a, b)? {
         Ok(done) => exchanged(&world.changes, &done),

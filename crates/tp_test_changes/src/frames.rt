@@ -4,7 +4,7 @@ use bytes::Bytes;
 use std::alloc::Global;
 use tp_frame::Frame;
 use tp_opid::DocId;
-use tp_runner::{Fault, Shelf};
+use tp_test_runner::{Fault, Shelf, byte};
 
 // Adds the name of the bytes, or their number where no bytes of that kind have one.
 fn put_bytes(shelf: &Shelf<Vec<u8>>, out: &mut String, content: &[u8]) -> Result<(), Fault> {
@@ -42,15 +42,11 @@ pub fn put_frame(shelf: &Shelf<Vec<u8>>, out: &mut String, frame: &Frame) -> Res
     }
 }
 
-fn small(word: &str) -> Result<u8, Fault> {
-    word.parse::<u8>().ok().ok_or(Fault::Row("no number"))
-}
-
 fn hello(word: &str) -> Result<Frame, Fault> {
     let fault = Fault::Row("no hello");
     let (version, digits) = word.split_once(':').ok_or(fault)?;
     Ok(Frame::Hello {
-        version: small(version)?,
+        version: byte(version)?,
         id: DocId::from_text(digits).ok().ok_or(fault)?,
     })
 }
@@ -62,7 +58,7 @@ pub fn frame(shelf: &Shelf<Vec<u8>>, word: &str) -> Result<Frame, Fault> {
     }
     match word.split_once(':').ok_or(Fault::Row("no frame"))? {
         ("hello", rest) => hello(rest),
-        ("refusal", code) => Ok(Frame::Refusal(small(code)?)),
+        ("refusal", code) => Ok(Frame::Refusal(byte(code)?)),
         ("sync", name) => {
             let content = shelf.get(name)?;
             Ok(Frame::Sync(Bytes::copy_from_slice(shelf.alloc(), content)?))

@@ -4,7 +4,7 @@ use crate::world::World;
 use std::alloc::Global;
 use tp_change::Change;
 use tp_opid::Hash;
-use tp_runner::{Fault, Shelf, Words, count, done, hashes, inside};
+use tp_test_runner::{Fault, Shelf, Words, count, done, hashes, inside};
 
 fn put_count(out: &mut Vec<u8>, count: usize) -> Result<(), Fault> {
     let count = u32::try_from(count).ok().ok_or(Fault::Row("too many"))?;
@@ -68,18 +68,10 @@ fn laid_out(alloc: Global, changes: &Shelf<Change>, words: &mut Words) -> Result
     Ok(out)
 }
 
-// `laid_out NAME HASHES HASHES CHANGES`: the bytes of a message with these heads, wants and changes.
-fn keep(world: &mut World, words: &mut Words) -> Result<String, Fault> {
+/// `laid_out NAME HASHES HASHES CHANGES`: the bytes of a message with these heads, wants and changes.
+pub fn call(world: &mut World, words: &mut Words) -> Result<String, Fault> {
     let name = words.next()?;
     let bytes = laid_out(world.alloc, &world.changes, words)?;
     world.bytes.put(name, bytes)?;
     done(world.alloc)
-}
-
-/// Makes such a call; `None` where the word is none of these.
-pub fn call(world: &mut World, word: &str, words: &mut Words) -> Option<Result<String, Fault>> {
-    match word {
-        "laid_out" => Some(keep(world, words)),
-        _ => None,
-    }
 }

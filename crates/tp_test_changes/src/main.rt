@@ -1,17 +1,19 @@
-//! Runs rows of data on messages, sync states, exchanges and frames: calls, and the answers that the rules give.
-//! `tp_sync_rows FILE..` prints each row that answers otherwise, and how many rows each file has.
+//! Runs rows of data on changes and on what carries them: identifiers, bytes, splices, logs, messages, sync states,
+//! exchanges and frames. The rows are calls, and the answers that the rules give. `tp_test_changes FILE..` prints each row
+//! that answers otherwise, and how many rows each file has.
 #![tactic(auto)]
 
-mod altering;
+mod changes;
 mod documents;
-mod edits;
 mod errors;
 mod exchanges;
-mod few;
 mod frames;
+mod identifiers;
+mod judges;
 mod layouts;
+mod logs;
 mod messages;
-mod replies;
+mod splices;
 mod states;
 mod streams;
 mod world;
@@ -21,5 +23,5 @@ use std::process::ExitCode;
 
 fn main(rt: HostRuntime) -> ExitCode {
     let world = World::new(rt.alloc());
-    ExitCode::from(tp_runner::run(&rt, world))
+    ExitCode::from(tp_test_runner::run(&rt, world))
 }

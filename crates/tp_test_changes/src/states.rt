@@ -1,13 +1,11 @@
 //! Calls on sync states: messages are made and received.
 
-use crate::few::Few;
 use crate::messages::{copied, put_message};
-use crate::replies::applied;
 use crate::world::{Doc, World};
 use tp_change::Change;
 use tp_document::Applied;
-use tp_runner::{Fault, Shelf, Words, count, done, names, refusal};
 use tp_sync::{Message, SyncError, SyncState, generate, receive, receive_with};
+use tp_test_runner::{Fault, Few, Shelf, Words, count, done, names, refusal, reply};
 
 // `state NAME`: a fresh one.
 fn make(states: &mut Shelf<SyncState>, words: &mut Words) -> Result<String, Fault> {
@@ -86,10 +84,8 @@ fn take(world: &mut World, left: Option<usize>, words: &mut Words) -> Result<Str
         Ok(message) => message,
         Err(error) => return refusal(alloc, error),
     };
-    match receive_copy(document, state, message, left) {
-        Ok(reply) => applied(&world.changes, &reply),
-        Err(error) => refusal(alloc, error),
-    }
+    let answer = receive_copy(document, state, message, left);
+    reply(&world.changes, answer)
 }
 
 fn take_few(world: &mut World, words: &mut Words) -> Result<String, Fault> {

@@ -4,7 +4,7 @@ use crate::frames::{frame, put_frame};
 use crate::world::World;
 use std::alloc::Global;
 use tp_frame::{FrameError, Framer, write_frame};
-use tp_runner::{Fault, Runs, Shelf, Words, done, refusal};
+use tp_test_runner::{Fault, Judge, Runs, Shelf, Words, done, keep_bytes, of_cuts, refusal};
 
 // `stream NAME FRAME..`: the bytes of the frames, one after another; answers how many there are.
 fn stream(world: &mut World, words: &mut Words) -> Result<String, Fault> {
@@ -17,9 +17,7 @@ fn stream(world: &mut World, words: &mut Words) -> Result<String, Fault> {
             Err(error) => return refusal(alloc, error),
         }
     }
-    let len = whole.len();
-    world.bytes.put(name, whole)?;
-    Ok(format!(in alloc; "{len} bytes")?)
+    keep_bytes(&mut world.bytes, name, whole)
 }
 
 // Adds a blank behind what is there.
@@ -120,14 +118,14 @@ fn at_each_place(shelf: &Shelf<Vec<u8>>, whole: &[u8]) -> Result<String, Fault> 
     runs.end()
 }
 
-// The frames that each prefix of the stream gives.
-fn of_prefixes(shelf: &Shelf<Vec<u8>>, whole: &[u8]) -> Result<String, Fault> {
-    let mut runs = Runs::new(shelf.alloc(), 0);
-    for at in 0..=whole.len() {
-        let (first, _) = whole.split_at(at);
-        runs.add(in_one(shelf, first)?)?;
+/// Answers for bytes by the frames that they give.
+#[derive(Clone, Copy, Drop)]
+struct InOne<'a>(&'a Shelf<Vec<u8>>);
+
+impl Judge for InOne<'_> {
+    fn judge(&self, bytes: &[u8]) -> Result<String, Fault> {
+        in_one(self.0, bytes)
     }
-    runs.end()
 }
 
 // `frames BYTES`, `frames_by_byte BYTES`, `frames_parted BYTES`, `frames_cut BYTES`: the frames that the bytes give,
@@ -138,7 +136,7 @@ fn frames(shelf: &Shelf<Vec<u8>>, word: &str, words: &mut Words) -> Result<Strin
         "frames" => in_one(shelf, whole),
         "frames_by_byte" => by_byte(shelf, whole),
         "frames_parted" => at_each_place(shelf, whole),
-        _ => of_prefixes(shelf, whole),
+        _ => of_cuts(shelf.alloc(), &InOne(shelf), whole),
     }
 }
 

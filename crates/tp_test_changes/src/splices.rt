@@ -2,7 +2,7 @@
 
 use std::alloc::Global;
 use tp_edit::{asks_nothing, in_range, operation_count};
-use tp_runner::{Fault, Words, count, lent, splices};
+use tp_test_runner::{Fault, Words, count, lent, splices};
 
 // `in_range LEN SPLICE..`: whether each stands in the text that the ones before it leave, of so many characters.
 fn range(alloc: Global, words: &mut Words) -> Result<String, Fault> {

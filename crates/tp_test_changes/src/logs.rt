@@ -1,10 +1,9 @@
 //! Calls on logs and what is shown of them.
 
-use crate::bytes::altered;
 use std::alloc::Global;
 use std::io;
 use std::io::{ErrorKind, Read, Write};
-use tp_runner::{Fault, Runs, Shelf, Words, count, quoted, refusal};
+use tp_test_runner::{Fault, Runs, Shelf, Words, count, quoted, refusal};
 use tp_textpeer::{Refusal, ShowError, show};
 
 // A reader that gives a byte at each call, and fails at one of them, counted from 0.
@@ -85,42 +84,12 @@ fn roomy(alloc: Global, log: &[u8]) -> Result<Vec<u8>, Fault> {
     Ok(Vec::with_capacity(alloc, room)?)
 }
 
-// What is shown of a log.
-fn shown(alloc: Global, log: &[u8]) -> Result<String, Fault> {
+/// What is shown of a log.
+pub fn shown(alloc: Global, log: &[u8]) -> Result<String, Fault> {
     let mut reader = log;
     let mut out = roomy(alloc, log)?;
     let shown = show(alloc, &mut reader, &mut out);
     answer(alloc, shown, &out)
-}
-
-// `show_cuts NAME`: what is shown of each prefix of the log, the whole the last.
-fn cuts(alloc: Global, whole: &[u8]) -> Result<String, Fault> {
-    let mut runs = Runs::new(alloc, 0);
-    for (len, _) in whole.iter().enumerate() {
-        runs.add(shown(alloc, &whole[..len])?)?;
-    }
-    runs.add(shown(alloc, whole)?)?;
-    runs.end()
-}
-
-// `show_complements NAME`: what is shown of the log with each of its bytes complemented, by its offset.
-fn complements(alloc: Global, whole: &[u8]) -> Result<String, Fault> {
-    let mut runs = Runs::new(alloc, 0);
-    for (at, byte) in whole.iter().enumerate() {
-        add_complement(alloc, &mut runs, whole, at, *byte)?;
-    }
-    runs.end()
-}
-
-fn add_complement(
-    alloc: Global,
-    runs: &mut Runs,
-    whole: &[u8],
-    at: usize,
-    byte: u8,
-) -> Result<(), Fault> {
-    let changed = altered(alloc, whole, at, &[!byte])?;
-    runs.add(shown(alloc, &changed)?)
 }
 
 // `show_reader_fails NAME TIMES`: what is shown where the reader fails at its call 0, 1 and so on.
@@ -173,29 +142,24 @@ fn shown_until_writer_fails(
     answer(alloc, shown, &writer.taken)
 }
 
-/// Makes a call on logs; `None` where the word is none of these.
+fn fails(shelf: &Shelf<Vec<u8>>, word: &str, words: &mut Words) -> Result<String, Fault> {
+    let whole = shelf.get(words.next()?)?;
+    let times = count(words.next()?)?;
+    if word == "show_reader_fails" {
+        reader_fails(shelf.alloc(), whole, times)
+    } else {
+        writer_fails(shelf.alloc(), whole, times)
+    }
+}
+
+/// Makes a call that shows a log with a reader or a writer that fails; `None` where the word is none of these.
 pub fn call(
     shelf: &Shelf<Vec<u8>>,
     word: &str,
     words: &mut Words,
 ) -> Option<Result<String, Fault>> {
-    if word.starts_with("show") {
-        Some(call_on(shelf, word, words))
-    } else {
-        None
-    }
-}
-
-// `show NAME` is what is shown of the log.
-fn call_on(shelf: &Shelf<Vec<u8>>, word: &str, words: &mut Words) -> Result<String, Fault> {
-    let alloc = shelf.alloc();
-    let whole = shelf.get(words.next()?)?;
     match word {
-        "show" => shown(alloc, whole),
-        "show_cuts" => cuts(alloc, whole),
-        "show_complements" => complements(alloc, whole),
-        "show_reader_fails" => reader_fails(alloc, whole, count(words.next()?)?),
-        "show_writer_fails" => writer_fails(alloc, whole, count(words.next()?)?),
-        _ => Err(Fault::Row("no such call")),
+        "show_reader_fails" | "show_writer_fails" => Some(fails(shelf, word, words)),
+        _ => None,
     }
 }
