@@ -2,7 +2,7 @@
 
 use crate::world::World;
 use tp_document::{Cursor, DocError};
-use tp_runner::{Fault, Shelf, Words, count, hashes, put_id, refusal};
+use tp_test_runner::{Fault, Shelf, Words, count, hashes, put_id, refusal};
 
 // Gives a cursor its name, and answers the element that it stands at, or why there is none.
 fn keep(

@@ -18,6 +18,18 @@ pub struct FaultyJournal {
     pub keeps: usize,
 }
 
+impl FaultyJournal {
+    /// A journal with these bytes, whose device never fails.
+    pub fn new(bytes: Vec<u8>) -> FaultyJournal {
+        FaultyJournal {
+            memory: MemJournal::new(bytes),
+            failures: 0,
+            succeeds: None,
+            keeps: 0,
+        }
+    }
+}
+
 impl Journal for FaultyJournal {
     ghost content = { λ j. j.memory };
 

@@ -3,15 +3,15 @@
 use crate::peers::put_applied;
 use crate::world::{RowPeer, World};
 use std::alloc::Global;
+use std::fmt::Display;
 use tp_change::Change;
 use tp_peer::{Link, Outgoing, PeerError, Received};
-use tp_runner::{Fault, Shelf, Words, done, number, refusal};
+use tp_test_runner::{Fault, Shelf, Words, done, number, refusal};
 
 fn link(words: &mut Words) -> Result<Link, Fault> {
     Ok(Link(number(words.next()?)?))
 }
 
-// Gives the bytes of a message a name, and answers how many there are.
 fn keep(shelf: &mut Shelf<Vec<u8>>, name: &str, sent: Outgoing) -> Result<String, Fault> {
     let alloc = shelf.alloc();
     let len = sent.bytes.len();
@@ -20,16 +20,27 @@ fn keep(shelf: &mut Shelf<Vec<u8>>, name: &str, sent: Outgoing) -> Result<String
     Ok(format!(in alloc; "{len} bytes{again}")?)
 }
 
+/// Gives the bytes of a message a name, and answers how many there are, with `again` where it takes what is due from the
+/// first again; `none`; or the refusal.
+pub fn keep_sent<E: Display + Drop>(
+    shelf: &mut Shelf<Vec<u8>>,
+    name: &str,
+    sent: Result<Option<Outgoing>, E>,
+) -> Result<String, Fault> {
+    match sent {
+        Ok(Some(sent)) => keep(shelf, name, sent),
+        Ok(None) => Ok(String::from_str(shelf.alloc(), "none")?),
+        Err(error) => refusal(shelf.alloc(), error),
+    }
+}
+
 // `send PEER LINK NAME`.
 fn send(world: &mut World, words: &mut Words) -> Result<String, Fault> {
     let peer = world.peers.get_mut(words.next()?)?;
     let link = link(words)?;
     let name = words.next()?;
-    match peer.generate_bytes(link) {
-        Ok(Some(sent)) => keep(&mut world.bytes, name, sent),
-        Ok(None) => Ok(String::from_str(world.alloc, "none")?),
-        Err(error) => refusal(world.alloc, error),
-    }
+    let sent = peer.generate_bytes(link);
+    keep_sent(&mut world.bytes, name, sent)
 }
 
 // What a message led to, and `same` where it declares the heads of the one before.

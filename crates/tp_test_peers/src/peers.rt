@@ -2,29 +2,15 @@
 
 use crate::faulty::FaultyJournal;
 use crate::world::{RowPeer, World};
-use std::alloc::Global;
 use std::fmt::Display;
 use tp_change::Change;
 use tp_document::Applied;
-use tp_journal::MemJournal;
 use tp_opid::DocId;
 use tp_peer::{Peer, PeerError, Unopened};
-use tp_runner::{Fault, Shelf, Words, actor, count, done, number, put_name, put_names, refusal};
-
-// `[fails=N] [keeps=K]`: the journal with these bytes, whose append number N, from 0, fails and keeps K bytes.
-fn journal_of(bytes: Vec<u8>, words: &mut Words) -> Result<FaultyJournal, Fault> {
-    let succeeds = match words.option("fails") {
-        Some(word) => Some(number(word)?),
-        None => None,
-    };
-    let keeps = count(words.option("keeps").unwrap_or("0"))?;
-    Ok(FaultyJournal {
-        memory: MemJournal::new(bytes),
-        failures: 0,
-        succeeds,
-        keeps,
-    })
-}
+use tp_test_runner::{
+    Fault, Shelf, Words, actor, count, document_id, done, keep_bytes, number, put_name, put_names,
+    refusal,
+};
 
 // `[on=BYTES]`: a copy of these bytes; none where there are none named.
 fn bytes_of(shelf: &Shelf<Vec<u8>>, words: &mut Words) -> Result<Vec<u8>, Fault> {
@@ -32,6 +18,23 @@ fn bytes_of(shelf: &Shelf<Vec<u8>>, words: &mut Words) -> Result<Vec<u8>, Fault>
         Some(name) => Ok(Vec::from_slice(shelf.alloc(), shelf.get(name)?)?),
         None => Ok(Vec::new(shelf.alloc())),
     }
+}
+
+// `[fails=N]`.
+fn succeeds(words: &mut Words) -> Result<Option<u64>, Fault> {
+    match words.option("fails") {
+        Some(word) => Ok(Some(number(word)?)),
+        None => Ok(None),
+    }
+}
+
+/// `[on=BYTES] [fails=N] [keeps=K]`: the journal with these bytes, whose append number N, from 0, fails and keeps K
+/// bytes.
+pub fn journal_of(shelf: &Shelf<Vec<u8>>, words: &mut Words) -> Result<FaultyJournal, Fault> {
+    let mut journal = FaultyJournal::new(bytes_of(shelf, words)?);
+    journal.succeeds = succeeds(words)?;
+    journal.keeps = count(words.option("keeps").unwrap_or("0"))?;
+    Ok(journal)
 }
 
 // Gives a peer its name, or answers why there is none, and how many bytes its journal has then.
@@ -46,23 +49,30 @@ fn keep(
             peers.put(name, peer)?;
             done(alloc)
         }
-        Err(unopened) => {
-            let error = refusal(alloc, unopened.error)?;
-            let left = unopened.journal.memory.into_vec().len();
+        Err(Unopened { journal, error }) => {
+            let left = journal.memory.into_vec().len();
+            let error = refusal(alloc, error)?;
             Ok(format!(in alloc; "{error}, {left} bytes")?)
         }
     }
 }
 
-// `create NAME ACTOR [id=BYTE] [on=BYTES] [fails=N] [keeps=K]`.
+// `[id=ID]`: the identifier that is a byte sixteen times, or the one with these digits.
+fn id_of(words: &mut Words) -> Result<DocId, Fault> {
+    let word = words.option("id").unwrap_or("7");
+    match DocId::from_text(word) {
+        Ok(id) => Ok(id),
+        Err(_) => document_id(word),
+    }
+}
+
+// `create NAME ACTOR [id=ID] [on=BYTES] [fails=N] [keeps=K]`.
 fn create(world: &mut World, words: &mut Words) -> Result<String, Fault> {
     let name = words.next()?;
     let actor = actor(words.next()?)?;
-    let byte = words.option("id").unwrap_or("7");
-    let byte = byte.parse::<u8>().ok().ok_or(Fault::Row("no number"))?;
-    let bytes = bytes_of(&world.bytes, words)?;
-    let journal = journal_of(bytes, words)?;
-    let made = Peer::create(world.alloc, journal, DocId([byte; 16]), actor);
+    let id = id_of(words)?;
+    let journal = journal_of(&world.bytes, words)?;
+    let made = Peer::create(world.alloc, journal, id, actor);
     keep(&mut world.peers, name, made)
 }
 
@@ -70,8 +80,7 @@ fn create(world: &mut World, words: &mut Words) -> Result<String, Fault> {
 fn reopen(world: &mut World, words: &mut Words) -> Result<String, Fault> {
     let name = words.next()?;
     let actor = actor(words.next()?)?;
-    let bytes = bytes_of(&world.bytes, words)?;
-    let journal = journal_of(bytes, words)?;
+    let journal = journal_of(&world.bytes, words)?;
     let made = Peer::reopen(world.alloc, journal, actor);
     keep(&mut world.peers, name, made)
 }
@@ -81,22 +90,22 @@ fn fork(world: &mut World, words: &mut Words) -> Result<String, Fault> {
     let name = words.next()?;
     let of = words.next()?;
     let actor = actor(words.next()?)?;
-    let bytes = bytes_of(&world.bytes, words)?;
-    let journal = journal_of(bytes, words)?;
+    let journal = journal_of(&world.bytes, words)?;
     let made = world.peers.get(of)?.fork(journal, actor);
     keep(&mut world.peers, name, made)
 }
 
-// `stop PEER BYTES`: ends the peer, and gives its journal's bytes a name. Answers how many there are.
+// Takes a peer out, and ends it: its journal's bytes.
+fn ended(peers: &mut Shelf<RowPeer>, name: &str) -> Result<Vec<u8>, Fault> {
+    let (_name, peer) = peers.take(name)?;
+    Ok(peer.stop().memory.into_vec())
+}
+
+// `stop PEER BYTES`: ends the peer, and gives its journal's bytes a name.
 fn stop(world: &mut World, words: &mut Words) -> Result<String, Fault> {
-    let name = words.next()?;
-    let bytes = words.next()?;
-    world.bytes.put(bytes, Vec::new(world.alloc))?;
-    let (_name, peer) = world.peers.take(name)?;
-    let journal = peer.stop().memory.into_vec();
-    let len = journal.len();
-    *world.bytes.get_mut(bytes)? = journal;
-    Ok(format!(in world.alloc; "{len} bytes")?)
+    let (name, bytes) = (words.next()?, words.next()?);
+    let journal = ended(&mut world.peers, name)?;
+    keep_bytes(&mut world.bytes, bytes, journal)
 }
 
 /// What became of the changes: `entered [..] held [..]`, and each that was refused with why.

@@ -4,12 +4,9 @@ use crate::world::{RowPeer, World};
 use rand_chacha::ChaCha20Rng;
 use rand_core::SeedableRng;
 use std::alloc::Global;
-use tp_document::DocError;
 use tp_opid::Actor;
 use tp_peer::{PeerError, fresh_actor};
-use tp_runner::{Fault, Words, hashes, names, names_of, put_error, quoted, refusal};
-use tp_store::StoreError;
-use tp_sync::SyncError;
+use tp_test_runner::{Fault, Words, byte, hashes, names, names_of, quoted, refusal};
 
 fn answer_text(alloc: Global, answer: Result<String, PeerError>) -> Result<String, Fault> {
     match answer {
@@ -47,13 +44,9 @@ fn state(alloc: Global, peer: &RowPeer) -> Result<String, Fault> {
     Ok(out)
 }
 
-// `fresh BYTE`: the first two actors that are drawn from the generator whose key is the byte 32 times.
-fn fresh(alloc: Global, words: &mut Words) -> Result<String, Fault> {
-    let byte = words
-        .next()?
-        .parse::<u8>()
-        .ok()
-        .ok_or(Fault::Row("no number"))?;
+/// `fresh BYTE`: the first two actors that are drawn from the generator whose key is the byte 32 times.
+pub fn fresh(alloc: Global, words: &mut Words) -> Result<String, Fault> {
+    let byte = byte(words.next()?)?;
     let mut generator = ChaCha20Rng::from_seed([byte; 32]);
     let mut out = String::new(alloc);
     put_actor(alloc, &mut out, &fresh_actor(&mut generator))?;
@@ -62,36 +55,16 @@ fn fresh(alloc: Global, words: &mut Words) -> Result<String, Fault> {
     Ok(out)
 }
 
-// `errors`: the numbers and names of the refusals.
-fn errors(alloc: Global) -> Result<String, Fault> {
-    let mut out = String::new(alloc);
-    for error in [
-        PeerError::ActorInUse,
-        PeerError::JournalFailed,
-        PeerError::Stopped,
-        PeerError::TooManyLinks,
-        PeerError::JournalNotEmpty,
-        PeerError::Doc(DocError::OutOfRange),
-        PeerError::Sync(SyncError::BadMessage),
-        PeerError::Store(StoreError::BadMagic),
-        PeerError::OutOfMemory,
-    ] {
-        put_error(&mut out, error.code(), error)?;
-    }
-    Ok(out)
+/// The text of a peer, in quotes.
+pub fn text(alloc: Global, peer: &RowPeer) -> Result<String, Fault> {
+    answer_text(alloc, peer.read())
 }
 
-/// Makes a call that changes nothing.
+/// Makes a call `WORD PEER ..` that changes nothing.
 pub fn call(world: &World, word: &str, words: &mut Words) -> Result<String, Fault> {
-    if word == "fresh" {
-        return fresh(world.alloc, words);
-    }
-    if word == "errors" {
-        return errors(world.alloc);
-    }
     let peer = world.peers.get(words.next()?)?;
     match word {
-        "read" => answer_text(world.alloc, peer.read()),
+        "read" => text(world.alloc, peer),
         "read_at" => read_at(peer, world, words),
         "heads" => heads(peer, world),
         "changes" => names_of(&world.changes, peer.document().changes()),

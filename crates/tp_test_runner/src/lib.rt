@@ -35,7 +35,7 @@ pub use fault::{Fault, done, refusal};
 pub use files::run;
 pub use judge::{Judge, of_complements, of_cuts};
 pub use lists::{UNKNOWN, copies, copy, hashes, inside, push_hashes, range};
-pub use literals::{actor, byte, bytes, count, id, many, number, place, text};
+pub use literals::{actor, actor_of, byte, bytes, count, id, many, number, place, text};
 pub use printing::{names, names_of, put_error, put_id, put_name, put_names, quoted};
 pub use received::{Few, put_applied, reply};
 pub use runs::Runs;

@@ -1,26 +1,11 @@
 //! Calls that open and close served peers.
 
-use crate::failing::FailingJournal;
-use crate::table::{RowPeer, Table, Unended};
-use crate::world::World;
-use std::alloc::Global;
-use tp_journal::MemJournal;
+use crate::peers::journal_of;
+use crate::table::{Table, Unended};
+use crate::world::{RowPeer, World};
 use tp_opid::DocId;
 use tp_peer::Peer;
-use tp_runner::{Fault, Shelf, Words, actor, count, done, number, quoted, refusal};
-
-// `[fails=N]`: an empty journal, whose append number N, from 0, fails.
-fn journal_of(alloc: Global, words: &mut Words) -> Result<FailingJournal, Fault> {
-    let succeeds = match words.option("fails") {
-        Some(word) => Some(number(word)?),
-        None => None,
-    };
-    Ok(FailingJournal {
-        memory: MemJournal::new(Vec::new(alloc)),
-        failures: 0,
-        succeeds,
-    })
-}
+use tp_test_runner::{Fault, Shelf, Words, actor, count, done, number, quoted, refusal};
 
 // Serves a peer, or answers why not, and whether it came back.
 fn serve(
@@ -48,7 +33,7 @@ fn open(world: &mut World, words: &mut Words) -> Result<String, Fault> {
     let name = words.next()?;
     let actor = actor(words.next()?)?;
     let seats = count(words.next()?)?;
-    let journal = journal_of(world.alloc, words)?;
+    let journal = journal_of(&world.bytes, words)?;
     match Peer::create(world.alloc, journal, DocId([7; 16]), actor) {
         Ok(peer) => serve(&mut world.tables, name, peer, seats),
         Err(unopened) => refusal(world.alloc, unopened.error),
@@ -81,10 +66,10 @@ fn close(world: &mut World, words: &mut Words) -> Result<String, Fault> {
 fn close_without(world: &mut World, words: &mut Words) -> Result<String, Fault> {
     let name = words.next()?;
     let number = number(words.next()?)?;
-    let (name, mut table) = world.tables.take(name)?;
-    if !table.turn_to(number) {
+    if !world.tables.get_mut(name)?.turn_to(number) {
         return Err(Fault::Row("no such seat"));
     }
+    let (name, table) = world.tables.take(name)?;
     keep(world, name, table.close_without())
 }
 

@@ -1,13 +1,13 @@
 //! The call `meet`: two sides that hand each other their frames.
 
 use crate::answers::end;
-use crate::peers::forked;
+use crate::running::forked;
 use crate::world::{RowPeer, World};
 use std::alloc::Global;
 use tp_frame::{Frame, write_frame};
 use tp_peer::Link;
-use tp_runner::{Fault, Shelf, Words};
 use tp_session::{Ended, LinkedPeer, NetError, Phase, Role, Session, Turn};
+use tp_test_runner::{Fault, Shelf, Words};
 
 /// A side, and what it has sent.
 #[derive(Drop)]
@@ -51,18 +51,28 @@ fn takes(alloc: Global, side: &mut Side, frame: Frame) -> Result<Option<Frame>, 
     }
 }
 
+// A frame of the client goes to the server, and its answer, if there is one, to the client: what the client sends then.
+fn round(
+    alloc: Global,
+    client: &mut Side,
+    server: &mut Side,
+    frame: Frame,
+) -> Result<Option<Frame>, Fault> {
+    match takes(alloc, server, frame)? {
+        Some(answer) => takes(alloc, client, answer),
+        None => Ok(None),
+    }
+}
+
 // Frames go from one side to the other and back, until one isn't answered.
 fn exchange(alloc: Global, client: &mut Side, server: &mut Side) -> Result<(), Fault> {
     let first = client.session.first();
     let mut next = sends(alloc, client, first)?;
     for _ in 0..1000 {
-        let Some(frame) = next else {
-            return Ok(());
-        };
-        let Some(answer) = takes(alloc, server, frame)? else {
-            return Ok(());
-        };
-        next = takes(alloc, client, answer)?;
+        match next {
+            Some(frame) => next = round(alloc, client, server, frame)?,
+            None => return Ok(()),
+        }
     }
     Err(Fault::Row("they don't end"))
 }
@@ -88,28 +98,30 @@ fn both(shelf: &Shelf<Vec<u8>>, client: &Side, server: &Side) -> Result<String, 
     Ok(out)
 }
 
-// A session over forks of the peers.
-fn hold(shelf: &Shelf<Vec<u8>>, client: &RowPeer, server: &RowPeer) -> Result<String, Fault> {
-    let alloc = shelf.alloc();
-    let mut client = begun(alloc, client, Role::Client)?;
-    let mut server = begun(alloc, server, Role::Server)?;
-    match exchange(alloc, &mut client, &mut server) {
-        Ok(()) => both(shelf, &client, &server),
-        Err(fault) => Err(fault),
-    }
+fn hold(shelf: &Shelf<Vec<u8>>, client: &mut Side, server: &mut Side) -> Result<String, Fault> {
+    exchange(shelf.alloc(), client, server)?;
+    both(shelf, client, server)
 }
 
-// `meet CLIENT SERVER`.
-fn meet(world: &World, words: &mut Words) -> Result<String, Fault> {
+// A session with a fork of the peer as the server.
+fn hold_with(shelf: &Shelf<Vec<u8>>, client: &mut Side, server: &RowPeer) -> Result<String, Fault> {
+    let mut server = begun(shelf.alloc(), server, Role::Server)?;
+    hold(shelf, client, &mut server)
+}
+
+// A session over forks of the peers.
+fn hold_between(
+    shelf: &Shelf<Vec<u8>>,
+    client: &RowPeer,
+    server: &RowPeer,
+) -> Result<String, Fault> {
+    let mut client = begun(shelf.alloc(), client, Role::Client)?;
+    hold_with(shelf, &mut client, server)
+}
+
+/// `meet CLIENT SERVER`: how each side ends, the client first.
+pub fn call(world: &World, words: &mut Words) -> Result<String, Fault> {
     let client = world.peers.get(words.next()?)?;
     let server = world.peers.get(words.next()?)?;
-    hold(&world.bytes, client, server)
-}
-
-/// Makes the call; `None` where the word is another.
-pub fn call(world: &World, word: &str, words: &mut Words) -> Option<Result<String, Fault>> {
-    match word {
-        "meet" => Some(meet(world, words)),
-        _ => None,
-    }
+    hold_between(&world.bytes, client, server)
 }

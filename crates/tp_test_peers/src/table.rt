@@ -3,24 +3,22 @@
 ghost use Rattle.std.specs.Prelude.{◌≡◌};
 ghost use Rattle.tp_served.specs.Calls.{AreOf};
 
-use crate::failing::FailingJournal;
+use crate::faulty::FaultyJournal;
+use crate::world::RowPeer;
 use std::alloc::Global;
 use std::marker::Model;
 use std::mem;
 use tp_edit::Splice;
 use tp_opid::{DocId, Hash};
-use tp_peer::{Outgoing, Peer, Received};
+use tp_peer::{Outgoing, Received};
 use tp_served::{MAX_SEATS, Seat, Served, ServedError, Unclosed, Unserved};
-
-/// A peer of the rows.
-pub type RowPeer = Peer<FailingJournal>;
 
 /// A served peer with all its seats, of which one has the next call.
 ///
 /// Contracts see which served peer it is. All of the seats are its own.
 #[derive(Drop)]
 pub struct Table {
-    served: Served<FailingJournal>,
+    served: Served<FaultyJournal>,
     seat: Seat,
     others: Vec<Seat>,
 }
@@ -48,7 +46,7 @@ pub struct Unended {
 }
 
 // The table of these seats; `None` where there is none.
-fn table_of(served: Served<FailingJournal>, mut seats: Vec<Seat>) -> Option<Table>
+fn table_of(served: Served<FaultyJournal>, mut seats: Vec<Seat>) -> Option<Table>
     requires { AreOf served.served seats.items }
 {
     match seats.pop() {
@@ -62,7 +60,7 @@ fn table_of(served: Served<FailingJournal>, mut seats: Vec<Seat>) -> Option<Tabl
 }
 
 // A table with a seat more, which has the next call then.
-fn with_seat(unclosed: Unclosed<FailingJournal>, seat: Seat) -> Unended
+fn with_seat(unclosed: Unclosed<FaultyJournal>, seat: Seat) -> Unended
     requires seat { seat.served ≡ unclosed.served.served }
     requires seats { AreOf unclosed.served.served unclosed.seats.items }
 {
@@ -82,7 +80,7 @@ fn with_seat(unclosed: Unclosed<FailingJournal>, seat: Seat) -> Unended
 }
 
 // A table as it was.
-fn as_it_was(unclosed: Unclosed<FailingJournal>) -> Unended
+fn as_it_was(unclosed: Unclosed<FaultyJournal>) -> Unended
     requires { AreOf unclosed.served.served unclosed.seats.items }
 {
     let Unclosed {

@@ -1,9 +1,9 @@
 //! How a session's end is printed.
 
-use crate::peers::text;
+use crate::reads::text;
 use crate::world::RowPeer;
-use tp_runner::{Fault, Shelf, refusal};
 use tp_session::NetError;
+use tp_test_runner::{Fault, Shelf, refusal};
 
 // The name of the bytes, `nothing` for none, and where they have no name their digits.
 fn put_stream(shelf: &Shelf<Vec<u8>>, out: &mut String, sent: &[u8]) -> Result<(), Fault> {

@@ -1,11 +1,12 @@
 //! Calls on a seat of a served peer.
 
+use crate::links::keep_sent;
 use crate::table::Table;
 use crate::world::World;
 use std::alloc::Global;
-use tp_peer::{Outgoing, Received};
-use tp_runner::{Fault, Shelf, Words, done, number, quoted, refusal, text};
+use tp_peer::Received;
 use tp_served::ServedError;
+use tp_test_runner::{Fault, Shelf, Words, done, number, quoted, refusal, text};
 
 // `read TABLE SEAT`.
 fn read(alloc: Global, table: &mut Table) -> Result<String, Fault> {
@@ -25,23 +26,10 @@ fn insert(alloc: Global, table: &mut Table, words: &mut Words) -> Result<String,
     }
 }
 
-// Gives the bytes of a message a name, and answers how many there are.
-fn keep(shelf: &mut Shelf<Vec<u8>>, name: &str, sent: Outgoing) -> Result<String, Fault> {
-    let alloc = shelf.alloc();
-    let len = sent.bytes.len();
-    let again = if sent.again { ", again" } else { "" };
-    shelf.put(name, sent.bytes)?;
-    Ok(format!(in alloc; "{len} bytes{again}")?)
-}
-
 // `send TABLE SEAT BYTES`.
 fn send(shelf: &mut Shelf<Vec<u8>>, table: &mut Table, words: &mut Words) -> Result<String, Fault> {
     let name = words.next()?;
-    match table.send() {
-        Ok(Some(sent)) => keep(shelf, name, sent),
-        Ok(None) => Ok(String::from_str(shelf.alloc(), "none")?),
-        Err(error) => refusal(shelf.alloc(), error),
-    }
+    keep_sent(shelf, name, table.send())
 }
 
 // How many changes of a message entered, are held and were refused, and `same` where it declares the heads of the one

@@ -1,8 +1,8 @@
 use Rattle.std.proofs.Common.{ap, ◌∙◌}
 use Rattle.tp_served.specs.Seats.{SeatData}
 use Rattle.tp_served.proofs.SeatLaws.{last_is}
-use Rattle.tp_served_rows.proofs.Seats.{put_in}
-use Rattle.tp_served_rows.proofs.table.Table.go_on.Goals as goal
+use Rattle.tp_test_peers.proofs.Seats.{put_in}
+use Rattle.tp_test_peers.proofs.table.Table.go_on.Goals as goal
 
 pub invariant_of-self-in-Some-2 : goal.invariant_of-self-in-Some-2
 invariant_of-self-in-Some-2 c =

@@ -1,8 +1,8 @@
 use Rattle.std.proofs.Common.{ap, ◌∙◌}
 use Rattle.tp_served.specs.Seats.{SeatData}
 use Rattle.tp_served.proofs.SeatLaws.{last_is}
-use Rattle.tp_served_rows.proofs.Seats.{put_in}
-use Rattle.tp_served_rows.proofs.table.Table.meet.Goals as goal
+use Rattle.tp_test_peers.proofs.Seats.{put_in}
+use Rattle.tp_test_peers.proofs.table.Table.meet.Goals as goal
 
 pub meet-requires-clause-other : goal.meet-requires-clause-other
 meet-requires-clause-other c = (last_is c.self.inside.served.served _ c.pop.new.self.items c.in-Some.other c.in-Some.ensures.items c.self.invariant.1).1
