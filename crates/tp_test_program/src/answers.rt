@@ -1,7 +1,7 @@
 //! What a run did, as a row wants it.
 
 use crate::lines::put_text;
-use tp_runner::{Fault, Shelf};
+use tp_test_runner::{Fault, Shelf};
 
 /// How a run ended, and what it printed.
 #[derive(Drop)]

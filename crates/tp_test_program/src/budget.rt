@@ -4,7 +4,7 @@ use std::cell::Cell;
 use std::io;
 use std::io::ErrorKind;
 
-/// How many calls succeed; all behind them fail.
+/// How many calls succeed, or how many bytes are taken; all behind them fail.
 #[derive(Drop)]
 pub struct Budget {
     left: Cell<u64>,
@@ -26,6 +26,19 @@ impl Budget {
                 Ok(())
             }
             None => Err(io::Error::from(ErrorKind::StorageFull)),
+        }
+    }
+
+    /// The first of the bytes, as many as are left to be taken; fails where none is.
+    pub fn take<'a>(&self, bytes: &'a [u8]) -> io::Result<&'a [u8]> {
+        let left = self.left.get();
+        if left == 0 {
+            return Err(io::Error::from(ErrorKind::StorageFull));
+        }
+        self.left.set(left.saturating_sub(bytes.len() as u64));
+        match usize::try_from(left) {
+            Ok(left) => Ok(bytes.get(..left).unwrap_or(bytes)),
+            Err(_) => Ok(bytes),
         }
     }
 }

@@ -12,6 +12,8 @@ pub struct Device<'a, F> {
     pub file: F,
     /// The calls that the device answers.
     pub budget: &'a Budget,
+    /// The bytes that the device takes.
+    pub room: &'a Budget,
 }
 
 impl<F: Read> Read for Device<'_, F> {
@@ -24,7 +26,7 @@ impl<F: Read> Read for Device<'_, F> {
 impl<F: Write> Write for Device<'_, F> {
     fn write(&mut self, buf: &[u8]) -> io::Result<usize> {
         self.budget.spend()?;
-        self.file.write(buf)
+        self.file.write(self.room.take(buf)?)
     }
 
     fn flush(&mut self) -> io::Result<()> {

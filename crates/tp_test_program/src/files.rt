@@ -2,10 +2,9 @@
 
 use crate::folder::fault;
 use crate::paths::inside;
-use std::alloc::Global;
 use std::fs;
 use std::rt::Files;
-use tp_runner::{Fault, Words, bytes, count, done};
+use tp_test_runner::{Fault, Words, derived, done, spelled};
 
 // All bytes of a file.
 fn read<R: Files + AllocGlobal>(rt: &R, name: &str) -> Result<Vec<u8>, Fault> {
@@ -34,33 +33,6 @@ fn folder<R: Files + AllocGlobal>(rt: &R, name: &str) -> Result<String, Fault> {
     }
 }
 
-// The bytes that the digits are, those of all words one after another.
-fn spelled(alloc: Global, words: &[String]) -> Result<Vec<u8>, Fault> {
-    let mut all = Vec::new(alloc);
-    for word in words {
-        all.extend_from_slice(&bytes(alloc, word.as_str())?)?;
-    }
-    Ok(all)
-}
-
-// The bytes with others from an offset on, as far as they reach.
-fn altered(alloc: Global, whole: &[u8], at: usize, others: &[u8]) -> Result<Vec<u8>, Fault> {
-    let mut all = Vec::from_slice(alloc, whole)?;
-    for (i, other) in others.iter().enumerate() {
-        if let Some(byte) = all.get_mut(at.saturating_add(i)) {
-            *byte = *other;
-        }
-    }
-    Ok(all)
-}
-
-// The bytes with others behind them.
-fn joined(alloc: Global, whole: &[u8], others: &[u8]) -> Result<Vec<u8>, Fault> {
-    let mut all = Vec::from_slice(alloc, whole)?;
-    all.extend_from_slice(others)?;
-    Ok(all)
-}
-
 // `file NAME HEX..`, `copy NAME OF`, `cut NAME OF LEN`, `alter NAME OF AT HEX`, `behind NAME OF HEX..`.
 fn made<R: Files + AllocGlobal>(rt: &R, word: &str, words: &mut Words) -> Result<Vec<u8>, Fault> {
     let alloc = rt.alloc();
@@ -68,18 +40,7 @@ fn made<R: Files + AllocGlobal>(rt: &R, word: &str, words: &mut Words) -> Result
         return spelled(alloc, words.left());
     }
     let whole = read(rt, words.next()?)?;
-    match word {
-        "cut" => {
-            let len = count(words.next()?)?;
-            Ok(Vec::from_slice(alloc, whole.get(..len).unwrap_or(&whole))?)
-        }
-        "alter" => {
-            let at = count(words.next()?)?;
-            altered(alloc, &whole, at, &spelled(alloc, words.left())?)
-        }
-        "behind" => joined(alloc, &whole, &spelled(alloc, words.left())?),
-        _ => Ok(whole),
-    }
+    derived(alloc, &whole, word, words)
 }
 
 fn make<R: Files + AllocGlobal>(rt: &R, word: &str, words: &mut Words) -> Result<String, Fault> {

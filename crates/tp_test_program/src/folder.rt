@@ -6,7 +6,7 @@ use std::fs::DirEntry;
 use std::io::ErrorKind;
 use std::rt::Files;
 use std::{fs, io};
-use tp_runner::Fault;
+use tp_test_runner::Fault;
 
 /// A file of the folder with its bytes, or a folder in it.
 #[derive(Drop)]

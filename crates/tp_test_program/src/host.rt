@@ -4,7 +4,7 @@ use crate::budget::Budget;
 use crate::device::Device;
 use crate::paths::inside;
 use crate::stream::Stream;
-use std::alloc::{Allocator, Global};
+use std::alloc::{AllocError, Allocator, Global};
 use std::fmt::Display;
 use std::fs::{Metadata, OpenOptions};
 use std::io;
@@ -17,10 +17,25 @@ pub struct Host<'a, R> {
     pub rt: &'a R,
     /// How many calls on files succeed.
     pub device: &'a Budget,
+    /// How many bytes the files take.
+    pub room: &'a Budget,
     /// The standard output.
     pub out: Stream,
     /// The standard error.
     pub err: Stream,
+}
+
+impl<'a, R: AllocGlobal> Host<'a, R> {
+    /// The files have these budgets, and the streams never fail.
+    pub fn new(rt: &'a R, device: &'a Budget, room: &'a Budget) -> Result<Host<'a, R>, AllocError> {
+        Ok(Host {
+            rt,
+            device,
+            room,
+            out: Stream::new(rt.alloc(), u64::MAX)?,
+            err: Stream::new(rt.alloc(), u64::MAX)?,
+        })
+    }
 }
 
 impl<R: AllocGlobal> Alloc for Host<'_, R> {
@@ -69,6 +84,7 @@ impl<'a, R: Files + AllocGlobal> Files for Host<'a, R> {
         Ok(Device {
             file,
             budget: self.device,
+            room: self.room,
         })
     }
 

@@ -1,27 +1,15 @@
 //! Names for long words, and texts with these names in their place.
 
 use std::alloc::Global;
-use tp_runner::{Fault, Shelf, Words, done, text};
+use tp_test_runner::{Fault, Shelf, Words, done, text};
 
-// `let NAME WORD`: the name stands for the word.
-fn give_name(names: &mut Shelf<String>, words: &mut Words) -> Result<String, Fault> {
+/// `let NAME WORD`: the name stands for the word.
+pub fn give_name(names: &mut Shelf<String>, words: &mut Words) -> Result<String, Fault> {
     let name = words.next()?;
     let word = String::from_str(names.alloc(), words.next()?)?;
     names.put(name, word)?;
     words.end()?;
     done(names.alloc())
-}
-
-/// Makes the call `let`; `None` where the word is another.
-pub fn call(
-    names: &mut Shelf<String>,
-    word: &str,
-    words: &mut Words,
-) -> Option<Result<String, Fault>> {
-    match word {
-        "let" => Some(give_name(names, words)),
-        _ => None,
-    }
 }
 
 // The text with a newline for each `\n`.
@@ -55,6 +43,23 @@ pub fn command_line(names: &Shelf<String>, words: &[String]) -> Result<Vec<Strin
     for word in words {
         line.push(meant(names, word.as_str())?)?;
     }
+    Ok(line)
+}
+
+/// The line of a script that the words stand for: the words parted by one blank each, with what has a name in place of
+/// `$` and the name, and a newline.
+pub fn script_line(names: &Shelf<String>, words: &[String]) -> Result<String, Fault> {
+    let mut line = String::new(names.alloc());
+    for (i, word) in words.iter().enumerate() {
+        if i > 0 {
+            line.push(' ')?;
+        }
+        match word.as_str().strip_prefix('$') {
+            Some(name) => line.push_str(names.get(name)?.as_str())?,
+            None => line.push_str(word.as_str())?,
+        }
+    }
+    line.push('\n')?;
     Ok(line)
 }
 

@@ -3,7 +3,7 @@
 use std::alloc::{AllocError, Global};
 
 /// The folder, below the one in which the rows are run.
-pub const FOLDER: &str = "command_rows.files";
+pub const FOLDER: &str = "program_rows.files";
 
 /// The path of a file of the folder. One that begins with a slash stays.
 pub fn inside(alloc: Global, path: &str) -> Result<String, AllocError> {

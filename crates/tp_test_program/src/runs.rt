@@ -9,7 +9,7 @@ use crate::stream::Stream;
 use crate::world::World;
 use std::rt::Files;
 use tp_commands::run_words;
-use tp_runner::{Fault, Words, number};
+use tp_test_runner::{Fault, Words, number};
 
 // A command whose device fails later than this succeeds first.
 const MOST_CALLS: u64 = 200;
@@ -41,9 +41,11 @@ fn limits_of(words: &mut Words) -> Result<Limits, Fault> {
 // Runs the program.
 fn run_line<R: Files + AllocGlobal>(rt: &R, limits: Limits, line: &[String]) -> Result<Ran, Fault> {
     let device = Budget::new(limits.device);
+    let room = Budget::new(u64::MAX);
     let host = Host {
         rt,
         device: &device,
+        room: &room,
         out: Stream::new(rt.alloc(), limits.out)?,
         err: Stream::new(rt.alloc(), limits.err)?,
     };
@@ -70,38 +72,46 @@ fn run_over<R: Files + AllocGlobal>(
     Ok(ran)
 }
 
-// `run [out=N] [err=N] [device=N] WORD..`: the exit status, both texts, and the files that changed.
-fn run<R: Files + AllocGlobal + Clone + Drop>(
-    world: &mut World<R>,
-    words: &mut Words,
+// The exit status, both texts or which streams have one, and the files that changed.
+fn answer_of<R: Files + AllocGlobal + Clone + Drop>(
+    world: &World<R>,
+    ran: &Ran,
+    before: &[Entry],
+    has_texts: bool,
 ) -> Result<String, Fault> {
-    let rt = world.rt;
-    let limits = limits_of(words)?;
-    let line = command_line(&world.names, words.left())?;
-    let before = listed(rt)?;
-    let ran = run_over(rt, limits, &line, &before)?;
-    let mut answer = String::new(rt.alloc());
-    ran.put_texts(&world.names, &mut answer)?;
-    put_changes(&mut answer, &before, &listed(rt)?)?;
+    let mut answer = String::new(world.rt.alloc());
+    if has_texts {
+        ran.put_texts(&world.names, &mut answer)?;
+    } else {
+        ran.put_streams(&mut answer)?;
+    }
+    put_changes(&mut answer, before, &listed(world.rt)?)?;
+    Ok(answer)
+}
+
+fn run_and_keep<R: Files + AllocGlobal + Clone + Drop>(
+    world: &mut World<R>,
+    limits: Limits,
+    line: &[String],
+    has_texts: bool,
+) -> Result<String, Fault> {
+    let before = listed(world.rt)?;
+    let ran = run_over(world.rt, limits, line, &before)?;
+    let answer = answer_of(world, &ran, &before, has_texts)?;
     world.ran = Some(ran);
     Ok(answer)
 }
 
-// `streams WORD..`: the exit status, the streams that have a text, and the files that changed.
-fn streams<R: Files + AllocGlobal + Clone + Drop>(
+// `run [out=N] [err=N] [device=N] WORD..`: the exit status, both texts, and the files that changed; `streams ..`: the
+// exit status, the streams that have a text, and the files that changed.
+fn run<R: Files + AllocGlobal + Clone + Drop>(
     world: &mut World<R>,
     words: &mut Words,
+    has_texts: bool,
 ) -> Result<String, Fault> {
-    let rt = world.rt;
     let limits = limits_of(words)?;
     let line = command_line(&world.names, words.left())?;
-    let before = listed(rt)?;
-    let ran = run_over(rt, limits, &line, &before)?;
-    let mut answer = String::new(rt.alloc());
-    ran.put_streams(&mut answer)?;
-    put_changes(&mut answer, &before, &listed(rt)?)?;
-    world.ran = Some(ran);
-    Ok(answer)
+    run_and_keep(world, limits, &line, has_texts)
 }
 
 // What a run answers whose device fails after so many calls; whether it was done.
@@ -111,32 +121,28 @@ fn run_failing<R: Files + AllocGlobal + Clone + Drop>(
     line: &[String],
     before: &[Entry],
 ) -> Result<(bool, String), Fault> {
-    let rt = world.rt;
     let limits = Limits {
         out: u64::MAX,
         err: u64::MAX,
         device: calls,
     };
-    let ran = run_over(rt, limits, line, before)?;
-    let mut answer = String::new(rt.alloc());
-    ran.put_texts(&world.names, &mut answer)?;
-    put_changes(&mut answer, before, &listed(rt)?)?;
-    restore(rt, before)?;
+    let ran = run_over(world.rt, limits, line, before)?;
+    let answer = answer_of(world, &ran, before, true)?;
+    restore(world.rt, before)?;
     Ok((ran.status == 0, answer))
 }
 
-// `device_fails WORD..`: what is answered where the files fail from their first call on, from the second on, and so on,
-// until the command is done; like answers that follow one another once. The files are then as they were.
-fn device_fails<R: Files + AllocGlobal + Clone + Drop>(
+// What is answered where the files fail from their first call on, from the second on, and so on, until the command is
+// done.
+fn answers<R: Files + AllocGlobal + Clone + Drop>(
     world: &World<R>,
-    words: &mut Words,
+    line: &[String],
+    before: &[Entry],
 ) -> Result<String, Fault> {
-    let line = command_line(&world.names, words.left())?;
-    let before = listed(world.rt)?;
     let mut answers = String::new(world.rt.alloc());
     let mut last = String::new(world.rt.alloc());
     for calls in 0..MOST_CALLS {
-        let (is_done, answer) = run_failing(world, calls, &line, &before)?;
+        let (is_done, answer) = run_failing(world, calls, line, before)?;
         if answer.as_str() != last.as_str() {
             put_answer(&mut answers, answer.as_str())?;
             last = answer;
@@ -146,6 +152,16 @@ fn device_fails<R: Files + AllocGlobal + Clone + Drop>(
         }
     }
     Ok(answers)
+}
+
+// `device_fails WORD..`: like answers that follow one another once. The files are then as they were.
+fn device_fails<R: Files + AllocGlobal + Clone + Drop>(
+    world: &World<R>,
+    words: &mut Words,
+) -> Result<String, Fault> {
+    let line = command_line(&world.names, words.left())?;
+    let before = listed(world.rt)?;
+    answers(world, &line, &before)
 }
 
 fn put_answer(answers: &mut String, answer: &str) -> Result<(), Fault> {
@@ -162,8 +178,8 @@ pub fn call<R: Files + AllocGlobal + Clone + Drop>(
     words: &mut Words,
 ) -> Option<Result<String, Fault>> {
     match word {
-        "run" => Some(run(world, words)),
-        "streams" => Some(streams(world, words)),
+        "run" => Some(run(world, words, true)),
+        "streams" => Some(run(world, words, false)),
         "device_fails" => Some(device_fails(world, words)),
         _ => None,
     }

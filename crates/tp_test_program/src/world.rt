@@ -2,10 +2,10 @@
 
 use crate::answers::Ran;
 use crate::folder::make;
-use crate::lines::{has_line, meant};
-use crate::{files, lines, runs};
+use crate::lines::{give_name, has_line, meant};
+use crate::{files, journals, runs};
 use std::rt::Files;
-use tp_runner::{Calls, Fault, Shelf, Words};
+use tp_test_runner::{Calls, Fault, Shelf, Words};
 
 /// What the rows of an example have made so far; their files lie in the folder.
 #[derive(Drop)]
@@ -55,10 +55,13 @@ impl<R: Files + AllocGlobal + Clone + Drop> Calls for World<'_, R> {
     fn call(&mut self, words: &mut Words) -> Result<String, Fault> {
         let word = words.next()?;
         self.make_folder()?;
-        if let Some(answer) = lines::call(&mut self.names, word, words) {
-            return answer;
+        if word == "let" {
+            return give_name(&mut self.names, words);
         }
         if let Some(answer) = files::call(self.rt, word, words) {
+            return answer;
+        }
+        if let Some(answer) = journals::call(self.rt, word, words) {
             return answer;
         }
         if let Some(answer) = runs::call(self, word, words) {

@@ -5,6 +5,9 @@ use crate::words::Words;
 
 /// What makes the calls of rows, and keeps what they have made.
 pub trait Calls: Drop {
+    /// A file of rows begins.
+    fn begin(&mut self, _file: &str) {}
+
     /// Makes the call whose first word is the next, and answers it. Where the call is refused memory this is
     /// `Fault::Refused`, and the runner makes it again.
     fn call(&mut self, words: &mut Words) -> Result<String, Fault>;

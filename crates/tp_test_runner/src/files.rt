@@ -81,7 +81,7 @@ fn run_file<R: Files + Print + AllocGlobal, C: Calls>(
     let text = fs::read_to_string(rt, file)?;
     let mut count = Count { rows: 0, differ: 0 };
     let mut number = 0u64;
-    runner.clear();
+    runner.begin(file);
     for line in text.as_str().lines() {
         number = number.wrapping_add(1);
         run_line(rt, runner, &mut count, file, number, line)?;

@@ -40,6 +40,12 @@ impl<C: Calls> Runner<C> {
         self.is_refused
     }
 
+    /// A file begins: forgets what rows have made.
+    pub fn begin(&mut self, file: &str) {
+        self.calls.begin(file);
+        self.calls.clear();
+    }
+
     /// An example begins: forgets what the one before it made.
     pub fn clear(&mut self) {
         self.calls.clear();

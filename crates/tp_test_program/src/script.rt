@@ -1,11 +1,11 @@
 //! The script of an example, and what makes its calls.
 
-use crate::running::{compared, last_line, line_before, printed, text_of};
-use crate::words::line_of;
+use crate::lines::{give_name, script_line};
+use crate::printed::{compared, last_line, line_before, printed, text_of};
 use std::alloc::Global;
 use std::fs;
 use std::rt::Files;
-use tp_runner::{Calls, Fault, Shelf, Words, bytes, done};
+use tp_test_runner::{Calls, Fault, Shelf, Words, bytes};
 
 /// The script of an example so far, and names for long words.
 #[derive(Drop)]
@@ -60,14 +60,6 @@ impl<'a, R: Files + AllocGlobal> Script<'a, R> {
         }
     }
 
-    // `let NAME WORD`: the name stands for the word.
-    fn give_name(&mut self, words: &mut Words) -> Result<String, Fault> {
-        let name = words.next()?;
-        let word = String::from_str(self.rt.alloc(), words.next()?)?;
-        self.names.put(name, word)?;
-        done(self.rt.alloc())
-    }
-
     // `raw HEX`: bytes behind the script, as they are.
     fn raw(&mut self, words: &mut Words) -> Result<String, Fault> {
         let more = bytes(self.rt.alloc(), words.next()?)?;
@@ -102,12 +94,12 @@ impl<R: Files + AllocGlobal> Calls for Script<'_, R> {
     fn call(&mut self, words: &mut Words) -> Result<String, Fault> {
         let all = words.left();
         match words.next()? {
-            "let" => self.give_name(words),
+            "let" => give_name(&mut self.names, words),
             "raw" => self.raw(words),
             "end" => self.end(),
             "whole" => self.whole(words),
             _ => {
-                let line = line_of(&self.names, all)?;
+                let line = script_line(&self.names, all)?;
                 self.add(line.as_str().as_bytes())
             }
         }

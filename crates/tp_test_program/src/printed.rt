@@ -1,8 +1,8 @@
 //! Running a script, and comparing what it prints.
 
 use std::alloc::Global;
-use tp_runner::Fault;
 use tp_simulate::{SimError, simulate};
+use tp_test_runner::Fault;
 
 /// What a script prints, or the number of the line at which it is refused.
 pub fn printed(alloc: Global, script: &[u8]) -> Result<Result<String, u64>, Fault> {
