@@ -4,7 +4,7 @@ use crate::world::World;
 use std::alloc::Global;
 use tp_change::Change;
 use tp_document::Document;
-use tp_journal::{header, put_record};
+use tp_journal::{header, put_record, record};
 use tp_opid::DocId;
 use tp_rga::Sequence;
 use tp_store::{StoreError, save};
@@ -89,6 +89,15 @@ fn records<S: Sequence>(world: &mut World<S>, words: &mut Words) -> Result<Strin
     done(world.alloc)
 }
 
+// `record NAME CHANGE`: the bytes of the change's record.
+fn keep_record<S: Sequence>(world: &mut World<S>, words: &mut Words) -> Result<String, Fault> {
+    let name = words.next()?;
+    let change = world.changes.get(words.next()?)?;
+    let bytes = record(world.alloc, change).map_err(fault_of)?;
+    world.bytes.put(name, bytes)?;
+    done(world.alloc)
+}
+
 fn sizes_of<S: Sequence>(alloc: Global, document: &Document<S>) -> Result<String, Fault> {
     match save(alloc, document) {
         Ok(saved) => {
@@ -115,6 +124,7 @@ pub fn call<S: Sequence>(
     Some(match word {
         "save" => make(world, false, words),
         "journal" => make(world, true, words),
+        "record" => keep_record(world, words),
         "records" => records(world, words),
         "sizes" => sizes(world, words),
         _ => return None,
