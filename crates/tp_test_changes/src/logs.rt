@@ -1,65 +1,8 @@
 //! Calls on logs and what is shown of them.
 
 use std::alloc::Global;
-use std::io;
-use std::io::{ErrorKind, Read, Write};
-use tp_test_runner::{Fault, Runs, Shelf, Words, count, quoted, refusal};
+use tp_test_runner::{Fault, Input, Output, Runs, Shelf, Words, count, quoted, refusal};
 use tp_textpeer::{Refusal, ShowError, show};
-
-// A reader that gives a byte at each call, and fails at one of them, counted from 0.
-#[derive(Drop)]
-struct FailingReader<'a> {
-    rest: &'a [u8],
-    calls_left: usize,
-}
-
-impl<'a> Read for FailingReader<'a> {
-    fn read(&mut self, buf: &mut [u8]) -> io::Result<usize> {
-        if self.calls_left == 0 {
-            return Err(io::Error::from(ErrorKind::Other));
-        }
-        self.calls_left -= 1;
-        match self.rest.split_first() {
-            Some((byte, rest)) if !buf.is_empty() => {
-                buf[0] = *byte;
-                self.rest = rest;
-                Ok(1)
-            }
-            _ => Ok(0),
-        }
-    }
-}
-
-// A writer that takes a byte at each call, until one fails.
-#[derive(Drop)]
-struct FailingWriter {
-    taken: Vec<u8>,
-    calls_left: usize,
-}
-
-impl Write for FailingWriter {
-    fn write(&mut self, buf: &[u8]) -> io::Result<usize> {
-        if self.calls_left == 0 {
-            return Err(io::Error::from(ErrorKind::Other));
-        }
-        self.calls_left -= 1;
-        match buf.first() {
-            Some(byte) => {
-                self.taken.push(*byte)?;
-                Ok(1)
-            }
-            None => Ok(0),
-        }
-    }
-
-    fn flush(&mut self) -> io::Result<()> {
-        if self.calls_left == 0 {
-            return Err(io::Error::from(ErrorKind::Other));
-        }
-        self.calls_left -= 1;
-        Ok(())
-    }
-}
 
 // What was written, or the line of the refusal, and whether something was written before it.
 fn answer(alloc: Global, shown: Result<(), ShowError>, wrote: &[u8]) -> Result<String, Fault> {
@@ -92,36 +35,15 @@ pub fn shown(alloc: Global, log: &[u8]) -> Result<String, Fault> {
     answer(alloc, shown, &out)
 }
 
-// `show_reader_fails NAME TIMES`: what is shown where the reader fails at its call 0, 1 and so on.
-fn reader_fails(alloc: Global, whole: &[u8], times: usize) -> Result<String, Fault> {
-    let mut runs = Runs::new(alloc, 0);
-    for calls_left in 0..times {
-        runs.add(shown_until_reader_fails(alloc, whole, calls_left)?)?;
-    }
-    runs.end()
-}
-
 fn shown_until_reader_fails(
     alloc: Global,
     whole: &[u8],
     calls_left: usize,
 ) -> Result<String, Fault> {
-    let mut reader = FailingReader {
-        rest: whole,
-        calls_left,
-    };
+    let mut reader = Input::failing(whole, calls_left);
     let mut out = roomy(alloc, whole)?;
     let shown = show(alloc, &mut reader, &mut out);
     answer(alloc, shown, &out)
-}
-
-// `show_writer_fails NAME TIMES`: what is shown where the writer fails at its call 0, 1 and so on.
-fn writer_fails(alloc: Global, whole: &[u8], times: usize) -> Result<String, Fault> {
-    let mut runs = Runs::new(alloc, 0);
-    for calls_left in 0..times {
-        runs.add(shown_until_writer_fails(alloc, whole, calls_left)?)?;
-    }
-    runs.end()
 }
 
 fn shown_until_writer_fails(
@@ -130,26 +52,41 @@ fn shown_until_writer_fails(
     calls_left: usize,
 ) -> Result<String, Fault> {
     let mut reader = whole;
-    let mut writer = FailingWriter {
-        taken: roomy(alloc, whole)?,
-        calls_left,
-    };
+    let mut writer = Output::new(roomy(alloc, whole)?);
+    writer.piece = 1;
+    writer.succeeds = Some(calls_left);
     let shown = show(alloc, &mut reader, &mut writer);
     if shown.is_err() {
         // (a writer that fails may have taken a part)
-        writer.taken.clear();
+        writer.bytes.clear();
     }
-    answer(alloc, shown, &writer.taken)
+    answer(alloc, shown, &writer.bytes)
 }
 
+fn shown_until_fails(
+    alloc: Global,
+    whole: &[u8],
+    word: &str,
+    calls_left: usize,
+) -> Result<String, Fault> {
+    if word == "show_reader_fails" {
+        shown_until_reader_fails(alloc, whole, calls_left)
+    } else {
+        shown_until_writer_fails(alloc, whole, calls_left)
+    }
+}
+
+// `show_reader_fails NAME TIMES`, `show_writer_fails NAME TIMES`: what is shown where the reader or the writer fails at
+// its call 0, 1 and so on.
 fn fails(shelf: &Shelf<Vec<u8>>, word: &str, words: &mut Words) -> Result<String, Fault> {
+    let alloc = shelf.alloc();
     let whole = shelf.get(words.next()?)?;
     let times = count(words.next()?)?;
-    if word == "show_reader_fails" {
-        reader_fails(shelf.alloc(), whole, times)
-    } else {
-        writer_fails(shelf.alloc(), whole, times)
+    let mut runs = Runs::new(alloc, 0);
+    for calls_left in 0..times {
+        runs.add(shown_until_fails(alloc, whole, word, calls_left)?)?;
     }
+    runs.end()
 }
 
 /// Makes a call that shows a log with a reader or a writer that fails; `None` where the word is none of these.

@@ -2,33 +2,15 @@
 
 use crate::lists::hashes;
 use crate::world::World;
-use tp_document::{Cursor, DocError};
 use tp_rga::Sequence;
-use tp_test_runner::{Fault, Shelf, Words, count, put_id, refusal};
-
-// Gives a cursor its name, and answers the element that it stands at, or why there is none.
-fn keep(
-    cursors: &mut Shelf<Cursor>,
-    name: &str,
-    answer: Result<Cursor, DocError>,
-) -> Result<String, Fault> {
-    match answer {
-        Ok(cursor) => {
-            let mut out = String::new(cursors.alloc());
-            put_id(&mut out, &cursor.element)?;
-            cursors.put(name, cursor)?;
-            Ok(out)
-        }
-        Err(error) => refusal(cursors.alloc(), error),
-    }
-}
+use tp_test_runner::{Fault, Words, count, keep_cursor};
 
 // `cursor NAME DOCUMENT PLACE`.
 fn cursor<S: Sequence>(world: &mut World<S>, words: &mut Words) -> Result<String, Fault> {
     let name = words.next()?;
     let document = world.documents.get(words.next()?)?;
     let answer = document.cursor(count(words.next()?)?);
-    keep(&mut world.cursors, name, answer)
+    keep_cursor(&mut world.cursors, name, answer)
 }
 
 // `cursor_at NAME DOCUMENT PLACE HASHES`.
@@ -38,7 +20,7 @@ fn cursor_at<S: Sequence>(world: &mut World<S>, words: &mut Words) -> Result<Str
     let at = count(words.next()?)?;
     let heads = hashes(world, words.next()?)?;
     let answer = document.cursor_at(at, &heads);
-    keep(&mut world.cursors, name, answer)
+    keep_cursor(&mut world.cursors, name, answer)
 }
 
 /// Makes a call that makes a cursor; `None` where the word is none of these.

@@ -5,7 +5,9 @@ use crate::world::World;
 use std::alloc::Global;
 use tp_document::Document;
 use tp_rga::Sequence;
-use tp_test_runner::{Fault, Words, answer_text, count, done, names, names_of, refusal};
+use tp_test_runner::{
+    Fault, Words, answer_position, answer_text, count, done, names, names_of, refusal,
+};
 
 // `text_at DOCUMENT HASHES`.
 fn text_at<S: Sequence>(
@@ -41,10 +43,8 @@ fn position<S: Sequence>(
     world: &World<S>,
     words: &mut Words,
 ) -> Result<String, Fault> {
-    match document.cursor_position(world.cursors.get(words.next()?)?) {
-        Ok(at) => Ok(format!(in world.alloc; "{at}")?),
-        Err(error) => refusal(world.alloc, error),
-    }
+    let cursor = world.cursors.get(words.next()?)?;
+    answer_position(world.alloc, document.cursor_position(cursor))
 }
 
 // `check DOCUMENT CHANGE`.

@@ -1,32 +1,14 @@
 //! Calls that make cursors in a peer's document, and say where they stand.
 
 use crate::world::World;
-use tp_document::{Cursor, DocError};
-use tp_test_runner::{Fault, Shelf, Words, count, hashes, put_id, refusal};
-
-// Gives a cursor its name, and answers the element that it stands at, or why there is none.
-fn keep(
-    cursors: &mut Shelf<Cursor>,
-    name: &str,
-    answer: Result<Cursor, DocError>,
-) -> Result<String, Fault> {
-    match answer {
-        Ok(cursor) => {
-            let mut out = String::new(cursors.alloc());
-            put_id(&mut out, &cursor.element)?;
-            cursors.put(name, cursor)?;
-            Ok(out)
-        }
-        Err(error) => refusal(cursors.alloc(), error),
-    }
-}
+use tp_test_runner::{Fault, Words, answer_position, count, hashes, keep_cursor};
 
 // `cursor NAME PEER PLACE`.
 fn cursor(world: &mut World, words: &mut Words) -> Result<String, Fault> {
     let name = words.next()?;
     let peer = world.peers.get(words.next()?)?;
     let answer = peer.document().cursor(count(words.next()?)?);
-    keep(&mut world.cursors, name, answer)
+    keep_cursor(&mut world.cursors, name, answer)
 }
 
 // `cursor_at NAME PEER PLACE HASHES`.
@@ -36,17 +18,14 @@ fn cursor_at(world: &mut World, words: &mut Words) -> Result<String, Fault> {
     let at = count(words.next()?)?;
     let heads = hashes(&world.changes, words.next()?)?;
     let answer = peer.document().cursor_at(at, &heads);
-    keep(&mut world.cursors, name, answer)
+    keep_cursor(&mut world.cursors, name, answer)
 }
 
 // `position PEER CURSOR`: a cursor is of no peer, so one that was made in a peer serves in each.
 fn position(world: &World, words: &mut Words) -> Result<String, Fault> {
     let peer = world.peers.get(words.next()?)?;
     let cursor = world.cursors.get(words.next()?)?;
-    match peer.document().cursor_position(cursor) {
-        Ok(at) => Ok(format!(in world.alloc; "{at}")?),
-        Err(error) => refusal(world.alloc, error),
-    }
+    answer_position(world.alloc, peer.document().cursor_position(cursor))
 }
 
 /// Makes a call on a cursor; `None` where the word is none of these.

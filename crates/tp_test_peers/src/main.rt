@@ -15,7 +15,6 @@ mod reads;
 mod running;
 mod seated;
 mod serving;
-mod streams;
 mod table;
 mod world;
 

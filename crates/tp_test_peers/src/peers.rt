@@ -8,7 +8,7 @@ use tp_document::Applied;
 use tp_opid::DocId;
 use tp_peer::{Peer, PeerError, Unopened};
 use tp_test_runner::{
-    Fault, Shelf, Words, actor, count, document_id, done, keep_bytes, number, put_name, put_names,
+    Fault, Shelf, Words, actor, count, document_id, done, keep_bytes, number, put_kept, put_name,
     refusal,
 };
 
@@ -114,10 +114,7 @@ pub fn put_applied(
     out: &mut String,
     applied: &Applied,
 ) -> Result<(), Fault> {
-    out.push_str("entered ")?;
-    put_names(changes, out, &applied.applied)?;
-    out.push_str(" held ")?;
-    put_names(changes, out, &applied.held)?;
+    put_kept(changes, out, applied)?;
     for (hash, error) in &applied.refused {
         out.push_str(" refused ")?;
         put_name(changes, out, hash)?;

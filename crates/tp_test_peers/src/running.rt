@@ -2,13 +2,12 @@
 
 use crate::answers::end;
 use crate::faulty::FaultyJournal;
-use crate::streams::{Input, Output};
 use crate::world::{RowPeer, World};
 use std::alloc::Global;
 use tp_net::run_session;
 use tp_peer::Link;
 use tp_session::{LinkedPeer, NetError, Role};
-use tp_test_runner::{Fault, Judge, Runs, Shelf, Words, actor_of, of_cuts};
+use tp_test_runner::{Fault, Input, Judge, Output, Runs, Shelf, Words, actor_of, of_cuts};
 
 // The number of the actor of each fork.
 const FORKED: u16 = 999;
@@ -87,12 +86,8 @@ fn outcome_of(
 // Runs the session over a reader, and a writer with so many calls that succeed.
 fn run_over(plan: Plan, mut input: Input, succeeds: Option<usize>) -> Result<Outcome, Fault> {
     let mut peer = forked(plan.shelf.alloc(), plan.peer)?;
-    let mut output = Output {
-        bytes: Vec::new(plan.shelf.alloc()),
-        succeeds,
-        failed: false,
-        refused: false,
-    };
+    let mut output = Output::new(Vec::new(plan.shelf.alloc()));
+    output.succeeds = succeeds;
     let ended = hold(plan, &mut peer, &mut input, &mut output);
     outcome_of(plan.shelf, ended, &peer, &output)
 }

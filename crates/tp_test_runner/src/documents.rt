@@ -5,13 +5,13 @@ use crate::edits::{Request, name_last, request_of};
 use crate::fault::{Fault, done, refusal};
 use crate::lists::range;
 use crate::literals::{actor, byte, text};
-use crate::printing::{names, names_of, quoted};
+use crate::printing::{names, names_of, put_id, quoted};
 use crate::shelf::Shelf;
 use crate::splice::lent;
 use crate::words::Words;
 use std::alloc::Global;
 use tp_change::Change;
-use tp_document::{DocError, Document};
+use tp_document::{Cursor, DocError, Document};
 use tp_opid::{Actor, DocId, Hash};
 use tp_rga::Sequence;
 
@@ -123,6 +123,31 @@ pub fn call_on_documents<S: Sequence>(
         "edit" => edit_named(changes, documents, words),
         _ => return None,
     })
+}
+
+/// Gives a cursor its name, and answers the element that it stands at, or why there is none.
+pub fn keep_cursor(
+    cursors: &mut Shelf<Cursor>,
+    name: &str,
+    made: Result<Cursor, DocError>,
+) -> Result<String, Fault> {
+    match made {
+        Ok(cursor) => {
+            let mut out = String::new(cursors.alloc());
+            put_id(&mut out, &cursor.element)?;
+            cursors.put(name, cursor)?;
+            Ok(out)
+        }
+        Err(error) => refusal(cursors.alloc(), error),
+    }
+}
+
+/// Where a cursor stands, or the refusal.
+pub fn answer_position(alloc: Global, answer: Result<usize, DocError>) -> Result<String, Fault> {
+    match answer {
+        Ok(at) => Ok(format!(in alloc; "{at}")?),
+        Err(error) => refusal(alloc, error),
+    }
 }
 
 /// A text that was read, in quotes, or the refusal.

@@ -22,13 +22,15 @@ mod rows;
 mod runs;
 mod shelf;
 mod splice;
+mod streams;
 mod words;
 
 pub use altering::{altered, call_on_bytes, derived, keep_bytes, spelled};
 pub use calls::Calls;
 pub use changes::{call_on_fields, keep_change};
 pub use documents::{
-    answer_text, call_on_documents, document_id, keep_document, read_document, text_of,
+    answer_position, answer_text, call_on_documents, document_id, keep_cursor, keep_document,
+    read_document, text_of,
 };
 pub use edits::{Request, name_last, request_of};
 pub use fault::{Fault, done, refusal};
@@ -37,8 +39,9 @@ pub use judge::{Judge, of_complements, of_cuts};
 pub use lists::{UNKNOWN, copies, copy, hashes, inside, push_hashes, range};
 pub use literals::{actor, actor_of, byte, bytes, count, id, many, number, place, text};
 pub use printing::{names, names_of, put_error, put_id, put_name, put_names, quoted};
-pub use received::{Few, put_applied, reply};
+pub use received::{Few, put_applied, put_kept, reply};
 pub use runs::Runs;
 pub use shelf::Shelf;
 pub use splice::{lent, splices};
+pub use streams::{Input, Output};
 pub use words::Words;

@@ -55,16 +55,21 @@ fn put_refused(
     Ok(())
 }
 
+/// Adds what became of the changes that weren't refused: `entered [..] held [..]`.
+pub fn put_kept(changes: &Shelf<Change>, out: &mut String, applied: &Applied) -> Result<(), Fault> {
+    out.push_str("entered ")?;
+    put_names(changes, out, &applied.applied)?;
+    out.push_str(" held ")?;
+    put_names(changes, out, &applied.held)
+}
+
 /// Adds what became of the changes: `entered [..] held [..] refused [..]`.
 pub fn put_applied(
     changes: &Shelf<Change>,
     out: &mut String,
     applied: &Applied,
 ) -> Result<(), Fault> {
-    out.push_str("entered ")?;
-    put_names(changes, out, &applied.applied)?;
-    out.push_str(" held ")?;
-    put_names(changes, out, &applied.held)?;
+    put_kept(changes, out, applied)?;
     out.push_str(" refused ")?;
     put_refused(changes, out, &applied.refused)
 }

@@ -82,6 +82,8 @@ impl Read for Input<'_> {
 pub struct Output {
     /// The bytes.
     pub bytes: Vec<u8>,
+    /// How many bytes a write takes at most.
+    pub piece: usize,
     /// How many calls, of writes and of flushes, still succeed; `None` where none fails.
     pub succeeds: Option<usize>,
     /// Whether one has failed.
@@ -91,6 +93,17 @@ pub struct Output {
 }
 
 impl Output {
+    /// No bytes yet, in this vector, with no failure and all bytes of a write at once.
+    pub fn new(bytes: Vec<u8>) -> Output {
+        Output {
+            bytes,
+            piece: usize::MAX,
+            succeeds: None,
+            failed: false,
+            refused: false,
+        }
+    }
+
     // Counts a call down, and keeps that it failed.
     fn call(&mut self) -> io::Result<()> {
         let answer = count_down(&mut self.succeeds);
@@ -102,8 +115,10 @@ impl Output {
 impl Write for Output {
     fn write(&mut self, buf: &[u8]) -> io::Result<usize> {
         self.call()?;
-        match self.bytes.extend_from_slice(buf) {
-            Ok(()) => Ok(buf.len()),
+        let len = self.piece.min(buf.len());
+        let (front, _) = buf.split_at(len);
+        match self.bytes.extend_from_slice(front) {
+            Ok(()) => Ok(len),
             Err(e) => {
                 self.refused = true;
                 Err(io::Error::from(e))
