@@ -13,8 +13,6 @@ mod layout;
 mod memory;
 mod reading;
 mod recovering;
-#[cfg(test)]
-mod tests;
 mod writing;
 
 pub use durable::DurableJournal;
