@@ -1,5 +1,5 @@
 use Rattle.std.proofs.Common.{◌≤◌}
-use Rattle.tp_rga_tests.proofs.tests.count_orders.Given as goal
+use Rattle.tp_test_by_hand.proofs.sequences.count_orders.Given as goal
 
 -- no more orders than numbers
 abbrev pub invariant-loop-code : goal.invariant-loop-code
