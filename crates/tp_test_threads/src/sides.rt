@@ -1,34 +1,22 @@
-//! The two sides of the tests: a server with a document, and clients of it.
+//! The two sides of a session: a server with a document, and clients of it.
 
 ghost use Rattle.std.specs.Prelude.{◌≡◌, IfSome};
 ghost use Rattle.tp_served.specs.Calls.{AreOf};
 
+use crate::peers::{at_start, peer_on};
 use std::io::{Read, Write};
-use std::net::{Net, OpenListener, OpenStream, Shutdown, SocketAddr, TcpStream};
+use std::net::{Net, OpenListener, OpenStream, SocketAddr};
 use std::sync::Wait;
 use std::thread::Threads;
-use tp_edit::Splice;
 use tp_journal::MemJournal;
 use tp_net::{Gate, connect, serve};
-use tp_opid::{Actor, DocId};
 use tp_peer::Peer;
 use tp_served::{Seat, Served};
 
-// The actor with the number.
-fn actor(number: u8) -> Actor {
-    Actor([0, 0, 0, 0, 0, 0, 0, 0, 0, 0, 0, 0, 0, 0, 0, number])
-}
-
 // A document with the text, which the actor inserted in one edit.
 fn document<R: AllocGlobal>(rt: &R, number: u8, text: &str) -> Option<Peer<MemJournal>> {
-    let journal = MemJournal::new(Vec::new(rt.alloc()));
-    let mut peer = Peer::create(rt.alloc(), journal, DocId([0; 16]), actor(number)).ok()?;
-    let splice = Splice {
-        at: 0,
-        del: 0,
-        text,
-    };
-    peer.edit(&[splice], 0, "").ok()?;
+    let mut peer = peer_on(rt.alloc(), MemJournal::new(Vec::new(rt.alloc())), number)?;
+    peer.edit(&[at_start(text)], 0, "").ok()?;
     Some(peer)
 }
 
@@ -115,23 +103,4 @@ pub fn client<R: AllocGlobal + Net + Wait>(
 ) -> Option<(u64, String)> {
     let (served, seats) = served(rt, number, text, 1)?;
     client_on(rt, addr, &served, seats)
-}
-
-// Sends the bytes and nothing more; all that comes back.
-fn exchange<R: AllocGlobal, S: Read + Write + OpenStream + Drop>(
-    rt: &R,
-    stream: S,
-    bytes: &[u8],
-) -> Option<Vec<u8>> {
-    let mut stream = stream;
-    stream.write_all(bytes).ok()?;
-    stream.shutdown(Shutdown::Write).ok()?;
-    let mut back = Vec::new(rt.alloc());
-    stream.read_to_end(&mut back).ok()?;
-    Some(back)
-}
-
-/// A client that sends the bytes and nothing more: all that comes back.
-pub fn stranger<R: AllocGlobal + Net>(rt: &R, addr: SocketAddr, bytes: &[u8]) -> Option<Vec<u8>> {
-    exchange(rt, TcpStream::connect(rt, addr).ok()?, bytes)
 }

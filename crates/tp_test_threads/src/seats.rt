@@ -1,24 +1,21 @@
-//! Two threads that edit by turns; a thread that holds the peer; calls that wait.
+//! Seats of served peers: two threads that edit by turns; a thread that holds the peer; calls that wait.
 
 ghost use Rattle.std.specs.Prelude.{◌≡◌};
 
 use crate::gate::{Gate, GatedJournal};
+use crate::peers::{at_start, peer_on};
 use crate::room::{Room, met, peer_of, read_by_each, room_of};
 use std::alloc::Global;
 use std::sync::{Arc, Wait};
 use std::test::Fail;
 use std::thread::{Threads, join};
 use tp_change::Change;
-use tp_edit::Splice;
 use tp_journal::{Journal, MemJournal};
-use tp_opid::{Actor, DocId};
-use tp_peer::Peer;
 use tp_served::{Seat, Served, ServedError};
 
 // A new peer, served with three seats.
 fn seated<J: Journal>(alloc: Global, journal: J, actor: u8) -> Option<Room<J>> {
-    let peer = Peer::create(alloc, journal, DocId([7; 16]), Actor([actor; 16])).ok()?;
-    room_of(alloc, peer)
+    room_of(alloc, peer_on(alloc, journal, actor)?)
 }
 
 // Makes an edit of one character at the start for each number from the first on, below the last: its time is the number.
@@ -35,12 +32,7 @@ fn write_all<R: Wait>(
 {
     let mut seat = seat;
     for time in first..last {
-        let splice = Splice {
-            at: 0,
-            del: 0,
-            text,
-        };
-        let _made = served.edit(rt, &mut seat, &[splice], time, text);
+        let _made = served.edit(rt, &mut seat, &[at_start(text)], time, text);
     }
     seat
 }
@@ -138,12 +130,7 @@ fn edit_held(served: &Served<GatedJournal>, seat: Seat) -> Seat
     ensures { result.served ≡ served.now.served }
 {
     let mut seat = seat;
-    let splice = Splice {
-        at: 0,
-        del: 0,
-        text: "x",
-    };
-    let _made = served.try_edit(&mut seat, &[splice], 0, "");
+    let _made = served.try_edit(&mut seat, &[at_start("x")], 0, "");
     seat
 }
 

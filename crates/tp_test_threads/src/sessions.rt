@@ -1,7 +1,8 @@
 //! Sessions over TCP, in threads of one process.
 
 use crate::hold::{Broken, Hold};
-use crate::sides::{client, server, stranger};
+use crate::sides::{client, server};
+use crate::strangers::{Answered, Pace, UNKNOWN, first_other};
 use std::net::{Ipv4Addr, OpenListener, SocketAddr, TcpListener};
 use std::test::Fail;
 use std::thread::join;
@@ -52,44 +53,36 @@ fn sessions_go_on_side_by_side(rt: HostRuntime) -> Result<(), Fail> {
     Ok(())
 }
 
-// What a client is answered that sends these bytes and then ends its side. Its session ends alone: the last client, which
-// keeps to the rules, is served on the same seat.
+// Hellos of another version, and about another document.
+const HELLOS: [Answered; 2] = [
+    (
+        b"\x00\x00\x00\x12\x00\x02\x00\x00\x00\x00\x00\x00\x00\x00\x00\x00\x00\x00\x00\x00\x00\x00",
+        b"\x00\x00\x00\x02\x03\x02",
+    ),
+    (
+        b"\x00\x00\x00\x12\x00\x01\x07\x00\x00\x00\x00\x00\x00\x00\x00\x00\x00\x00\x00\x00\x00\x00",
+        b"\x00\x00\x00\x02\x03\x01",
+    ),
+];
+
+// Each client's session ends alone: the last client, which keeps to the rules, is served on the same seat.
 #[test]
 fn strangers_are_refused(rt: HostRuntime) -> Result<(), Fail> {
-    let rows = [
-        (b"".as_slice(), b"".as_slice()),
-        (b"\x00\x00\x00", b""),
-        (b"\x00\x00\x00\x12\x00\x01\x00", b""),
-        (b"\xff\xff\xff\xff", b"\x00\x00\x00\x02\x03\x03"),
-        (b"\x00\x00\x00\x00", b"\x00\x00\x00\x02\x03\x03"),
-        (b"\x00\x00\x00\x01\x02", b"\x00\x00\x00\x02\x03\x03"),
-        (
-            b"\x00\x00\x00\x12\x00\x02\x00\x00\x00\x00\x00\x00\x00\x00\x00\x00\x00\x00\x00\x00\x00\x00",
-            b"\x00\x00\x00\x02\x03\x02",
-        ),
-        (
-            b"\x00\x00\x00\x12\x00\x01\x07\x00\x00\x00\x00\x00\x00\x00\x00\x00\x00\x00\x00\x00\x00\x00",
-            b"\x00\x00\x00\x02\x03\x01",
-        ),
-        (b"\x00\x00\x00\x02\x03\x05", b""),
-    ];
+    let sessions = UNKNOWN.len() as u64 + HELLOS.len() as u64 + 1;
     let listener = TcpListener::bind(&rt, here())?;
     let addr = listener.local_addr()?;
-    let (served, _) = join(
+    let (served, (first, second, last)) = join(
         &rt,
-        || server(&rt, &listener, 1, 10, &AlwaysOpen),
+        || server(&rt, &listener, 1, sessions, &AlwaysOpen),
         || {
-            for (sent, wanted) in rows {
-                let back = stranger(&rt, addr, sent);
-                let is_wanted = back.is_some_and(|bytes| bytes.as_slice() == wanted);
-                assert!(rt; is_wanted, "{sent:?}");
-            }
-            let last = client(&rt, addr, 2, "q");
-            assert!(rt;
-                last.is_some_and(|(applied, text)| applied == 1 && text.as_str() == "qabc")
-            );
+            let first = first_other(&rt, addr, b"", &UNKNOWN, Pace::AtOnce);
+            let second = first_other(&rt, addr, b"", &HELLOS, Pace::AtOnce);
+            (first, second, client(&rt, addr, 2, "q"))
         },
     );
+    assert_eq!(rt; (first, second), (None, None));
+    let (applied, text) = last.ok_or("the last client")?;
+    assert_eq!(rt; (applied, text.as_str()), (1, "qabc"));
     assert_eq!(rt; served.ok_or("the server")?.as_str(), "qabc");
     Ok(())
 }

@@ -1,5 +1,5 @@
 use Rattle.std.proofs.Common.{◌≡◌}
-use Rattle.tp_served_tests.proofs.tests.write_all.Given as goal
+use Rattle.tp_test_threads.proofs.seats.write_all.Given as goal
 
 -- the seat is still one of this served peer
 abbrev pub invariant-loop-time : goal.invariant-loop-time
