@@ -8,7 +8,7 @@ use crate::lines::command_line;
 use crate::stream::Stream;
 use crate::world::World;
 use std::rt::Files;
-use tp_commands::run_words;
+use tp_shell::{NoNetwork, run_words};
 use tp_test_runner::{Fault, Words, number};
 
 // A command whose device fails later than this succeeds first.
@@ -49,7 +49,7 @@ fn run_line<R: Files + AllocGlobal>(rt: &R, limits: Limits, line: &[String]) -> 
         out: Stream::new(rt.alloc(), limits.out)?,
         err: Stream::new(rt.alloc(), limits.err)?,
     };
-    let status = run_words(&host, line);
+    let status = run_words(&host, &NoNetwork, line);
     Ok(Ran {
         status,
         out: host.out.text(rt.alloc())?,

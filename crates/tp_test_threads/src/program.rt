@@ -1,0 +1,204 @@
+//! A server and its clients as runs of the program, in threads of one process.
+
+use crate::disk::{Disk, OverDisk};
+use crate::runs::{Machine, Place, Ran};
+use crate::strangers::{Answered, Pace, UNKNOWN, first_other};
+use std::net::{Net, SocketAddr};
+use std::rt::Files;
+use std::sync::Wait;
+use std::test::Fail;
+use std::thread::{Threads, join};
+use std::time::Clock;
+
+// Ann serves her journal to two clients, one after the other: Ben brings a change, and Cat gets it. Then all three read one
+// text.
+#[test]
+fn a_server_and_two_clients(rt: HostRuntime) -> Result<(), Fail> {
+    let all = Machine::new(&rt);
+    assert!(rt; all.begin("ann", "Hello world", &["ben", "cat"]));
+    assert!(rt; all.insert("ben", "5", ",").status == 0);
+    let place = Place::free(&rt)?;
+    let (served, (ben, cat)) = join(
+        &rt,
+        || all.serve("ann", place.as_str(), "2"),
+        || {
+            let ben = all.sync("ben", place.as_str());
+            (ben, all.sync_once("cat", place.as_str()))
+        },
+    );
+    assert!(rt; ben.printed("applied 0\n"));
+    assert!(rt; cat.printed("applied 1\n"));
+    assert!(rt; served.printed(place.printed(rt.alloc(), "served 2\n")?.as_str()));
+    assert!(rt; all.all_read(&["ann", "ben", "cat"], "Hello, world\n"));
+    Ok(())
+}
+
+// The hello of a side that has Dora's document.
+const HELLO: &[u8] =
+    b"\x00\x00\x00\x12\x00\x01\xad\xe0\xb8\x76\x90\x3d\xf1\xa0\xe5\x6a\x5d\x40\x28\xbd\x86\x53";
+
+// Hellos of another version, and about another document.
+const HELLOS: [Answered; 2] = [
+    (
+        b"\x00\x00\x00\x12\x00\x02\xad\xe0\xb8\x76\x90\x3d\xf1\xa0\xe5\x6a\x5d\x40\x28\xbd\x86\x53",
+        b"\x00\x00\x00\x02\x03\x02",
+    ),
+    (
+        b"\x00\x00\x00\x12\x00\x01\xad\xe0\xb8\x76\x90\x3d\xf1\xa0\xe5\x6a\x5d\x40\x28\xbd\x86\x54",
+        b"\x00\x00\x00\x02\x03\x01",
+    ),
+];
+
+// What clients send behind Dora's hello.
+const BEHIND: [Answered; 6] = [
+    (b"", b""),
+    (b"\x01\x00\x00", b""),
+    (b"\x01\x00\x00\x00\x01sixteen megabytes, and then", b""),
+    (HELLO, b"\x00\x00\x00\x02\x03\x03"),
+    (b"\x00\x00\x00\x03\x01\xff\xff", b"\x00\x00\x00\x02\x03\x03"),
+    (b"\x00\x00\x00\x01\x02", b"\x00\x00\x00\x01\x02"),
+];
+
+// One says done twice, at once: it is answered by the one done that ends its session.
+const TWICE: [Answered; 1] = [(
+    b"\x00\x00\x00\x01\x02\x00\x00\x00\x01\x02",
+    b"\x00\x00\x00\x01\x02",
+)];
+
+// The clients that keep to no rule, one after another: what the first one sent that was answered otherwise.
+fn first_unruly<R: Net + Clock + AllocGlobal>(rt: &R, addr: SocketAddr) -> Option<&'static [u8]> {
+    let unknown = first_other(rt, addr, b"", &UNKNOWN, Pace::ByteByByte);
+    let hellos = first_other(rt, addr, b"", &HELLOS, Pace::ByteByByte);
+    let behind = first_other(rt, addr, HELLO, &BEHIND, Pace::ByteByByte);
+    let twice = first_other(rt, addr, HELLO, &TWICE, Pace::AtOnce);
+    unknown.or(hellos).or(behind).or(twice)
+}
+
+// The session of each ends alone: Eve, who keeps to the rules, is served behind them all, and the texts are what they were.
+#[test]
+fn clients_that_keep_to_no_rule(rt: HostRuntime) -> Result<(), Fail> {
+    let all = Machine::new(&rt);
+    assert!(rt; all.begin("dora", "dora", &["eve"]));
+    let place = Place::free(&rt)?;
+    let (served, (other, eve)) = join(
+        &rt,
+        || all.serve("dora", place.as_str(), "19"),
+        || {
+            let other = first_unruly(&rt, place.addr);
+            (other, all.sync_once("eve", place.as_str()))
+        },
+    );
+    assert_eq!(rt; other, None);
+    assert!(rt; eve.printed("applied 0\n"));
+    assert!(rt; served.printed(place.printed(rt.alloc(), "served 19\n")?.as_str()));
+    assert!(rt; all.all_read(&["dora", "eve"], "dora\n"));
+    Ok(())
+}
+
+// A client that says nothing holds one of the two workers until the session of another one has gone on beside it to its
+// end. Were there one worker alone, the silent one would lose its patience first.
+#[test]
+fn a_silent_client_holds_one_worker(rt: HostRuntime) -> Result<(), Fail> {
+    let all = Machine::new(&rt);
+    assert!(rt; all.begin("fay", "", &["gus"]));
+    assert!(rt; all.insert("gus", "0", "gus").status == 0);
+    let place = Place::free(&rt)?;
+    let (served, beside) = join(
+        &rt,
+        || all.serve("fay", place.as_str(), "2"),
+        || all.sync_beside_silence("gus", &place),
+    );
+    let (was_silent, gus) = beside.ok_or("a connection")?;
+    assert!(rt; was_silent);
+    assert!(rt; gus.printed("applied 0\n"));
+    assert!(rt; served.printed(place.printed(rt.alloc(), "served 2\n")?.as_str()));
+    assert!(rt; all.all_read(&["fay", "gus"], "gus\n"));
+    Ok(())
+}
+
+// What each was told.
+#[derive(Drop)]
+struct Told {
+    hal: Ran,
+    ida: Ran,
+    joe: Ran,
+    kim: Ran,
+}
+
+impl Told {
+    // Whether Ida's change was taken, and no other one, by a server that began with this line.
+    fn is_of_ida_alone(&self, listening: &str) -> bool {
+        self.ida.printed("applied 0\n")
+            && self.joe.refused("", "textpeer: RefusedByOther\n")
+            && self.kim.refused("", "textpeer: Io\n")
+            && self.hal.refused(listening, "textpeer: JournalFailed\n")
+    }
+}
+
+// Hal serves his journal on the disk to Ida, Joe and Kim, one after another.
+fn served_on<R: Files + Net + Threads + Wait + Clock + AllocGlobal + Sync>(
+    rt: &R,
+    disk: &Disk,
+    place: &Place,
+) -> Told
+where
+    R::File: Send,
+    R::Stream: Send,
+{
+    let (over, all) = (OverDisk { rt, disk }, Machine::new(rt));
+    let (hal, (ida, joe, kim)) = join(
+        rt,
+        || Machine::new(&over).serve("hal", place.as_str(), "3"),
+        || {
+            let ida = all.sync("ida", place.as_str());
+            let joe = all.sync_once("joe", place.as_str());
+            (ida, joe, all.sync_once("kim", place.as_str()))
+        },
+    );
+    Told { hal, ida, joe, kim }
+}
+
+// Hal has a disk again, and serves Joe. Whether both were done.
+fn is_served_again<R: Files + Net + Threads + Wait + Clock + AllocGlobal + Sync>(
+    rt: &R,
+    place: &Place,
+) -> bool
+where
+    R::File: Send,
+    R::Stream: Send,
+{
+    let all = Machine::new(rt);
+    let (served, joe) = join(
+        rt,
+        || all.serve("hal", place.as_str(), "1"),
+        || all.sync("joe", place.as_str()),
+    );
+    served.status == 0 && joe.printed("applied 0\n")
+}
+
+// Hal's disk fails while he serves his journal: it takes Ida's change, and of Joe's nothing, a part, or all, but doesn't
+// bring that to its ground. Joe's session is refused, and so is Kim's, behind which the serving ends with the error. Hal's
+// journal has what Ida was told; once Hal has a disk again, Joe's change enters, if it didn't.
+#[test]
+fn a_journal_fails_while_it_is_served(rt: HostRuntime) -> Result<(), Fail> {
+    let rows = [
+        (Disk::new(1, 0, 9), "ida hal\n"),
+        (Disk::new(1, 40, 9), "ida hal\n"),
+        (Disk::new(9, 0, 1), "ida hal joe\n"),
+    ];
+    let all = Machine::new(&rt);
+    assert!(rt; all.begin("first", "hal", &[]));
+    for (disk, text) in rows {
+        assert!(rt; all.copy_all("first", &["hal", "ida", "joe", "kim"]));
+        assert!(rt; all.insert("ida", "0", "ida ").status == 0);
+        assert!(rt; all.insert("joe", "3", " joe").status == 0);
+        let place = Place::free(&rt)?;
+        let told = served_on(&rt, &disk, &place);
+        assert!(rt; told.is_of_ida_alone(place.printed(rt.alloc(), "")?.as_str()));
+        assert!(rt; all.all_read(&["hal"], text));
+        assert!(rt; all.all_read(&["joe"], "ida hal joe\n"));
+        assert!(rt; is_served_again(&rt, &Place::free(&rt)?));
+        assert!(rt; all.all_read(&["hal"], "ida hal joe\n"));
+    }
+    Ok(())
+}
