@@ -20,10 +20,9 @@ use std::sync::Wait;
 use std::thread::Threads;
 use tp_commands::CommandError;
 use tp_journal::DurableJournal;
-use tp_opid::Actor;
 use tp_peer::Peer;
 use tp_served::{Seat, Served};
-use tp_shell::{JobError, put};
+use tp_shell::{JobError, draw_actor, put};
 
 /// A peer that is served to one thread, once a session was held on its seat.
 #[derive(Drop)]
@@ -178,7 +177,7 @@ pub(crate) fn serve_file<R: Files + Net + Threads + Wait + AllocGlobal + Sync, W
     file: &str,
     addr: SocketAddr,
     sessions: u64,
-    actor: Actor,
+    key: Option<[u8; 32]>,
     out: &mut W,
 ) -> Result<Peer<DurableJournal<R::File>>, JobError>
 where
@@ -190,6 +189,7 @@ where
     ensures err { IfErr result (λ _. Keeps (W.contents out.old) (W.contents out.new)
         ⊎ GrowsPart (IsServed sessions) (W.contents out.old) (W.contents out.new)) }
 {
+    let actor = draw_actor(rt, key)?;
     match listen(rt, file, addr, actor) {
         Ok(listening) => serve_on(rt, listening, sessions, out),
         Err(error) => Err(JobError::Command(error)),
@@ -201,10 +201,11 @@ fn applied_by<R: Files + Net + Wait + AllocGlobal>(
     rt: &R,
     file: &str,
     addr: SocketAddr,
-    actor: Actor,
+    key: Option<[u8; 32]>,
 ) -> Result<Met<R::File>, JobError>
     ensures entered { IfOk result (λ met. HasEntered met.served met.seat met.applied) }
 {
+    let actor = draw_actor(rt, key)?;
     let peer = opened(rt, file, actor)?;
     let (served, mut seat) = seated_alone(rt.alloc(), peer)?;
     match meet(rt, rt.alloc(), addr, &served, &mut seat) {
@@ -223,7 +224,7 @@ pub(crate) fn sync_file<R: Files + Net + Wait + AllocGlobal, W: Write>(
     rt: &R,
     file: &str,
     addr: SocketAddr,
-    actor: Actor,
+    key: Option<[u8; 32]>,
     out: &mut W,
 ) -> Result<Met<R::File>, JobError>
     ensures entered { IfOk result (λ met. HasEntered met.served met.seat met.applied) }
@@ -232,7 +233,7 @@ pub(crate) fn sync_file<R: Files + Net + Wait + AllocGlobal, W: Write>(
     ensures err { IfErr result
         (λ e. Leaves IsSynced e (W.contents out.old) (W.contents out.new)) }
 {
-    let met = applied_by(rt, file, addr, actor)?;
+    let met = applied_by(rt, file, addr, key)?;
     match tell_applied(rt.alloc(), met.applied, out) {
         Ok(()) => Ok(met),
         Err(error) => {

@@ -9,24 +9,26 @@ use Rattle.tp_shell.specs.Keys.{AreHashes, IsKeyOf, IsNoHash, key_texts}
 use Rattle.tp_shell.specs.ShellError.{failed, no_memory}
 use Rattle.tp_shell.specs.declared.error.ShellError.{ShellError}
 use Rattle.tp_shell.specs.declared.error.ShellError.TheVariants.{BadHex, Job as Refused}
+use Rattle.tp_shell.specs.declared.job.FileJob.{FileJob}
+use Rattle.tp_shell.specs.declared.job.FileJob.TheVariants.{New, Edit, Text, Heads, Log, Cursor, Merge, Save, Load, Show, Simulate}
 use Rattle.tp_shell.specs.declared.job.Job.{Job}
-use Rattle.tp_shell.specs.declared.job.Job.TheVariants.{New, Edit, Text, Heads, Log, Cursor, Merge, Save, Load, Show, Simulate, Serve, Sync}
+use Rattle.tp_shell.specs.declared.job.Job.TheVariants.{Files, Serve, Sync}
 
 -- The job is what the command asks for: its texts are the command's, and its hashes, its key and its address are what the
 -- command's texts spell.
 abbrev pub IsJobOf : Command → Job → Type 0
-IsJobOf (asked.New file key) (New file' key') = (file' ≡ file) × IsKeyOf key key'
-IsJobOf (asked.Edit file at del text time message key) (Edit file' splice time' message' key') =
+IsJobOf (asked.New file key) (Files (New file' key')) = (file' ≡ file) × IsKeyOf key key'
+IsJobOf (asked.Edit file at del text time message key) (Files (Edit file' splice time' message' key')) =
     (file' ≡ file) × (splice ≡ record { at = at; del = del; text = text }) × (time' ≡ time) × (message' ≡ message) × IsKeyOf key key'
-IsJobOf (asked.Text file heads) (Text file' hs) = (file' ≡ file) × AreHashes heads.items hs.items
-IsJobOf (asked.Heads file) (Heads file') = file' ≡ file
-IsJobOf (asked.Log file) (Log file') = file' ≡ file
-IsJobOf (asked.Cursor file at heads) (Cursor file' at' hs) = (file' ≡ file) × (at' ≡ at) × AreHashes heads.items hs.items
-IsJobOf (asked.Merge file other key) (Merge file' other' key') = (file' ≡ file) × (other' ≡ other) × IsKeyOf key key'
-IsJobOf (asked.Save file out) (Save file' out') = (file' ≡ file) × (out' ≡ out)
-IsJobOf (asked.Load saved file) (Load saved' file') = (saved' ≡ saved) × (file' ≡ file)
-IsJobOf (asked.Show log) (Show log') = log' ≡ log
-IsJobOf (asked.Simulate script) (Simulate script') = script' ≡ script
+IsJobOf (asked.Text file heads) (Files (Text file' hs)) = (file' ≡ file) × AreHashes heads.items hs.items
+IsJobOf (asked.Heads file) (Files (Heads file')) = file' ≡ file
+IsJobOf (asked.Log file) (Files (Log file')) = file' ≡ file
+IsJobOf (asked.Cursor file at heads) (Files (Cursor file' at' hs)) = (file' ≡ file) × (at' ≡ at) × AreHashes heads.items hs.items
+IsJobOf (asked.Merge file other key) (Files (Merge file' other' key')) = (file' ≡ file) × (other' ≡ other) × IsKeyOf key key'
+IsJobOf (asked.Save file out) (Files (Save file' out')) = (file' ≡ file) × (out' ≡ out)
+IsJobOf (asked.Load saved file) (Files (Load saved' file')) = (saved' ≡ saved) × (file' ≡ file)
+IsJobOf (asked.Show log) (Files (Show log')) = log' ≡ log
+IsJobOf (asked.Simulate script) (Files (Simulate script')) = script' ≡ script
 IsJobOf (asked.Serve file addr sessions key) (Serve file' addr' sessions' key') =
     (file' ≡ file) × IsSocketText addr.now addr' × (sessions' ≡ sessions) × IsKeyOf key key'
 IsJobOf (asked.Sync file addr key) (Sync file' addr' key') = (file' ≡ file) × IsSocketText addr.now addr' × IsKeyOf key key'

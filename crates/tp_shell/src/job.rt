@@ -11,10 +11,10 @@ use tp_command_line::Command;
 use tp_edit::Splice;
 use tp_opid::Hash;
 
-/// What the program is to do. Paths and texts are borrowed from the words of the command line; hashes, the key of the
-/// generator of random numbers, where one is given, and the address are values.
+/// What is to be done to files. Paths and texts are borrowed from the words of the command line; hashes, and the key of the
+/// generator of random numbers, where one is given, are values.
 #[derive(Drop)]
-pub enum Job<'a> {
+pub enum FileJob<'a> {
     /// Begins the journal at the path.
     New {
         /// The path of the journal.
@@ -94,6 +94,13 @@ pub enum Job<'a> {
         /// The path of the script.
         script: &'a str,
     },
+}
+
+/// What the program is to do.
+#[derive(Drop)]
+pub enum Job<'a> {
+    /// What needs no network.
+    Files(FileJob<'a>),
     /// Serves a journal to others over a network.
     Serve {
         /// The path of the journal.
@@ -124,10 +131,10 @@ pub fn job_of<'a>(alloc: Global, command: Command<'a>) -> Result<Job<'a>, ShellE
     ensures err { IfErr result (NotRead command.entry) }
 {
     match command {
-        Command::New { file, key } => Ok(Job::New {
+        Command::New { file, key } => Ok(Job::Files(FileJob::New {
             file,
             key: key_in(key)?,
-        }),
+        })),
         Command::Edit {
             file,
             at,
@@ -136,7 +143,7 @@ pub fn job_of<'a>(alloc: Global, command: Command<'a>) -> Result<Job<'a>, ShellE
             time,
             message,
             key,
-        } => Ok(Job::Edit {
+        } => Ok(Job::Files(FileJob::Edit {
             file,
             splice: Splice {
                 at: at as usize,
@@ -146,27 +153,27 @@ pub fn job_of<'a>(alloc: Global, command: Command<'a>) -> Result<Job<'a>, ShellE
             time,
             message,
             key: key_in(key)?,
-        }),
-        Command::Text { file, heads } => Ok(Job::Text {
+        })),
+        Command::Text { file, heads } => Ok(Job::Files(FileJob::Text {
             file,
             heads: hashes_in(alloc, &heads)?,
-        }),
-        Command::Heads { file } => Ok(Job::Heads { file }),
-        Command::Log { file } => Ok(Job::Log { file }),
-        Command::Cursor { file, at, heads } => Ok(Job::Cursor {
+        })),
+        Command::Heads { file } => Ok(Job::Files(FileJob::Heads { file })),
+        Command::Log { file } => Ok(Job::Files(FileJob::Log { file })),
+        Command::Cursor { file, at, heads } => Ok(Job::Files(FileJob::Cursor {
             file,
             at: at as usize,
             heads: hashes_in(alloc, &heads)?,
-        }),
-        Command::Merge { file, other, key } => Ok(Job::Merge {
+        })),
+        Command::Merge { file, other, key } => Ok(Job::Files(FileJob::Merge {
             file,
             other,
             key: key_in(key)?,
-        }),
-        Command::Save { file, out } => Ok(Job::Save { file, out }),
-        Command::Load { saved, file } => Ok(Job::Load { saved, file }),
-        Command::Show { log } => Ok(Job::Show { log }),
-        Command::Simulate { script } => Ok(Job::Simulate { script }),
+        })),
+        Command::Save { file, out } => Ok(Job::Files(FileJob::Save { file, out })),
+        Command::Load { saved, file } => Ok(Job::Files(FileJob::Load { saved, file })),
+        Command::Show { log } => Ok(Job::Files(FileJob::Show { log })),
+        Command::Simulate { script } => Ok(Job::Files(FileJob::Simulate { script })),
         Command::Serve {
             file,
             addr,

@@ -1,6 +1,6 @@
 //! Doing a job, and what is printed of it.
 
-ghost use Rattle.std.specs.Prelude.{◌≡◌, ◌≤◌, ◌⊎◌, ℕ, List, [], Err, IfOk, IfErr, OnErr, OnOk, IsOkAnd, MatchResult};
+ghost use Rattle.std.specs.Prelude.{◌≡◌, ◌≤◌, ◌⊎◌, ℕ, List, [], Err, IfOk, IfErr, OnOk, IsOkAnd, MatchResult};
 ghost use Rattle.std.specs.Io.KnownBytes.{Appends, Keeps};
 ghost use Rattle.std.specs.Str.{chars};
 ghost use Rattle.std.specs.String.{string_bytes};
@@ -12,18 +12,15 @@ ghost use Rattle.tp_commands.specs.declared.error.CommandError.{CommandError as 
 ghost use Rattle.tp_shell.specs.declared.error.JobError.TheVariants.{Command as OfCommand};
 ghost use Rattle.tp_shell.specs.Lines.{IsEditLine, IsMergeLine, IsNewLine, made_line as line_of_made};
 ghost use Rattle.tp_shell.specs.Names.{refusal_text};
-ghost use Rattle.tp_shell.specs.Network.{IsServed, IsSynced};
-ghost use Rattle.tp_shell.specs.Output.{Grows, GrowsPart, IsLineOf, IsPrinted, IsShown, Leaves, LeavesOf, LeavesScript};
+ghost use Rattle.tp_shell.specs.Output.{Grows, GrowsPart, IsFilesPrinted, IsLineOf, IsShown, Leaves, LeavesFiles, LeavesScript};
 ghost use Rattle.tp_shell.specs.ShellError.{failed};
 
 use crate::error::{JobError, ShellError};
 use crate::files::{journal_at, read_file, replace_file};
-use crate::job::Job;
+use crate::job::FileJob;
 use crate::keys::{draw, draw_actor, generator};
-use crate::network::Network;
 use std::alloc::{AllocError, Global};
 use std::io::{BufReader, Write};
-use std::net::SocketAddr;
 use std::rt::Files;
 use std::{fs, io};
 use tp_commands::{
@@ -97,45 +94,37 @@ pub fn put<W: Write>(out: &mut W, printed: Result<String, CommandError>) -> Resu
     }
 }
 
-/// Does a job, and writes what is printed of it to `out`, which is flushed. A refusal writes nothing to `out`; where `out`
-/// itself failed, which is refused as `Io`, it has taken a beginning of what is printed. A script is printed line by line
-/// as it goes on, and the port on which a server listens once it does; what was printed before a refusal stays.
-pub fn carry_out<R: Files + AllocGlobal, N: Network, W: Write>(
+/// Does what is to be done to files, and writes what is printed of it to `out`, which is flushed. A refusal writes nothing
+/// to `out`; where `out` itself failed, which is refused as `Io`, it has taken a beginning of what is printed. A script is
+/// printed line by line as it goes on, and what was printed before a refusal stays.
+pub fn carry_out<R: Files + AllocGlobal, W: Write>(
     rt: &R,
-    network: &N,
-    job: Job,
+    job: FileJob,
     out: &mut W,
 ) -> Result<(), JobError>
     ensures prints { OnOk result
-        (Grows (IsPrinted job.entry) (W.contents out.old) (W.contents out.new)) }
-    ensures err { IfErr result (λ e. LeavesOf job.entry e
+        (Grows (IsFilesPrinted job.entry) (W.contents out.old) (W.contents out.new)) }
+    ensures err { IfErr result (λ e. LeavesFiles job.entry e
         (W.contents out.old) (W.contents out.new)) }
 {
     match job {
-        Job::New { file, key } => put(out, new(rt, file, key)),
-        Job::Edit {
+        FileJob::New { file, key } => put(out, new(rt, file, key)),
+        FileJob::Edit {
             file,
             splice,
             time,
             message,
             key,
         } => put(out, edited(rt, file, splice, time, message, key)),
-        Job::Text { file, heads } => put(out, text(rt, file, &heads)),
-        Job::Heads { file } => put(out, heads(rt, file)),
-        Job::Log { file } => put(out, log(rt, file)),
-        Job::Cursor { file, at, heads } => put(out, cursor(rt, file, at, &heads)),
-        Job::Merge { file, other, key } => put(out, merged(rt, file, other, key)),
-        Job::Save { file, out: path } => put(out, save_to(rt, file, path)),
-        Job::Load { saved, file } => put(out, load_from(rt, saved, file)),
-        Job::Show { log } => show_file(rt, log, out),
-        Job::Simulate { script } => simulate_file(rt, script, out),
-        Job::Serve {
-            file,
-            addr,
-            sessions,
-            key,
-        } => serve_file(rt, network, file, addr, sessions, key, out),
-        Job::Sync { file, addr, key } => sync_file(rt, network, file, addr, key, out),
+        FileJob::Text { file, heads } => put(out, text(rt, file, &heads)),
+        FileJob::Heads { file } => put(out, heads(rt, file)),
+        FileJob::Log { file } => put(out, log(rt, file)),
+        FileJob::Cursor { file, at, heads } => put(out, cursor(rt, file, at, &heads)),
+        FileJob::Merge { file, other, key } => put(out, merged(rt, file, other, key)),
+        FileJob::Save { file, out: path } => put(out, save_to(rt, file, path)),
+        FileJob::Load { saved, file } => put(out, load_from(rt, saved, file)),
+        FileJob::Show { log } => show_file(rt, log, out),
+        FileJob::Simulate { script } => simulate_file(rt, script, out),
     }
 }
 
@@ -178,46 +167,6 @@ fn simulate_file<R: Files + AllocGlobal, W: Write>(
     match simulate(rt.alloc(), &mut reader, out) {
         Ok(()) => Ok(()),
         Err(error) => Err(JobError::from(error)),
-    }
-}
-
-// Serves the journal at a path, under an actor that is drawn.
-fn serve_file<R: Files + AllocGlobal, N: Network, W: Write>(
-    rt: &R,
-    network: &N,
-    file: &str,
-    addr: SocketAddr,
-    sessions: u64,
-    key: Option<[u8; 32]>,
-    out: &mut W,
-) -> Result<(), JobError>
-    ensures ok { OnOk result
-        (Grows (IsServed sessions) (W.contents out.old) (W.contents out.new)) }
-    ensures err { OnErr result (Keeps (W.contents out.old) (W.contents out.new)
-        ⊎ GrowsPart (IsServed sessions) (W.contents out.old) (W.contents out.new)) }
-{
-    match draw_actor(rt, key) {
-        Ok(actor) => network.serve(file, addr, sessions, actor, out),
-        Err(error) => Err(JobError::Command(error)),
-    }
-}
-
-// Holds a session of the journal at a path with a server, under an actor that is drawn.
-fn sync_file<R: Files + AllocGlobal, N: Network, W: Write>(
-    rt: &R,
-    network: &N,
-    file: &str,
-    addr: SocketAddr,
-    key: Option<[u8; 32]>,
-    out: &mut W,
-) -> Result<(), JobError>
-    ensures ok { OnOk result (Grows IsSynced (W.contents out.old) (W.contents out.new)) }
-    ensures err { IfErr result
-        (λ e. Leaves IsSynced e (W.contents out.old) (W.contents out.new)) }
-{
-    match draw_actor(rt, key) {
-        Ok(actor) => network.sync(file, addr, actor, out),
-        Err(error) => Err(JobError::Command(error)),
     }
 }
 
