@@ -3,9 +3,10 @@
 ghost use Rattle.std.specs.Prelude.{◌≡◌, IfOk, IfErr};
 ghost use Rattle.std.specs.Net.Grammar.{IsSocketText};
 ghost use Rattle.rand_chacha.specs.ChaCha.{ChaCha};
-ghost use Rattle.tp_shell.specs.declared.error.ShellError.TheVariants.{Job as Refused};
+ghost use Rattle.tp_opid.specs.HexText.{IsHexOf};
+ghost use Rattle.tp_shell.specs.declared.error.ShellError.TheVariants.{BadHex, Job as Refused};
 ghost use Rattle.tp_shell.specs.Jobs.{IsNoAddress, NoHashes};
-ghost use Rattle.tp_shell.specs.Keys.{AreHashes, IsKeyOf, IsKeyed, after_draw, drawn, key_texts};
+ghost use Rattle.tp_shell.specs.Keys.{AreHashes, IsKeyOf, IsKeyed, IsNoHash, after_draw, drawn, key_texts};
 ghost use Rattle.tp_shell.specs.ShellError.{failed};
 
 use crate::error::{JobError, ShellError};
@@ -33,16 +34,26 @@ pub(crate) fn hashes_in(alloc: Global, texts: &[&str]) -> Result<Vec<Hash>, Shel
     Ok(hashes)
 }
 
+// The 32 bytes that 64 hexadecimal digits are.
+fn digits_in(text: &str) -> Result<[u8; 32], ShellError>
+    ensures ok { IfOk result (IsHexOf text.now) }
+    ensures err { IfErr result (λ e. (e ≡ BadHex) × IsNoHash text.entry) }
+{
+    let Hash(key) = Hash::from_text(text)?;
+    Ok(key)
+}
+
 /// The key that the text is, where one is given. One that isn't 64 hexadecimal digits is refused as `BadHex`.
+#[tactic(auto, using(crate::proofs::HashLemmas::no_key))]
 pub(crate) fn key_in(key: Option<&str>) -> Result<Option<[u8; 32]>, ShellError>
     ensures ok { IfOk result (IsKeyOf key.entry) }
     ensures err { IfErr result (NoHashes (key_texts key.entry)) }
 {
     match key {
-        Some(text) => {
-            let Hash(key) = Hash::from_text(text)?;
-            Ok(Some(key))
-        }
+        Some(text) => match digits_in(text) {
+            Ok(key) => Ok(Some(key)),
+            Err(error) => Err(error),
+        },
         None => Ok(None),
     }
 }

@@ -7,8 +7,11 @@ use crate::host::Host;
 use crate::lines::command_line;
 use crate::stream::Stream;
 use crate::world::World;
+use std::io;
 use std::rt::Files;
-use tp_shell::{NoNetwork, run_words};
+use tp_command_line::{Command, line};
+use tp_commands::CommandError;
+use tp_shell::{Errors, Job, JobError, ShellError, carry_out, ended, explain, job_of};
 use tp_test_runner::{Fault, Words, number};
 
 // A command whose device fails later than this succeeds first.
@@ -38,6 +41,31 @@ fn limits_of(words: &mut Words) -> Result<Limits, Fault> {
     })
 }
 
+// Does a job that needs no network; one that needs it is refused as `Io`.
+fn run_job<R: Files + Print + AllocGlobal>(rt: &R, job: Job) -> Result<(), JobError> {
+    match job {
+        Job::Files(job) => carry_out(rt, job, &mut io::writer(rt)),
+        _ => Err(JobError::Command(CommandError::Io)),
+    }
+}
+
+// Does what a command asks for.
+fn run_command<R: Files + Print + AllocGlobal>(rt: &R, command: Command) -> Result<(), ShellError> {
+    match run_job(rt, job_of(rt.alloc(), command)?) {
+        Ok(()) => Ok(()),
+        Err(error) => Err(ShellError::Job(error)),
+    }
+}
+
+// The program, as far as it needs no network: the exit status.
+fn run_program<R: Files + Print + Eprint + AllocGlobal>(rt: &R, words: &[String]) -> u8 {
+    let mut err = io::writer(&Errors { rt });
+    match line(rt.alloc(), words) {
+        Ok(command) => ended(rt.alloc(), run_command(rt, command), &mut err),
+        Err(fault) => explain(rt.alloc(), &fault, &mut io::writer(rt), &mut err),
+    }
+}
+
 // Runs the program.
 fn run_line<R: Files + AllocGlobal>(rt: &R, limits: Limits, line: &[String]) -> Result<Ran, Fault> {
     let device = Budget::new(limits.device);
@@ -49,7 +77,7 @@ fn run_line<R: Files + AllocGlobal>(rt: &R, limits: Limits, line: &[String]) -> 
         out: Stream::new(rt.alloc(), limits.out)?,
         err: Stream::new(rt.alloc(), limits.err)?,
     };
-    let status = run_words(&host, &NoNetwork, line);
+    let status = run_program(&host, line);
     Ok(Ran {
         status,
         out: host.out.text(rt.alloc())?,

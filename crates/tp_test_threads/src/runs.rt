@@ -11,8 +11,7 @@ use std::sync::atomic::{AtomicBool, Ordering};
 use std::test::Fail;
 use std::thread::{Threads, join};
 use std::time::Clock;
-use tp_online::Tcp;
-use tp_shell::run_words_on;
+use tp_online::run_words_on;
 
 // The key of each journal that is begun.
 const DOCUMENT: &str = "0000000000000000000000000000000000000000000000000000000000000000";
@@ -64,7 +63,7 @@ where
     pub fn run(&self, words: &[&str]) -> Ran {
         let mut out = Vec::new(self.rt.alloc());
         let mut err = Vec::new(self.rt.alloc());
-        let status = run_words_on(self.rt, &Tcp { rt: self.rt }, words, &mut out, &mut err);
+        let status = run_words_on(self.rt, words, &mut out, &mut err);
         Ran { status, out, err }
     }
 

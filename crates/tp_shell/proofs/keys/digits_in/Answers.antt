@@ -2,7 +2,7 @@ use Rattle.std.proofs.Common.{◌∙◌, ap, refl}
 use Rattle.std.proofs.lemmas.Result.{err_from_is_err_and}
 use Rattle.tp_shell.specs.ShellError.{refusal_of_hex}
 use Rattle.tp_shell.proofs.HashLemmas.{IsNoHash-refused}
-use Rattle.tp_shell.proofs.keys.key_in.Goals as goal
+use Rattle.tp_shell.proofs.keys.digits_in.Goals as goal
 
 pub returns-in_err-key-clause-err : goal.returns-in_err-key-clause-err
 returns-in_err-key-clause-err c =
