@@ -59,7 +59,8 @@ fn run_command<R: Files + Print + AllocGlobal>(rt: &R, command: Command) -> Resu
 
 // The program, as far as it needs no network: the exit status.
 fn run_program<R: Files + Print + Eprint + AllocGlobal>(rt: &R, words: &[String]) -> u8 {
-    let mut err = io::writer(&Errors { rt });
+    let errors = Errors { rt };
+    let mut err = io::writer(&errors);
     match line(rt.alloc(), words) {
         Ok(command) => ended(rt.alloc(), run_command(rt, command), &mut err),
         Err(fault) => explain(rt.alloc(), &fault, &mut io::writer(rt), &mut err),
