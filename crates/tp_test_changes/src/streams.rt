@@ -6,15 +6,34 @@ use std::alloc::Global;
 use tp_frame::{FrameError, Framer, write_frame};
 use tp_test_runner::{Fault, Judge, Runs, Shelf, Words, done, keep_bytes, of_cuts, refusal};
 
+// The bytes of the frame that a word spells.
+fn encoded(shelf: &Shelf<Vec<u8>>, word: &str) -> Result<Result<Vec<u8>, FrameError>, Fault> {
+    let frame = frame(shelf, word)?;
+    Ok(write_frame(shelf.alloc(), &frame))
+}
+
+// Adds the bytes of a frame, or tells why it has none.
+fn push_frame(
+    shelf: &Shelf<Vec<u8>>,
+    whole: &mut Vec<u8>,
+    word: &str,
+) -> Result<Option<FrameError>, Fault> {
+    match encoded(shelf, word)? {
+        Ok(bytes) => {
+            whole.extend_from_slice(&bytes)?;
+            Ok(None)
+        }
+        Err(error) => Ok(Some(error)),
+    }
+}
+
 // `stream NAME FRAME..`: the bytes of the frames, one after another; answers how many there are.
 fn stream(world: &mut World, words: &mut Words) -> Result<String, Fault> {
-    let alloc = world.alloc;
     let name = words.next()?;
-    let mut whole = Vec::new(alloc);
+    let mut whole = Vec::new(world.alloc);
     for word in words.left() {
-        match write_frame(alloc, &frame(&world.bytes, word.as_str())?) {
-            Ok(bytes) => whole.extend_from_slice(&bytes)?,
-            Err(error) => return refusal(alloc, error),
+        if let Some(error) = push_frame(&world.bytes, &mut whole, word.as_str())? {
+            return refusal(world.alloc, error);
         }
     }
     keep_bytes(&mut world.bytes, name, whole)
