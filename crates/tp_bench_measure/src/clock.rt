@@ -4,15 +4,33 @@ use std::fs;
 use std::rt::{Clock, Files};
 use std::time::Instant;
 
-/// The time since a start, in microseconds, at least 1.
-pub fn micros_since(rt: &impl Clock, start: &Instant) -> anyhow::Result<u64> {
-    let elapsed = start.elapsed(rt)?;
-    let seconds = elapsed.as_secs().saturating_mul(1_000_000);
-    Ok(
-        seconds
-            .saturating_add(u64::from(elapsed.subsec_micros()))
-            .max(1),
-    )
+/// The time since it was started. Where the system has no clock that is 0.
+#[derive(Clone, Copy)]
+pub struct Stopwatch {
+    start: Option<Instant>,
+}
+
+impl Stopwatch {
+    /// It is started.
+    pub fn start(rt: &impl Clock) -> Stopwatch {
+        Stopwatch {
+            start: Instant::now(rt).ok(),
+        }
+    }
+
+    /// The time since then, in microseconds.
+    pub fn micros(self, rt: &impl Clock) -> u64 {
+        let Some(start) = self.start else {
+            return 0;
+        };
+        match start.elapsed(rt) {
+            Ok(elapsed) => elapsed
+                .as_secs()
+                .saturating_mul(1_000_000)
+                .saturating_add(u64::from(elapsed.subsec_micros())),
+            Err(_) => 0,
+        }
+    }
 }
 
 /// How many nanoseconds each of so many took, of microseconds for all.

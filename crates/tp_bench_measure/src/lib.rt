@@ -17,7 +17,7 @@ mod script;
 pub use branch::{Branch, Tip, tip_of};
 pub use branches::Branches;
 pub use chance::Chance;
-pub use clock::{memory, micros_since, nanos_each, report, report_memory};
+pub use clock::{Stopwatch, memory, nanos_each, report, report_memory};
 pub use load::{Load, Task};
 pub use log::log_of;
 pub use made::{

@@ -3,8 +3,7 @@
 use sha2::{Digest, Sha256};
 use std::alloc::Global;
 use std::rt::Clock;
-use std::time::Instant;
-use tp_bench_measure::{change, element_of, micros_since, report, run_after};
+use tp_bench_measure::{Stopwatch, change, element_of, report, run_after};
 use tp_change::{Change, Record};
 use tp_list::Text;
 use tp_opid::{Hash, Place};
@@ -71,27 +70,27 @@ fn measure_all<R: Clock + Print + AllocGlobal>(
 }
 
 fn digest<R: Clock>(rt: &R, bytes: &[u8], rounds: u64) -> anyhow::Result<u64> {
-    let start = Instant::now(rt)?;
+    let watch = Stopwatch::start(rt);
     let mut seen = 0u8;
     for _ in 0..rounds {
         seen ^= Sha256::digest(bytes)[0];
     }
-    let micros = micros_since(rt, &start)?;
+    let micros = watch.micros(rt);
     Ok(micros.saturating_add(u64::from(seen) / 256))
 }
 
 fn decode<R: Clock + AllocGlobal>(rt: &R, bytes: &[u8], rounds: u64) -> anyhow::Result<u64> {
-    let start = Instant::now(rt)?;
+    let watch = Stopwatch::start(rt);
     for _ in 0..rounds {
         let _change = Change::decode(rt.alloc(), bytes)?;
     }
-    micros_since(rt, &start)
+    Ok(watch.micros(rt))
 }
 
 fn encode<R: Clock>(rt: &R, change: &Change, rounds: u64) -> anyhow::Result<u64> {
-    let start = Instant::now(rt)?;
+    let watch = Stopwatch::start(rt);
     for _ in 0..rounds {
         let _bytes = change.encode()?;
     }
-    micros_since(rt, &start)
+    Ok(watch.micros(rt))
 }

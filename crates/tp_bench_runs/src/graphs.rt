@@ -3,9 +3,8 @@
 use anyhow::anyhow;
 use std::alloc::Global;
 use std::rt::{Clock, Files};
-use std::time::Instant;
 use tp_bench_measure::{
-    Branches, behind_both, both, change, inserts, memory, micros_since, nanos_each,
+    Branches, Stopwatch, behind_both, both, change, inserts, memory, nanos_each,
 };
 use tp_change::Change;
 use tp_graph::Graph;
@@ -31,9 +30,9 @@ fn add(graph: &mut Graph, change: Change) -> anyhow::Result<()> {
 
 // Adds the change, and answers what that took in microseconds.
 fn time_add<R: Clock>(rt: &R, graph: &mut Graph, change: Change) -> anyhow::Result<u64> {
-    let start = Instant::now(rt)?;
+    let watch = Stopwatch::start(rt);
     add(graph, change)?;
-    micros_since(rt, &start)
+    Ok(watch.micros(rt))
 }
 
 // Adds the changes in order.
@@ -52,9 +51,9 @@ fn add_tenth<R: Clock + Print + AllocGlobal>(
     count: u64,
 ) -> anyhow::Result<()> {
     let batch = branches.next(rt.alloc(), count)?;
-    let start = Instant::now(rt)?;
+    let watch = Stopwatch::start(rt);
     add_all(graph, batch)?;
-    let nanos = nanos_each(micros_since(rt, &start)?, count);
+    let nanos = nanos_each(watch.micros(rt), count);
     Ok(print!(rt; " {nanos:>6}")?)
 }
 

@@ -2,19 +2,26 @@
 
 use std::alloc::Global;
 use std::rt::Clock;
-use std::time::Instant;
-use tp_bench_measure::{Branch, micros_since};
+use tp_bench_measure::{Branch, Stopwatch};
 use tp_change::Change;
 use tp_document::Document;
 use tp_opid::DocId;
 use tp_posindex::BlockSequence;
 
-// What it takes to apply the changes, as one list, to a new document, in microseconds.
-fn apply<R: Clock + AllocGlobal>(rt: &R, changes: Vec<Change>) -> anyhow::Result<u64> {
-    let mut document: Document<BlockSequence> = Document::new(rt.alloc(), DocId([7; 16]));
-    let start = Instant::now(rt)?;
+// What it takes to apply the changes, as one list, to the document, in microseconds.
+fn apply_to<R: Clock>(
+    rt: &R,
+    document: &mut Document<BlockSequence>,
+    changes: Vec<Change>,
+) -> anyhow::Result<u64> {
+    let watch = Stopwatch::start(rt);
     document.apply(changes)?;
-    micros_since(rt, &start)
+    Ok(watch.micros(rt))
+}
+
+// The same to a new document.
+fn apply<R: Clock + AllocGlobal>(rt: &R, changes: Vec<Change>) -> anyhow::Result<u64> {
+    apply_to(rt, &mut Document::new(rt.alloc(), DocId([7; 16])), changes)
 }
 
 /// A chain of 100,000 changes of one character, applied as one list.

@@ -2,8 +2,7 @@
 
 use anyhow::ensure;
 use std::rt::{Clock, Files};
-use std::time::Instant;
-use tp_bench_measure::{AUTHORS, Script, micros_since, nanos_each, report_memory};
+use tp_bench_measure::{AUTHORS, Script, Stopwatch, nanos_each, report_memory};
 use tp_opid::OpId;
 use tp_rga::Sequence;
 
@@ -73,9 +72,9 @@ fn measure<R: Clock + Print + AllocGlobal, S: Sequence>(
     rounds: usize,
 ) -> anyhow::Result<()> {
     let ids = script.any_ids(rt.alloc(), rounds)?;
-    let start = Instant::now(rt)?;
+    let watch = Stopwatch::start(rt);
     perform(script, task, &ids, rounds)?;
-    let micros = micros_since(rt, &start)?;
+    let micros = watch.micros(rt);
     print_nanos(rt, task.name(), micros, rounds)
 }
 
@@ -90,7 +89,7 @@ fn measure_elements<R: Clock + Print + AllocGlobal, S: Sequence>(
     rt: &R,
     script: &Script<S>,
 ) -> anyhow::Result<()> {
-    let start = Instant::now(rt)?;
+    let watch = Stopwatch::start(rt);
     let mut seen = 0usize;
     for index in 0..script.sequence.all() {
         if let Some(element) = script.sequence.element(index) {
@@ -99,7 +98,7 @@ fn measure_elements<R: Clock + Print + AllocGlobal, S: Sequence>(
             }
         }
     }
-    let micros = micros_since(rt, &start)?;
+    let micros = watch.micros(rt);
     print_nanos(rt, "element by element", micros, seen)
 }
 
@@ -110,9 +109,9 @@ fn measure_size<R: Files + Clock + Print + AllocGlobal, S: Sequence>(
     size: usize,
     rounds: usize,
 ) -> anyhow::Result<()> {
-    let start = Instant::now(rt)?;
+    let watch = Stopwatch::start(rt);
     script.fill(size)?;
-    let micros = micros_since(rt, &start)?;
+    let micros = watch.micros(rt);
     println!(rt; "{size} elements:")?;
     print_nanos(rt, "filled, an element", micros, size)?;
     report_memory(rt)?;

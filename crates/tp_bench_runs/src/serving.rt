@@ -5,8 +5,7 @@ use std::alloc::Global;
 use std::rt::Clock;
 use std::sync::Wait;
 use std::thread::Threads;
-use std::time::Instant;
-use tp_bench_measure::{Crowd, Load, Room, Task, micros_since, nanos_each};
+use tp_bench_measure::{Crowd, Load, Room, Stopwatch, Task, nanos_each};
 use tp_journal::MemJournal;
 use tp_opid::{Actor, DocId};
 use tp_peer::Peer;
@@ -25,15 +24,16 @@ fn report<R: Clock + Print>(
     name: &str,
     load: Load,
     done: usize,
-    start: Instant,
+    watch: Stopwatch,
 ) -> anyhow::Result<()> {
-    let micros = micros_since(rt, &start)?;
-    let calls = load.calls();
-    ensure!(done == calls, "calls weren't done");
-    let nanos = nanos_each(micros, calls as u64);
-    let rate = (calls as u64).saturating_mul(1_000_000) / micros.max(1);
-    println!(rt; "{name:>9} {calls:>8} calls {nanos:>8} ns each {rate:>9} a second")?;
-    Ok(())
+    let micros = watch.micros(rt);
+    ensure!(done == load.calls(), "calls weren't done");
+    let calls = load.calls() as u64;
+    let (nanos, rate) = (
+        nanos_each(micros, calls),
+        calls.saturating_mul(1_000_000) / micros.max(1),
+    );
+    Ok(println!(rt; "{name:>9} {calls:>8} calls {nanos:>8} ns each {rate:>9} a second")?)
 }
 
 fn run_alone<R: Clock + Print + AllocGlobal>(
@@ -42,9 +42,9 @@ fn run_alone<R: Clock + Print + AllocGlobal>(
     load: Load,
 ) -> anyhow::Result<()> {
     let mut peer = peer_of(rt.alloc(), chars).ok_or(anyhow!("no memory"))?;
-    let start = Instant::now(rt)?;
+    let watch = Stopwatch::start(rt);
     let done = load.on_peer(&mut peer);
-    report(rt, "a peer", load, done, start)
+    report(rt, "a peer", load, done, watch)
 }
 
 // A served peer with a text of so many characters.
@@ -61,9 +61,9 @@ fn run_served<R: Threads + Wait + Sync + Clock + Print + AllocGlobal>(
     crowd: Crowd,
 ) -> anyhow::Result<()> {
     let room = room_of(rt.alloc(), chars)?;
-    let start = Instant::now(rt)?;
+    let watch = Stopwatch::start(rt);
     let done = room.work(rt, crowd, load);
-    report(rt, name, load, done, start)
+    report(rt, name, load, done, watch)
 }
 
 /// Makes the calls on a peer with a text of so many characters, and on served ones.

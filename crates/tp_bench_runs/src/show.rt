@@ -1,16 +1,15 @@
 //! Showing a log.
 
 use std::rt::{Clock, Files};
-use std::time::Instant;
-use tp_bench_measure::{log_of, micros_since, report, report_memory};
+use tp_bench_measure::{Stopwatch, log_of, report, report_memory};
 
 // Shows the log, and answers how many bytes the text has and what it took, in microseconds.
 fn shown<R: Clock + AllocGlobal>(rt: &R, log: &[u8]) -> anyhow::Result<(usize, u64)> {
-    let start = Instant::now(rt)?;
+    let watch = Stopwatch::start(rt);
     let mut reader = log;
     let mut out = Vec::new(rt.alloc());
     tp_textpeer::show(rt.alloc(), &mut reader, &mut out)?;
-    Ok((out.len(), micros_since(rt, &start)?))
+    Ok((out.len(), watch.micros(rt)))
 }
 
 // Shows the log, and prints what it took.

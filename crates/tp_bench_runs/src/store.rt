@@ -3,14 +3,13 @@
 use std::alloc::Global;
 use std::fs;
 use std::rt::{Clock, Files};
-use std::time::Instant;
-use tp_bench_measure::{Branch, micros_since, report_memory};
+use tp_bench_measure::{Branch, Stopwatch, report_memory};
 use tp_change::Change;
 use tp_document::Document;
 use tp_journal::{FileJournal, Journal, header, put_record, record, recover};
 use tp_opid::DocId;
 use tp_posindex::BlockSequence;
-use tp_store::{load, save};
+use tp_store::{StoreError, load, save};
 
 type Doc = Document<BlockSequence>;
 
@@ -22,18 +21,23 @@ const ID: DocId = DocId([7; 16]);
 
 const PATH: &str = "tp_bench_runs.journal";
 
+// Appends the record of the change.
+fn append<J: Journal>(alloc: Global, journal: &mut J, change: &Change) -> Result<(), StoreError> {
+    let bytes = record(alloc, change)?;
+    journal.append(&bytes)
+}
+
 // Appends the records of the changes one by one, and answers what that took in microseconds.
 fn append_all<R: Clock + AllocGlobal, J: Journal>(
     rt: &R,
     journal: &mut J,
     changes: &[Change],
 ) -> anyhow::Result<u64> {
-    let start = Instant::now(rt)?;
+    let watch = Stopwatch::start(rt);
     for change in changes {
-        let bytes = record(rt.alloc(), change)?;
-        journal.append(&bytes)?;
+        append(rt.alloc(), journal, change)?;
     }
-    micros_since(rt, &start)
+    Ok(watch.micros(rt))
 }
 
 // Appends the records of a tenth of the changes, and prints what it took.
@@ -80,9 +84,9 @@ fn with_records(bytes: Vec<u8>, changes: &[Change]) -> anyhow::Result<Vec<u8>> {
 
 // The document of a journal, and what it took to recover it, in microseconds.
 fn recovered<R: Clock + AllocGlobal>(rt: &R, bytes: &[u8]) -> anyhow::Result<(Doc, u64)> {
-    let start = Instant::now(rt)?;
+    let watch = Stopwatch::start(rt);
     let recovered = recover(rt.alloc(), bytes)?;
-    let micros = micros_since(rt, &start)?;
+    let micros = watch.micros(rt);
     Ok((recovered.document, micros))
 }
 
@@ -137,18 +141,18 @@ fn long_document<R: Clock + AllocGlobal>(rt: &R) -> anyhow::Result<Doc> {
 
 // Saves the document, and prints what it took.
 fn saved<R: Clock + Print + AllocGlobal>(rt: &R, document: &Doc) -> anyhow::Result<Vec<u8>> {
-    let start = Instant::now(rt)?;
+    let watch = Stopwatch::start(rt);
     let bytes = save(rt.alloc(), document)?;
-    let micros = micros_since(rt, &start)?;
+    let micros = watch.micros(rt);
     println!(rt; "save {:>9} bytes {micros:>8} micros", bytes.len())?;
     Ok(bytes)
 }
 
 // The document that the bytes keep, and what it took to load it, in microseconds.
 fn loaded<R: Clock + AllocGlobal>(rt: &R, bytes: &[u8]) -> anyhow::Result<(Doc, u64)> {
-    let start = Instant::now(rt)?;
+    let watch = Stopwatch::start(rt);
     let document = load(rt.alloc(), bytes)?;
-    let micros = micros_since(rt, &start)?;
+    let micros = watch.micros(rt);
     Ok((document, micros))
 }
 

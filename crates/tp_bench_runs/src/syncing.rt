@@ -2,8 +2,7 @@
 
 use anyhow::ensure;
 use std::rt::{Clock, Files};
-use std::time::Instant;
-use tp_bench_measure::{Ring, Traffic, micros_since, nanos_each, report_memory};
+use tp_bench_measure::{Ring, Stopwatch, Traffic, nanos_each, report_memory};
 
 const ROUNDS: usize = 10;
 
@@ -11,31 +10,29 @@ const ROUNDS: usize = 10;
 const TIMES: usize = 100_000;
 
 fn print_traffic<R: Print>(rt: &R, traffic: Traffic, micros: u64) -> anyhow::Result<()> {
-    let (messages, bytes) = (traffic.messages, traffic.bytes);
-    println!(rt; "exchange {messages:>6} messages {bytes:>10} bytes {micros:>9} micros")?;
-    Ok(())
+    let (messages, bytes) = (traffic.messages as u64, traffic.bytes as u64);
+    Ok(println!(rt; "exchange {messages:>6} messages {bytes:>10} bytes {micros:>9} micros")?)
 }
 
 // Passes messages until nobody has anything to say, and prints what that took.
 fn settle<R: Clock + Print>(rt: &R, ring: &mut Ring) -> anyhow::Result<()> {
-    let start = Instant::now(rt)?;
+    let watch = Stopwatch::start(rt);
     let traffic = ring.settle()?;
-    let micros = micros_since(rt, &start)?;
+    let micros = watch.micros(rt);
     print_traffic(rt, traffic, micros)
 }
 
-// Prints what it took since the start until each peer had made so many changes.
-fn print_written<R: Clock + Print>(rt: &R, start: &Instant, changes: usize) -> anyhow::Result<()> {
-    let micros = micros_since(rt, start)?;
-    println!(rt; "write    {changes:>6} changes each {micros:>22} micros")?;
-    Ok(())
+// Prints what it took until each peer had made so many changes.
+fn print_written<R: Print>(rt: &R, micros: u64, changes: usize) -> anyhow::Result<()> {
+    let changes = changes as u64;
+    Ok(println!(rt; "write    {changes:>6} changes each {micros:>22} micros")?)
 }
 
 // Each peer makes so many changes; prints what that took.
 fn write<R: Clock + Print>(rt: &R, ring: &mut Ring, changes: usize) -> anyhow::Result<()> {
-    let start = Instant::now(rt)?;
+    let watch = Stopwatch::start(rt);
     ring.write(changes)?;
-    print_written(rt, &start, changes)
+    print_written(rt, watch.micros(rt), changes)
 }
 
 // Rounds in which each peer makes changes, and messages pass then.
@@ -74,10 +71,10 @@ pub fn run_typing<R: Clock + Print + AllocGlobal>(rt: &R) -> anyhow::Result<()> 
 
 // Both authors insert so many characters at the start; prints what that took.
 fn write_at_start<R: Clock + Print>(rt: &R, ring: &mut Ring, changes: usize) -> anyhow::Result<()> {
-    let start = Instant::now(rt)?;
+    let watch = Stopwatch::start(rt);
     ring.peer(0)?.write_at_start(changes)?;
     ring.peer(1)?.write_at_start(changes)?;
-    print_written(rt, &start, changes)
+    print_written(rt, watch.micros(rt), changes)
 }
 
 // Both authors insert so many characters at the start, and exchange them.
@@ -95,9 +92,9 @@ pub fn run_one_place<R: Clock + Print + AllocGlobal>(rt: &R) -> anyhow::Result<(
 
 // The first peer exchanges messages with each of the others; prints what that took.
 fn settle_first<R: Clock + Print>(rt: &R, ring: &mut Ring) -> anyhow::Result<()> {
-    let start = Instant::now(rt)?;
+    let watch = Stopwatch::start(rt);
     let traffic = ring.settle_first()?;
-    let micros = micros_since(rt, &start)?;
+    let micros = watch.micros(rt);
     print_traffic(rt, traffic, micros)
 }
 
@@ -163,11 +160,11 @@ fn ask(ring: &mut Ring) -> anyhow::Result<()> {
 // What a message takes where a peer caught up on so many changes, and there is nothing to say.
 fn time_idle<R: Clock + Print>(rt: &R, ring: &mut Ring, changes: usize) -> anyhow::Result<()> {
     catch_up(rt, ring, changes)?;
-    let start = Instant::now(rt)?;
+    let watch = Stopwatch::start(rt);
     ask(ring)?;
-    let nanos = nanos_each(micros_since(rt, &start)?, TIMES as u64);
-    println!(rt; "{changes:>6} changes {nanos:>6} ns")?;
-    Ok(())
+    let nanos = nanos_each(watch.micros(rt), TIMES as u64);
+    let changes = changes as u64;
+    Ok(println!(rt; "{changes:>6} changes {nanos:>6} ns")?)
 }
 
 fn run_idle_at<R: Clock + Print + AllocGlobal>(rt: &R, changes: usize) -> anyhow::Result<()> {

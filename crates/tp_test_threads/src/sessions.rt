@@ -68,12 +68,11 @@ const HELLOS: [Answered; 2] = [
 // Each client's session ends alone: the last client, which keeps to the rules, is served on the same seat.
 #[test]
 fn strangers_are_refused(rt: HostRuntime) -> Result<(), Fail> {
-    let sessions = UNKNOWN.len() as u64 + HELLOS.len() as u64 + 1;
     let listener = TcpListener::bind(&rt, here())?;
     let addr = listener.local_addr()?;
     let (served, (first, second, last)) = join(
         &rt,
-        || server(&rt, &listener, 1, sessions, &AlwaysOpen),
+        || server(&rt, &listener, 1, 12, &AlwaysOpen),
         || {
             let first = first_other(&rt, addr, b"", &UNKNOWN, Pace::AtOnce);
             let second = first_other(&rt, addr, b"", &HELLOS, Pace::AtOnce);
