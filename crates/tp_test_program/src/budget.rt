@@ -1,5 +1,7 @@
 //! Calls that succeed until none is left.
 
+ghost use Rattle.std.specs.Prelude.{◌≤◌, IfOk};
+
 use std::cell::Cell;
 use std::io;
 use std::io::ErrorKind;
@@ -29,16 +31,18 @@ impl Budget {
         }
     }
 
-    /// The first of the bytes, as many as are left to be taken; fails where none is.
-    pub fn take<'a>(&self, bytes: &'a [u8]) -> io::Result<&'a [u8]> {
+    /// How many of so many bytes are taken, which are then spent; fails where none is left.
+    pub fn take(&self, len: usize) -> io::Result<usize>
+        ensures { IfOk result (λ taken. taken ≤ len) }
+    {
         let left = self.left.get();
         if left == 0 {
             return Err(io::Error::from(ErrorKind::StorageFull));
         }
-        self.left.set(left.saturating_sub(bytes.len() as u64));
-        match usize::try_from(left) {
-            Ok(left) => Ok(bytes.get(..left).unwrap_or(bytes)),
-            Err(_) => Ok(bytes),
+        self.left.set(left.saturating_sub(len as u64));
+        if left < len as u64 {
+            return Ok(left as usize);
         }
+        Ok(len)
     }
 }

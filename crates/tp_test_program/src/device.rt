@@ -26,7 +26,8 @@ impl<F: Read> Read for Device<'_, F> {
 impl<F: Write> Write for Device<'_, F> {
     fn write(&mut self, buf: &[u8]) -> io::Result<usize> {
         self.budget.spend()?;
-        self.file.write(self.room.take(buf)?)
+        let taken = self.room.take(buf.len())?;
+        self.file.write(&buf[..taken])
     }
 
     fn flush(&mut self) -> io::Result<()> {
