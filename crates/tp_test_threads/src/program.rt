@@ -135,6 +135,21 @@ impl Told {
     }
 }
 
+// Ida's session with the server, once it listens, then Joe's and Kim's.
+fn synced<R: Files + Net + Threads + Wait + Clock + AllocGlobal + Sync>(
+    all: &Machine<R>,
+    place: &Place,
+) -> (Ran, Ran, Ran)
+where
+    R::File: Send,
+    R::Stream: Send,
+{
+    let ida = all.sync("ida", place.as_str());
+    let joe = all.sync_once("joe", place.as_str());
+    let kim = all.sync_once("kim", place.as_str());
+    (ida, joe, kim)
+}
+
 // Hal serves his journal on the disk to Ida, Joe and Kim, one after another.
 fn served_on<R: Files + Net + Threads + Wait + Clock + AllocGlobal + Sync>(
     rt: &R,
@@ -149,11 +164,7 @@ where
     let (hal, (ida, joe, kim)) = join(
         rt,
         || Machine::new(&over).serve("hal", place.as_str(), "3"),
-        || {
-            let ida = all.sync("ida", place.as_str());
-            let joe = all.sync_once("joe", place.as_str());
-            (ida, joe, all.sync_once("kim", place.as_str()))
-        },
+        || synced(&all, place),
     );
     Told { hal, ida, joe, kim }
 }
