@@ -1,7 +1,9 @@
 //! A server and its clients as runs of the program, in threads of one process.
 
 use crate::disk::{Disk, OverDisk};
-use crate::runs::{Machine, Place, Ran};
+use crate::runs::{
+    Place, Ran, all_read, begin, copy_all, insert, serve, sync, sync_beside_silence, sync_once,
+};
 use crate::strangers::{Answered, Pace, UNKNOWN, first_other};
 use std::net::{Net, SocketAddr};
 use std::rt::Files;
@@ -14,22 +16,21 @@ use std::time::Clock;
 // text.
 #[test]
 fn a_server_and_two_clients(rt: HostRuntime) -> Result<(), Fail> {
-    let all = Machine::new(&rt);
-    assert!(rt; all.begin("ann", "Hello world", &["ben", "cat"]));
-    assert!(rt; all.insert("ben", "5", ",").status == 0);
+    assert!(rt; begin(&rt, "ann", "Hello world", &["ben", "cat"]));
+    assert!(rt; insert(&rt, "ben", "5", ",").status == 0);
     let place = Place::free(&rt)?;
     let (served, (ben, cat)) = join(
         &rt,
-        || all.serve("ann", place.as_str(), "2"),
+        || serve(&rt, "ann", place.as_str(), "2"),
         || {
-            let ben = all.sync("ben", place.as_str());
-            (ben, all.sync_once("cat", place.as_str()))
+            let ben = sync(&rt, "ben", place.as_str());
+            (ben, sync_once(&rt, "cat", place.as_str()))
         },
     );
     assert!(rt; ben.printed("applied 0\n"));
     assert!(rt; cat.printed("applied 1\n"));
     assert!(rt; served.printed(place.printed(rt.alloc(), "served 2\n")?.as_str()));
-    assert!(rt; all.all_read(&["ann", "ben", "cat"], "Hello, world\n"));
+    assert!(rt; all_read(&rt, &["ann", "ben", "cat"], "Hello, world\n"));
     Ok(())
 }
 
@@ -77,21 +78,20 @@ fn first_unruly<R: Net + Clock + AllocGlobal>(rt: &R, addr: SocketAddr) -> Optio
 // The session of each ends alone: Eve, who keeps to the rules, is served behind them all, and the texts are what they were.
 #[test]
 fn clients_that_keep_to_no_rule(rt: HostRuntime) -> Result<(), Fail> {
-    let all = Machine::new(&rt);
-    assert!(rt; all.begin("dora", "dora", &["eve"]));
+    assert!(rt; begin(&rt, "dora", "dora", &["eve"]));
     let place = Place::free(&rt)?;
     let (served, (other, eve)) = join(
         &rt,
-        || all.serve("dora", place.as_str(), "19"),
+        || serve(&rt, "dora", place.as_str(), "19"),
         || {
             let other = first_unruly(&rt, place.addr);
-            (other, all.sync_once("eve", place.as_str()))
+            (other, sync_once(&rt, "eve", place.as_str()))
         },
     );
     assert_eq!(rt; other, None);
     assert!(rt; eve.printed("applied 0\n"));
     assert!(rt; served.printed(place.printed(rt.alloc(), "served 19\n")?.as_str()));
-    assert!(rt; all.all_read(&["dora", "eve"], "dora\n"));
+    assert!(rt; all_read(&rt, &["dora", "eve"], "dora\n"));
     Ok(())
 }
 
@@ -99,20 +99,19 @@ fn clients_that_keep_to_no_rule(rt: HostRuntime) -> Result<(), Fail> {
 // end. Were there one worker alone, the silent one would lose its patience first.
 #[test]
 fn a_silent_client_holds_one_worker(rt: HostRuntime) -> Result<(), Fail> {
-    let all = Machine::new(&rt);
-    assert!(rt; all.begin("fay", "", &["gus"]));
-    assert!(rt; all.insert("gus", "0", "gus").status == 0);
+    assert!(rt; begin(&rt, "fay", "", &["gus"]));
+    assert!(rt; insert(&rt, "gus", "0", "gus").status == 0);
     let place = Place::free(&rt)?;
     let (served, beside) = join(
         &rt,
-        || all.serve("fay", place.as_str(), "2"),
-        || all.sync_beside_silence("gus", &place),
+        || serve(&rt, "fay", place.as_str(), "2"),
+        || sync_beside_silence(&rt, "gus", &place),
     );
     let (was_silent, gus) = beside.ok_or("a connection")?;
     assert!(rt; was_silent);
     assert!(rt; gus.printed("applied 0\n"));
     assert!(rt; served.printed(place.printed(rt.alloc(), "served 2\n")?.as_str()));
-    assert!(rt; all.all_read(&["fay", "gus"], "gus\n"));
+    assert!(rt; all_read(&rt, &["fay", "gus"], "gus\n"));
     Ok(())
 }
 
@@ -137,16 +136,16 @@ impl Told {
 
 // Ida's session with the server, once it listens, then Joe's and Kim's.
 fn synced<R: Files + Net + Threads + Wait + Clock + AllocGlobal + Sync>(
-    all: &Machine<R>,
+    rt: &R,
     place: &Place,
 ) -> (Ran, Ran, Ran)
 where
     R::File: Send,
     R::Stream: Send,
 {
-    let ida = all.sync("ida", place.as_str());
-    let joe = all.sync_once("joe", place.as_str());
-    let kim = all.sync_once("kim", place.as_str());
+    let ida = sync(rt, "ida", place.as_str());
+    let joe = sync_once(rt, "joe", place.as_str());
+    let kim = sync_once(rt, "kim", place.as_str());
     (ida, joe, kim)
 }
 
@@ -160,11 +159,11 @@ where
     R::File: Send,
     R::Stream: Send,
 {
-    let (over, all) = (OverDisk { rt, disk }, Machine::new(rt));
+    let over = OverDisk { rt, disk };
     let (hal, (ida, joe, kim)) = join(
         rt,
-        || Machine::new(&over).serve("hal", place.as_str(), "3"),
-        || synced(&all, place),
+        || serve(&over, "hal", place.as_str(), "3"),
+        || synced(rt, place),
     );
     Told { hal, ida, joe, kim }
 }
@@ -178,11 +177,10 @@ where
     R::File: Send,
     R::Stream: Send,
 {
-    let all = Machine::new(rt);
     let (served, joe) = join(
         rt,
-        || all.serve("hal", place.as_str(), "1"),
-        || all.sync("joe", place.as_str()),
+        || serve(rt, "hal", place.as_str(), "1"),
+        || sync(rt, "joe", place.as_str()),
     );
     served.status == 0 && joe.printed("applied 0\n")
 }
@@ -197,19 +195,18 @@ fn a_journal_fails_while_it_is_served(rt: HostRuntime) -> Result<(), Fail> {
         (Disk::new(1, 40, 9), "ida hal\n"),
         (Disk::new(9, 0, 1), "ida hal joe\n"),
     ];
-    let all = Machine::new(&rt);
-    assert!(rt; all.begin("first", "hal", &[]));
+    assert!(rt; begin(&rt, "first", "hal", &[]));
     for (disk, text) in rows {
-        assert!(rt; all.copy_all("first", &["hal", "ida", "joe", "kim"]));
-        assert!(rt; all.insert("ida", "0", "ida ").status == 0);
-        assert!(rt; all.insert("joe", "3", " joe").status == 0);
+        assert!(rt; copy_all(&rt, "first", &["hal", "ida", "joe", "kim"]));
+        assert!(rt; insert(&rt, "ida", "0", "ida ").status == 0);
+        assert!(rt; insert(&rt, "joe", "3", " joe").status == 0);
         let place = Place::free(&rt)?;
         let told = served_on(&rt, &disk, &place);
         assert!(rt; told.is_of_ida_alone(place.printed(rt.alloc(), "")?.as_str()));
-        assert!(rt; all.all_read(&["hal"], text));
-        assert!(rt; all.all_read(&["joe"], "ida hal joe\n"));
+        assert!(rt; all_read(&rt, &["hal"], text));
+        assert!(rt; all_read(&rt, &["joe"], "ida hal joe\n"));
         assert!(rt; is_served_again(&rt, &Place::free(&rt)?));
-        assert!(rt; all.all_read(&["hal"], "ida hal joe\n"));
+        assert!(rt; all_read(&rt, &["hal"], "ida hal joe\n"));
     }
     Ok(())
 }

@@ -41,110 +41,148 @@ impl Ran {
     }
 }
 
-/// A machine on which the program runs.
-#[derive(Drop)]
-pub struct Machine<'r, R> {
-    rt: &'r R,
-}
-
-impl<'r, R> Machine<'r, R> {
-    /// The machine of the runtime.
-    pub fn new(rt: &'r R) -> Machine<'r, R> {
-        Machine { rt }
-    }
-}
-
-impl<R: Files + Net + Threads + Wait + AllocGlobal + Sync> Machine<'_, R>
+/// A run with these words, of which the first is the program's name.
+pub fn run<R: Files + Net + Threads + Wait + AllocGlobal + Sync>(rt: &R, words: &[&str]) -> Ran
 where
     R::File: Send,
     R::Stream: Send,
 {
-    /// A run with these words, of which the first is the program's name.
-    pub fn run(&self, words: &[&str]) -> Ran {
-        let mut out = Vec::new(self.rt.alloc());
-        let mut err = Vec::new(self.rt.alloc());
-        let status = run_words_on(self.rt, words, &mut out, &mut err);
-        Ran { status, out, err }
-    }
-
-    /// Inserts the text at the place in the file's document.
-    pub fn insert(&self, file: &str, at: &str, text: &str) -> Ran {
-        let words = [
-            "textpeer", "edit", file, "--at", at, "--del", "0", "--text", text,
-        ];
-        self.run(&words)
-    }
-
-    /// Copies a file. Whether that was done.
-    pub fn copy_all(&self, file: &str, copies: &[&str]) -> bool {
-        let mut is_done = true;
-        for copy in copies {
-            is_done = is_done && fs::copy(self.rt, file, copy).is_ok();
-        }
-        is_done
-    }
-
-    /// Makes a journal with the text, and copies of it. Whether that was done.
-    pub fn begin(&self, file: &str, text: &str, copies: &[&str]) -> bool {
-        self.run(&["textpeer", "new", file, "--key", DOCUMENT])
-            .status
-            == 0
-            && self.insert(file, "0", text).status == 0
-            && self.copy_all(file, copies)
-    }
-
-    /// Whether each of the files has the text.
-    pub fn all_read(&self, files: &[&str], text: &str) -> bool {
-        let mut is_read = true;
-        for file in files {
-            is_read = is_read && self.run(&["textpeer", "text", file]).printed(text);
-        }
-        is_read
-    }
-
-    /// A server of the file's journal at the address, for so many sessions.
-    pub fn serve(&self, file: &str, addr: &str, sessions: &str) -> Ran {
-        self.run(&["textpeer", "serve", file, addr, "--sessions", sessions])
-    }
-
-    /// One session with the server at the address, as a client.
-    pub fn sync_once(&self, file: &str, addr: &str) -> Ran {
-        self.run(&["textpeer", "sync", file, addr])
-    }
+    let mut out = Vec::new(rt.alloc());
+    let mut err = Vec::new(rt.alloc());
+    let status = run_words_on(rt, words, &mut out, &mut err);
+    Ran { status, out, err }
 }
 
-impl<R: Files + Net + Threads + Wait + Clock + AllocGlobal + Sync> Machine<'_, R>
+/// Inserts the text at the place in the file's document.
+pub fn insert<R: Files + Net + Threads + Wait + AllocGlobal + Sync>(
+    rt: &R,
+    file: &str,
+    at: &str,
+    text: &str,
+) -> Ran
 where
     R::File: Send,
     R::Stream: Send,
 {
-    /// The same, once the server listens: till then a client can't connect, and is refused.
-    pub fn sync(&self, file: &str, addr: &str) -> Ran {
-        let patience = Patience::new(self.rt);
-        for _ in 0..u64::MAX {
-            let ran = self.sync_once(file, addr);
-            if ran.status == 0 || !patience.lasts(self.rt) {
-                return ran;
-            }
-        }
-        self.sync_once(file, addr)
-    }
+    let words = [
+        "textpeer", "edit", file, "--at", at, "--del", "0", "--text", text,
+    ];
+    run(rt, &words)
+}
 
-    /// A client that says nothing, and one beside it with the file's journal until that is done: whether the first was
-    /// silent so long, and what the other was told.
-    pub fn sync_beside_silence(&self, file: &str, place: &Place) -> Option<(bool, Ran)> {
-        let silent = connected(self.rt, place.addr)?;
-        let is_done = AtomicBool::new(false);
-        Some(join(
-            self.rt,
-            || is_silent_until(self.rt, silent, &is_done),
-            || {
-                let ran = self.sync_once(file, place.as_str());
-                is_done.store(true, Ordering::SeqCst);
-                ran
-            },
-        ))
+/// Copies a file. Whether that was done.
+pub fn copy_all<R: Files>(rt: &R, file: &str, copies: &[&str]) -> bool {
+    let mut is_done = true;
+    for copy in copies {
+        is_done = is_done && fs::copy(rt, file, copy).is_ok();
     }
+    is_done
+}
+
+/// Makes a journal with the text, and copies of it. Whether that was done.
+pub fn begin<R: Files + Net + Threads + Wait + AllocGlobal + Sync>(
+    rt: &R,
+    file: &str,
+    text: &str,
+    copies: &[&str],
+) -> bool
+where
+    R::File: Send,
+    R::Stream: Send,
+{
+    let made = run(rt, &["textpeer", "new", file, "--key", DOCUMENT]);
+    made.status == 0 && insert(rt, file, "0", text).status == 0 && copy_all(rt, file, copies)
+}
+
+/// Whether each of the files has the text.
+pub fn all_read<R: Files + Net + Threads + Wait + AllocGlobal + Sync>(
+    rt: &R,
+    files: &[&str],
+    text: &str,
+) -> bool
+where
+    R::File: Send,
+    R::Stream: Send,
+{
+    let mut is_read = true;
+    for file in files {
+        is_read = is_read && run(rt, &["textpeer", "text", file]).printed(text);
+    }
+    is_read
+}
+
+/// A server of the file's journal at the address, for so many sessions.
+pub fn serve<R: Files + Net + Threads + Wait + AllocGlobal + Sync>(
+    rt: &R,
+    file: &str,
+    addr: &str,
+    sessions: &str,
+) -> Ran
+where
+    R::File: Send,
+    R::Stream: Send,
+{
+    run(
+        rt,
+        &["textpeer", "serve", file, addr, "--sessions", sessions],
+    )
+}
+
+/// One session with the server at the address, as a client.
+pub fn sync_once<R: Files + Net + Threads + Wait + AllocGlobal + Sync>(
+    rt: &R,
+    file: &str,
+    addr: &str,
+) -> Ran
+where
+    R::File: Send,
+    R::Stream: Send,
+{
+    run(rt, &["textpeer", "sync", file, addr])
+}
+
+/// The same, once the server listens: till then a client can't connect, and is refused.
+pub fn sync<R: Files + Net + Threads + Wait + Clock + AllocGlobal + Sync>(
+    rt: &R,
+    file: &str,
+    addr: &str,
+) -> Ran
+where
+    R::File: Send,
+    R::Stream: Send,
+{
+    let patience = Patience::new(rt);
+    for _ in 0..u64::MAX {
+        let ran = sync_once(rt, file, addr);
+        if ran.status == 0 || !patience.lasts(rt) {
+            return ran;
+        }
+    }
+    sync_once(rt, file, addr)
+}
+
+/// A client that says nothing, and one beside it with the file's journal until that is done: whether the first was silent
+/// so long, and what the other was told.
+pub fn sync_beside_silence<R: Files + Net + Threads + Wait + Clock + AllocGlobal + Sync>(
+    rt: &R,
+    file: &str,
+    place: &Place,
+) -> Option<(bool, Ran)>
+where
+    R::File: Send,
+    R::Stream: Send,
+{
+    let silent = connected(rt, place.addr)?;
+    let is_done = AtomicBool::new(false);
+    Some(join(
+        rt,
+        || is_silent_until(rt, silent, &is_done),
+        || {
+            let ran = sync_once(rt, file, place.as_str());
+            is_done.store(true, Ordering::SeqCst);
+            ran
+        },
+    ))
 }
 
 /// Where a server listens, also as the commands take it.
