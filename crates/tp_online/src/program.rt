@@ -113,12 +113,29 @@ where
         × GrowsPart (IsLineOf e) (E.contents err.old) (E.contents err.new)
         × IsRefused command.entry e (W.contents out.old) (W.contents out.new) }
 {
+    let done = carried(rt, command, out);
+    ended(rt.alloc(), done, err)
+}
+
+// Reads the values of a command, and does what it asks for.
+fn carried<R: Files + Net + Threads + Wait + AllocGlobal + Sync, W: Write>(
+    rt: &R,
+    command: Command,
+    out: &mut W,
+) -> Result<(), ShellError>
+where
+    R::File: Send,
+    R::Stream: Send,
+    ensures done { OnOk result (IsDone command.entry (W.contents out.old) (W.contents out.new)) }
+    ensures refused { IfErr result
+        (λ e. IsRefused command.entry e (W.contents out.old) (W.contents out.new)) }
+{
     match job_of(rt.alloc(), command) {
         Ok(job) => match run_job(rt, job, out) {
-            Ok(()) => DONE,
-            Err(error) => ended(rt.alloc(), Err(ShellError::Job(error)), err),
+            Ok(()) => Ok(()),
+            Err(error) => Err(ShellError::Job(error)),
         },
-        Err(error) => ended(rt.alloc(), Err(error), err),
+        Err(error) => Err(error),
     }
 }
 
