@@ -113,8 +113,10 @@ where
         × GrowsPart (IsLineOf e) (E.contents err.old) (E.contents err.new)
         × IsRefused command.entry e (W.contents out.old) (W.contents out.new) }
 {
-    let done = carried(rt, command, out);
-    ended(rt.alloc(), done, err)
+    match carried(rt, command, out) {
+        Ok(()) => DONE,
+        Err(error) => ended(rt.alloc(), Err(error), err),
+    }
 }
 
 // Reads the values of a command, and does what it asks for.
