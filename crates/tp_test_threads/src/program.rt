@@ -149,42 +149,6 @@ where
     (ida, joe, kim)
 }
 
-// Hal serves his journal on the disk to Ida, Joe and Kim, one after another.
-fn served_on<R: Files + Net + Threads + Wait + Clock + AllocGlobal + Sync>(
-    rt: &R,
-    disk: &Disk,
-    place: &Place,
-) -> Told
-where
-    R::File: Send,
-    R::Stream: Send,
-{
-    let over = OverDisk { rt, disk };
-    let (hal, (ida, joe, kim)) = join(
-        rt,
-        || serve(&over, "hal", place.as_str(), "3"),
-        || synced(rt, place),
-    );
-    Told { hal, ida, joe, kim }
-}
-
-// Hal has a disk again, and serves Joe. Whether both were done.
-fn is_served_again<R: Files + Net + Threads + Wait + Clock + AllocGlobal + Sync>(
-    rt: &R,
-    place: &Place,
-) -> bool
-where
-    R::File: Send,
-    R::Stream: Send,
-{
-    let (served, joe) = join(
-        rt,
-        || serve(rt, "hal", place.as_str(), "1"),
-        || sync(rt, "joe", place.as_str()),
-    );
-    served.status == 0 && joe.printed("applied 0\n")
-}
-
 // Hal's disk fails while he serves his journal: it takes Ida's change, and of Joe's nothing, a part, or all, but doesn't
 // bring that to its ground. Joe's session is refused, and so is Kim's, behind which the serving ends with the error. Hal's
 // journal has what Ida was told; once Hal has a disk again, Joe's change enters, if it didn't.
@@ -201,11 +165,26 @@ fn a_journal_fails_while_it_is_served(rt: HostRuntime) -> Result<(), Fail> {
         assert!(rt; insert(&rt, "ida", "0", "ida ").status == 0);
         assert!(rt; insert(&rt, "joe", "3", " joe").status == 0);
         let place = Place::free(&rt)?;
-        let told = served_on(&rt, &disk, &place);
+        let over = OverDisk {
+            rt: &rt,
+            disk: &disk,
+        };
+        let (hal, (ida, joe, kim)) = join(
+            &rt,
+            || serve(&over, "hal", place.as_str(), "3"),
+            || synced(&rt, &place),
+        );
+        let told = Told { hal, ida, joe, kim };
         assert!(rt; told.is_of_ida_alone(place.printed(rt.alloc(), "")?.as_str()));
         assert!(rt; all_read(&rt, &["hal"], text));
         assert!(rt; all_read(&rt, &["joe"], "ida hal joe\n"));
-        assert!(rt; is_served_again(&rt, &Place::free(&rt)?));
+        let again = Place::free(&rt)?;
+        let (served, joe) = join(
+            &rt,
+            || serve(&rt, "hal", again.as_str(), "1"),
+            || sync(&rt, "joe", again.as_str()),
+        );
+        assert!(rt; served.status == 0 && joe.printed("applied 0\n"));
         assert!(rt; all_read(&rt, &["hal"], "ida hal joe\n"));
     }
     Ok(())
