@@ -165,13 +165,15 @@ fn a_journal_fails_while_it_is_served(rt: HostRuntime) -> Result<(), Fail> {
         assert!(rt; insert(&rt, "ida", "0", "ida ").status == 0);
         assert!(rt; insert(&rt, "joe", "3", " joe").status == 0);
         let place = Place::free(&rt)?;
-        let over = OverDisk {
-            rt: &rt,
-            disk: &disk,
-        };
         let (hal, (ida, joe, kim)) = join(
             &rt,
-            || serve(&over, "hal", place.as_str(), "3"),
+            || {
+                let over = OverDisk {
+                    rt: &rt,
+                    disk: &disk,
+                };
+                serve(&over, "hal", place.as_str(), "3")
+            },
             || synced(&rt, &place),
         );
         let told = Told { hal, ida, joe, kim };
