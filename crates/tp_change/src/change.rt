@@ -12,11 +12,20 @@ use tp_opid::{Actor, Hash};
 /// A change: parts that are within the limits and the grammar, with their hash.
 ///
 /// Contracts see its parts. It keeps the allocator that it was made with, and its hash, which is taken once.
-#[derive(Drop)]
 pub struct Change {
     pub(crate) alloc: Global,
     pub(crate) parts: ChangeParts,
     pub(crate) hash: Hash,
+}
+
+impl Drop for Change {
+    fn drop(self) {
+        let Change {
+            alloc: _,
+            parts: _,
+            hash: _,
+        } = self;
+    }
 }
 
 impl Model for Change {

@@ -1,14 +1,10 @@
 -- The definition of the command line, subcommand by subcommand.
 use Rattle.std.proofs.Common.{◌≡◌, ◌∙◌, [], ◌∷◌, ◌++◌, ap, false}
 use Rattle.std.specs.Prelude.{◌||◌, IfOk, Ok, Err, Result}
-use Rattle.clap.specs.Words.{AddsArg, App, Rule, Shape, rule_of, with_rule, with_subcommand}
+use Rattle.clap.specs.Words.{AddsArg, App, Rule, Shape, rule_of, with_rule}
 use Rattle.clap.specs.declared.builder.arg.Arg.{Arg}
 use Rattle.clap.specs.declared.builder.command.Command.{Command}
 use Rattle.tp_command_line.specs.CommandLine.{IsLeaf}
-
--- a known program has one more
-pub with_one_more : (a : App) (s : Shape) (old new : App) → old ≡ a → new ≡ with_subcommand old s → new ≡ with_subcommand a s
-with_one_more a s old new is added = added ∙ ap (λ (x : App). with_subcommand x s) is
 
 -- an argument with this rule was added
 pub argument_added : (s : Shape) (r : Rule) (old : Command) (a : Arg) (new : Command) → IsLeaf s old → rule_of a ≡ r → a.global ≡ false → AddsArg old a new

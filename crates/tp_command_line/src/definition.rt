@@ -1,7 +1,7 @@
 //! The definition of the command line, as clap takes it.
 
 ghost use Rattle.std.specs.Prelude.{◌≡◌, IfOk, [], false, codes};
-ghost use Rattle.clap.specs.Words.{Shape, app_of, rule_of, with_subcommand};
+ghost use Rattle.clap.specs.Words.{App, Shape, app_of, rule_of, with_subcommand};
 ghost use Rattle.tp_command_line.specs.CommandLine.{mandatory, message_rule, numeric, option_rule, required_rule, several, time_rule};
 ghost use Rattle.tp_command_line.specs.CommandLine.{IsLeaf, bare_app, files_app, journals_app, textpeer_app, with_rules};
 ghost use Rattle.tp_command_line.specs.CommandLine.{cursor_shape, edit_at_shape, edit_shape, heads_shape, load_shape, log_shape, merge_shape, new_shape, save_shape, serve_at_shape, serve_shape, show_shape, simulate_shape, sync_shape, text_shape};
@@ -13,8 +13,8 @@ use std::alloc::{AllocError, Global};
 pub(crate) fn textpeer_command<'a>(alloc: Global) -> Result<Command<'a>, AllocError>
     ensures { IfOk result (λ c. app_of c ≡ textpeer_app) }
 {
-    let on_files = file_commands(alloc)?;
-    let served = with(on_files, serve_command(alloc))?;
+    let on_files = file_commands(alloc);
+    let served = with(on_files, serve_command(alloc));
     with(served, sync_command(alloc))
 }
 
@@ -22,11 +22,11 @@ pub(crate) fn textpeer_command<'a>(alloc: Global) -> Result<Command<'a>, AllocEr
 fn file_commands<'a>(alloc: Global) -> Result<Command<'a>, AllocError>
     ensures { IfOk result (λ c. app_of c ≡ files_app) }
 {
-    let journals = journal_commands(alloc)?;
-    let merged = with(journals, merge_command(alloc))?;
-    let saved = with(merged, save_command(alloc))?;
-    let loaded = with(saved, load_command(alloc))?;
-    let shown = with(loaded, show_command(alloc))?;
+    let journals = journal_commands(alloc);
+    let merged = with(journals, merge_command(alloc));
+    let saved = with(merged, save_command(alloc));
+    let loaded = with(saved, load_command(alloc));
+    let shown = with(loaded, show_command(alloc));
     with(shown, simulate_command(alloc))
 }
 
@@ -34,23 +34,25 @@ fn file_commands<'a>(alloc: Global) -> Result<Command<'a>, AllocError>
 fn journal_commands<'a>(alloc: Global) -> Result<Command<'a>, AllocError>
     ensures { IfOk result (λ c. app_of c ≡ journals_app) }
 {
-    let begun = with(program(alloc), new_command(alloc))?;
-    let edited = with(begun, edit_command(alloc))?;
-    let read = with(edited, text_command(alloc))?;
-    let headed = with(read, heads_command(alloc))?;
-    let logged = with(headed, log_command(alloc))?;
+    let begun = with(Ok(program(alloc)), new_command(alloc));
+    let edited = with(begun, edit_command(alloc));
+    let read = with(edited, text_command(alloc));
+    let headed = with(read, heads_command(alloc));
+    let logged = with(headed, log_command(alloc));
     with(logged, cursor_command(alloc))
 }
 
-// The program with one more command.
+// The program with one more command, where both could be made.
 fn with<'a>(
-    program: Command<'a>,
+    program: Result<Command<'a>, AllocError>,
     command: Result<Command<'a>, AllocError>,
 ) -> Result<Command<'a>, AllocError>
-    ensures { (s : Shape) → IfOk command.entry (IsLeaf s)
-        → IfOk result (λ c. app_of c ≡ with_subcommand (app_of program.entry) s) }
+    ensures { (p : App) → (s : Shape)
+        → IfOk program.entry (λ c. app_of c ≡ p)
+        → IfOk command.entry (IsLeaf s)
+        → IfOk result (λ c. app_of c ≡ with_subcommand p s) }
 {
-    program.subcommand(command?)
+    program?.subcommand(command?)
 }
 
 // The program with no command.

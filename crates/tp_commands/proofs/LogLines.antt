@@ -7,7 +7,7 @@ use Rattle.std.specs.Char.{is_control}
 use Rattle.std.specs.Char.Escape.{backslash, escape_default}
 use Rattle.std.specs.Fmt.{decimal}
 use Rattle.std.specs.List.{flat_map, sum_by}
-use Rattle.std.specs.Prelude.{encode_utf8_all}
+use Rattle.std.specs.Prelude.{encode_utf8_all, IfOk, Result, Ok}
 use Rattle.std.specs.Str.{chars}
 use Rattle.tp_opid.specs.declared.actor.Actor.{Actor}
 use Rattle.tp_opid.specs.declared.op_id.Place.{Place}
@@ -59,6 +59,10 @@ length-deletes_in a n (Delete target ∷ rs) =
 pub deleted_is : (c : ChangeParts) → deleted_count c ≡ sum_by delete_count c.records
 unfolding ops_of
 deleted_is c = length-deletes_in c.actor c.start c.records
+
+-- what a call gave that answered Ok
+pub given : {A E : Type 0} (r : Result A E) (x : A) (P : A → Type 0) → r ≡ Ok x → IfOk r P → P x
+given {A} {E} r x P is h = subst (λ (s : Result A E). IfOk s P) is h
 
 -- the fields, as they are printed one behind another
 pub joined : (text h a : List ℕ) (s t i d : ℕ) (h' a' : List ℕ) (s' t' i' d' : ℕ)

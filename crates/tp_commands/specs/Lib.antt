@@ -1,9 +1,4 @@
 pub mod CommandError
-pub mod Names
-pub mod Keys
 pub mod Reading
 pub mod Log
 pub mod Editing
-pub mod Network
-pub mod Output
-pub mod Words

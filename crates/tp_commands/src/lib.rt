@@ -1,17 +1,12 @@
-//! What the commands of `textpeer` do that need no network.
+//! What the commands of `textpeer` do to bytes and journals.
 #![tactic(auto)]
 
 mod editing;
 mod error;
-mod files;
-mod keys;
 mod log;
-mod names;
-mod program;
 mod reading;
-mod running;
 
+pub use editing::{begin, edit, merge, reopen};
 pub use error::CommandError;
-pub use keys::draw_actor;
-pub use program::{Errors, MISUSED, explain, run_words, run_words_on};
-pub use running::{DONE, REFUSED, ended, put, run_command};
+pub use log::log_lines;
+pub use reading::{cursor_line, hash_line, head_lines, id_line, saved, text_line};

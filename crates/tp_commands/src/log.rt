@@ -1,14 +1,13 @@
 //! The changes of a document, a line each.
 
-ghost use Rattle.std.specs.Prelude.{◌≡◌, ◌≢◌, ◌≤◌, ◌++◌, IfOk, IfErr, OnOk};
+ghost use Rattle.std.specs.Prelude.{◌≡◌, ◌≤◌, ◌++◌, IfOk, OnOk};
 ghost use Rattle.std.specs.List.{flat_map};
 ghost use Rattle.std.specs.Str.{chars};
 ghost use Rattle.std.specs.String.{string_bytes};
-ghost use Rattle.tp_commands.specs.declared.error.CommandError.TheVariants.{BadHex};
 ghost use Rattle.tp_commands.specs.Log.{AreChangeLines, change_line as line_of_change, delete_count, deleted_count, escaped, fields_part, inserted_count, message_part};
 
 use crate::error::CommandError;
-use crate::reading::document_in;
+use crate::reading::{digits, document_in};
 use std::alloc::{AllocError, Global};
 use tp_change::{Change, Record};
 
@@ -77,11 +76,10 @@ fn put_message(line: &mut String, message: &str) -> Result<(), AllocError>
 
 // What the line of a change begins with.
 fn fields(alloc: Global, change: &Change) -> Result<String, CommandError>
-    ensures ok { IfOk result (λ l. string_bytes l ≡ fields_part change.now) }
-    ensures err { IfErr result (λ e. e ≢ BadHex) }
+    ensures { IfOk result (λ l. string_bytes l ≡ fields_part change.now) }
 {
-    let hash = change.hash().to_text(alloc)?;
-    let actor = change.actor().to_text(alloc)?;
+    let hash = digits(change.hash().to_text(alloc))?;
+    let actor = digits(change.actor().to_text(alloc))?;
     let seq = change.seq();
     let time = change.time();
     let inserted = inserted(change);
@@ -91,8 +89,7 @@ fn fields(alloc: Global, change: &Change) -> Result<String, CommandError>
 
 // The line of a change.
 fn change_line(alloc: Global, change: &Change) -> Result<String, CommandError>
-    ensures ok { IfOk result (λ l. string_bytes l ≡ line_of_change change.now) }
-    ensures err { IfErr result (λ e. e ≢ BadHex) }
+    ensures { IfOk result (λ l. string_bytes l ≡ line_of_change change.now) }
 {
     let mut line = fields(alloc, change)?;
     put_message(&mut line, change.message())?;
@@ -100,17 +97,25 @@ fn change_line(alloc: Global, change: &Change) -> Result<String, CommandError>
     Ok(line)
 }
 
-/// A line for each change of a journal's bytes, in the order in which they entered: its hash, actor, sequence number,
-/// time, `+` and how many characters it inserts, `-` and how many it deletes, and its message if it has one, with control
-/// characters escaped.
-pub(crate) fn log_lines(alloc: Global, journal: &[u8]) -> Result<String, CommandError>
-    ensures ok { IfOk result (λ lines. AreChangeLines journal.now (string_bytes lines)) }
-    ensures err { IfErr result (λ e. e ≢ BadHex) }
+// A line for each change.
+fn change_lines(alloc: Global, changes: &[Change]) -> Result<String, CommandError>
+    ensures { IfOk result (λ lines. string_bytes lines ≡ flat_map line_of_change changes.now) }
 {
-    let document = document_in(alloc, journal)?;
     let mut lines = String::new(alloc);
-    for change in document.changes() {
+    for change in changes {
         lines.push_str(change_line(alloc, change)?.as_str())?;
     }
     Ok(lines)
+}
+
+/// A line for each change of a journal's bytes, in the order in which they entered: its hash, actor, sequence number,
+/// time, `+` and how many characters it inserts, `-` and how many it deletes, and its message if it has one, with control
+/// characters escaped.
+pub fn log_lines(alloc: Global, journal: &[u8]) -> Result<String, CommandError>
+    ensures { IfOk result (λ lines. AreChangeLines journal.now (string_bytes lines)) }
+{
+    let document = document_in(alloc, journal)?;
+    let lines = change_lines(alloc, document.changes());
+    drop(document);
+    lines
 }

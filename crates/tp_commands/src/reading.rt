@@ -1,19 +1,25 @@
 //! What is read of the bytes of a journal or of a saved file, as the text to print.
 
-ghost use Rattle.std.specs.Prelude.{◌≡◌, ◌≢◌, ◌⊎◌, ℕ, IfOk, IfErr};
+ghost use Rattle.std.specs.Prelude.{◌≡◌, ◌⊎◌, ℕ, Some, Ok, IfOk, IfErr};
+ghost use Rattle.std.specs.List.{flat_map};
+ghost use Rattle.std.specs.Str.{chars};
 ghost use Rattle.std.specs.String.{string_bytes};
+ghost use Rattle.hex.specs.Hex.{encode_lower};
+ghost use Rattle.tp_opid.specs.declared.op_id.OpId.{OpId};
+ghost use Rattle.tp_document.specs.Showing.{HasElementAt, HasPosition};
+ghost use Rattle.tp_graph.specs.Past.{past};
+ghost use Rattle.tp_text.specs.Text.{IsTextOf};
 ghost use Rattle.tp_journal.specs.Refusals.{IsRefusal};
 ghost use Rattle.tp_journal.specs.Recovery.{Recovers};
 ghost use Rattle.tp_store.specs.declared.error.StoreError.{StoreError as StoreFault};
-ghost use Rattle.tp_commands.specs.declared.error.CommandError.TheVariants.{BadHex};
 ghost use Rattle.tp_commands.specs.CommandError.{refusal_of_bytes};
-ghost use Rattle.tp_commands.specs.Reading.{AreHeadLines, IsCursorLine, IsTextLine, Saves, hash_line as line_of_hash, line as line_of};
+ghost use Rattle.tp_commands.specs.Reading.{AreHeadLines, IsCursorLine, IsTextLine, Saves, changes_at, hash_line as line_of_hash, line as line_of};
 
 use crate::error::CommandError;
 use std::alloc::{AllocError, Global};
-use tp_document::Document;
+use tp_document::{DocError, Document};
 use tp_journal::recover;
-use tp_opid::Hash;
+use tp_opid::{DocId, Hash, HexError};
 use tp_peer::PeerSequence;
 use tp_store::save;
 
@@ -24,7 +30,6 @@ pub(crate) fn document_in(alloc: Global, journal: &[u8]) -> Result<Text, Command
     ensures ok { IfOk result (λ d. (keep : ℕ) × Recovers journal.now d.id d.applied keep) }
     ensures err { IfErr result (λ e. (e ≡ CommandError.OutOfMemory)
         ⊎ ((fault : StoreFault) × (e ≡ refusal_of_bytes fault) × IsRefusal journal.now fault)) }
-    ensures of_bytes { IfErr result (λ e. e ≢ BadHex) }
 {
     match recover(alloc, journal) {
         Ok(recovered) => Ok(recovered.document),
@@ -40,67 +45,105 @@ fn line(mut text: String) -> Result<String, AllocError>
     Ok(text)
 }
 
+// The text of a document: as it is now, or at the heads where any are given.
+fn text_in(document: &Text, heads: &[Hash]) -> Result<String, DocError>
+    ensures { IfOk result (λ text. IsTextOf (changes_at document.now.applied heads.now)
+        (chars (string_bytes text))) }
+{
+    if heads.is_empty() {
+        document.text()
+    } else {
+        document.text_at(heads)
+    }
+}
+
 /// The text of a journal's bytes and a newline: as it is now, or at the heads where any are given.
-pub(crate) fn text_line(
-    alloc: Global,
-    journal: &[u8],
-    heads: &[Hash],
-) -> Result<String, CommandError>
-    ensures ok { IfOk result (λ l. IsTextLine journal.now heads.now (string_bytes l)) }
-    ensures err { IfErr result (λ e. e ≢ BadHex) }
+pub fn text_line(alloc: Global, journal: &[u8], heads: &[Hash]) -> Result<String, CommandError>
+    ensures { IfOk result (λ l. IsTextLine journal.now heads.now (string_bytes l)) }
 {
     let document = document_in(alloc, journal)?;
-    let text = if heads.is_empty() {
-        document.text()?
-    } else {
-        document.text_at(heads)?
-    };
-    Ok(line(text)?)
+    let text = text_in(&document, heads);
+    drop(document);
+    Ok(line(text?)?)
+}
+
+// Hexadecimal digits that were made, which is refused for want of memory alone.
+pub(crate) fn digits(made: Result<String, HexError>) -> Result<String, CommandError>
+    ensures { IfOk result (λ text. made ≡ Ok text) }
+{
+    match made {
+        Ok(text) => Ok(text),
+        Err(_) => Err(CommandError::OutOfMemory),
+    }
+}
+
+/// The identifier in hexadecimal digits, and a newline.
+pub fn id_line(alloc: Global, id: &DocId) -> Result<String, CommandError>
+    ensures { IfOk result (λ l. string_bytes l ≡ line_of (encode_lower id.now.0)) }
+{
+    Ok(line(digits(id.to_text(alloc))?)?)
 }
 
 /// The hash in hexadecimal digits, and a newline.
-pub(crate) fn hash_line(alloc: Global, hash: &Hash) -> Result<String, CommandError>
-    ensures ok { IfOk result (λ l. string_bytes l ≡ line_of_hash hash.now) }
-    ensures err { IfErr result (λ e. e ≢ BadHex) }
+pub fn hash_line(alloc: Global, hash: &Hash) -> Result<String, CommandError>
+    ensures { IfOk result (λ l. string_bytes l ≡ line_of_hash hash.now) }
 {
-    Ok(line(hash.to_text(alloc)?)?)
+    Ok(line(digits(hash.to_text(alloc))?)?)
 }
 
-/// The heads of a journal's bytes, rising, a line each.
-pub(crate) fn head_lines(alloc: Global, journal: &[u8]) -> Result<String, CommandError>
-    ensures ok { IfOk result (λ lines. AreHeadLines journal.now (string_bytes lines)) }
-    ensures err { IfErr result (λ e. e ≢ BadHex) }
+// A line for each hash.
+fn hash_lines(alloc: Global, hashes: &[Hash]) -> Result<String, CommandError>
+    ensures { IfOk result (λ lines. string_bytes lines ≡ flat_map line_of_hash hashes.now) }
 {
-    let document = document_in(alloc, journal)?;
     let mut lines = String::new(alloc);
-    let heads = document.heads();
-    for head in heads {
-        lines.push_str(hash_line(alloc, head)?.as_str())?;
+    for hash in hashes {
+        lines.push_str(hash_line(alloc, hash)?.as_str())?;
     }
     Ok(lines)
 }
 
+/// The heads of a journal's bytes, rising, a line each.
+pub fn head_lines(alloc: Global, journal: &[u8]) -> Result<String, CommandError>
+    ensures { IfOk result (λ lines. AreHeadLines journal.now (string_bytes lines)) }
+{
+    let document = document_in(alloc, journal)?;
+    let lines = hash_lines(alloc, document.heads());
+    drop(document);
+    lines
+}
+
+// Where the character at a position of the text at the heads stands now.
+fn position_in(document: &Text, at: usize, heads: &[Hash]) -> Result<usize, DocError>
+    ensures { IfOk result (λ position. (element : OpId)
+        × HasElementAt (past document.now.applied heads.now) at (Some element)
+        × HasPosition document.now.applied element (Some position)) }
+{
+    let cursor = document.cursor_at(at, heads)?;
+    document.cursor_position(&cursor)
+}
+
 /// Where the character at a position of the text at the heads stands now, and a newline.
-pub(crate) fn cursor_line(
+pub fn cursor_line(
     alloc: Global,
     journal: &[u8],
     at: usize,
     heads: &[Hash],
 ) -> Result<String, CommandError>
-    ensures ok { IfOk result (λ l. IsCursorLine journal.now at heads.now (string_bytes l)) }
-    ensures err { IfErr result (λ e. e ≢ BadHex) }
+    ensures { IfOk result (λ l. IsCursorLine journal.now at heads.now (string_bytes l)) }
 {
     let document = document_in(alloc, journal)?;
-    let cursor = document.cursor_at(at, heads)?;
-    let position = document.cursor_position(&cursor)?;
+    let position = position_in(&document, at, heads);
+    drop(document);
+    let position = position?;
     Ok(format!(in alloc; "{position}\n")?)
 }
 
 /// The saved file of a journal's document.
-pub(crate) fn saved(alloc: Global, journal: &[u8]) -> Result<Vec<u8>, CommandError>
-    ensures ok { IfOk result (λ bytes. Saves journal.now bytes.items) }
-    ensures err { IfErr result (λ e. e ≢ BadHex) }
+pub fn saved(alloc: Global, journal: &[u8]) -> Result<Vec<u8>, CommandError>
+    ensures { IfOk result (λ bytes. Saves journal.now bytes.items) }
 {
     let document = document_in(alloc, journal)?;
-    Ok(save(alloc, &document)?)
+    let bytes = save(alloc, &document);
+    drop(document);
+    Ok(bytes?)
 }

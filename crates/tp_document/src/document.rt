@@ -36,12 +36,22 @@ use tp_text::apply_change;
 /// Contracts see its identifier, the two lists of changes and for which change room was made. The sequence of
 /// elements, in which deleted ones stay as tombstones, is kept beside them: it has the elements that the applied
 /// changes insert, in the order of the text, and their deletes.
-#[derive(Drop)]
 pub struct Document<S: Sequence> {
     pub(crate) alloc: Global,
     pub(crate) id: DocId,
     pub(crate) graph: Graph,
     pub(crate) sequence: S,
+}
+
+impl<S: Sequence> Drop for Document<S> {
+    fn drop(self) {
+        let Document {
+            alloc: _,
+            id: _,
+            graph: _,
+            sequence: _,
+        } = self;
+    }
 }
 
 impl<S: Sequence> Model for Document<S> {

@@ -17,9 +17,14 @@ use std::marker::Model;
 ///
 /// Contracts see the bytes held: those that were fed and stand in no frame that was given. So much memory is kept and
 /// no more than what growing by doubling asks for: a length takes none before its bytes are there.
-#[derive(Drop)]
 pub struct Framer {
     buffer: BytesMut,
+}
+
+impl Drop for Framer {
+    fn drop(self) {
+        let Framer { buffer: _ } = self;
+    }
 }
 
 impl Model for Framer {

@@ -18,6 +18,3 @@ pub use frame::Frame;
 pub use framer::Framer;
 pub use limits::MAX_BODY;
 pub use writing::write_frame;
-
-#[cfg(test)]
-mod tests;

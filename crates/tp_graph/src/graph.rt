@@ -32,10 +32,18 @@ use tp_opid::{Actor, Hash};
 ///
 /// Contracts see the two lists, and for which change room was made. Heads, counters, and places by hash and by actor
 /// are kept beside them: a look-up takes as many comparisons as the logarithm of the number of changes.
-#[derive(Drop)]
 pub struct Graph {
     applied: Applied,
     waiting: Vec<Change>,
+}
+
+impl Drop for Graph {
+    fn drop(self) {
+        let Graph {
+            applied: _,
+            waiting: _,
+        } = self;
+    }
 }
 
 impl Model for Graph {

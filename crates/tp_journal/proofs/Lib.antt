@@ -5,3 +5,4 @@ pub mod CutLaws
 pub mod BytesLaws
 pub mod RecoveredLaws
 mod Laying
+pub mod DurableLaws

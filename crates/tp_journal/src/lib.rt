@@ -5,6 +5,7 @@
 //! next recovery. docs/FORMATS.md says every byte.
 #![tactic(auto)]
 
+mod durable;
 mod file;
 mod journal;
 mod laws;
@@ -12,10 +13,9 @@ mod layout;
 mod memory;
 mod reading;
 mod recovering;
-#[cfg(test)]
-mod tests;
 mod writing;
 
+pub use durable::DurableJournal;
 pub use file::FileJournal;
 pub use journal::Journal;
 pub use laws::{

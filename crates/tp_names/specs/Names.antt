@@ -8,6 +8,8 @@ use Rattle.tp_headline.specs.declared.error.WorldError.{WorldError}
 use Rattle.tp_headline.specs.declared.error.WorldError.TheVariants as world
 use Rattle.tp_peer.specs.declared.error.PeerError.{PeerError}
 use Rattle.tp_peer.specs.declared.error.PeerError.TheVariants as peer
+use Rattle.tp_session.specs.declared.error.NetError.{NetError}
+use Rattle.tp_session.specs.declared.error.NetError.TheVariants as net
 use Rattle.tp_store.specs.declared.error.StoreError.{StoreError}
 use Rattle.tp_store.specs.declared.error.StoreError.TheVariants as store
 use Rattle.tp_sync.specs.declared.error.SyncError.{SyncError}
@@ -77,3 +79,13 @@ name_of_world world.HashClash = codes "HashClash"
 name_of_world world.Stopped = codes "Stopped"
 name_of_world world.NoEntry = codes "NoEntry"
 name_of_world world.OutOfMemory = codes "OutOfMemory"
+
+abbrev pub name_of_session : NetError → List ℕ
+name_of_session net.Io = codes "Io"
+name_of_session net.Frame = codes "Frame"
+name_of_session net.OtherDocument = codes "OtherDocument"
+name_of_session net.Version = codes "Version"
+name_of_session net.Unexpected = codes "Unexpected"
+name_of_session (net.RefusedByOther code) = codes "RefusedByOther"
+name_of_session (net.Peer e) = name_of_peer e
+name_of_session net.OutOfMemory = codes "OutOfMemory"

@@ -3,4 +3,6 @@
 
 mod names;
 
-pub use names::{bytes_name, document_name, graph_name, peer_name, sync_name, world_name};
+pub use names::{
+    bytes_name, document_name, graph_name, peer_name, session_name, sync_name, world_name,
+};

@@ -1,12 +1,13 @@
 //! What is printed of a refusal: of what a layer below refused, the innermost refusal's name.
 
 ghost use Rattle.std.specs.Prelude.{◌≡◌};
-ghost use Rattle.tp_names.specs.Names.{name_of_bytes, name_of_document, name_of_graph, name_of_peer, name_of_sync, name_of_world};
+ghost use Rattle.tp_names.specs.Names.{name_of_bytes, name_of_document, name_of_graph, name_of_peer, name_of_session, name_of_sync, name_of_world};
 
 use tp_document::DocError;
 use tp_graph::GraphError;
 use tp_headline::WorldError;
 use tp_peer::PeerError;
+use tp_session::NetError;
 use tp_store::StoreError;
 use tp_sync::SyncError;
 
@@ -108,5 +109,21 @@ pub fn world_name(error: WorldError) -> &'static str
         WorldError::Stopped => "Stopped",
         WorldError::NoEntry => "NoEntry",
         WorldError::OutOfMemory => "OutOfMemory",
+    }
+}
+
+/// The name of the innermost cause for which a session was broken off.
+pub fn session_name(error: NetError) -> &'static str
+    ensures { result.now ≡ name_of_session error }
+{
+    match error {
+        NetError::Io => "Io",
+        NetError::Frame => "Frame",
+        NetError::OtherDocument => "OtherDocument",
+        NetError::Version => "Version",
+        NetError::Unexpected => "Unexpected",
+        NetError::RefusedByOther { .. } => "RefusedByOther",
+        NetError::Peer(error) => peer_name(error),
+        NetError::OutOfMemory => "OutOfMemory",
     }
 }

@@ -1,4 +1,2 @@
-pub mod DurableLaws
-pub mod ProgramLaws
 pub mod ServedLines
 pub mod SessionLaws

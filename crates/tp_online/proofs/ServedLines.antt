@@ -4,11 +4,10 @@ use Rattle.std.specs.Prelude.{IfErr, IfOk, IsOkAnd, OnOk}
 use Rattle.std.specs.Io.KnownBytes.{Appends, Keeps}
 use Rattle.std.proofs.KnownBytes.{Appends-trans}
 use Rattle.tp_textpeer.specs.Output.{AppendsPart}
-use Rattle.tp_commands.specs.declared.error.CommandError.{CommandError}
-use Rattle.tp_commands.specs.declared.error.CommandError.TheVariants.{Io}
-use Rattle.tp_commands.specs.Network.{IsServed, applied_line, listening_line, served_line}
-use Rattle.tp_commands.specs.Output.{Grows, GrowsPart, Leaves}
-use Rattle.tp_online.specs.Sessions.{IsSynced}
+use Rattle.tp_shell.specs.declared.error.JobError.{JobError}
+use Rattle.tp_shell.specs.Network.{IsServed, IsSynced, applied_line, listening_line, served_line}
+use Rattle.tp_shell.specs.Output.{Grows, GrowsPart, Leaves}
+use Rattle.tp_shell.specs.ShellError.{failed}
 
 -- what stayed grew by none of the bytes
 pub part_of_none : (old new : Option (List ℕ)) (bs : List ℕ) → Keeps old new → AppendsPart old new bs
@@ -20,7 +19,7 @@ part_of_none old new bs kept = record { part = []; rest = bs; begins = refl; gro
     appended (Some x) (Some y) h = h ∙ sym (append-nil x)
 
 -- a line that was refused, or written in part
-pub told : {A S E : Type 0} (done : Result A E) (printed : Result S E) (bytes : S → List ℕ) (is : E → Type 0) (line : List ℕ) (old new : Option (List ℕ))
+pub told : {A S E F : Type 0} (done : Result A E) (printed : Result S F) (bytes : S → List ℕ) (is : E → Type 0) (line : List ℕ) (old new : Option (List ℕ))
     → IfOk printed (λ l. bytes l ≡ line)
     → IfErr done (λ e. Keeps old new ⊎ (is e × IsOkAnd printed (λ l. AppendsPart old new (bytes l))))
     → IfErr done (λ e. AppendsPart old new line)
@@ -30,9 +29,9 @@ told (Err e) (Ok l) bytes is line old new spelled wrote =
 told (Err e) (Err f) bytes is line old new spelled wrote = ⊎_elim (λ kept. part_of_none old new line kept) (λ part. absurd part.1) wrote
 
 -- the line of how many changes entered, refused, or written in part since the output failed
-pub leaves : {A S : Type 0} (done : Result A CommandError) (printed : Result S CommandError) (bytes : S → List ℕ) (applied : ℕ) (old new : Option (List ℕ))
+pub leaves : {A S F : Type 0} (done : Result A JobError) (printed : Result S F) (bytes : S → List ℕ) (applied : ℕ) (old new : Option (List ℕ))
     → IfOk printed (λ l. bytes l ≡ applied_line applied)
-    → IfErr done (λ e. Keeps old new ⊎ ((e ≡ Io) × IsOkAnd printed (λ l. AppendsPart old new (bytes l))))
+    → IfErr done (λ e. Keeps old new ⊎ ((e ≡ failed) × IsOkAnd printed (λ l. AppendsPart old new (bytes l))))
     → IfErr done (λ e. Leaves IsSynced e old new)
 leaves (Ok x) printed bytes applied old new spelled wrote = tt
 leaves (Err e) (Ok l) bytes applied old new spelled wrote =

@@ -4,7 +4,6 @@ use Rattle.tp_peer.specs.PeerData.{PeerData}
 use Rattle.tp_net.specs.Turns.{AllSit, Enters, Sits}
 use Rattle.tp_served.specs.Calls.{Closes}
 use Rattle.tp_served.specs.Seats.{SeatData, ServedData, fresh, fresh_from, seats_of, states_of}
-use Rattle.tp_commands.specs.Network.{applied_line}
 
 -- the seats of a served peer, as its opening gives them
 abbrev pub opened_seats : ServedData → List SeatData
@@ -34,7 +33,3 @@ pub record WasServed (p : PeerData) (count : ℕ) (p' : PeerData) : Type 0 where
   pub back : List SeatData
   pub sat : AllSit (opened_seats served) back
   pub ends : EndsRunning served back p'
-
--- the bytes are what a client prints: how many changes entered
-abbrev pub IsSynced : List ℕ → Type 0
-IsSynced printed = (applied : ℕ) × (printed ≡ applied_line applied)

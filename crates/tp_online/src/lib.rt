@@ -1,11 +1,10 @@
-//! The program but for its `main`: the commands over a network, by TCP and threads, and all others as tp_commands does them.
+//! The program but for its `main`: from the words of a command line to an exit status, and the commands over a network, by
+//! TCP and threads, on journals whose appends are on the disk.
 #![tactic(auto)]
 
-mod durable;
 mod listening;
 mod program;
 mod seating;
 mod serving;
 
-pub use durable::DurableJournal;
-pub use program::{run, run_words_on};
+pub use program::{run, run_command, run_words, run_words_on};

@@ -1,14 +1,11 @@
 //! What a server and a client begin with: a peer on a journal, and an address.
 
-ghost use Rattle.std.specs.Prelude.{◌≢◌, IfErr};
-ghost use Rattle.tp_commands.specs.declared.error.CommandError.TheVariants.{BadHex};
-
-use crate::durable::DurableJournal;
 use std::fs::OpenFile;
 use std::io::Write;
 use std::net::{Net, OpenListener, SocketAddr};
 use std::rt::Files;
 use tp_commands::CommandError;
+use tp_journal::DurableJournal;
 use tp_opid::Actor;
 use tp_peer::Peer;
 
@@ -28,31 +25,17 @@ pub(crate) fn opened<R: Files + AllocGlobal>(
     rt: &R,
     file: &str,
     actor: Actor,
-) -> Result<Peer<DurableJournal<R::File>>, CommandError>
-    ensures { IfErr result (λ e. e ≢ BadHex) }
-{
-    let journal = DurableJournal::at(rt, rt.alloc(), file)?;
+) -> Result<Peer<DurableJournal<R::File>>, CommandError> {
+    let journal = DurableJournal::at(rt, rt.alloc(), file, false)?;
     match Peer::reopen(rt.alloc(), journal, actor) {
         Ok(peer) => Ok(peer),
         Err(unopened) => Err(CommandError::from(unopened.error)),
     }
 }
 
-/// The address that the text is, `IP:PORT`; else `Io`.
-pub(crate) fn address(text: &str) -> Result<SocketAddr, CommandError>
-    ensures { IfErr result (λ e. e ≢ BadHex) }
-{
-    match text.parse::<SocketAddr>() {
-        Ok(addr) => Ok(addr),
-        Err(_) => Err(CommandError::Io),
-    }
-}
-
 // Listens at the address; also answers the port.
-fn bound<R: Net>(rt: &R, addr: &str) -> Result<(R::Listener, u16), CommandError>
-    ensures { IfErr result (λ e. e ≢ BadHex) }
-{
-    let listener = rt.bind(address(addr)?)?;
+fn bound<R: Net>(rt: &R, addr: SocketAddr) -> Result<(R::Listener, u16), CommandError> {
+    let listener = rt.bind(addr)?;
     let local = listener.local_addr()?;
     Ok((listener, local.port()))
 }
@@ -61,11 +44,9 @@ fn bound<R: Net>(rt: &R, addr: &str) -> Result<(R::Listener, u16), CommandError>
 pub(crate) fn listen<R: Files + Net + AllocGlobal>(
     rt: &R,
     file: &str,
-    addr: &str,
+    addr: SocketAddr,
     actor: Actor,
-) -> Result<Listening<R::Listener, R::File>, CommandError>
-    ensures { IfErr result (λ e. e ≢ BadHex) }
-{
+) -> Result<Listening<R::Listener, R::File>, CommandError> {
     let peer = opened(rt, file, actor)?;
     match bound(rt, addr) {
         Ok((listener, port)) => Ok(Listening {

@@ -1,12 +1,13 @@
 //! The program, but for its `main`.
 
-ghost use Rattle.std.specs.Prelude.{◌≡◌, ◌≢◌, ◌≤◌, [], map, Err, IsOk, MatchResult};
+ghost use Rattle.std.specs.Prelude.{◌≡◌, ◌≢◌, ◌≤◌, [], map, Err, IfErr, IsOk, MatchResult, OnOk};
 ghost use Rattle.std.specs.Io.KnownBytes.{Keeps};
 ghost use Rattle.clap.specs.Words.{fault_of};
 ghost use Rattle.tp_command_line.specs.CommandLine.{textpeer_app};
-ghost use Rattle.tp_commands.specs.declared.error.CommandError.{CommandError as Refusal};
-ghost use Rattle.tp_commands.specs.Output.{Grows, GrowsPart, IsLineOf, IsPrinted, IsRefused};
-ghost use Rattle.tp_commands.specs.Words.{WasDone, WasRefused};
+ghost use Rattle.tp_command_line.specs.LineError.{MayBeDone};
+ghost use Rattle.tp_shell.specs.declared.error.ShellError.{ShellError as Refusal};
+ghost use Rattle.tp_shell.specs.Output.{Grows, GrowsPart, IsLineOf, IsPrinted, LeavesOf};
+ghost use Rattle.tp_shell.specs.Words.{IsDone, IsRefused, WasDone, WasRefused};
 
 use crate::serving::{serve_file, sync_file};
 use std::convert::AsStr;
@@ -17,10 +18,13 @@ use std::sync::Wait;
 use std::thread::Threads;
 use std::{env, io};
 use tp_command_line::{Command, line};
-use tp_commands::{CommandError, DONE, Errors, MISUSED, REFUSED, ended, explain, run_command};
+use tp_commands::CommandError;
+use tp_shell::{
+    DONE, Errors, Job, JobError, MISUSED, REFUSED, ShellError, carry_out, ended, explain, job_of,
+};
 
-/// Does what the process's own words ask for, and returns the exit status, as [`run_words_on`] does over its streams.
-/// Words that can't be read, as those that are no UTF-8, are refused as `textpeer: Io`.
+/// Does what the process's own words ask for, and returns the exit status, as [`run_words`] does. Words that can't be
+/// read, as those that are no UTF-8, are refused as `textpeer: Io`.
 pub fn run<R: Env + Files + Net + Threads + Wait + Print + Eprint + AllocGlobal + Sync>(
     rt: &R,
 ) -> u8
@@ -29,18 +33,12 @@ where
     R::Stream: Send,
     ensures { result ≤ MISUSED }
 {
-    let errors = Errors { rt };
     match own_words(rt) {
-        Ok(words) => run_words_on(
-            rt,
-            words.as_slice(),
-            &mut io::writer(rt),
-            &mut io::writer(&errors),
-        ),
-        Err(e) => ended(
+        Ok(words) => run_words(rt, words.as_slice()),
+        Err(error) => ended(
             rt.alloc(),
-            Err(CommandError::from(e)),
-            &mut io::writer(&errors),
+            Err(ShellError::Job(JobError::Command(CommandError::from(error)))),
+            &mut io::writer(&Errors { rt }),
         ),
     }
 }
@@ -49,8 +47,25 @@ fn own_words<R: Env + AllocGlobal>(rt: &R) -> io::Result<Vec<String>> {
     Ok(env::args(rt)?.collect(rt.alloc())?)
 }
 
-/// Does what the words ask for, of which the first is the program's name, and returns the exit status, as
-/// [`tp_commands::run_words_on`] does; `serve` and `sync` over the network.
+/// Does what the words ask for, of which the first is the program's name, and returns the exit status: 0 where it was
+/// done, as for `--help`; 1 where it was refused, with one line on the standard error, as [`ShellError`] prints it; 2
+/// where the words are at fault, with the parser's text on the standard error.
+pub fn run_words<R: Files + Net + Threads + Wait + Print + Eprint + AllocGlobal + Sync, S: AsStr>(
+    rt: &R,
+    words: &[S],
+) -> u8
+where
+    R::File: Send,
+    R::Stream: Send,
+    ensures status { result ≤ MISUSED }
+    ensures done { result ≡ DONE → MayBeDone (fault_of textpeer_app (map S.text words.now)) }
+    ensures misused { result ≡ MISUSED → fault_of textpeer_app (map S.text words.now) ≢ [] }
+{
+    let errors = Errors { rt };
+    run_words_on(rt, words, &mut io::writer(rt), &mut io::writer(&errors))
+}
+
+/// The same as [`run_words`], with writers for the standard output and the standard error.
 pub fn run_words_on<
     R: Files + Net + Threads + Wait + AllocGlobal + Sync,
     S: AsStr,
@@ -73,13 +88,16 @@ where
         × Keeps (W.contents out.old) (W.contents out.new) }
 {
     match line(rt.alloc(), words) {
-        Ok(command) => run_online(rt, command, out, err),
+        Ok(command) => run_command(rt, command, out, err),
         Err(fault) => explain(rt.alloc(), &fault, out, err),
     }
 }
 
-// Carries out a command, as tp_commands does where it needs no network.
-fn run_online<R: Files + Net + Threads + Wait + AllocGlobal + Sync, W: Write, E: Write>(
+/// Does what a command asks for, and returns the exit status: 0 where it was done, and all that is printed of it was
+/// written to `out` and flushed; 1 where it was refused, with one line on `err`. `out` then has what was printed before;
+/// where `err` fails it has taken a beginning of the line. Hashes, the key and the address are read before any file is
+/// touched.
+pub fn run_command<R: Files + Net + Threads + Wait + AllocGlobal + Sync, W: Write, E: Write>(
     rt: &R,
     command: Command,
     out: &mut W,
@@ -90,32 +108,67 @@ where
     R::Stream: Send,
     ensures status { result ≤ REFUSED }
     ensures done { result ≡ DONE → Keeps (E.contents err.old) (E.contents err.new)
-        × Grows (IsPrinted command.entry) (W.contents out.old) (W.contents out.new) }
+        × IsDone command.entry (W.contents out.old) (W.contents out.new) }
     ensures refused { result ≡ REFUSED → (e : Refusal)
         × GrowsPart (IsLineOf e) (E.contents err.old) (E.contents err.new)
         × IsRefused command.entry e (W.contents out.old) (W.contents out.new) }
 {
-    let alloc = rt.alloc();
-    match command {
-        Command::Serve {
+    match carried(rt, command, out) {
+        Ok(()) => DONE,
+        Err(error) => ended(rt.alloc(), Err(error), err),
+    }
+}
+
+// Reads the values of a command, and does what it asks for.
+fn carried<R: Files + Net + Threads + Wait + AllocGlobal + Sync, W: Write>(
+    rt: &R,
+    command: Command,
+    out: &mut W,
+) -> Result<(), ShellError>
+where
+    R::File: Send,
+    R::Stream: Send,
+    ensures done { OnOk result (IsDone command.entry (W.contents out.old) (W.contents out.new)) }
+    ensures refused { IfErr result
+        (λ e. IsRefused command.entry e (W.contents out.old) (W.contents out.new)) }
+{
+    match job_of(rt.alloc(), command) {
+        Ok(job) => match run_job(rt, job, out) {
+            Ok(()) => Ok(()),
+            Err(error) => Err(ShellError::Job(error)),
+        },
+        Err(error) => Err(error),
+    }
+}
+
+// Does a job, and writes what is printed of it.
+fn run_job<R: Files + Net + Threads + Wait + AllocGlobal + Sync, W: Write>(
+    rt: &R,
+    job: Job,
+    out: &mut W,
+) -> Result<(), JobError>
+where
+    R::File: Send,
+    R::Stream: Send,
+    ensures prints { OnOk result
+        (Grows (IsPrinted job.entry) (W.contents out.old) (W.contents out.new)) }
+    ensures err { IfErr result (λ e. LeavesOf job.entry e
+        (W.contents out.old) (W.contents out.new)) }
+{
+    match job {
+        Job::Files(job) => carry_out(rt, job, out),
+        Job::Serve {
             file,
             addr,
             sessions,
             key,
-        } => ended(
-            alloc,
-            done(serve_file(rt, file, addr, sessions, key, out)),
-            err,
-        ),
-        Command::Sync { file, addr, key } => {
-            ended(alloc, done(sync_file(rt, file, addr, key, out)), err)
-        }
-        command => run_command(rt, command, out, err),
+        } => done(serve_file(rt, file, addr, sessions, key, out)),
+        Job::Sync { file, addr, key } => done(sync_file(rt, file, addr, key, out)),
     }
 }
 
 // Whether it was done, without what it gave back.
-fn done<T: Drop>(outcome: Result<T, CommandError>) -> Result<(), CommandError>
+fn done<T: Drop>(outcome: Result<T, JobError>) -> Result<(), JobError>
     ensures { MatchResult outcome (λ _. IsOk result) (λ e. result ≡ Err e) }
 {
     match outcome {

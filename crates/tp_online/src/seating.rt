@@ -1,7 +1,6 @@
 //! Sessions on the seats of a peer.
 
-ghost use Rattle.std.specs.Prelude.{◌≡◌, ◌≢◌, length, IfOk, IfErr, false};
-ghost use Rattle.tp_commands.specs.declared.error.CommandError.TheVariants.{BadHex};
+ghost use Rattle.std.specs.Prelude.{◌≡◌, length, IfOk, false};
 ghost use Rattle.tp_net.specs.Turns.{AllSit, Enters, Sits};
 ghost use Rattle.tp_served.specs.Calls.{AreOf};
 ghost use Rattle.tp_online.specs.Sessions.{EndsRunning, opened_seats, opening_seat};
@@ -16,6 +15,7 @@ use tp_journal::Journal;
 use tp_net::{AlwaysOpen, connect, serve};
 use tp_peer::{Peer, PeerError};
 use tp_served::{Seat, Served};
+use tp_shell::JobError;
 
 /// The peer, served to as many threads as it gets seats, 1 to 64. The only refusal is `OutOfMemory`.
 pub(crate) fn seated<J: Journal>(
@@ -26,7 +26,6 @@ pub(crate) fn seated<J: Journal>(
     ensures ok { IfOk result (λ r. (r.0.opened ≡ peer) × (r.0.count ≡ seats)
         × (r.1.items ≡ opened_seats r.0)) }
     ensures of { IfOk result (λ r. AreOf r.0.served r.1.items × (length r.1.items ≡ r.0.count)) }
-    ensures fault { IfErr result (λ e. e ≢ BadHex) }
 {
     match Served::open(alloc, peer, seats) {
         Ok(opened) => Ok(opened),
@@ -41,7 +40,6 @@ pub(crate) fn seated_alone<J: Journal>(
 ) -> Result<(Served<J>, Seat), CommandError>
     ensures ok { IfOk result (λ r. (r.0.opened ≡ peer) × (r.0.count ≡ 1)
         × (r.1 ≡ opening_seat r.0)) }
-    ensures fault { IfErr result (λ e. e ≢ BadHex) }
 {
     let (served, mut seats) = seated(alloc, peer, 1)?;
     match seats.pop() {
@@ -53,7 +51,6 @@ pub(crate) fn seated_alone<J: Journal>(
 // The peer, if it still runs. One that has stopped, since its journal failed, is refused.
 fn still_runs<J: Journal>(peer: Peer<J>) -> Result<Peer<J>, CommandError>
     ensures runs { IfOk result (λ p. (p ≡ peer) × (p.stopped ≡ false)) }
-    ensures fault { IfErr result (λ e. e ≢ BadHex) }
 {
     if peer.is_stopped() {
         drop(peer);
@@ -70,7 +67,6 @@ pub(crate) fn ended<J: Journal>(
     requires of { AreOf served.served seats.items }
     requires all { length seats.items ≡ served.count }
     ensures ok { IfOk result (λ p. EndsRunning served seats.items p) }
-    ensures fault { IfErr result (λ e. e ≢ BadHex) }
 {
     match served.close(seats) {
         Ok(peer) => still_runs(peer),
@@ -91,16 +87,15 @@ pub(crate) fn hold<
     served: &Served<J>,
     seats: Vec<Seat>,
     sessions: u64,
-) -> Result<Vec<Seat>, CommandError>
+) -> Result<Vec<Seat>, JobError>
     requires { AreOf served.now.served seats.items }
     ensures sat { IfOk result (λ back. AllSit seats.items back.items) }
     ensures of { IfOk result (λ back. AreOf served.now.served back.items
         × (length back.items ≡ length seats.items)) }
-    ensures fault { IfErr result (λ e. e ≢ BadHex) }
 {
     match serve(rt, alloc, listener, served, seats, sessions, &AlwaysOpen) {
         Ok(back) => Ok(back),
-        Err(interrupted) => Err(CommandError::from(interrupted.error)),
+        Err(interrupted) => Err(JobError::from(interrupted.error)),
     }
 }
 
@@ -111,14 +106,13 @@ pub(crate) fn meet<R: Net + Wait, J: Journal>(
     addr: SocketAddr,
     served: &Served<J>,
     seat: &mut Seat,
-) -> Result<u64, CommandError>
+) -> Result<u64, JobError>
     requires { seat.old.served ≡ served.now.served }
     ensures sits { Sits seat.old seat.new }
     ensures told { IfOk result (λ n. Enters n seat.old seat.new) }
-    ensures fault { IfErr result (λ e. e ≢ BadHex) }
 {
     match connect(rt, alloc, addr, served, seat) {
         Ok(applied) => Ok(applied),
-        Err(error) => Err(CommandError::from(error)),
+        Err(error) => Err(JobError::from(error)),
     }
 }

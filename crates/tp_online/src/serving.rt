@@ -1,29 +1,28 @@
 //! The commands `serve` and `sync`.
 
-ghost use Rattle.std.specs.Prelude.{◌≡◌, ◌≢◌, ◌⊎◌, IfOk, IfErr, OnOk};
+ghost use Rattle.std.specs.Prelude.{◌≡◌, ◌⊎◌, IfOk, IfErr, OnOk};
 ghost use Rattle.std.specs.Io.KnownBytes.{Appends, Keeps};
 ghost use Rattle.std.specs.String.{string_bytes};
 ghost use Rattle.tp_textpeer.specs.Output.{AppendsPart};
-ghost use Rattle.tp_commands.specs.declared.error.CommandError.TheVariants.{BadHex};
-ghost use Rattle.tp_commands.specs.Keys.{IsNoKey};
-ghost use Rattle.tp_commands.specs.Network.{IsServed, applied_line as line_of_applied, listening_line as line_of_port, served_line as line_of_sessions};
-ghost use Rattle.tp_commands.specs.Output.{Grows, GrowsPart, Leaves};
+ghost use Rattle.tp_shell.specs.Network.{IsServed, IsSynced, applied_line as line_of_applied, listening_line as line_of_port, served_line as line_of_sessions};
+ghost use Rattle.tp_shell.specs.Output.{Grows, GrowsPart, Leaves};
 ghost use Rattle.tp_peer.specs.PeerData.{PeerData};
-ghost use Rattle.tp_online.specs.Sessions.{HasEntered, IsSynced, WasServed};
+ghost use Rattle.tp_online.specs.Sessions.{HasEntered, WasServed};
 
-use crate::durable::DurableJournal;
-use crate::listening::{Listening, address, listen, opened};
+use crate::listening::{Listening, listen, opened};
 use crate::seating::{ended, hold, meet, seated, seated_alone};
 use std::alloc::Global;
 use std::fs::OpenFile;
 use std::io::Write;
-use std::net::Net;
+use std::net::{Net, SocketAddr};
 use std::rt::Files;
 use std::sync::Wait;
 use std::thread::Threads;
-use tp_commands::{CommandError, draw_actor, put};
+use tp_commands::CommandError;
+use tp_journal::DurableJournal;
 use tp_peer::Peer;
 use tp_served::{Seat, Served};
+use tp_shell::{JobError, draw_actor, put};
 
 /// A peer that is served to one thread, once a session was held on its seat.
 #[derive(Drop)]
@@ -42,7 +41,6 @@ const WORKERS: usize = 2;
 // The line of the port on which a server listens.
 fn listening_line(alloc: Global, port: u16) -> Result<String, CommandError>
     ensures ok { IfOk result (λ l. string_bytes l ≡ line_of_port port) }
-    ensures fault { IfErr result (λ e. e ≢ BadHex) }
 {
     Ok(format!(in alloc; "listening {port}\n")?)
 }
@@ -50,29 +48,26 @@ fn listening_line(alloc: Global, port: u16) -> Result<String, CommandError>
 // The line of how many sessions were held.
 fn served_line(alloc: Global, sessions: u64) -> Result<String, CommandError>
     ensures ok { IfOk result (λ l. string_bytes l ≡ line_of_sessions sessions) }
-    ensures fault { IfErr result (λ e. e ≢ BadHex) }
 {
     Ok(format!(in alloc; "served {sessions}\n")?)
 }
 
 // Prints the port.
-fn tell_port<W: Write>(alloc: Global, port: u16, out: &mut W) -> Result<(), CommandError>
+fn tell_port<W: Write>(alloc: Global, port: u16, out: &mut W) -> Result<(), JobError>
     ensures ok { OnOk result
         (Appends (W.contents out.old) (W.contents out.new) (line_of_port port)) }
     ensures err { IfErr result
         (λ _. AppendsPart (W.contents out.old) (W.contents out.new) (line_of_port port)) }
-    ensures fault { IfErr result (λ e. e ≢ BadHex) }
 {
     put(out, listening_line(alloc, port))
 }
 
 // Prints how many sessions there were.
-fn tell_sessions<W: Write>(alloc: Global, sessions: u64, out: &mut W) -> Result<(), CommandError>
+fn tell_sessions<W: Write>(alloc: Global, sessions: u64, out: &mut W) -> Result<(), JobError>
     ensures ok { OnOk result
         (Appends (W.contents out.old) (W.contents out.new) (line_of_sessions sessions)) }
     ensures err { IfErr result
         (λ _. AppendsPart (W.contents out.old) (W.contents out.new) (line_of_sessions sessions)) }
-    ensures fault { IfErr result (λ e. e ≢ BadHex) }
 {
     put(out, served_line(alloc, sessions))
 }
@@ -80,18 +75,16 @@ fn tell_sessions<W: Write>(alloc: Global, sessions: u64, out: &mut W) -> Result<
 // The line of how many changes entered.
 fn applied_line(alloc: Global, applied: u64) -> Result<String, CommandError>
     ensures ok { IfOk result (λ l. string_bytes l ≡ line_of_applied applied) }
-    ensures fault { IfErr result (λ e. e ≢ BadHex) }
 {
     Ok(format!(in alloc; "applied {applied}\n")?)
 }
 
 // Prints how many changes entered.
-fn tell_applied<W: Write>(alloc: Global, applied: u64, out: &mut W) -> Result<(), CommandError>
+fn tell_applied<W: Write>(alloc: Global, applied: u64, out: &mut W) -> Result<(), JobError>
     ensures ok { OnOk result
         (Appends (W.contents out.old) (W.contents out.new) (line_of_applied applied)) }
     ensures err { IfErr result
         (λ e. Leaves IsSynced e (W.contents out.old) (W.contents out.new)) }
-    ensures fault { IfErr result (λ e. e ≢ BadHex) }
 {
     put(out, applied_line(alloc, applied))
 }
@@ -102,12 +95,11 @@ fn held<R: Files + Net + Threads + Wait + AllocGlobal + Sync>(
     rt: &R,
     listening: Listening<R::Listener, R::File>,
     sessions: u64,
-) -> Result<Peer<DurableJournal<R::File>>, CommandError>
+) -> Result<Peer<DurableJournal<R::File>>, JobError>
 where
     R::File: Send,
     R::Stream: Send,
     ensures ok { IfOk result (λ p. WasServed listening.peer WORKERS p) }
-    ensures fault { IfErr result (λ e. e ≢ BadHex) }
 {
     let Listening {
         listener,
@@ -117,11 +109,11 @@ where
     match seated(rt.alloc(), peer, WORKERS) {
         Ok((served, seats)) => {
             match hold(rt, rt.alloc(), &listener, &served, seats, sessions) {
-                Ok(back) => ended(served, back),
+                Ok(back) => Ok(ended(served, back)?),
                 Err(error) => Err(error),
             }
         }
-        Err(error) => Err(error),
+        Err(error) => Err(JobError::Command(error)),
     }
 }
 
@@ -131,7 +123,7 @@ fn held_and_told<R: Files + Net + Threads + Wait + AllocGlobal + Sync, W: Write>
     listening: Listening<R::Listener, R::File>,
     sessions: u64,
     out: &mut W,
-) -> Result<Peer<DurableJournal<R::File>>, CommandError>
+) -> Result<Peer<DurableJournal<R::File>>, JobError>
 where
     R::File: Send,
     R::Stream: Send,
@@ -140,7 +132,6 @@ where
         (Appends (W.contents out.old) (W.contents out.new) (line_of_sessions sessions)) }
     ensures err { IfErr result
         (λ _. AppendsPart (W.contents out.old) (W.contents out.new) (line_of_sessions sessions)) }
-    ensures fault { IfErr result (λ e. e ≢ BadHex) }
 {
     match held(rt, listening, sessions) {
         Ok(peer) => match tell_sessions(rt.alloc(), sessions, out) {
@@ -160,7 +151,7 @@ fn serve_on<R: Files + Net + Threads + Wait + AllocGlobal + Sync, W: Write>(
     listening: Listening<R::Listener, R::File>,
     sessions: u64,
     out: &mut W,
-) -> Result<Peer<DurableJournal<R::File>>, CommandError>
+) -> Result<Peer<DurableJournal<R::File>>, JobError>
 where
     R::File: Send,
     R::Stream: Send,
@@ -169,7 +160,6 @@ where
         (Grows (IsServed sessions) (W.contents out.old) (W.contents out.new)) }
     ensures err { IfErr result
         (λ _. GrowsPart (IsServed sessions) (W.contents out.old) (W.contents out.new)) }
-    ensures fault { IfErr result (λ e. e ≢ BadHex) }
 {
     match tell_port(rt.alloc(), listening.port, out) {
         Ok(()) => held_and_told(rt, listening, sessions, out),
@@ -185,11 +175,11 @@ where
 pub(crate) fn serve_file<R: Files + Net + Threads + Wait + AllocGlobal + Sync, W: Write>(
     rt: &R,
     file: &str,
-    addr: &str,
+    addr: SocketAddr,
     sessions: u64,
-    key: Option<&str>,
+    key: Option<[u8; 32]>,
     out: &mut W,
-) -> Result<Peer<DurableJournal<R::File>>, CommandError>
+) -> Result<Peer<DurableJournal<R::File>>, JobError>
 where
     R::File: Send,
     R::Stream: Send,
@@ -198,12 +188,11 @@ where
         (Grows (IsServed sessions) (W.contents out.old) (W.contents out.new)) }
     ensures err { IfErr result (λ _. Keeps (W.contents out.old) (W.contents out.new)
         ⊎ GrowsPart (IsServed sessions) (W.contents out.old) (W.contents out.new)) }
-    ensures fault { IfErr result (λ e. e ≡ BadHex → IsNoKey key.entry) }
 {
     let actor = draw_actor(rt, key)?;
     match listen(rt, file, addr, actor) {
         Ok(listening) => serve_on(rt, listening, sessions, out),
-        Err(error) => Err(error),
+        Err(error) => Err(JobError::Command(error)),
     }
 }
 
@@ -211,21 +200,13 @@ where
 fn applied_by<R: Files + Net + Wait + AllocGlobal>(
     rt: &R,
     file: &str,
-    addr: &str,
-    key: Option<&str>,
-) -> Result<Met<R::File>, CommandError>
+    addr: SocketAddr,
+    key: Option<[u8; 32]>,
+) -> Result<Met<R::File>, JobError>
     ensures entered { IfOk result (λ met. HasEntered met.served met.seat met.applied) }
-    ensures fault { IfErr result (λ e. e ≡ BadHex → IsNoKey key.entry) }
 {
     let actor = draw_actor(rt, key)?;
     let peer = opened(rt, file, actor)?;
-    let addr = match address(addr) {
-        Ok(addr) => addr,
-        Err(error) => {
-            drop(peer);
-            return Err(error);
-        }
-    };
     let (served, mut seat) = seated_alone(rt.alloc(), peer)?;
     match meet(rt, rt.alloc(), addr, &served, &mut seat) {
         Ok(applied) => Ok(Met {
@@ -242,16 +223,15 @@ fn applied_by<R: Files + Net + Wait + AllocGlobal>(
 pub(crate) fn sync_file<R: Files + Net + Wait + AllocGlobal, W: Write>(
     rt: &R,
     file: &str,
-    addr: &str,
-    key: Option<&str>,
+    addr: SocketAddr,
+    key: Option<[u8; 32]>,
     out: &mut W,
-) -> Result<Met<R::File>, CommandError>
+) -> Result<Met<R::File>, JobError>
     ensures entered { IfOk result (λ met. HasEntered met.served met.seat met.applied) }
     ensures ok { IfOk result (λ met. Appends (W.contents out.old) (W.contents out.new)
         (line_of_applied met.applied)) }
     ensures err { IfErr result
         (λ e. Leaves IsSynced e (W.contents out.old) (W.contents out.new)) }
-    ensures fault { IfErr result (λ e. e ≡ BadHex → IsNoKey key.entry) }
 {
     let met = applied_by(rt, file, addr, key)?;
     match tell_applied(rt.alloc(), met.applied, out) {

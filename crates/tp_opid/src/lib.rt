@@ -12,6 +12,3 @@ pub use doc_id::DocId;
 pub use hash::Hash;
 pub use hex_text::HexError;
 pub use op_id::{OpId, Place};
-
-#[cfg(test)]
-mod tests;

@@ -21,6 +21,6 @@ pub use actors::fresh_actor;
 pub use error::PeerError;
 pub use exchanged::{Outgoing, Received};
 pub use links::{Link, MAX_LINKS};
-pub use opening::Unopened;
+pub use opening::{Unopened, create_journal};
 pub use peer::Peer;
 pub use sequence::PeerSequence;

@@ -237,6 +237,38 @@ fn recover_for<J: Journal>(
     }
 }
 
+/// Begins a journal in which no header was written with a document: its header and its records, which are appended at
+/// once, so that [`Peer::reopen`] finds the document's changes there. What waits in the document isn't kept.
+///
+/// It is refused as [`create`](Peer::create) refuses a journal: as `JournalNotEmpty`, which leaves it as it was;
+/// `JournalFailed` where its device failed, and then it is as it was, or empty but for a beginning of what was appended;
+/// `OutOfMemory`, which leaves it as it was or empty.
+///
+/// It makes the whole journal in memory.
+pub fn create_journal<J: Journal>(
+    alloc: Global,
+    journal: &mut J,
+    document: &Document<PeerSequence>,
+) -> Result<(), PeerError>
+    ensures unused { OnOk result (IsUnused (J.content journal.old)) }
+    ensures begun { OnOk result
+        (J.content journal.new ≡ journal_bytes document.now.id document.now.applied) }
+    ensures quiet { OnOk result (J.failures journal.new ≡ J.failures journal.old) }
+    ensures err { IfErr result
+        (λ e. NotBegun (journal_bytes document.now.id document.now.applied)
+        (journal_state (J.content journal.old) (J.failures journal.old)) e
+        (journal_state (J.content journal.new) (J.failures journal.new))) }
+{
+    match check_unused(alloc, journal) {
+        Ok(()) => {}
+        Err(error) => return Err(error),
+    }
+    match journal_of(alloc, document) {
+        Ok(bytes) => begin(journal, &bytes),
+        Err(_) => Err(PeerError::OutOfMemory),
+    }
+}
+
 impl<J: Journal> Peer<J> {
     /// A peer with no changes, edited under the actor, on a journal in which no header was written: one that
     /// [`recover`] refuses as `NoHeader`. It is cut to nothing, and the header of the document is appended.

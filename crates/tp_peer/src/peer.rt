@@ -25,7 +25,6 @@ use tp_opid::{Actor, DocId, Hash};
 /// is opened again under a fresh actor.
 ///
 /// Contracts see `PeerData`, and each call is a `PeerStep`.
-#[derive(Drop)]
 pub struct Peer<J: Journal> {
     pub(crate) alloc: Global,
     pub(crate) actor: Actor,
@@ -33,6 +32,19 @@ pub struct Peer<J: Journal> {
     pub(crate) links: Links,
     pub(crate) appender: Appender<J>,
     pub(crate) stopped: bool,
+}
+
+impl<J: Journal> Drop for Peer<J> {
+    fn drop(self) {
+        let Peer {
+            alloc: _,
+            actor: _,
+            document: _,
+            links: _,
+            appender: _,
+            stopped: _,
+        } = self;
+    }
 }
 
 impl<J: Journal> Model for Peer<J> {
@@ -159,6 +171,14 @@ impl<J: Journal> Peer<J> {
         ensures failures { J.failures result ≡ self.failures }
         ensures kept { HasJournal self.stopped self.id self.applied (J.content result) }
     {
-        self.appender.into_journal()
+        let Peer {
+            alloc: _,
+            actor: _,
+            document: _,
+            links: _,
+            appender,
+            stopped: _,
+        } = self;
+        appender.into_journal()
     }
 }

@@ -22,12 +22,22 @@ use tp_rga::{Element, Sequence};
 /// by identifier takes as many steps as the logarithms of how many elements its actor has and of how many actors there are.
 /// What goes by position, and where an element stands, passes over four bytes for each 2,048 blocks before it and for up
 /// to 144 more, and looks into one block; `len` and `all` pass over nothing.
-#[derive(Drop)]
 pub struct BlockSequence {
     elements: Elements,
     blocks: Blocks,
     deletes: Vec<(OpId, OpId)>,
     left: usize,
+}
+
+impl Drop for BlockSequence {
+    fn drop(self) {
+        let BlockSequence {
+            elements: _,
+            blocks: _,
+            deletes: _,
+            left: _,
+        } = self;
+    }
 }
 
 impl Model for BlockSequence {

@@ -18,12 +18,22 @@ use tp_opid::{OpId, Place};
 ///
 /// An insert searches its reference from the end and moves what stands behind the new element; a delete searches its
 /// target from the start. A read by position passes over a byte for each element before it, `len` and `all` over none.
-#[derive(Drop)]
 pub struct PlainSequence {
     elements: Vec<Insertion>,
     deleted: Vec<bool>,
     deletes: Vec<(OpId, OpId)>,
     left: usize,
+}
+
+impl Drop for PlainSequence {
+    fn drop(self) {
+        let PlainSequence {
+            elements: _,
+            deleted: _,
+            deletes: _,
+            left: _,
+        } = self;
+    }
 }
 
 impl Model for PlainSequence {

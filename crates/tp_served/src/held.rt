@@ -22,10 +22,15 @@ const MOST_RECEIVED: usize = 2_048;
 /// The peer, and for each change past those that it was opened with the number of the seat that entered it.
 ///
 /// Contracts see it as `HeldPeer`.
-#[derive(Drop)]
 pub(crate) struct Held<J: Journal> {
     peer: Peer<J>,
     who: Vec<u8>,
+}
+
+impl<J: Journal> Drop for Held<J> {
+    fn drop(self) {
+        let Held { peer: _, who: _ } = self;
+    }
 }
 
 impl<J: Journal> Model for Held<J> {
@@ -63,7 +68,8 @@ impl<J: Journal> Held<J> {
     pub(crate) fn into_peer(self) -> Peer<J>
         ensures { result ≡ self.peer }
     {
-        self.peer
+        let Held { peer, who: _ } = self;
+        peer
     }
 
     /// The text.

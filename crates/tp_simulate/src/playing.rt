@@ -17,11 +17,20 @@ use tp_opid::{Actor, Hash};
 use tp_world::{Call, Event, Reply, World};
 
 /// A world, and the marks that were set in it.
-#[derive(Drop)]
 pub(crate) struct Stage {
     pub(crate) alloc: Global,
     pub(crate) world: World,
     pub(crate) marks: Vec<Mark>,
+}
+
+impl Drop for Stage {
+    fn drop(self) {
+        let Stage {
+            alloc: _,
+            world: _,
+            marks: _,
+        } = self;
+    }
 }
 
 // A copy of the heads of the last read.

@@ -15,13 +15,24 @@ use tp_opid::Hash;
 /// declared last and the hashes that it wanted then, and what it was told.
 ///
 /// Nothing that was sent counts as received: what is due to the other follows from what it declared and wants alone.
-#[derive(Drop)]
 pub struct SyncState {
     pub(crate) theirs: Option<Items<Hash>>,
     pub(crate) wants: Items<Hash>,
     pub(crate) told: Option<Items<Hash>>,
     pub(crate) next: usize,
     pub(crate) again: bool,
+}
+
+impl Drop for SyncState {
+    fn drop(self) {
+        let SyncState {
+            theirs: _,
+            wants: _,
+            told: _,
+            next: _,
+            again: _,
+        } = self;
+    }
 }
 
 impl Model for SyncState {

@@ -26,9 +26,14 @@ use tp_opid::{DocId, OpId};
 ///
 /// Contracts see the `World` of the headline: the peers, the messages that were sent, the changes that were made, the
 /// actors that were named, and the reads.
-#[derive(Drop)]
 pub struct World {
     state: State,
+}
+
+impl Drop for World {
+    fn drop(self) {
+        let World { state: _ } = self;
+    }
 }
 
 impl Model for World {

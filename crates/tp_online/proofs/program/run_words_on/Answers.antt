@@ -1,6 +1,6 @@
 use Rattle.std.proofs.Common.{inl, inr, ⊎_elim}
 use Rattle.tp_command_line.specs.LineError.{parser_fault}
-use Rattle.tp_commands.proofs.HelpWords.{help_asked}
+use Rattle.tp_shell.proofs.HelpWords.{help_asked}
 use Rattle.tp_online.proofs.program.run_words_on.Goals as goal
 
 -- what explains a fault leaves the output, or was asked for help

@@ -1,5 +1,0 @@
-use Rattle.tp_net_tests.proofs.LastSeat.{last_is_of}
-use Rattle.tp_net_tests.proofs.sides.client_on.Goals as goal
-
-pub client_at-requires : goal.client_at-requires
-client_at-requires g c = last_is_of c.args.served.now.served c.args.seats.items c.pop.new.self.items c.in-Some.seat c.requires c.in-Some.ensures.items

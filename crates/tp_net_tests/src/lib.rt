@@ -1,9 +1,0 @@
-//! Tests of the server and the client over loopback.
-#![tactic(auto)]
-
-#[cfg(test)]
-mod hold;
-#[cfg(test)]
-mod sides;
-#[cfg(test)]
-mod tests;

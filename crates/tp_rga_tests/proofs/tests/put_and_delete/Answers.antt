@@ -1,5 +1,0 @@
-use Rattle.tp_rga.proofs.OneOrder.{inserted_there}
-use Rattle.tp_rga_tests.proofs.tests.put_and_delete.Goals as goal
-
-pub delete-requires : goal.delete-requires
-delete-requires g c = inserted_there _ _ (record { id = c.args.id; after = c.args.after; ch = c.args.ch }) c.in-Ok.ensures.ok

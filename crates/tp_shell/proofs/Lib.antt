@@ -1,0 +1,3 @@
+pub mod HashLemmas
+pub mod HelpWords
+pub mod NewLines

@@ -1,0 +1,26 @@
+-- What is printed of a refusal.
+use Rattle.std.specs.Prelude.{ℕ, List, ◌++◌, codes}
+use Rattle.std.specs.Fmt.{decimal}
+use Rattle.tp_commands.specs.declared.error.CommandError.{CommandError}
+use Rattle.tp_commands.specs.declared.error.CommandError.TheVariants.{Io, OutOfMemory, Peer, Doc, Store}
+use Rattle.tp_names.specs.Names.{name_of_bytes, name_of_document, name_of_peer, name_of_session}
+use Rattle.tp_textpeer.specs.Refusal.{refusal_text as text_of_log_refusal}
+use Rattle.tp_shell.specs.declared.error.JobError.TheVariants.{Command, Show, Line, Session}
+use Rattle.tp_shell.specs.declared.error.ShellError.{ShellError}
+use Rattle.tp_shell.specs.declared.error.ShellError.TheVariants.{BadHex, Job}
+
+-- of what a layer below refused, the innermost refusal's name
+abbrev pub name_of_command : CommandError → List ℕ
+name_of_command Io = codes "Io"
+name_of_command OutOfMemory = codes "OutOfMemory"
+name_of_command (Peer e) = name_of_peer e
+name_of_command (Doc e) = name_of_document e
+name_of_command (Store e) = name_of_bytes e
+
+-- what is printed of a refusal, without a newline
+abbrev pub refusal_text : ShellError → List ℕ
+refusal_text BadHex = codes "textpeer: BadHex"
+refusal_text (Job (Command e)) = codes "textpeer: " ++ name_of_command e
+refusal_text (Job (Show r)) = text_of_log_refusal r.0
+refusal_text (Job (Line number)) = codes "textpeer: line " ++ decimal number
+refusal_text (Job (Session e)) = codes "textpeer: " ++ name_of_session e

@@ -1,0 +1,9 @@
+//! What was worked out by hand: the order of elements, saved files by their bytes, worlds by their replies.
+#![tactic(auto)]
+
+#[cfg(test)]
+mod saved;
+#[cfg(test)]
+mod sequences;
+#[cfg(test)]
+mod worlds;

@@ -1,0 +1,356 @@
+//! Worlds: schedules of every event, with their replies and the one list in the end.
+
+use std::alloc::{AllocError, Global};
+use std::test::Fail;
+use tp_edit::Splice;
+use tp_opid::{Actor, DocId};
+use tp_world::{Call, Event, Reply, World};
+
+const ANN: Actor = Actor([1; 16]);
+
+const BEN: Actor = Actor([2; 16]);
+
+// A message that carries nothing.
+const QUIET: [u8; 13] = [1, 0, 0, 0, 0, 0, 0, 0, 0, 0, 0, 0, 0];
+
+// A part of it.
+const CUT: [u8; 12] = [1, 0, 0, 0, 0, 0, 0, 0, 0, 0, 0, 0];
+
+// A message with the one change by which the actor 00..01 inserts `abc` into an empty text.
+const FOREIGN: [u8; 75] = [
+    1, 0, 0, 0, 0, 0, 0, 0, 0, 0, 0, 0, 1, 0, 0, 0, 58, 1, 0, 0, 0, 0, 0, 0, 0, 0, 0, 0, 0, 0, 0,
+    0, 0, 1, 0, 0, 0, 0, 0, 0, 0, 1, 0, 0, 0, 0, 0, 0, 0, 1, 0, 0, 0, 0, 0, 0, 0, 0, 0, 0, 0, 0, 0,
+    0, 0, 1, 1, 0, 0, 0, 0, 3, 97, 98, 99,
+];
+
+// What was replied, as one line.
+fn told(alloc: Global, reply: Reply) -> Result<String, AllocError> {
+    match reply {
+        Reply::Peer(n) => format!(in alloc; "peer {n}"),
+        Reply::Edited(Some(_)) => String::from_str(alloc, "made"),
+        Reply::Edited(None) => String::from_str(alloc, "nothing"),
+        Reply::Merged(applied) => format!(in alloc; "applied {}", applied.applied.len()),
+        Reply::Wire(n) => format!(in alloc; "wire {n}"),
+        Reply::Quiet => String::from_str(alloc, "quiet"),
+        Reply::Delivered(received) => {
+            format!(in alloc; "delivered {}", received.applied.applied.len())
+        }
+        Reply::Reopened => String::from_str(alloc, "reopened"),
+        Reply::Text(text) => format!(in alloc; "text {text}"),
+        Reply::Refused(why) => format!(in alloc; "refused {why}"),
+        Reply::Inner(error) => format!(in alloc; "refused {error}"),
+    }
+}
+
+// The characters of the one list.
+fn listed(alloc: Global, world: &World) -> Result<String, Fail> {
+    let mut text = String::new(alloc);
+    for (_, ch) in &world.order()? {
+        text.push(*ch)?;
+    }
+    Ok(text)
+}
+
+// Whether the last message that was sent is one of the peer, and has bytes.
+fn ends_with_a_message_of(world: &World, peer: usize) -> bool {
+    match world.wire().last() {
+        Some(entry) => entry.sender() == peer && !entry.bytes().is_empty(),
+        None => false,
+    }
+}
+
+// The first reply that isn't the one beside its event, or nothing where there is none.
+fn first_other(
+    alloc: Global,
+    world: &mut World,
+    rows: &[(Event, &str)],
+) -> Result<String, AllocError> {
+    for (event, answer) in rows {
+        let reply = told(alloc, world.step(*event))?;
+        if reply.as_str() != *answer {
+            return Ok(reply);
+        }
+    }
+    Ok(String::new(alloc))
+}
+
+const ONE_TWO: [Splice<'static>; 1] = [Splice {
+    at: 0,
+    del: 0,
+    text: "12",
+}];
+
+const THREE_FOUR: [Splice<'static>; 1] = [Splice {
+    at: 0,
+    del: 0,
+    text: "34",
+}];
+
+// Behind the end.
+const FAR: [Splice<'static>; 1] = [Splice {
+    at: 9,
+    del: 0,
+    text: "x",
+}];
+
+const NONE: [Splice<'static>; 1] = [Splice {
+    at: 0,
+    del: 0,
+    text: "",
+}];
+
+const MORE: [Splice<'static>; 1] = [Splice {
+    at: 2,
+    del: 0,
+    text: "x",
+}];
+
+const EDIT_MORE: Option<Call<'static>> = Some(Call::Edit {
+    splices: &MORE,
+    time: 0,
+    message: "",
+});
+
+// Events with their replies, and what the world then has.
+struct Schedule {
+    rows: &'static [(Event<'static>, &'static str)],
+    // The characters of the one list.
+    list: &'static str,
+    // How many messages were sent, and by whom the last one.
+    messages: usize,
+    sender: usize,
+    reads: usize,
+}
+
+const EDITS: [(Event<'static>, &str); 25] = [
+    (Event::Start { actor: ANN }, "peer 0"),
+    (Event::Start { actor: BEN }, "peer 1"),
+    (
+        Event::Edit {
+            peer: 0,
+            splices: &ONE_TWO,
+            time: 0,
+            message: "",
+        },
+        "made",
+    ),
+    (
+        Event::Edit {
+            peer: 1,
+            splices: &THREE_FOUR,
+            time: 0,
+            message: "",
+        },
+        "made",
+    ),
+    (Event::Merge { into: 0, from: 1 }, "applied 1"),
+    (Event::Read { peer: 0 }, "text 3412"),
+    (Event::Send { from: 0, to: 1 }, "wire 0"),
+    (Event::Send { from: 1, to: 0 }, "wire 1"),
+    (Event::Send { from: 0, to: 7 }, "refused NoPeer"),
+    (Event::Merge { into: 0, from: 0 }, "applied 0"),
+    (Event::Start { actor: ANN }, "refused ActorUsed"),
+    (Event::Read { peer: 7 }, "refused NoPeer"),
+    (
+        Event::Edit {
+            peer: 0,
+            splices: &FAR,
+            time: 0,
+            message: "",
+        },
+        "refused OutOfRange",
+    ),
+    (
+        Event::Edit {
+            peer: 0,
+            splices: &NONE,
+            time: 0,
+            message: "",
+        },
+        "nothing",
+    ),
+    (
+        Event::Crash {
+            peer: 1,
+            during: None,
+            kept: 0,
+            actor: Actor([3; 16]),
+        },
+        "reopened",
+    ),
+    (Event::Read { peer: 1 }, "text 34"),
+    (
+        Event::Crash {
+            peer: 1,
+            during: EDIT_MORE,
+            kept: 10,
+            actor: Actor([4; 16]),
+        },
+        "reopened",
+    ),
+    (Event::Read { peer: 1 }, "text 34"),
+    (
+        Event::Crash {
+            peer: 1,
+            during: EDIT_MORE,
+            kept: 1000,
+            actor: Actor([5; 16]),
+        },
+        "reopened",
+    ),
+    (Event::Read { peer: 1 }, "text 34x"),
+    (
+        Event::Fork {
+            of: 1,
+            actor: Actor([6; 16]),
+        },
+        "peer 2",
+    ),
+    (Event::Read { peer: 2 }, "text 34x"),
+    (
+        Event::Crash {
+            peer: 0,
+            during: Some(Call::Merge { from: 1 }),
+            kept: 1000,
+            actor: Actor([7; 16]),
+        },
+        "reopened",
+    ),
+    (Event::Read { peer: 0 }, "text 34x12"),
+    (
+        Event::ReadAt {
+            peer: 0,
+            heads: &[],
+        },
+        "text ",
+    ),
+];
+
+const DELIVERIES: [(Event<'static>, &str); 26] = [
+    (Event::Start { actor: ANN }, "peer 0"),
+    (Event::Start { actor: BEN }, "peer 1"),
+    (
+        Event::Edit {
+            peer: 0,
+            splices: &ONE_TWO,
+            time: 0,
+            message: "",
+        },
+        "made",
+    ),
+    (
+        Event::Edit {
+            peer: 1,
+            splices: &THREE_FOUR,
+            time: 0,
+            message: "",
+        },
+        "made",
+    ),
+    (Event::Send { from: 0, to: 1 }, "wire 0"),
+    (Event::Deliver { entry: 0, to: 1 }, "delivered 0"),
+    (Event::Send { from: 1, to: 0 }, "wire 1"),
+    (Event::Deliver { entry: 1, to: 0 }, "delivered 1"),
+    (Event::Read { peer: 0 }, "text 3412"),
+    (Event::Send { from: 0, to: 1 }, "wire 2"),
+    (
+        Event::Crash {
+            peer: 1,
+            during: Some(Call::Deliver { entry: 2 }),
+            kept: 10,
+            actor: Actor([3; 16]),
+        },
+        "reopened",
+    ),
+    (Event::Read { peer: 1 }, "text 34"),
+    (
+        Event::Crash {
+            peer: 1,
+            during: Some(Call::Deliver { entry: 2 }),
+            kept: 1000,
+            actor: Actor([4; 16]),
+        },
+        "reopened",
+    ),
+    (Event::Read { peer: 1 }, "text 3412"),
+    (Event::Deliver { entry: 2, to: 1 }, "delivered 0"),
+    (
+        Event::Start {
+            actor: Actor([5; 16]),
+        },
+        "peer 2",
+    ),
+    (Event::Deliver { entry: 2, to: 2 }, "delivered 1"),
+    (Event::Read { peer: 2 }, "text 12"),
+    (Event::Deliver { entry: 1, to: 2 }, "delivered 1"),
+    (Event::Read { peer: 2 }, "text 3412"),
+    (Event::Deliver { entry: 3, to: 0 }, "refused NoEntry"),
+    (Event::Deliver { entry: 0, to: 3 }, "refused NoPeer"),
+    (
+        Event::Crash {
+            peer: 0,
+            during: Some(Call::Deliver { entry: 3 }),
+            kept: 0,
+            actor: Actor([6; 16]),
+        },
+        "refused NoEntry",
+    ),
+    (
+        Event::DeliverBytes {
+            to: 0,
+            from: 1,
+            bytes: &QUIET,
+        },
+        "delivered 0",
+    ),
+    (
+        Event::DeliverBytes {
+            to: 0,
+            from: 1,
+            bytes: &CUT,
+        },
+        "refused BadMessage",
+    ),
+    (
+        Event::DeliverBytes {
+            to: 0,
+            from: 1,
+            bytes: &FOREIGN,
+        },
+        "refused ForeignChange",
+    ),
+];
+
+const SCHEDULES: [Schedule; 2] = [
+    Schedule {
+        rows: &EDITS,
+        list: "34x12",
+        messages: 2,
+        sender: 1,
+        reads: 7,
+    },
+    Schedule {
+        rows: &DELIVERIES,
+        list: "3412",
+        messages: 3,
+        sender: 0,
+        reads: 5,
+    },
+];
+
+#[test]
+fn schedules(rt: HostRuntime) -> Result<(), Fail> {
+    for schedule in SCHEDULES.iter() {
+        let mut world = World::new(rt.alloc(), DocId([0; 16]));
+        let other = first_other(rt.alloc(), &mut world, schedule.rows)?;
+        assert_eq!(rt; other.as_str(), "");
+        let list = listed(rt.alloc(), &world)?;
+        assert_eq!(rt; list.as_str(), schedule.list);
+        assert_eq!(rt;
+            (world.wire().len(), world.reads().len()),
+            (schedule.messages, schedule.reads)
+        );
+        assert!(rt; ends_with_a_message_of(&world, schedule.sender));
+    }
+    Ok(())
+}

@@ -1,0 +1,149 @@
+//! Calls that run a session over bytes.
+
+use crate::answers::end;
+use crate::faulty::FaultyJournal;
+use crate::world::{RowPeer, World};
+use std::alloc::Global;
+use tp_net::run_session;
+use tp_peer::Link;
+use tp_session::{LinkedPeer, NetError, Role};
+use tp_test_runner::{Fault, Input, Judge, Output, Runs, Shelf, Words, actor_of, of_cuts};
+
+// The number of the actor of each fork.
+const FORKED: u16 = 999;
+
+/// A session to be run over a fork of a peer, where the other side sends these bytes.
+#[derive(Clone, Copy)]
+struct Plan<'a> {
+    shelf: &'a Shelf<Vec<u8>>,
+    role: Role,
+    peer: &'a RowPeer,
+    bytes: &'a [u8],
+}
+
+/// How a session ended, and whether the writer failed.
+#[derive(Drop)]
+struct Outcome {
+    answer: String,
+    failed: bool,
+}
+
+fn role(word: &str) -> Result<Role, Fault> {
+    match word {
+        "client" => Ok(Role::Client),
+        "server" => Ok(Role::Server),
+        _ => Err(Fault::Row("no role")),
+    }
+}
+
+// `ROLE PEER BYTES`.
+fn planned<'a>(world: &'a World, words: &mut Words) -> Result<Plan<'a>, Fault> {
+    Ok(Plan {
+        shelf: &world.bytes,
+        role: role(words.next()?)?,
+        peer: world.peers.get(words.next()?)?,
+        bytes: world.bytes.get(words.next()?)?,
+    })
+}
+
+/// Another peer with the same changes, on a journal of its own.
+pub fn forked(alloc: Global, peer: &RowPeer) -> Result<RowPeer, Fault> {
+    let journal = FaultyJournal::new(Vec::new(alloc));
+    match peer.fork(journal, actor_of(FORKED)) {
+        Ok(peer) => Ok(peer),
+        Err(_) => Err(Fault::Memory),
+    }
+}
+
+// Holds the session.
+fn hold(
+    plan: Plan,
+    peer: &mut RowPeer,
+    input: &mut Input,
+    output: &mut Output,
+) -> Result<u64, NetError> {
+    let id = peer.document().id();
+    let mut host = LinkedPeer::new(peer, Link(0));
+    run_session(plan.shelf.alloc(), input, output, plan.role, id, &mut host)
+}
+
+fn outcome_of(
+    shelf: &Shelf<Vec<u8>>,
+    ended: Result<u64, NetError>,
+    peer: &RowPeer,
+    output: &Output,
+) -> Result<Outcome, Fault> {
+    if output.refused {
+        return Err(Fault::Memory);
+    }
+    let answer = end(shelf, ended, peer, &output.bytes)?;
+    Ok(Outcome {
+        answer,
+        failed: output.failed,
+    })
+}
+
+// Runs the session over a reader, and a writer with so many calls that succeed.
+fn run_over(plan: Plan, mut input: Input, succeeds: Option<usize>) -> Result<Outcome, Fault> {
+    let mut peer = forked(plan.shelf.alloc(), plan.peer)?;
+    let mut output = Output::new(Vec::new(plan.shelf.alloc()));
+    output.succeeds = succeeds;
+    let ended = hold(plan, &mut peer, &mut input, &mut output);
+    outcome_of(plan.shelf, ended, &peer, &output)
+}
+
+impl Judge for Plan<'_> {
+    fn judge(&self, bytes: &[u8]) -> Result<String, Fault> {
+        Ok(run_over(*self, Input::new(bytes), None)?.answer)
+    }
+}
+
+fn run_by_byte(plan: Plan) -> Result<String, Fault> {
+    Ok(run_over(plan, Input::by_byte(plan.bytes), None)?.answer)
+}
+
+// The same where the reader gives a byte at a time, and fails behind 0, 1 and so on up to all of them.
+fn run_reader_fails(plan: Plan) -> Result<String, Fault> {
+    let mut runs = Runs::new(plan.shelf.alloc(), 0);
+    for at in 0..=plan.bytes.len() {
+        runs.add(run_over(plan, Input::failing(plan.bytes, at), None)?.answer)?;
+    }
+    runs.end()
+}
+
+// The same where the writer fails at its call 0, 1 and so on, until none fails.
+fn run_writer_fails(plan: Plan) -> Result<String, Fault> {
+    let mut runs = Runs::new(plan.shelf.alloc(), 0);
+    for at in 0..1000 {
+        let outcome = run_over(plan, Input::new(plan.bytes), Some(at))?;
+        runs.add(outcome.answer)?;
+        if !outcome.failed {
+            break;
+        }
+    }
+    runs.end()
+}
+
+fn run_as(word: &str, plan: Plan) -> Result<String, Fault> {
+    match word {
+        "run" => plan.judge(plan.bytes),
+        "run_by_byte" => run_by_byte(plan),
+        "run_cuts" => of_cuts(plan.shelf.alloc(), &plan, plan.bytes),
+        "run_reader_fails" => run_reader_fails(plan),
+        _ => run_writer_fails(plan),
+    }
+}
+
+/// Makes a call `run ROLE PEER BYTES` or one of its kin; `None` where the word is none of these.
+pub fn call(world: &World, word: &str, words: &mut Words) -> Option<Result<String, Fault>> {
+    match word {
+        "run" | "run_by_byte" | "run_cuts" | "run_reader_fails" | "run_writer_fails" => {
+            Some(run_planned(world, word, words))
+        }
+        _ => None,
+    }
+}
+
+fn run_planned(world: &World, word: &str, words: &mut Words) -> Result<String, Fault> {
+    run_as(word, planned(world, words)?)
+}

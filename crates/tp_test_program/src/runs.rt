@@ -1,0 +1,215 @@
+//! Calls that run a command line.
+
+use crate::answers::Ran;
+use crate::budget::Budget;
+use crate::folder::{Entry, listed, put_changes, restore};
+use crate::host::Host;
+use crate::lines::command_line;
+use crate::stream::Stream;
+use crate::world::World;
+use std::io;
+use std::rt::Files;
+use tp_command_line::{Command, line};
+use tp_commands::CommandError;
+use tp_shell::{Errors, Job, JobError, ShellError, carry_out, ended, explain, job_of};
+use tp_test_runner::{Fault, Words, number};
+
+// A command whose device fails later than this succeeds first.
+const MOST_CALLS: u64 = 200;
+
+/// How many calls of a run succeed, of each kind.
+#[derive(Clone, Copy, Drop)]
+struct Limits {
+    out: u64,
+    err: u64,
+    device: u64,
+}
+
+fn limit(words: &mut Words, key: &str) -> Result<u64, Fault> {
+    match words.option(key) {
+        Some(word) => number(word),
+        None => Ok(u64::MAX),
+    }
+}
+
+// `[out=N] [err=N] [device=N]`: the standard output, the standard error or the files fail after so many calls.
+fn limits_of(words: &mut Words) -> Result<Limits, Fault> {
+    Ok(Limits {
+        out: limit(words, "out")?,
+        err: limit(words, "err")?,
+        device: limit(words, "device")?,
+    })
+}
+
+// Does a job that needs no network; one that needs it is refused as `Io`.
+fn run_job<R: Files + Print + AllocGlobal>(rt: &R, job: Job) -> Result<(), JobError> {
+    match job {
+        Job::Files(job) => carry_out(rt, job, &mut io::writer(rt)),
+        _ => Err(JobError::Command(CommandError::Io)),
+    }
+}
+
+// Does what a command asks for.
+fn run_command<R: Files + Print + AllocGlobal>(rt: &R, command: Command) -> Result<(), ShellError> {
+    match run_job(rt, job_of(rt.alloc(), command)?) {
+        Ok(()) => Ok(()),
+        Err(error) => Err(ShellError::Job(error)),
+    }
+}
+
+// The program, as far as it needs no network: the exit status.
+fn run_program<R: Files + Print + Eprint + AllocGlobal>(rt: &R, words: &[String]) -> u8 {
+    let errors = Errors { rt };
+    let mut err = io::writer(&errors);
+    match line(rt.alloc(), words) {
+        Ok(command) => ended(rt.alloc(), run_command(rt, command), &mut err),
+        Err(fault) => explain(rt.alloc(), &fault, &mut io::writer(rt), &mut err),
+    }
+}
+
+// Runs the program.
+fn run_line<R: Files + AllocGlobal>(rt: &R, limits: Limits, line: &[String]) -> Result<Ran, Fault> {
+    let device = Budget::new(limits.device);
+    let room = Budget::new(u64::MAX);
+    let host = Host {
+        rt,
+        device: &device,
+        room: &room,
+        out: Stream::new(rt.alloc(), limits.out)?,
+        err: Stream::new(rt.alloc(), limits.err)?,
+    };
+    let status = run_program(&host, line);
+    Ok(Ran {
+        status,
+        out: host.out.text(rt.alloc())?,
+        err: host.err.text(rt.alloc())?,
+    })
+}
+
+// Runs the program over the entries. Where it is refused memory, the folder holds these again.
+fn run_over<R: Files + AllocGlobal>(
+    rt: &R,
+    limits: Limits,
+    line: &[String],
+    before: &[Entry],
+) -> Result<Ran, Fault> {
+    let ran = run_line(rt, limits, line)?;
+    if ran.is_refused() {
+        restore(rt, before)?;
+        return Err(Fault::Refused);
+    }
+    Ok(ran)
+}
+
+// The exit status, both texts or which streams have one, and the files that changed.
+fn answer_of<R: Files + AllocGlobal + Clone + Drop>(
+    world: &World<R>,
+    ran: &Ran,
+    before: &[Entry],
+    has_texts: bool,
+) -> Result<String, Fault> {
+    let mut answer = String::new(world.rt.alloc());
+    if has_texts {
+        ran.put_texts(&world.names, &mut answer)?;
+    } else {
+        ran.put_streams(&mut answer)?;
+    }
+    put_changes(&mut answer, before, &listed(world.rt)?)?;
+    Ok(answer)
+}
+
+fn run_and_keep<R: Files + AllocGlobal + Clone + Drop>(
+    world: &mut World<R>,
+    limits: Limits,
+    line: &[String],
+    has_texts: bool,
+) -> Result<String, Fault> {
+    let before = listed(world.rt)?;
+    let ran = run_over(world.rt, limits, line, &before)?;
+    let answer = answer_of(world, &ran, &before, has_texts)?;
+    world.ran = Some(ran);
+    Ok(answer)
+}
+
+// `run [out=N] [err=N] [device=N] WORD..`: the exit status, both texts, and the files that changed; `streams ..`: the
+// exit status, the streams that have a text, and the files that changed.
+fn run<R: Files + AllocGlobal + Clone + Drop>(
+    world: &mut World<R>,
+    words: &mut Words,
+    has_texts: bool,
+) -> Result<String, Fault> {
+    let limits = limits_of(words)?;
+    let line = command_line(&world.names, words.left())?;
+    run_and_keep(world, limits, &line, has_texts)
+}
+
+// What a run answers whose device fails after so many calls; whether it was done.
+fn run_failing<R: Files + AllocGlobal + Clone + Drop>(
+    world: &World<R>,
+    calls: u64,
+    line: &[String],
+    before: &[Entry],
+) -> Result<(bool, String), Fault> {
+    let limits = Limits {
+        out: u64::MAX,
+        err: u64::MAX,
+        device: calls,
+    };
+    let ran = run_over(world.rt, limits, line, before)?;
+    let answer = answer_of(world, &ran, before, true)?;
+    restore(world.rt, before)?;
+    Ok((ran.status == 0, answer))
+}
+
+// What is answered where the files fail from their first call on, from the second on, and so on, until the command is
+// done.
+fn answers<R: Files + AllocGlobal + Clone + Drop>(
+    world: &World<R>,
+    line: &[String],
+    before: &[Entry],
+) -> Result<String, Fault> {
+    let mut answers = String::new(world.rt.alloc());
+    let mut last = String::new(world.rt.alloc());
+    for calls in 0..MOST_CALLS {
+        let (is_done, answer) = run_failing(world, calls, line, before)?;
+        if answer.as_str() != last.as_str() {
+            put_answer(&mut answers, answer.as_str())?;
+            last = answer;
+        }
+        if is_done {
+            break;
+        }
+    }
+    Ok(answers)
+}
+
+// `device_fails WORD..`: like answers that follow one another once. The files are then as they were.
+fn device_fails<R: Files + AllocGlobal + Clone + Drop>(
+    world: &World<R>,
+    words: &mut Words,
+) -> Result<String, Fault> {
+    let line = command_line(&world.names, words.left())?;
+    let before = listed(world.rt)?;
+    answers(world, &line, &before)
+}
+
+fn put_answer(answers: &mut String, answer: &str) -> Result<(), Fault> {
+    if !answers.is_empty() {
+        answers.push_str("; ")?;
+    }
+    Ok(answers.push_str(answer)?)
+}
+
+/// Makes a call that runs a command line; `None` where the word is none of these.
+pub fn call<R: Files + AllocGlobal + Clone + Drop>(
+    world: &mut World<R>,
+    word: &str,
+    words: &mut Words,
+) -> Option<Result<String, Fault>> {
+    match word {
+        "run" => Some(run(world, words, true)),
+        "streams" => Some(run(world, words, false)),
+        "device_fails" => Some(device_fails(world, words)),
+        _ => None,
+    }
+}

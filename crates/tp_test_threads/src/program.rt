@@ -1,0 +1,193 @@
+//! A server and its clients as runs of the program, in threads of one process.
+
+use crate::disk::{Disk, OverDisk};
+use crate::runs::{
+    Place, Ran, all_read, begin, copy_all, insert, serve, sync, sync_beside_silence, sync_once,
+};
+use crate::strangers::{Answered, Pace, UNKNOWN, first_other};
+use std::net::{Net, SocketAddr};
+use std::rt::Files;
+use std::sync::Wait;
+use std::test::Fail;
+use std::thread::{Threads, join};
+use std::time::Clock;
+
+// Ann serves her journal to two clients, one after the other: Ben brings a change, and Cat gets it. Then all three read one
+// text.
+#[test]
+fn a_server_and_two_clients(rt: HostRuntime) -> Result<(), Fail> {
+    assert!(rt; begin(&rt, "ann", "Hello world", &["ben", "cat"]));
+    assert!(rt; insert(&rt, "ben", "5", ",").status == 0);
+    let place = Place::free(&rt)?;
+    let (served, (ben, cat)) = join(
+        &rt,
+        || serve(&rt, "ann", place.as_str(), "2"),
+        || {
+            let ben = sync(&rt, "ben", place.as_str());
+            (ben, sync_once(&rt, "cat", place.as_str()))
+        },
+    );
+    assert!(rt; ben.printed("applied 0\n"));
+    assert!(rt; cat.printed("applied 1\n"));
+    assert!(rt; served.printed(place.printed(rt.alloc(), "served 2\n")?.as_str()));
+    assert!(rt; all_read(&rt, &["ann", "ben", "cat"], "Hello, world\n"));
+    Ok(())
+}
+
+// The hello of a side that has Dora's document.
+const HELLO: &[u8] =
+    b"\x00\x00\x00\x12\x00\x01\xad\xe0\xb8\x76\x90\x3d\xf1\xa0\xe5\x6a\x5d\x40\x28\xbd\x86\x53";
+
+// Hellos of another version, and about another document.
+const HELLOS: [Answered; 2] = [
+    (
+        b"\x00\x00\x00\x12\x00\x02\xad\xe0\xb8\x76\x90\x3d\xf1\xa0\xe5\x6a\x5d\x40\x28\xbd\x86\x53",
+        b"\x00\x00\x00\x02\x03\x02",
+    ),
+    (
+        b"\x00\x00\x00\x12\x00\x01\xad\xe0\xb8\x76\x90\x3d\xf1\xa0\xe5\x6a\x5d\x40\x28\xbd\x86\x54",
+        b"\x00\x00\x00\x02\x03\x01",
+    ),
+];
+
+// What clients send behind Dora's hello.
+const BEHIND: [Answered; 6] = [
+    (b"", b""),
+    (b"\x01\x00\x00", b""),
+    (b"\x01\x00\x00\x00\x01sixteen megabytes, and then", b""),
+    (HELLO, b"\x00\x00\x00\x02\x03\x03"),
+    (b"\x00\x00\x00\x03\x01\xff\xff", b"\x00\x00\x00\x02\x03\x03"),
+    (b"\x00\x00\x00\x01\x02", b"\x00\x00\x00\x01\x02"),
+];
+
+// One says done twice, at once: it is answered by the one done that ends its session.
+const TWICE: [Answered; 1] = [(
+    b"\x00\x00\x00\x01\x02\x00\x00\x00\x01\x02",
+    b"\x00\x00\x00\x01\x02",
+)];
+
+// The clients that keep to no rule, one after another: what the first one sent that was answered otherwise.
+fn first_unruly<R: Net + Clock + AllocGlobal>(rt: &R, addr: SocketAddr) -> Option<&'static [u8]> {
+    let unknown = first_other(rt, addr, b"", &UNKNOWN, Pace::ByteByByte);
+    let hellos = first_other(rt, addr, b"", &HELLOS, Pace::ByteByByte);
+    let behind = first_other(rt, addr, HELLO, &BEHIND, Pace::ByteByByte);
+    let twice = first_other(rt, addr, HELLO, &TWICE, Pace::AtOnce);
+    unknown.or(hellos).or(behind).or(twice)
+}
+
+// The session of each ends alone: Eve, who keeps to the rules, is served behind them all, and the texts are what they were.
+#[test]
+fn clients_that_keep_to_no_rule(rt: HostRuntime) -> Result<(), Fail> {
+    assert!(rt; begin(&rt, "dora", "dora", &["eve"]));
+    let place = Place::free(&rt)?;
+    let (served, (other, eve)) = join(
+        &rt,
+        || serve(&rt, "dora", place.as_str(), "19"),
+        || {
+            let other = first_unruly(&rt, place.addr);
+            (other, sync_once(&rt, "eve", place.as_str()))
+        },
+    );
+    assert_eq!(rt; other, None);
+    assert!(rt; eve.printed("applied 0\n"));
+    assert!(rt; served.printed(place.printed(rt.alloc(), "served 19\n")?.as_str()));
+    assert!(rt; all_read(&rt, &["dora", "eve"], "dora\n"));
+    Ok(())
+}
+
+// A client that says nothing holds one of the two workers until the session of another one has gone on beside it to its
+// end. Were there one worker alone, the silent one would lose its patience first.
+#[test]
+fn a_silent_client_holds_one_worker(rt: HostRuntime) -> Result<(), Fail> {
+    assert!(rt; begin(&rt, "fay", "", &["gus"]));
+    assert!(rt; insert(&rt, "gus", "0", "gus").status == 0);
+    let place = Place::free(&rt)?;
+    let (served, beside) = join(
+        &rt,
+        || serve(&rt, "fay", place.as_str(), "2"),
+        || sync_beside_silence(&rt, "gus", &place),
+    );
+    let (was_silent, gus) = beside.ok_or("a connection")?;
+    assert!(rt; was_silent);
+    assert!(rt; gus.printed("applied 0\n"));
+    assert!(rt; served.printed(place.printed(rt.alloc(), "served 2\n")?.as_str()));
+    assert!(rt; all_read(&rt, &["fay", "gus"], "gus\n"));
+    Ok(())
+}
+
+// What each was told.
+#[derive(Drop)]
+struct Told {
+    hal: Ran,
+    ida: Ran,
+    joe: Ran,
+    kim: Ran,
+}
+
+impl Told {
+    // Whether Ida's change was taken, and no other one, by a server that began with this line.
+    fn is_of_ida_alone(&self, listening: &str) -> bool {
+        self.ida.printed("applied 0\n")
+            && self.joe.refused("", "textpeer: RefusedByOther\n")
+            && self.kim.refused("", "textpeer: Io\n")
+            && self.hal.refused(listening, "textpeer: JournalFailed\n")
+    }
+}
+
+// Ida's session with the server, once it listens, then Joe's and Kim's.
+fn synced<R: Files + Net + Threads + Wait + Clock + AllocGlobal + Sync>(
+    rt: &R,
+    place: &Place,
+) -> (Ran, Ran, Ran)
+where
+    R::File: Send,
+    R::Stream: Send,
+{
+    let ida = sync(rt, "ida", place.as_str());
+    let joe = sync_once(rt, "joe", place.as_str());
+    let kim = sync_once(rt, "kim", place.as_str());
+    (ida, joe, kim)
+}
+
+// Hal's disk fails while he serves his journal: it takes Ida's change, and of Joe's nothing, a part, or all, but doesn't
+// bring that to its ground. Joe's session is refused, and so is Kim's, behind which the serving ends with the error. Hal's
+// journal has what Ida was told; once Hal has a disk again, Joe's change enters, if it didn't.
+#[test]
+fn a_journal_fails_while_it_is_served(rt: HostRuntime) -> Result<(), Fail> {
+    let rows = [
+        (Disk::new(1, 0, 9), "ida hal\n"),
+        (Disk::new(1, 40, 9), "ida hal\n"),
+        (Disk::new(9, 0, 1), "ida hal joe\n"),
+    ];
+    assert!(rt; begin(&rt, "first", "hal", &[]));
+    for (disk, text) in rows {
+        assert!(rt; copy_all(&rt, "first", &["hal", "ida", "joe", "kim"]));
+        assert!(rt; insert(&rt, "ida", "0", "ida ").status == 0);
+        assert!(rt; insert(&rt, "joe", "3", " joe").status == 0);
+        let place = Place::free(&rt)?;
+        let (hal, (ida, joe, kim)) = join(
+            &rt,
+            || {
+                let over = OverDisk {
+                    rt: &rt,
+                    disk: &disk,
+                };
+                serve(&over, "hal", place.as_str(), "3")
+            },
+            || synced(&rt, &place),
+        );
+        let told = Told { hal, ida, joe, kim };
+        assert!(rt; told.is_of_ida_alone(place.printed(rt.alloc(), "")?.as_str()));
+        assert!(rt; all_read(&rt, &["hal"], text));
+        assert!(rt; all_read(&rt, &["joe"], "ida hal joe\n"));
+        let again = Place::free(&rt)?;
+        let (served, joe) = join(
+            &rt,
+            || serve(&rt, "hal", again.as_str(), "1"),
+            || sync(&rt, "joe", again.as_str()),
+        );
+        assert!(rt; served.status == 0 && joe.printed("applied 0\n"));
+        assert!(rt; all_read(&rt, &["hal"], "ida hal joe\n"));
+    }
+    Ok(())
+}

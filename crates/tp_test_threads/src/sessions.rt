@@ -1,0 +1,94 @@
+//! Sessions over TCP, in threads of one process.
+
+use crate::hold::{Broken, Hold};
+use crate::sides::{client, server};
+use crate::strangers::{Answered, Pace, UNKNOWN, first_other};
+use std::net::{Ipv4Addr, OpenListener, SocketAddr, TcpListener};
+use std::test::Fail;
+use std::thread::join;
+use tp_net::AlwaysOpen;
+
+// A port of this machine that is free.
+fn here() -> SocketAddr {
+    SocketAddr::from((Ipv4Addr::LOCALHOST, 0))
+}
+
+// The document `abc` of actor 1 and the document `q` of actor 2 are one text afterwards: the greater of two actors stands
+// first where both begin.
+#[test]
+fn both_sides_read_one_text(rt: HostRuntime) -> Result<(), Fail> {
+    let listener = TcpListener::bind(&rt, here())?;
+    let addr = listener.local_addr()?;
+    let (served, synced) = join(
+        &rt,
+        || server(&rt, &listener, 2, 1, &AlwaysOpen),
+        || client(&rt, addr, 2, "q"),
+    );
+    let (applied, text) = synced.ok_or("the client")?;
+    assert_eq!(rt; served.ok_or("the server")?.as_str(), "qabc");
+    assert_eq!(rt; text.as_str(), "qabc");
+    assert_eq!(rt; applied, 1);
+    Ok(())
+}
+
+// The first session is held until the second has ended, so they go on side by side.
+#[test]
+fn sessions_go_on_side_by_side(rt: HostRuntime) -> Result<(), Fail> {
+    let listener = TcpListener::bind(&rt, here())?;
+    let addr = listener.local_addr()?;
+    let gate = Hold::new();
+    let (served, _) = join(
+        &rt,
+        || server(&rt, &listener, 2, 2, &gate),
+        || {
+            join(
+                &rt,
+                || client(&rt, addr, 2, "q"),
+                || client(&rt, addr, 3, "r"),
+            )
+        },
+    );
+    assert_eq!(rt; served.ok_or("the server")?.as_str(), "rqabc");
+    assert!(rt; !gate.gave_up());
+    Ok(())
+}
+
+// Hellos of another version, and about another document.
+const HELLOS: [Answered; 2] = [
+    (
+        b"\x00\x00\x00\x12\x00\x02\x00\x00\x00\x00\x00\x00\x00\x00\x00\x00\x00\x00\x00\x00\x00\x00",
+        b"\x00\x00\x00\x02\x03\x02",
+    ),
+    (
+        b"\x00\x00\x00\x12\x00\x01\x07\x00\x00\x00\x00\x00\x00\x00\x00\x00\x00\x00\x00\x00\x00\x00",
+        b"\x00\x00\x00\x02\x03\x01",
+    ),
+];
+
+// Each client's session ends alone: the last client, which keeps to the rules, is served on the same seat.
+#[test]
+fn strangers_are_refused(rt: HostRuntime) -> Result<(), Fail> {
+    let listener = TcpListener::bind(&rt, here())?;
+    let addr = listener.local_addr()?;
+    let (served, (first, second, last)) = join(
+        &rt,
+        || server(&rt, &listener, 1, 12, &AlwaysOpen),
+        || {
+            let first = first_other(&rt, addr, b"", &UNKNOWN, Pace::AtOnce);
+            let second = first_other(&rt, addr, b"", &HELLOS, Pace::AtOnce);
+            (first, second, client(&rt, addr, 2, "q"))
+        },
+    );
+    assert_eq!(rt; (first, second), (None, None));
+    let (applied, text) = last.ok_or("the last client")?;
+    assert_eq!(rt; (applied, text.as_str()), (1, "qabc"));
+    assert_eq!(rt; served.ok_or("the server")?.as_str(), "qabc");
+    Ok(())
+}
+
+// A listener that fails ends the server.
+#[test]
+fn a_listener_fails(rt: HostRuntime) {
+    assert!(rt; server(&rt, &Broken, 2, 1, &AlwaysOpen).is_none());
+    assert!(rt; server(&rt, &Broken, 2, 0, &AlwaysOpen).is_some());
+}
