@@ -1,5 +1,5 @@
 -- The elements and the deletes of a past, among those of the whole.
-use Rattle.std.proofs.Common.{◌≡◌, ℕ, suc, ◌+◌, ◌<◌, ◌≤◌, ◌||◌, inl, inr, List, [], ◌∷◌, length, true, nat_lt, map, refl, ap, ◌∙◌, subst, arith}
+use Rattle.std.proofs.Common.{◌≡◌, ℕ, suc, ◌+◌, ◌<◌, ◌≤◌, ◌||◌, inl, inr, List, [], ◌∷◌, length, take, true, None, Some, nat_lt, map, position, refl, ap, ◌∙◌, subst, arith}
 use Rattle.std.specs.Prelude.{Option, encode_utf8_all}
 use Rattle.std.specs.List.{slice_get}
 use Rattle.std.specs.Option.{option_map}
@@ -10,6 +10,7 @@ use Rattle.tp_opid.specs.declared.actor.Actor.{Actor}
 use Rattle.tp_opid.specs.declared.hash.Hash.{Hash}
 use Rattle.tp_opid.specs.declared.op_id.OpId.{OpId}
 use Rattle.tp_opid.specs.Insert.{Insert}
+use Rattle.tp_opid.specs.Same.{id_eq}
 use Rattle.tp_change.specs.declared.op.Op.{Op}
 use Rattle.tp_change.specs.declared.op.Op.TheVariants as op_of
 use Rattle.tp_change.specs.declared.parts.ChangeParts.{ChangeParts}
@@ -18,7 +19,7 @@ use Rattle.tp_change.specs.OpIds.{op_id, IsOwnId}
 use Rattle.tp_change.specs.Elements.{inserts_in, inserts, deletes_in, deletes}
 use Rattle.tp_opid.specs.Tree.{IsTree}
 use Rattle.tp_rga.specs.Order.{IsInOrder}
-use Rattle.tp_rga.specs.Shown.{shown}
+use Rattle.tp_rga.specs.Shown.{shown, shown_before}
 use Rattle.tp_opid.proofs.Trees.{IsTree-same}
 use Rattle.tp_list.proofs.Members.{In-left, In-right, In-append, SameMembers-sym, In-filter, filter-In}
 use Rattle.tp_rga.proofs.OneOrder.{order_of_part, order_of_set, shown_of_set}
@@ -32,8 +33,8 @@ use Rattle.tp_graph.proofs.SoundLaws.{sound_pasts}
 use Rattle.tp_change.proofs.ElementLaws.{In-inserts, inserts-In}
 use Rattle.tp_text.specs.Text.{chars_of, IsTextOf}
 use Rattle.tp_document.specs.DocState.{Holds}
-use Rattle.tp_document.specs.Showing.{HasElementAt}
-use Rattle.tp_document.proofs.ShowingLaws.{Holds-bytes, Holds-element}
+use Rattle.tp_document.specs.Showing.{HasElementAt, HasLength, HasPosition}
+use Rattle.tp_document.proofs.ShowingLaws.{Holds-bytes, Holds-element, Holds-length}
 use Rattle.tp_document.specs.History.{end_at, end_of, has_op, AreEnds, inserts_by, deletes_by, shown_by}
 use Rattle.tp_graph.proofs.TreeLaws.{inserts_tree}
 use Rattle.tp_document.proofs.EndLaws.{below_end, in_past}
@@ -177,3 +178,23 @@ pub past-element : (C : List ChangeParts) (L : List Insert) (R : List (OpId × O
 past-element C L R H K at o h ends e =
     Holds-element (past C H) (inserts_by K L) (deletes (past C H)) at o (Holds-past C L R H K h ends)
     (e ∙ ap (λ l. option_map (λ (x : Insert). x.id) (slice_get l at)) (shown_of_past C L R H K h ends))
+
+pub past-length : (C : List ChangeParts) (L : List Insert) (R : List (OpId × OpId)) (H : List Hash) (K : List (Actor × ℕ)) (n : ℕ) → Holds C L R → AreEnds K (past C H)
+    → n ≡ length (shown_by K R L) → HasLength (past C H) n
+past-length C L R H K n h ends e =
+    Holds-length (past C H) (inserts_by K L) (deletes (past C H)) n (Holds-past C L R H K h ends) (e ∙ ap length (shown_of_past C L R H K h ends))
+
+before_of_set : (D Q : List (OpId × OpId)) (M : List Insert) (o : Option ℕ) → SameMembers D Q → option_map (λ i. length (shown D (take i M))) o ≡ option_map (λ i. length (shown Q (take i M))) o
+before_of_set D Q M None same = refl
+before_of_set D Q M (Some i) same = ap (λ l. Some (length l)) (shown_of_set D Q (take i M) same)
+
+pub past-position : (C : List ChangeParts) (L : List Insert) (R : List (OpId × OpId)) (H : List Hash) (K : List (Actor × ℕ)) (x : OpId) (o : Option ℕ) → Holds C L R → AreEnds K (past C H)
+    → o ≡ shown_before (deletes_by K R) (inserts_by K L) x → HasPosition (past C H) x o
+past-position C L R H K x o h ends e =
+    let M = inserts_by K L in (
+      M,
+      order_of_past C H K L h.sound ends h.order,
+      e
+          ∙ ap (λ Q. shown_before (deletes_by K Q) M x) h.deletes
+          ∙ before_of_set (deletes_by K (deletes C)) (deletes (past C H)) M (position (λ (w : Insert). id_eq w.id x) M) (deletes_of_past C H K h.sound ends),
+    )

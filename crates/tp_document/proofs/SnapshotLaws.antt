@@ -1,9 +1,9 @@
 -- What a snapshot shows, element by element.
-use Rattle.std.proofs.Common.{◌≡◌, ℕ, suc, zero, ◌+◌, ◌-◌, ◌<◌, inl, inr, List, [], ◌∷◌, ◌++◌, length, take, drop, get_or, Bool, true, false, not, ◌||◌, ◌&&◌, cond, Some, None, refl, sym, ap, ◌∙◌, arith, append-nil, drop-cons}
+use Rattle.std.proofs.Common.{◌≡◌, ℕ, suc, zero, ◌+◌, ◌-◌, ◌<◌, inl, inr, List, [], ◌∷◌, ◌++◌, length, take, drop, get_or, Bool, true, false, not, ◌||◌, ◌&&◌, cond, Option, Some, None, position, refl, sym, ap, ◌∙◌, arith, append-nil, drop-cons}
 use Rattle.std.specs.Prelude.{encode_utf8, encode_utf8_all}
 use Rattle.std.specs.List.{slice_get}
 use Rattle.std.specs.Option.{option_map}
-use Rattle.std.proofs.lemmas.List.{take_more, map-append}
+use Rattle.std.proofs.lemmas.List.{take_more, map-append, length-append}
 use Rattle.std.proofs.lemmas.List.Elements.{filter-append}
 use Rattle.std.proofs.lemmas.Option.{slice_get_cases}
 use Rattle.std.proofs.lemmas.Str.{encodes-append}
@@ -12,7 +12,9 @@ use Rattle.tp_opid.specs.declared.op_id.OpId.{OpId}
 use Rattle.tp_opid.specs.Insert.{Insert}
 use Rattle.tp_opid.specs.Same.{id_eq}
 use Rattle.tp_rga.specs.declared.element.Element.{Element}
-use Rattle.tp_rga.specs.Shown.{is_removed, shown, element_of}
+use Rattle.tp_opid.proofs.Orders.{id_eq-same}
+use Rattle.tp_rga.specs.Shown.{is_removed, shown, shown_before, element_of}
+use Rattle.tp_rga.proofs.Lookups.{position-cons}
 use Rattle.tp_text.specs.Text.{chars_of}
 use Rattle.tp_list.proofs.Tests.{or_right}
 use Rattle.tp_document.specs.History.{has_op, AreTargets, is_one_of, inserts_by, deletes_by, shown_by}
@@ -83,14 +85,16 @@ test_at K R T x e b targets is h = sym (test_is K R T e targets) ∙ ap (tested 
 abbrev pub bytes_by : List (Actor × ℕ) → List (OpId × OpId) → List Insert → List ℕ
 bytes_by K R L = encode_utf8_all (chars_of (shown_by K R L))
 
+shown_more : (K : List (Actor × ℕ)) (R : List (OpId × OpId)) (L : List Insert) (k : ℕ) (e : Insert) → k < length L → get_or L k e ≡ e → shown_by K R (take (k + 1) L) ≡ shown_by K R (take k L) ++ cond (is_shown K R e) (e ∷ []) []
+shown_more K R L k e lt is =
+    let more : take (k + 1) L ≡ take k L ++ e ∷ [] = take_more L k e lt ∙ ap (λ x. take k L ++ x ∷ []) is in
+    ap (shown_by K R) more ∙ shown_append K R (take k L) (e ∷ []) ∙ ap (λ l. shown_by K R (take k L) ++ l) (shown_first K R e [])
+
 bytes_more : (K : List (Actor × ℕ)) (R : List (OpId × OpId)) (L : List Insert) (k : ℕ) (e : Insert) → k < length L → get_or L k e ≡ e → bytes_by K R (take (k + 1) L) ≡ bytes_by K R (take k L) ++ encode_utf8_all (chars_of (cond (is_shown K R e) (e ∷ []) []))
 bytes_more K R L k e lt is =
-    let more : take (k + 1) L ≡ take k L ++ e ∷ [] = take_more L k e lt ∙ ap (λ x. take k L ++ x ∷ []) is in
-    ap (bytes_by K R) more
-    ∙ ap (λ l. encode_utf8_all (chars_of l)) (shown_append K R (take k L) (e ∷ []))
-    ∙ ap encode_utf8_all (map-append (λ (x : Insert). x.ch) (shown_by K R (take k L)) (shown_by K R (e ∷ [])))
-    ∙ encodes-append (chars_of (shown_by K R (take k L))) (chars_of (shown_by K R (e ∷ [])))
-    ∙ ap (λ l. bytes_by K R (take k L) ++ encode_utf8_all (chars_of l)) (shown_first K R e [])
+    ap (λ l. encode_utf8_all (chars_of l)) (shown_more K R L k e lt is)
+    ∙ ap encode_utf8_all (map-append (λ (x : Insert). x.ch) (shown_by K R (take k L)) (cond (is_shown K R e) (e ∷ []) []))
+    ∙ encodes-append (chars_of (shown_by K R (take k L))) (chars_of (cond (is_shown K R e) (e ∷ []) []))
 
 -- an element that is shown adds its character
 pub bytes_by-shown : (K : List (Actor × ℕ)) (R : List (OpId × OpId)) (T : List OpId) (L : List Insert) (k : ℕ) (x : Element) → AreTargets T K R → Some x ≡ option_map (element_of R) (slice_get L k)
@@ -110,12 +114,128 @@ bytes_by-hidden K R T L k x targets h t =
     ∙ ap (λ b. bytes_by K R (take k L) ++ encode_utf8_all (chars_of (cond b (p.0 ∷ []) []))) (test_at K R T x p.0 false targets p.3 t)
     ∙ append-nil (bytes_by K R (take k L))
 
+-- ---- how many are shown
+
+-- an element that is shown is one more
+pub length_by-shown : (K : List (Actor × ℕ)) (R : List (OpId × OpId)) (T : List OpId) (L : List Insert) (k : ℕ) (x : Element) → AreTargets T K R → Some x ≡ option_map (element_of R) (slice_get L k)
+    → tested K T x ≡ true → length (shown_by K R (take (k + 1) L)) ≡ length (shown_by K R (take k L)) + 1
+length_by-shown K R T L k x targets h t =
+    let p = at_place R L k x h in
+    ap length (shown_more K R L k p.0 p.1 p.2)
+    ∙ ap (λ b. length (shown_by K R (take k L) ++ cond b (p.0 ∷ []) [])) (test_at K R T x p.0 true targets p.3 t)
+    ∙ length-append (shown_by K R (take k L)) (p.0 ∷ [])
+
+-- another isn't
+pub length_by-hidden : (K : List (Actor × ℕ)) (R : List (OpId × OpId)) (T : List OpId) (L : List Insert) (k : ℕ) (x : Element) → AreTargets T K R → Some x ≡ option_map (element_of R) (slice_get L k)
+    → tested K T x ≡ false → length (shown_by K R (take (k + 1) L)) ≡ length (shown_by K R (take k L))
+length_by-hidden K R T L k x targets h t =
+    let p = at_place R L k x h in
+    ap length (shown_more K R L k p.0 p.1 p.2)
+    ∙ ap (λ b. length (shown_by K R (take k L) ++ cond b (p.0 ∷ []) [])) (test_at K R T x p.0 false targets p.3 t)
+    ∙ ap length (append-nil (shown_by K R (take k L)))
+
+-- ---- how many are shown before an element
+
+-- those of the past that stand before an element of the past
+abbrev pub before_by : List (Actor × ℕ) → List (OpId × OpId) → List Insert → OpId → Option ℕ
+before_by K R L x = shown_before (deletes_by K R) (inserts_by K L) x
+
+before_cons : (D : List (OpId × OpId)) (e : Insert) (M : List Insert) (x : OpId) → id_eq e.id x ≡ false → shown_before D (e ∷ M) x ≡ option_map (λ n. length (shown D (e ∷ [])) + n) (shown_before D M x)
+before_cons D e M x apart =
+    ap (option_map (λ i. length (shown D (take i (e ∷ M))))) (position-cons (λ (w : Insert). id_eq w.id x) e M)
+    ∙ ap (λ b. option_map (λ i. length (shown D (take i (e ∷ M)))) (cond b (Some 0) (option_map (λ i. suc i) (position (λ (w : Insert). id_eq w.id x) M)))) apart
+    ∙ more (position (λ (w : Insert). id_eq w.id x) M) where
+      one : (b : Bool) (l : List Insert) → length (cond b (e ∷ l) l) ≡ length (cond b (e ∷ []) []) + length l
+      one true l = omega arith
+      one false l = omega arith
+
+      more : (o : Option ℕ) → option_map (λ i. length (shown D (take i (e ∷ M)))) (option_map (λ i. suc i) o) ≡ option_map (λ n. length (shown D (e ∷ [])) + n) (option_map (λ i. length (shown D (take i M))) o)
+      more None = refl
+      more (Some i) = ap Some (one (not (is_removed D e.id)) (shown D (take i M)))
+
+none_more : (o : Option ℕ) → o ≡ option_map (λ n. 0 + n) o
+none_more None = refl
+none_more (Some n) = ap Some (omega arith)
+
+-- an element other than that one is one more where it is shown
+before_next : (K : List (Actor × ℕ)) (R : List (OpId × OpId)) (e : Insert) (L : List Insert) (x : OpId) → id_eq e.id x ≡ false → before_by K R (e ∷ L) x ≡ option_map (λ n. length (cond (is_shown K R e) (e ∷ []) []) + n) (before_by K R L x)
+before_next K R e L x apart =
+    let D = deletes_by K R in
+    let M = inserts_by K L in
+    elim (has_op K e.id) as (λ b. shown_before D (cond b (e ∷ M) M) x ≡ option_map (λ n. length (cond (b && not (is_removed D e.id)) (e ∷ []) []) + n) (shown_before D M x)) [
+      | true ↦ before_cons D e M x apart
+      | false ↦ none_more (shown_before D M x)
+    ]
+
+-- nothing stands before an element that the past doesn't insert
+pub before_none : (K : List (Actor × ℕ)) (R : List (OpId × OpId)) (L : List Insert) (x : OpId) → has_op K x ≡ false → before_by K R L x ≡ None
+before_none K R [] x out = refl
+before_none K R (e ∷ L) x out = by_test (id_eq e.id x) refl (before_none K R L x out) where
+  by_test : (b : Bool) → id_eq e.id x ≡ b → before_by K R L x ≡ None → before_by K R (e ∷ L) x ≡ None
+  by_test false apart rest = before_next K R e L x apart ∙ ap (option_map (λ n. length (cond (is_shown K R e) (e ∷ []) []) + n)) rest
+  by_test true same rest =
+      let hidden : has_op K e.id ≡ false = ap (has_op K) (id_eq-same e.id x same) ∙ out in
+      ap (λ b. shown_before (deletes_by K R) (cond b (e ∷ inserts_by K L) (inserts_by K L)) x) hidden ∙ rest
+
+-- at the beginning all are left
+pub before_begun : (K : List (Actor × ℕ)) (R : List (OpId × OpId)) (L : List Insert) (x : OpId) → option_map (λ n. 0 + n) (before_by K R (drop 0 L) x) ≡ before_by K R L x
+before_begun K R L x = sym (none_more (before_by K R L x))
+
+left_from : (L : List Insert) (k : ℕ) (e : Insert) → k < length L → get_or L k e ≡ e → drop k L ≡ e ∷ drop (k + 1) L
+left_from L k e lt is =
+    let next : suc k ≡ k + 1 = omega arith in
+    drop-cons L k e lt ∙ ap (λ x. x ∷ drop (suc k) L) is ∙ ap (λ n. e ∷ drop n L) next
+
+-- the element itself
+pub before_here : (K : List (Actor × ℕ)) (R : List (OpId × OpId)) (L : List Insert) (k n : ℕ) (x : Element) (id : OpId) → has_op K id ≡ true → Some x ≡ option_map (element_of R) (slice_get L k) → id_eq x.id id ≡ true
+    → option_map (λ m. n + m) (before_by K R (drop k L) id) ≡ before_by K R L id → Some n ≡ before_by K R L id
+before_here K R L k n x id in_past h same inv =
+    let p = at_place R L k x h in
+    let D = deletes_by K R in
+    let M = inserts_by K (drop (k + 1) L) in
+    let is_it : id_eq p.0.id id ≡ true = ap (λ (y : Element). id_eq y.id id) (sym p.3) ∙ same in
+    let kept : has_op K p.0.id ≡ true = ap (has_op K) (id_eq-same p.0.id id is_it) ∙ in_past in
+    let first : shown_before D (p.0 ∷ M) id ≡ Some 0 =
+    ap (option_map (λ i. length (shown D (take i (p.0 ∷ M))))) (position-cons (λ (w : Insert). id_eq w.id id) p.0 M ∙ ap (λ b. cond b (Some 0) (option_map (λ i. suc i) (position (λ (w : Insert). id_eq w.id id) M))) is_it) in
+    let here : before_by K R (drop k L) id ≡ Some 0 =
+    ap (λ l. before_by K R l id) (left_from L k p.0 p.1 p.2) ∙ ap (λ b. shown_before D (cond b (p.0 ∷ M) M) id) kept ∙ first in
+    ap Some (omega arith) ∙ sym (ap (option_map (λ m. n + m)) here) ∙ inv
+
+before_step : (K : List (Actor × ℕ)) (R : List (OpId × OpId)) (T : List OpId) (L : List Insert) (k : ℕ) (x : Element) (id : OpId) (b : Bool) → AreTargets T K R → Some x ≡ option_map (element_of R) (slice_get L k)
+    → id_eq x.id id ≡ false → tested K T x ≡ b → before_by K R (drop k L) id ≡ option_map (λ n. cond b 1 0 + n) (before_by K R (drop (k + 1) L) id)
+before_step K R T L k x id b targets h apart t =
+    let p = at_place R L k x h in
+    let other : id_eq p.0.id id ≡ false = ap (λ (y : Element). id_eq y.id id) (sym p.3) ∙ apart in
+    ap (λ l. before_by K R l id) (left_from L k p.0 p.1 p.2)
+    ∙ before_next K R p.0 (drop (k + 1) L) id other
+    ∙ ap (λ v. option_map (λ n. length (cond v (p.0 ∷ []) []) + n) (before_by K R (drop (k + 1) L) id)) (test_at K R T x p.0 b targets p.3 t)
+    ∙ ap (λ m. option_map (λ n. m + n) (before_by K R (drop (k + 1) L) id)) (size p.0 b) where
+      size : (e : Insert) (v : Bool) → length (cond v (e ∷ []) []) ≡ cond v 1 0
+      size e true = refl
+      size e false = refl
+
+-- one that is shown before it
+pub before_shown : (K : List (Actor × ℕ)) (R : List (OpId × OpId)) (T : List OpId) (L : List Insert) (k n : ℕ) (x : Element) (id : OpId) → AreTargets T K R → Some x ≡ option_map (element_of R) (slice_get L k)
+    → id_eq x.id id ≡ false → tested K T x ≡ true → option_map (λ m. n + m) (before_by K R (drop k L) id) ≡ before_by K R L id
+    → option_map (λ m. n + 1 + m) (before_by K R (drop (k + 1) L) id) ≡ before_by K R L id
+before_shown K R T L k n x id targets h apart t inv =
+    both (before_by K R (drop (k + 1) L) id) ∙ ap (option_map (λ m. n + m)) (sym (before_step K R T L k x id true targets h apart t)) ∙ inv where
+      both : (o : Option ℕ) → option_map (λ m. n + 1 + m) o ≡ option_map (λ m. n + m) (option_map (λ m. 1 + m) o)
+      both None = refl
+      both (Some i) = ap Some (omega arith)
+
+-- one that is hidden
+pub before_hidden : (K : List (Actor × ℕ)) (R : List (OpId × OpId)) (T : List OpId) (L : List Insert) (k n : ℕ) (x : Element) (id : OpId) → AreTargets T K R → Some x ≡ option_map (element_of R) (slice_get L k)
+    → id_eq x.id id ≡ false → tested K T x ≡ false → option_map (λ m. n + m) (before_by K R (drop k L) id) ≡ before_by K R L id
+    → option_map (λ m. n + m) (before_by K R (drop (k + 1) L) id) ≡ before_by K R L id
+before_hidden K R T L k n x id targets h apart t inv =
+    ap (option_map (λ m. n + m)) (none_more (before_by K R (drop (k + 1) L) id) ∙ sym (before_step K R T L k x id false targets h apart t)) ∙ inv
+
 -- ---- the element at a place
 
 left_shown : (K : List (Actor × ℕ)) (R : List (OpId × OpId)) (L : List Insert) (k : ℕ) (e : Insert) → k < length L → get_or L k e ≡ e → shown_by K R (drop k L) ≡ cond (is_shown K R e) (e ∷ shown_by K R (drop (k + 1) L)) (shown_by K R (drop (k + 1) L))
 left_shown K R L k e lt is =
-    let next : suc k ≡ k + 1 = omega arith in
-    ap (shown_by K R) (drop-cons L k e lt ∙ ap (λ x. x ∷ drop (suc k) L) is ∙ ap (λ n. e ∷ drop n L) next)
+    ap (shown_by K R) (left_from L k e lt is)
     ∙ shown_first K R e (drop (k + 1) L)
 
 -- the element that is asked for

@@ -1,14 +1,11 @@
 //! Cursors: positions of a text that stay with their element while the text changes.
 
-ghost use Rattle.std.specs.Prelude.{◌≡◌, Some, None, MatchResult, IfOk, IsOkUnless};
+ghost use Rattle.std.specs.Prelude.{◌≡◌, Some, None, MatchResult};
 ghost use Rattle.tp_document.specs.Showing.{HasElementAt, HasPosition};
-ghost use Rattle.tp_graph.specs.Since.{since};
-ghost use Rattle.tp_document.specs.declared.error.DocError.TheVariants.{OutOfMemory};
 
 use crate::document::Document;
 use crate::error::DocError;
-use tp_change::Change;
-use tp_opid::{Hash, OpId};
+use tp_opid::OpId;
 use tp_rga::Sequence;
 
 /// A position of a text, as Automerge's cursor: the element that it stands at, whatever comes before it later.
@@ -44,18 +41,6 @@ impl<S: Sequence> Document<S> {
         match found {
             Some(at) => Ok(at),
             None => Err(DocError::UnknownElement),
-        }
-    }
-
-    /// Copies of the applied changes outside the past of those of the hashes that are known, in applied order. The
-    /// only refusal is `OutOfMemory`.
-    pub fn changes_since(&self, hashes: &[Hash]) -> Result<Vec<Change>, DocError>
-        ensures changes { IfOk result (λ v. v.items ≡ since self.now.applied hashes.now) }
-        ensures err { IsOkUnless result OutOfMemory }
-    {
-        match self.graph.since(hashes) {
-            Ok(changes) => Ok(changes),
-            Err(_) => Err(DocError::OutOfMemory),
         }
     }
 }

@@ -1,6 +1,6 @@
 //! The document: applied changes with the elements that they insert, and changes that wait.
 
-ghost use Rattle.std.specs.Prelude.{◌≡◌, ◌↔◌, ◌<◌, ◌≤◌, [], ◌∷◌, ◌++◌, length, false, None, Some, is_ok, if◌then◌else◌, IfOk, IfErr, IsOkUnless, OnOk, OnErr};
+ghost use Rattle.std.specs.Prelude.{◌≡◌, ◌↔◌, ◌<◌, ◌≤◌, [], ◌∷◌, ◌++◌, length, map, false, None, Some, is_ok, if◌then◌else◌, MatchOption, IfOk, IfErr, IsOkUnless, OnOk, OnErr};
 ghost use Rattle.std.specs.List.{slice_get, remove};
 ghost use Rattle.std.specs.Str.{chars};
 ghost use Rattle.std.specs.String.{string_bytes};
@@ -13,7 +13,7 @@ ghost use Rattle.tp_graph.specs.Named as named;
 ghost use Rattle.tp_graph.specs.Heads as head;
 ghost use Rattle.tp_graph.specs.Fit.{cause, most_changes};
 ghost use Rattle.tp_graph.specs.Sound.{Sound};
-ghost use Rattle.tp_graph.specs.Since.{marks_since, IsMissing};
+ghost use Rattle.tp_graph.specs.Since.{marks_since, since, IsMissing};
 ghost use Rattle.tp_graph.specs.Answers.{Answers};
 ghost use Rattle.tp_graph.specs.GraphState.{most_waiting, HashesOnce};
 ghost use Rattle.tp_change.specs.ChangeHash.{hash_of};
@@ -131,6 +131,29 @@ impl<S: Sequence> Document<S> {
         ensures few { length self.now.applied ≤ most_changes }
     {
         self.graph.changes()
+    }
+
+    /// The applied change with the hash. One look-up.
+    pub fn get(&self, hash: &Hash) -> Option<&Change>
+        ensures { MatchOption result (named.has self.now.applied hash.now ≡ false)
+            (λ change. In change.now self.now.applied × (hash_of change.now ≡ hash.now)) }
+    {
+        self.graph.get(hash)
+    }
+
+    /// The applied changes outside the past of those of the hashes that are known, in applied order: what another lacks
+    /// whose heads these are. The only refusal is `OutOfMemory`.
+    ///
+    /// The pasts of the hashes are joined by what is kept beside their changes; then each later change is asked for.
+    pub fn changes_since(&self, hashes: &[Hash]) -> Result<Vec<&Change>, DocError>
+        ensures changes { IfOk result
+            (λ v. map (λ c. c.now) v.items ≡ since self.now.applied hashes.now) }
+        ensures err { IsOkUnless result OutOfMemory }
+    {
+        match self.graph.changes_since(hashes) {
+            Ok(changes) => Ok(changes),
+            Err(_) => Err(DocError::OutOfMemory),
+        }
     }
 
     /// The hashes of the applied changes on which no applied change depends, rising.

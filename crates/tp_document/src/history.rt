@@ -1,6 +1,6 @@
 //! The text as it was: what the past of hashes shows.
 
-ghost use Rattle.std.specs.Prelude.{◌≡◌, ◌↔◌, ◌⊎◌, ◌&&◌, ℕ, not, false, Some, None, Err, IfOk, IfErr, encode_utf8_all};
+ghost use Rattle.std.specs.Prelude.{◌≡◌, ◌↔◌, ◌⊎◌, ◌&&◌, ℕ, not, false, length, Some, None, Err, IfOk, IfErr, encode_utf8_all};
 ghost use Rattle.std.specs.List.{slice_get};
 ghost use Rattle.std.specs.Option.{option_map};
 ghost use Rattle.std.specs.Str.{chars};
@@ -9,8 +9,9 @@ ghost use Rattle.tp_text.specs.Text.{chars_of, IsTextOf};
 ghost use Rattle.tp_graph.specs.Named as named;
 ghost use Rattle.tp_graph.specs.Past.{past};
 ghost use Rattle.tp_graph.specs.Since.{past_places};
-ghost use Rattle.tp_document.specs.History.{has_op, is_one_of, shown_by, AreEnds, AreTargets};
-ghost use Rattle.tp_document.specs.Showing.{HasElementAt};
+ghost use Rattle.tp_rga.specs.Shown.{shown_before};
+ghost use Rattle.tp_document.specs.History.{has_op, is_one_of, shown_by, deletes_by, inserts_by, AreEnds, AreTargets};
+ghost use Rattle.tp_document.specs.Showing.{HasElementAt, HasLength, HasPosition};
 
 use crate::clock::{Clock, Targets, clock_of, targets_of};
 use crate::cursor::Cursor;
@@ -115,6 +116,46 @@ fn element_at<S: Sequence>(sequence: &S, snapshot: &Snapshot, at: usize) -> Opti
     None
 }
 
+// How many elements a past shows: one walk over the elements.
+fn length_of<S: Sequence>(sequence: &S, snapshot: &Snapshot) -> usize
+    requires { AreTargets snapshot.now.targets snapshot.now.clock (S.removals sequence.now) }
+    ensures { result ≡ length
+        (shown_by snapshot.now.clock (S.removals sequence.now) (S.placed sequence.now)) }
+{
+    let mut count = 0usize;
+    for index in 0..sequence.all() {
+        if let Some(element) = sequence.element(index) {
+            if snapshot.shows(&element) {
+                count += 1;
+            }
+        }
+    }
+    count
+}
+
+// How many elements that a past shows stand before one that it inserts: one walk over the elements up to that one.
+fn position_of<S: Sequence>(sequence: &S, snapshot: &Snapshot, id: &OpId) -> Option<usize>
+    requires { AreTargets snapshot.now.targets snapshot.now.clock (S.removals sequence.now) }
+    ensures { result ≡ shown_before (deletes_by snapshot.now.clock (S.removals sequence.now))
+        (inserts_by snapshot.now.clock (S.placed sequence.now)) id.now }
+{
+    if !snapshot.clock.has(id) {
+        return None;
+    }
+    let mut before = 0usize;
+    for index in 0..sequence.all() {
+        if let Some(element) = sequence.element(index) {
+            if element.id.is(id) {
+                return Some(before);
+            }
+            if snapshot.shows(&element) {
+                before += 1;
+            }
+        }
+    }
+    None
+}
+
 impl<S: Sequence> Document<S> {
     /// The text of the past of the hashes: of the changes that have them and all that these depend on. The hashes may
     /// come in any order and more than once, and no hash gives the empty text. A hash that no applied change has is
@@ -133,6 +174,21 @@ impl<S: Sequence> Document<S> {
     {
         let snapshot = snapshot_at(self.alloc, &self.graph, &self.sequence, heads)?;
         Ok(text_of(self.alloc, &self.sequence, &snapshot)?)
+    }
+
+    /// How many characters (Unicode scalar values) the text of the past of the hashes has. A hash that no applied change
+    /// has is refused as `UnknownHead`, and the only other refusal is `OutOfMemory`.
+    ///
+    /// The cost is that of [`text_at`](Document::text_at), but for the text.
+    pub fn len_at(&self, heads: &[Hash]) -> Result<usize, DocError>
+        ensures len { IfOk result (λ n. HasLength (past self.now.applied heads.now) n) }
+        ensures unknown { (result ≡ Err DocError.UnknownHead)
+            ↔ (named.has_all self.now.applied heads.now ≡ false) }
+        ensures err { IfErr result
+            (λ error. (error ≡ DocError.UnknownHead) ⊎ (error ≡ DocError.OutOfMemory)) }
+    {
+        let snapshot = snapshot_at(self.alloc, &self.graph, &self.sequence, heads)?;
+        Ok(length_of(&self.sequence, &snapshot))
     }
 
     /// A cursor at the visible character at a position, from 0, of the text of the past of the hashes. A hash that no
@@ -154,6 +210,27 @@ impl<S: Sequence> Document<S> {
         match element_at(&self.sequence, &view, at) {
             Some(element) => Ok(Cursor { element }),
             None => Err(DocError::OutOfRange),
+        }
+    }
+    /// How many characters of the text of the past of the hashes stand before the cursor's element, which that past may
+    /// have deleted. A hash that no applied change has is refused as `UnknownHead`, whatever the cursor; then an element
+    /// that the past doesn't insert as `UnknownElement`. The only other refusal is `OutOfMemory`.
+    ///
+    /// The cost is that of [`text_at`](Document::text_at), but the walk over the elements ends at the cursor's.
+    pub fn cursor_position_at(&self, cursor: &Cursor, heads: &[Hash]) -> Result<usize, DocError>
+        ensures found { IfOk result
+            (λ at. HasPosition (past self.now.applied heads.now) cursor.now.element (Some at)) }
+        ensures unknown { (result ≡ Err DocError.UnknownHead)
+            ↔ (named.has_all self.now.applied heads.now ≡ false) }
+        ensures err { IfErr result
+            (λ error. (error ≡ DocError.UnknownHead) ⊎ ((error ≡ DocError.OutOfMemory)
+            ⊎ ((error ≡ DocError.UnknownElement)
+            × HasPosition (past self.now.applied heads.now) cursor.now.element None))) }
+    {
+        let view = snapshot_at(self.alloc, &self.graph, &self.sequence, heads)?;
+        match position_of(&self.sequence, &view, &cursor.element) {
+            Some(at) => Ok(at),
+            None => Err(DocError::UnknownElement),
         }
     }
 }

@@ -1,6 +1,6 @@
 //! The graph: applied changes in order, and changes that wait.
 
-ghost use Rattle.std.specs.Prelude.{◌≡◌, ◌↔◌, ◌⊎◌, ◌+◌, ◌<◌, ◌≤◌, [], ◌∷◌, ◌++◌, false, length, Some, None, is_ok, if◌then◌else◌, MatchOption, MatchResult, IfErr, IfOk, IsOkUnless, OnOk, OnErr};
+ghost use Rattle.std.specs.Prelude.{◌≡◌, ◌↔◌, ◌⊎◌, ◌+◌, ◌<◌, ◌≤◌, [], ◌∷◌, ◌++◌, false, length, map, Some, None, is_ok, if◌then◌else◌, MatchOption, MatchResult, IfErr, IfOk, IsOkUnless, OnOk, OnErr};
 ghost use Rattle.std.specs.List.{slice_get, remove};
 ghost use Rattle.tp_list.specs.Members.{In};
 ghost use Rattle.tp_change.specs.declared.parts.ChangeParts.{ChangeParts};
@@ -278,11 +278,20 @@ impl Graph {
         Ok(Past::new(self.applied.places_in(&part)?))
     }
 
-    /// Copies of the applied changes outside the past of those hashes that are known, in applied order. The only
-    /// refusal is `OutOfMemory`.
+    /// The applied changes outside the past of those hashes that are known, in applied order. The only refusal is
+    /// `OutOfMemory`.
     ///
     /// The pasts of the hashes are joined as [`check`](Graph::check) does; then each place behind the prefix is asked
     /// for.
+    pub fn changes_since(&self, hashes: &[Hash]) -> Result<Vec<&Change>, GraphError>
+        ensures changes { IfOk result
+            (λ v. map (λ c. c.now) v.items ≡ since self.now.applied hashes.now) }
+        ensures err { IsOkUnless result GraphError.OutOfMemory }
+    {
+        Ok(self.applied.changes_since(hashes)?)
+    }
+
+    /// Copies of what [`changes_since`](Graph::changes_since) gives, with its refusal.
     pub fn since(&self, hashes: &[Hash]) -> Result<Vec<Change>, GraphError>
         ensures changes { IfOk result (λ v. v.items ≡ since self.now.applied hashes.now) }
         ensures err { IsOkUnless result GraphError.OutOfMemory }

@@ -15,7 +15,7 @@ use crate::applied::Applied;
 use crate::error::GraphError;
 use crate::heads::put;
 use crate::part::Part;
-use std::alloc::AllocError;
+use std::alloc::{AllocError, Global};
 use tp_change::Change;
 use tp_opid::Hash;
 
@@ -27,6 +27,17 @@ fn copy_of(change: &Change) -> Result<Change, GraphError>
         Ok(copied) => Ok(copied),
         Err(_) => Err(GraphError::OutOfMemory),
     }
+}
+
+fn copies_of(alloc: Global, changes: &[&Change]) -> Result<Vec<Change>, GraphError>
+    ensures copied { IfOk result (λ v. v.items ≡ map (λ c. c.now) changes.now) }
+    ensures err { IsOkUnless result OutOfMemory }
+{
+    let mut copies = Vec::with_capacity(alloc, changes.len())?;
+    for change in changes {
+        copies.push(copy_of(change)?)?;
+    }
+    Ok(copies)
 }
 
 /// Whether one of the changes has the hash.
@@ -42,30 +53,38 @@ pub(crate) fn has(changes: &[Change], hash: &Hash) -> bool
 }
 
 impl Applied {
-    /// Copies of the changes outside the past of those of the hashes that are known, in order. Those before a place up
-    /// to which the past has every change aren't looked at.
-    pub(crate) fn since(&self, hashes: &[Hash]) -> Result<Vec<Change>, GraphError>
-        ensures copied { IfOk result (λ v. v.items ≡ since self.now.changes hashes.now) }
-        ensures err { IsOkUnless result OutOfMemory }
+    /// The changes outside the past of those of the hashes that are known, in order. Those before a place up to which
+    /// the past has every change aren't looked at.
+    pub(crate) fn changes_since(&self, hashes: &[Hash]) -> Result<Vec<&Change>, AllocError>
+        ensures { IfOk result
+            (λ v. map (λ c. c.now) v.items ≡ since self.now.changes hashes.now) }
     {
         let part = self.part(hashes)?;
         self.outside(&part)
     }
 
-    // Copies of the changes that a past hasn't.
-    fn outside(&self, part: &Part) -> Result<Vec<Change>, GraphError>
+    // The changes that a past hasn't.
+    fn outside(&self, part: &Part) -> Result<Vec<&Change>, AllocError>
         requires { IsPartOf part.now self.now.changes }
-        ensures copied { IfOk result
-            (λ v. v.items ≡ skip (bits part.now self.now.changes) self.now.changes) }
-        ensures err { IsOkUnless result OutOfMemory }
+        ensures { IfOk result (λ v. map (λ c. c.now) v.items
+            ≡ skip (bits part.now self.now.changes) self.now.changes) }
     {
         let mut found = Vec::new(self.alloc());
         for i in part.prefix()..self.len() {
             if !part.holds(self, i) {
-                found.push(copy_of(self.at(i))?)?;
+                found.push(self.at(i))?;
             }
         }
         Ok(found)
+    }
+
+    /// Copies of the changes outside the past of those of the hashes that are known, in order.
+    pub(crate) fn since(&self, hashes: &[Hash]) -> Result<Vec<Change>, GraphError>
+        ensures copied { IfOk result (λ v. v.items ≡ since self.now.changes hashes.now) }
+        ensures err { IsOkUnless result OutOfMemory }
+    {
+        let found = self.changes_since(hashes)?;
+        copies_of(self.alloc(), &found)
     }
 
     /// For each of the changes, in order, whether it is outside the past of those of the hashes that are known, or has

@@ -34,15 +34,6 @@ impl Text {
         Text { string }
     }
 
-    /// The `String` again.
-    pub fn into_string(self) -> String
-        ensures bytes { string_bytes result ≡ encode_utf8_all self }
-        ensures chars { chars (string_bytes result) ≡ self }
-    {
-        let Text { string } = self;
-        string
-    }
-
     /// The text, borrowed.
     pub fn as_str(&self) -> &str
         ensures bytes { result.now ≡ encode_utf8_all self.now }

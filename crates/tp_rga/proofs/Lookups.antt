@@ -21,7 +21,7 @@ use Rattle.tp_rga.proofs.Places.{StopsAt, put_in_order}
 -- ---- the first that passes
 
 -- the first that passes, of a list with one more before it
-position-cons : {X : Type 0} (p : X → Bool) (x : X) (xs : List X) → position p (x ∷ xs) ≡ cond (p x) (Some 0) (option_map (λ i. suc i) (position p xs))
+pub position-cons : {X : Type 0} (p : X → Bool) (x : X) (xs : List X) → position p (x ∷ xs) ≡ cond (p x) (Some 0) (option_map (λ i. suc i) (position p xs))
 position-cons p x xs =
     let rest : ℕ = position_or_len p xs in
     elim (p x) as (λ b. cond (ltb (cond (not b) (1 + rest) 0) (suc (length xs))) (Some (cond (not b) (1 + rest) 0)) None ≡ cond b (Some 0) (option_map (λ i. suc i) (cond (ltb rest (length xs)) (Some rest) None))) [

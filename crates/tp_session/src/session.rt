@@ -3,7 +3,6 @@
 ghost use Rattle.std.specs.Prelude.{◌≡◌, length, Err, None, Some};
 ghost use Rattle.tp_frame.specs.declared.frame.Frame.TheVariants.{Hello, Sync, Done, Refusal};
 ghost use Rattle.tp_peer.specs.Sent.{sent_of};
-ghost use Rattle.tp_session.specs.NetError.{error_of_fault};
 ghost use Rattle.tp_session.specs.SessionData.{begun, first_of, counting};
 ghost use Rattle.tp_session.specs.SessionStep.{SessionStep, Says, Fails, Tells, Sends, OnHello, OnSync, OnDone, OnRefusal};
 
@@ -12,7 +11,7 @@ use crate::host::Host;
 use crate::turn::{Ended, Turn};
 use bytes::Bytes;
 use std::marker::Model;
-use tp_frame::{Frame, FrameError};
+use tp_frame::Frame;
 use tp_opid::DocId;
 use tp_peer::{Outgoing, Received};
 
@@ -258,14 +257,6 @@ impl Session {
             Frame::Done => self.on_done(),
             Frame::Refusal(code) => self.on_refusal(code),
         }
-    }
-
-    /// Ends the session, as the other sent bytes that are no frame: `Frame`, with the refusal that is due. Where a
-    /// growth was refused it is `OutOfMemory`.
-    pub fn on_fault(&mut self, fault: FrameError) -> Result<Turn, Ended>
-        ensures { Fails self.old (error_of_fault fault) result self.new }
-    {
-        self.fail(NetError::from(fault))
     }
 }
 

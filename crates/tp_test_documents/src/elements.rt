@@ -6,8 +6,8 @@ use tp_change::{Change, Op};
 use tp_rga::{Element, Sequence};
 use tp_test_runner::{Fault, Shelf, Words, done, put_id, range};
 
-// Puts an operation into a sequence that has what it refers to.
-fn put_op<S: Sequence>(sequence: &mut S, op: Op) -> Result<(), Fault> {
+/// Puts an operation into a sequence that has what it refers to.
+pub fn put_op<S: Sequence>(sequence: &mut S, op: Op) -> Result<(), Fault> {
     let there = match &op {
         Op::Insert { id, after, .. } => sequence.can_insert(id, after),
         Op::Delete { target, .. } => sequence.contains(target),

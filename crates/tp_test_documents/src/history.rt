@@ -3,11 +3,11 @@
 use crate::lists::hashes;
 use crate::world::World;
 use std::alloc::Global;
+use tp_change::Change;
 use tp_document::Document;
+use tp_opid::Hash;
 use tp_rga::Sequence;
-use tp_test_runner::{
-    Fault, Words, answer_position, answer_text, count, done, names, names_of, refusal,
-};
+use tp_test_runner::{Fault, Words, answer_position, answer_text, count, done, names, refusal};
 
 // `text_at DOCUMENT HASHES`.
 fn text_at<S: Sequence>(
@@ -23,6 +23,16 @@ fn text_at<S: Sequence>(
 fn len<S: Sequence>(alloc: Global, document: &Document<S>) -> Result<String, Fault> {
     let len = document.len();
     Ok(format!(in alloc; "{len}")?)
+}
+
+// `len_at DOCUMENT HASHES`.
+fn len_at<S: Sequence>(
+    document: &Document<S>,
+    world: &World<S>,
+    words: &mut Words,
+) -> Result<String, Fault> {
+    let at = hashes(world, words.next()?)?;
+    answer_position(world.alloc, document.len_at(&at))
 }
 
 // `char_at DOCUMENT PLACE`.
@@ -47,6 +57,33 @@ fn position<S: Sequence>(
     answer_position(world.alloc, document.cursor_position(cursor))
 }
 
+// `position_at DOCUMENT CURSOR HASHES`.
+fn position_at<S: Sequence>(
+    document: &Document<S>,
+    world: &World<S>,
+    words: &mut Words,
+) -> Result<String, Fault> {
+    let cursor = world.cursors.get(words.next()?)?;
+    let at = hashes(world, words.next()?)?;
+    answer_position(world.alloc, document.cursor_position_at(cursor, &at))
+}
+
+// `get DOCUMENT HASHES`: those of the changes that are there.
+fn get<S: Sequence>(
+    document: &Document<S>,
+    world: &World<S>,
+    words: &mut Words,
+) -> Result<String, Fault> {
+    let asked = hashes(world, words.next()?)?;
+    let mut found = Vec::new(world.alloc);
+    for hash in &asked {
+        if let Some(change) = document.get(hash) {
+            found.push(change.hash())?;
+        }
+    }
+    names(&world.changes, &found)
+}
+
 // `check DOCUMENT CHANGE`.
 fn check<S: Sequence>(
     document: &Document<S>,
@@ -67,6 +104,15 @@ fn missing<S: Sequence>(document: &Document<S>, world: &World<S>) -> Result<Stri
     }
 }
 
+// The hashes of the changes.
+fn hashes_of(alloc: Global, changes: &[&Change]) -> Result<Vec<Hash>, Fault> {
+    let mut found = Vec::with_capacity(alloc, changes.len())?;
+    for change in changes {
+        found.push(change.hash())?;
+    }
+    Ok(found)
+}
+
 // `since DOCUMENT HASHES`.
 fn since<S: Sequence>(
     document: &Document<S>,
@@ -75,7 +121,7 @@ fn since<S: Sequence>(
 ) -> Result<String, Fault> {
     let at = hashes(world, words.next()?)?;
     match document.changes_since(&at) {
-        Ok(changes) => names_of(&world.changes, &changes),
+        Ok(changes) => names(&world.changes, &hashes_of(world.alloc, &changes)?),
         Err(error) => refusal(world.alloc, error),
     }
 }
@@ -90,8 +136,11 @@ pub fn call<S: Sequence>(
     match word {
         "text_at" => text_at(document, world, words),
         "len" => len(world.alloc, document),
+        "len_at" => len_at(document, world, words),
         "char_at" => char_at(world.alloc, document, words),
+        "get" => get(document, world, words),
         "position" => position(document, world, words),
+        "position_at" => position_at(document, world, words),
         "check" => check(document, world, words),
         "missing" => missing(document, world),
         "since" => since(document, world, words),

@@ -3,6 +3,7 @@
 //! all twice: first with the texts in plain sequences, and then in sequences of blocks.
 #![tactic(auto)]
 
+mod blocks;
 mod cursors;
 mod documents;
 mod edits;

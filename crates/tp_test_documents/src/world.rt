@@ -1,7 +1,7 @@
 //! What the rows of an example have made so far, and what makes their calls.
 
 use crate::{
-    cursors, documents, edits, elements, errors, graphs, history, orders, receiving, restored,
+    blocks, cursors, documents, edits, elements, errors, graphs, history, orders, receiving, restored,
     saved,
 };
 use std::alloc::Global;
@@ -122,6 +122,7 @@ fn look_at_named<S: Sequence>(
 fn look<S: Sequence>(world: &World<S>, word: &str, words: &mut Words) -> Result<String, Fault> {
     match word {
         "errors" => errors::call(world.alloc, words),
+        "blocks" => blocks::call(world.alloc, words),
         "orders" => orders::call(world, words),
         _ => look_at_named(world, word, words),
     }

@@ -1,19 +1,24 @@
-use Rattle.std.proofs.Common.{◌≡◌, ◌≤◌, ◌∙◌, List, Bool, length, drop, sym, ap, arith, append-nil, Vec, Global, [], ◌∷◌, ◌++◌}
-use Rattle.std.proofs.lemmas.List.{drop_all}
+use Rattle.std.proofs.Common.{◌≡◌, ◌≤◌, ◌∙◌, List, Bool, length, drop, map, sym, ap, arith, append-nil, Vec, Global, [], ◌∷◌, ◌++◌}
+use Rattle.std.proofs.lemmas.List.{drop_all, map-append}
+use Rattle.std.specs.Borrow.{Bor}
 use Rattle.tp_list.proofs.Members.{slice_get-there}
 use Rattle.tp_change.specs.declared.parts.ChangeParts.{ChangeParts}
 use Rattle.tp_graph.specs.Parts.{bits, prefix_of}
 use Rattle.tp_graph.specs.Since.{skip}
 use Rattle.tp_graph.proofs.ExtentLaws.{length-bits, prefix-marked}
 use Rattle.tp_graph.proofs.SinceLaws.{skip-on, skip-by, skip-prefix}
-use Rattle.tp_graph.proofs.applied.Applied.outside.Goals.{then-not-holds+in_ok-copy_of+in_ok-push, else-not-holds}
+use Rattle.tp_graph.proofs.applied.Applied.outside.Goals.{then-not-holds+in_ok-push, else-not-holds}
 use Rattle.tp_graph.proofs.applied.Applied.outside.Goals as goal
+
+-- what they refer to
+abbrev now_of : List (Bor ChangeParts) → List ChangeParts
+now_of l = map (λ (r : Bor ChangeParts). r.now) l
 
 pub loop-i-init : goal.loop-i-init
 loop-i-init c =
     let C = c.args.self.now.changes in
     let part = c.args.part.now in
-    ap (λ l. l ++ skip (drop c.prefix-i.result (bits part C)) (drop c.prefix-i.result C)) c.new-found.ensures.items
+    ap (λ (l : List (Bor ChangeParts)). map (λ (r : Bor ChangeParts). r.now) l ++ skip (drop c.prefix-i.result (bits part C)) (drop c.prefix-i.result C)) c.new-found.ensures.items
     ∙ ap (λ n. skip (drop n (bits part C)) (drop n C)) c.prefix-i.ensures
     ∙ skip-prefix (bits part C) C (prefix_of part) (length-bits part C c.requires) (prefix-marked part C)
 
@@ -23,24 +28,24 @@ loop-i-preserved c =
     let marks : List Bool = bits c.args.part.now C in
     let long : length marks ≡ length C = length-bits c.args.part.now C c.requires in
     elim c.if-not-holds.branch [
-      | then-not-holds+in_ok-copy_of+in_ok-push w ↦
-          skip-on marks C c.loop-i.i w.at.result.now c.loop-i.found.items c.if-not-holds.found.items long
+      | then-not-holds+in_ok-push w ↦
+          skip-on marks C c.loop-i.i w.at.result.now (now_of c.loop-i.found.items) (now_of c.if-not-holds.found.items) long
           w.at.ensures
           (sym c.holds.ensures ∙ w.if-not-holds.true)
-          (ap (λ (v : Vec ChangeParts Global). v.items) w.found-is ∙ w.in_ok-push.ensures.items ∙ ap (λ x. c.loop-i.found.items ++ x ∷ []) w.in_ok-copy_of.ensures.copied)
+          (ap (λ (v : Vec (Bor ChangeParts) Global). now_of v.items) w.found-is ∙ ap now_of w.in_ok-push.ensures.items ∙ map-append (λ (r : Bor ChangeParts). r.now) c.loop-i.found.items (w.at.result ∷ []))
           c.loop-i.invariant
       | else-not-holds w ↦
           let p = slice_get-there C c.loop-i.i (rw c.len-i-end.ensures.len at c.loop-i-test.true) in
-          skip-by marks C c.loop-i.i p.0 c.loop-i.found.items c.if-not-holds.found.items long p.1
-          (sym c.holds.ensures ∙ w.if-not-holds.false) (ap (λ (v : Vec ChangeParts Global). v.items) w.found-is) c.loop-i.invariant
+          skip-by marks C c.loop-i.i p.0 (now_of c.loop-i.found.items) (now_of c.if-not-holds.found.items) long p.1
+          (sym c.holds.ensures ∙ w.if-not-holds.false) (ap (λ (v : Vec (Bor ChangeParts) Global). now_of v.items) w.found-is) c.loop-i.invariant
     ]
 
-pub returns-clause-copied : goal.returns-clause-copied
-returns-clause-copied c =
+pub returns : goal.returns
+returns c =
     let C = c.args.self.now.changes in
     let marks : List Bool = bits c.args.part.now C in
     let long : length marks ≡ length C = length-bits c.args.part.now C c.requires in
     let past : length marks ≤ c.loop-i.i = omega (arith, c.loop-i-test.false) in
-    sym (append-nil c.loop-i.found.items)
-    ∙ ap (λ l. c.loop-i.found.items ++ skip l (drop c.loop-i.i C)) (sym (drop_all c.loop-i.i marks past))
+    sym (append-nil (now_of c.loop-i.found.items))
+    ∙ ap (λ l. now_of c.loop-i.found.items ++ skip l (drop c.loop-i.i C)) (sym (drop_all c.loop-i.i marks past))
     ∙ c.loop-i.invariant

@@ -1,7 +1,7 @@
-use Rattle.std.proofs.Common.{◌≡◌, ◌++◌, drop}
+use Rattle.std.proofs.Common.{◌≡◌, ◌++◌, drop, map}
 use Rattle.tp_graph.specs.Parts.{bits}
 use Rattle.tp_graph.specs.Since.{skip}
 use Rattle.tp_graph.proofs.applied.Applied.outside.Given as goal
 
 abbrev pub invariant-loop-i : goal.invariant-loop-i
-invariant-loop-i l = l.found.items ++ skip (drop l.i (bits l.part l.self.changes)) (drop l.i l.self.changes) ≡ skip (bits l.part l.self.changes) l.self.changes
+invariant-loop-i l = map (λ c. c.now) l.found.items ++ skip (drop l.i (bits l.part l.self.changes)) (drop l.i l.self.changes) ≡ skip (bits l.part l.self.changes) l.self.changes

@@ -1,0 +1,14 @@
+use Rattle.std.proofs.Common.{subst}
+use Rattle.tp_graph.specs.Past.{past}
+use Rattle.tp_document.specs.DocState.{DocState}
+use Rattle.tp_document.specs.Showing.{HasLength}
+use Rattle.tp_document.proofs.PastElements.{past-length}
+use Rattle.tp_document.proofs.document.Document.len_at.Goals as goal
+
+pub returns-clause-len : goal.returns-clause-len
+returns-clause-len g c =
+    let S = g.S.Sequence in
+    let d = c.self.inside in
+    let H = c.args.heads.now in
+    subst (λ (d : DocState). HasLength (past d.applied H) c.length_of.result) c.self.view_is
+    (past-length d.graph.applied (S.placed d.sequence) (S.removals d.sequence) H c.in_ok-snapshot.snapshot.clock c.length_of.result c.self.invariant c.in_ok-snapshot.ensures.ends c.length_of.ensures)

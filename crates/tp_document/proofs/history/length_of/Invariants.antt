@@ -1,0 +1,10 @@
+use Rattle.std.proofs.Common.{◌≡◌, ◌≤◌, length, take}
+use Rattle.tp_document.specs.History.{shown_by}
+use Rattle.tp_document.proofs.history.length_of.Given as goal
+
+-- as many as are shown of the elements so far
+abbrev pub invariant-loop-index : goal.invariant-loop-index
+invariant-loop-index g l = record {
+  few : l.count ≤ l.index;
+  counted : l.count ≡ length (shown_by l.snapshot.clock (g.S.Sequence.removals l.sequence) (take l.index (g.S.Sequence.placed l.sequence)));
+}
