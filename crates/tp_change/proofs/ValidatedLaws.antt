@@ -15,13 +15,13 @@ use Rattle.tp_change.specs.declared.error.ChangeError.{ChangeError}
 use Rattle.tp_change.specs.declared.limits.TheConstants.{MAX_BYTES, MAX_OPS, MAX_DEPS, MAX_MESSAGE_BYTES, COUNTERS_END}
 use Rattle.tp_change.specs.declared.error.ChangeError.TheVariants.{Limit, ZeroSeqOrStart, DepsOrder, NoRecords, EmptyRun, OutOfMemory}
 use Rattle.tp_change.specs.declared.record.Record.{Record}
-use Rattle.tp_change.specs.declared.record.Record.TheVariants.{Insert, Delete}
+use Rattle.tp_change.specs.declared.record.Record.TheVariants.{Insert, Delete, DeleteRun}
 use Rattle.tp_change.specs.declared.parts.ChangeParts.{ChangeParts}
 use Rattle.tp_change.specs.Operations.{count_in, count_of}
 use Rattle.tp_change.specs.Spelling.{spelling, spelling_of_record, spelling_of_place}
 use Rattle.tp_change.specs.Limits.{IsRecord, IsTypedRecord, IsTyped, IsChange}
-use Rattle.tp_change.specs.Validated.{unless, ◌and_then◌, is_above, rises_after, validated_deps, validated_record, validated_records, validated_numbers, validated_list, validated}
-use Rattle.tp_change.proofs.Counts.{one-le-count_in, length-le-count_of}
+use Rattle.tp_change.specs.Validated.{unless, ◌and_then◌, is_above, rises_after, validated_deps, fewest_in, has_targets_within, validated_record, validated_records, validated_numbers, validated_list, validated}
+use Rattle.tp_change.proofs.Counts.{length-le-count_of}
 use Rattle.tp_change.proofs.Lengths.{length_spelling}
 
 -- a test that gave no fault holds
@@ -71,23 +71,38 @@ rises_of (h ∷ hs) rising = rises_from h hs rising.0 rising.1
 
 -- ---- records
 
--- a record without a fault has operations, and they have room
-validated_record_ok : (room : ℕ) (r : Record) → validated_record room r ≡ Ok tt → (0 < count_in r) × (count_in r ≤ room)
+-- a record without a fault has enough operations, they have room, and its targets are within the limit
+validated_record_ok : (room : ℕ) (r : Record) → validated_record room r ≡ Ok tt → (fewest_in r ≤ count_in r) × (count_in r ≤ room) × (has_targets_within r ≡ true)
 validated_record_ok room r h =
     let two = and_ok _ _ h in
-    (ltb-true _ _ (unless_ok _ _ two.0), leb-true _ _ (unless_ok _ _ two.1))
+    let three = and_ok _ _ two.1 in
+    (leb-true _ _ (unless_ok _ _ two.0), leb-true _ _ (unless_ok _ _ three.0), unless_ok _ _ three.1)
+
+-- a record of a change has enough operations
+fewest-le-count_in : (r : Record) → IsRecord r → fewest_in r ≤ count_in r
+fewest-le-count_in (Insert after text) h = h.2
+fewest-le-count_in (Delete target) h = omega arith
+fewest-le-count_in (DeleteRun first count) h = h.1
+
+-- and its targets are within the limit
+targets_within : (r : Record) → IsRecord r → has_targets_within r ≡ true
+targets_within (Insert after text) h = refl
+targets_within (Delete target) h = refl
+targets_within (DeleteRun first count) h = le-leb (first.counter + count) (2 ^ 48) h.2
 
 -- and back
-ok_validated_record : (room : ℕ) (r : Record) → 0 < count_in r → count_in r ≤ room → validated_record room r ≡ Ok tt
-ok_validated_record room r some few =
-    ok_and _ _ (fine (nat_lt 0 (count_in r)) _ (lt-ltb 0 (count_in r) some)) (fine (nat_le (count_in r) room) _ (le-leb (count_in r) room few))
+ok_validated_record : (room : ℕ) (r : Record) → IsRecord r → count_in r ≤ room → validated_record room r ≡ Ok tt
+ok_validated_record room r is few =
+    ok_and _ _ (fine (nat_le (fewest_in r) (count_in r)) _ (le-leb (fewest_in r) (count_in r) (fewest-le-count_in r is)))
+    (ok_and _ _ (fine (nat_le (count_in r) room) _ (le-leb (count_in r) room few)) (fine (has_targets_within r) _ (targets_within r is)))
 
--- a run's text is no longer than its record
-text_in_record : (r : Record) → IsTypedRecord r → 0 < count_in r → length (spelling_of_record r) ≤ 4194304 → IsRecord r
-text_in_record (Insert after text) typed some short =
+-- a typed record without a fault is one of a change: a run's text is no longer than its record
+record_of : (r : Record) → IsTypedRecord r → fewest_in r ≤ count_in r → has_targets_within r ≡ true → length (spelling_of_record r) ≤ 4194304 → IsRecord r
+record_of (Insert after text) typed some within short =
     let parts : length (spelling_of_record (Insert after text)) ≡ 5 + (length (spelling_of_place after) + length (encode_utf8_all text)) = simp length-append (omega arith) in
     (typed.0, record { scalars = typed.1; bytes = omega arith }, some)
-text_in_record (Delete target) typed some short = typed
+record_of (Delete target) typed some within short = typed
+record_of (DeleteRun first count) typed some within short = (typed.0, some, leb-true (first.counter + count) (2 ^ 48) within)
 
 -- records without a fault are records of a change, and all their operations have room
 records_of : (room : ℕ) (rs : List Record) → AllByRecursion IsTypedRecord rs → length (flat_map spelling_of_record rs) ≤ 4194304 → validated_records room rs ≡ Ok tt → AllByRecursion IsRecord rs × (count_of rs ≤ room)
@@ -98,13 +113,13 @@ records_of room (r ∷ rs) typed short h =
     let sum : length (flat_map spelling_of_record (r ∷ rs)) ≡ length (spelling_of_record r) + length (flat_map spelling_of_record rs) =
     ap length (flat_map-cons spelling_of_record r rs) ∙ length-append (spelling_of_record r) (flat_map spelling_of_record rs) in
     let more = records_of (room - count_in r) rs typed.1 (omega arith) two.1 in
-    ((text_in_record r typed.0 first.0 (omega arith), more.0), omega (arith, first.1, more.1))
+    ((record_of r typed.0 first.0 first.2 (omega arith), more.0), omega (arith, first.1, more.1))
 
 -- and back
 ok_records : (room : ℕ) (rs : List Record) → AllByRecursion IsRecord rs → count_of rs ≤ room → validated_records room rs ≡ Ok tt
 ok_records room [] all few = refl
 ok_records room (r ∷ rs) all few =
-    ok_and _ _ (ok_validated_record room r (one-le-count_in r all.0) (omega arith)) (ok_records (room - count_in r) rs all.1 (omega arith))
+    ok_and _ _ (ok_validated_record room r all.0 (omega arith)) (ok_records (room - count_in r) rs all.1 (omega arith))
 
 -- ---- changes
 
@@ -200,7 +215,10 @@ never_limit : IsNever (Err Limit)
 never_limit h = cc
 
 never_record : (room : ℕ) (r : Record) → IsNever (validated_record room r)
-never_record room r = never_unless (nat_lt 0 (count_in r)) EmptyRun (unless (nat_le (count_in r) room) Limit) (λ h. cc) (never_last (nat_le (count_in r) room) Limit never_limit)
+never_record room r =
+    let targets = unless (has_targets_within r) Limit in
+    never_unless (nat_le (fewest_in r) (count_in r)) EmptyRun (unless (nat_le (count_in r) room) Limit and_then targets) (λ h. cc)
+    (never_unless (nat_le (count_in r) room) Limit targets never_limit (never_last (has_targets_within r) Limit never_limit))
 
 never_records : (room : ℕ) (rs : List Record) → IsNever (validated_records room rs)
 never_records room [] h = cc

@@ -3,7 +3,7 @@
 //! Every function takes its field from the start of a reader, and says which field of specs/Reading that is. The
 //! first fault is the refusal. Nothing is reserved for a count or a length: elements are pushed as they are read,
 //! and a text is copied once, when its bytes are there.
-#![tactic(auto, unfolding(tp_codec::specs::Reading::or_fail, tp_codec::specs::Reading::found_or, tp_codec::specs::Reading::and_then, tp_codec::specs::Reading::and_next, tp_codec::specs::Reading::give, tp_codec::specs::Reading::require, tp_codec::specs::Reading::passed, tp_codec::specs::Reading::characters_at, tp_codec::specs::Reading::text_at, tp_codec::specs::Reading::fail, crate::specs::Reading::actor_at, crate::specs::Reading::hash_at, crate::specs::Reading::id_at, crate::specs::Reading::version_at, crate::specs::Reading::seq_at, crate::specs::Reading::start_at, crate::specs::Reading::dep_at, crate::specs::Reading::deps_at, crate::specs::Reading::place_after_tag, crate::specs::Reading::place_at, crate::specs::Reading::insert_at, crate::specs::Reading::delete_at, crate::specs::Reading::delete_run_at, crate::specs::Reading::record_after_tag, crate::specs::Reading::record_at, crate::specs::Reading::records_at, crate::specs::Reading::parts_at, crate::specs::Reading::sized_at, crate::specs::Reading::change_at, crate::specs::Reading::ended))]
+#![tactic(auto, unfolding(tp_codec::specs::Reading::or_fail, tp_codec::specs::Reading::found_or, tp_codec::specs::Reading::and_then, tp_codec::specs::Reading::and_next, tp_codec::specs::Reading::give, tp_codec::specs::Reading::require, tp_codec::specs::Reading::passed, tp_codec::specs::Reading::characters_at, tp_codec::specs::Reading::text_at, tp_codec::specs::Reading::fail, crate::specs::Reading::actor_at, crate::specs::Reading::hash_at, crate::specs::Reading::id_at, crate::specs::Reading::version_at, crate::specs::Reading::seq_at, crate::specs::Reading::start_at, crate::specs::Reading::dep_at, crate::specs::Reading::deps_at, crate::specs::Reading::place_after_tag, crate::specs::Reading::place_at, crate::specs::Reading::insert_at, crate::specs::Reading::delete_at, crate::specs::Reading::delete_run_at, crate::specs::Reading::record_after_tag, crate::specs::Reading::record_at, crate::specs::Reading::records_at, crate::specs::Reading::parts_at, crate::specs::Reading::sized_at))]
 
 ghost use Rattle.std.specs.Prelude.{◌≡◌, ◌-◌, List, length, true, false, None, Ok, IfOk, IfErr};
 ghost use Rattle.std.specs.Str.{is_utf8};
@@ -416,6 +416,7 @@ fn sized_of(
 }
 
 // The parts of the change that the bytes are.
+#[tactic(auto, unfolding(crate::specs::Reading::change_at, crate::specs::Reading::ended, crate::specs::Reading::versioned))]
 fn change_of(alloc: Global, bytes: &[u8]) -> Result<ChangeParts, ChangeError>
     ensures { Gives (λ c. c) result (change_at bytes.now) }
 {
