@@ -1,5 +1,5 @@
 -- What is wrong with the parts of a change: the whole size first, and then the first fault in the order of the fields.
-use Rattle.std.specs.Prelude.{ℕ, ◌+◌, ◌-◌, ◌&&◌, nat_le, nat_lt, min, Bool, true, List, [], ◌∷◌, length, encode_utf8_all, Option, Some, None, Result, Ok, Err, if◌then◌else◌}
+use Rattle.std.specs.Prelude.{ℕ, ◌+◌, ◌-◌, ◌&&◌, nat_le, nat_lt, min, Bool, true, List, [], ◌∷◌, length, encode_utf8_all, Option, Some, None, Result, Ok, Err, false, if◌then◌else◌}
 use Rattle.std.specs.Ordering.{is_lt}
 use Rattle.tp_opid.specs.declared.hash.Hash.{Hash}
 use Rattle.tp_opid.specs.Order.{hash_cmp}
@@ -11,6 +11,15 @@ use Rattle.tp_change.specs.declared.record.Record.TheVariants.{Insert, Delete, D
 use Rattle.tp_change.specs.declared.parts.ChangeParts.{ChangeParts}
 use Rattle.tp_change.specs.Operations.{count_in}
 use Rattle.tp_change.specs.Spelling.{spelling}
+
+-- the faults that the parts of a change can have
+abbrev pub is_fault_of_parts : ChangeError → Bool
+is_fault_of_parts ZeroSeqOrStart = true
+is_fault_of_parts DepsOrder = true
+is_fault_of_parts NoRecords = true
+is_fault_of_parts EmptyRun = true
+is_fault_of_parts Limit = true
+is_fault_of_parts e = false
 
 -- the fault, unless the test holds
 abbrev pub unless : Bool → ChangeError → Result (Unit {0}) ChangeError

@@ -7,7 +7,7 @@ ghost use Rattle.tp_change.specs.declared.error.ChangeError.TheVariants.{Limit, 
 ghost use Rattle.std.specs.List.{All};
 ghost use Rattle.std.specs.declared.cmp.Ordering.TheVariants.{Less};
 ghost use Rattle.tp_opid.specs.Order.{hash_cmp};
-ghost use Rattle.tp_change.specs.Validated.{unless, is_above, validated_numbers, validated_list, validated_deps, validated_record, validated_records, validated, rises_after, fewest_in, has_targets_within};
+ghost use Rattle.tp_change.specs.Validated.{is_fault_of_parts, unless, is_above, validated_numbers, validated_list, validated_deps, validated_record, validated_records, validated, rises_after, fewest_in, has_targets_within};
 ghost use Rattle.tp_change.specs.Limits.{IsHash, IsChange, IsTypedRecord, IsTyped};
 ghost use Rattle.tp_change.specs.Operations.{count_in};
 
@@ -169,6 +169,7 @@ pub(crate) fn validate(parts: &ChangeParts) -> Result<(), ChangeError>
     ensures value { result ≡ validated parts.now }
     ensures within { OnOk result (IsChange parts.now) }
     ensures only { IsChange parts.now → result ≡ Ok tt }
+    ensures faults { IfErr result (λ e. IsTrue (is_fault_of_parts e)) }
     ensures memory { IfErr result (λ e. e ≡ OutOfMemory → ⊥) }
 {
     validate_fields(parts)
