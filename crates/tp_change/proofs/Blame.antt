@@ -1,16 +1,17 @@
--- The prefix of the bytes that is to blame for a refusal: the shortest one with a fault other than missing bytes.
+-- The prefix of the bytes that is to blame for a refusal: the shortest one with a fault other than missing bytes and a
+-- missing run.
 use Rattle.std.proofs.Common.{◌≡◌, ℕ, zero, suc, ◌+◌, ◌<◌, ◌≤◌, Bool, true, false, List, ◌++◌, length, take, drop, Result, Ok, Err, refl, sym, ap, subst, ◌∙◌, arith, ◌⊎◌, inl, inr}
 use Rattle.std.proofs.lemmas.Bool.{cases_eq}
 use Rattle.std.proofs.lemmas.List.{length-append, take-append-drop, take_at, length-take, take_all, append_assoc}
 use Rattle.tp_codec.proofs.Fields.{AreBytes, AreBytes-take}
 use Rattle.tp_change.specs.declared.error.ChangeError.{ChangeError}
-use Rattle.tp_change.specs.declared.error.ChangeError.TheVariants.{Short, Trailing}
+use Rattle.tp_change.specs.declared.error.ChangeError.TheVariants.{Short, Trailing, NoRun}
 use Rattle.tp_change.specs.declared.parts.ChangeParts.{ChangeParts}
 use Rattle.tp_change.specs.Spelling.{spelling}
 use Rattle.tp_change.specs.Limits.{IsChange}
 use Rattle.tp_change.specs.Reading.{change_at}
 use Rattle.tp_change.specs.Faults.{HasFaultyPrefix}
-use Rattle.tp_change.proofs.WholeChange.{change_takes, change_again, change_stays, change_and_more}
+use Rattle.tp_change.proofs.WholeChange.{change_takes, change_again, change_stays, change_and_more, run_wanted_and_more}
 
 -- the least number below n at which a test holds
 record Least (test : ℕ → Bool) (n : ℕ) : Type 0 where
@@ -31,36 +32,47 @@ least test (suc n) =
     last true h none = inl (record { at = n; below = omega arith; holds = h; before = none })
     last false h none = inr (λ k lt. elim (cases_eq k n) [ inl same ↦ rw same h | inr other ↦ none k (omega arith) ])
 
--- a fault other than missing bytes
+-- a fault other than missing bytes and a missing run
 abbrev is_other : ChangeError → Bool
 is_other Short = false
+is_other NoRun = false
 is_other e = true
 
 abbrev is_fault : Result ChangeParts ChangeError → Bool
 is_fault (Ok c) = false
 is_fault (Err e) = is_other e
 
-apart_other : (e : ChangeError) → is_other e ≡ true → e ≡ Short → ⊥
-apart_other e h same = let no : is_other e ≡ false = ap is_other same in cc
+apart_short : (e : ChangeError) → is_other e ≡ true → e ≡ Short → ⊥
+apart_short e h same = let other : is_other e ≡ false = ap is_other same in cc
 
-other_apart : (e : ChangeError) → (e ≡ Short → ⊥) → is_other e ≡ true
-other_apart Short h = absurd (h refl)
-other_apart e h = refl
+apart_run : (e : ChangeError) → is_other e ≡ true → e ≡ NoRun → ⊥
+apart_run e h same = let other : is_other e ≡ false = ap is_other same in cc
 
-short_is : (e : ChangeError) → is_other e ≡ false → e ≡ Short
-short_is Short h = refl
-short_is e h = absurd cc
+other_apart : (e : ChangeError) → (e ≡ Short → ⊥) → (e ≡ NoRun → ⊥) → is_other e ≡ true
+other_apart Short short ran = absurd (short refl)
+other_apart NoRun short ran = absurd (ran refl)
+other_apart e short ran = refl
 
-fault_is : (r : Result ChangeParts ChangeError) → is_fault r ≡ true → (e : ChangeError) × (r ≡ Err e) × (e ≡ Short → ⊥)
+wants : (e : ChangeError) → is_other e ≡ false → (e ≡ Short) ⊎ (e ≡ NoRun)
+wants Short h = inl refl
+wants NoRun h = inr refl
+wants e h = absurd cc
+
+fault_is : (r : Result ChangeParts ChangeError) → is_fault r ≡ true → (e : ChangeError) × (r ≡ Err e) × (is_other e ≡ true)
 fault_is (Ok c) h = absurd cc
-fault_is (Err e) h = (e, refl, apart_other e h)
+fault_is (Err e) h = (e, refl, h)
 
-no_fault_is : (r : Result ChangeParts ChangeError) → is_fault r ≡ false → ((c : ChangeParts) × (r ≡ Ok c)) ⊎ (r ≡ Err Short)
+-- a change, or bytes that only want more
+no_fault_is : (r : Result ChangeParts ChangeError) → is_fault r ≡ false → ((c : ChangeParts) × (r ≡ Ok c)) ⊎ ((r ≡ Err Short) ⊎ (r ≡ Err NoRun))
 no_fault_is (Ok c) h = inl (c, refl)
-no_fault_is (Err e) h = inr (ap (λ (f : ChangeError). Err f) (short_is e h))
+no_fault_is (Err e) h =
+    elim (wants e h) [
+      | inl short ↦ inr (inl (ap (λ (f : ChangeError). Err f) short))
+      | inr ran ↦ inr (inr (ap (λ (f : ChangeError). Err f) ran))
+    ]
 
-fault_of : (r : Result ChangeParts ChangeError) (e : ChangeError) → r ≡ Err e → (e ≡ Short → ⊥) → is_fault r ≡ true
-fault_of r e h apart = rw h (other_apart e apart)
+fault_of : (r : Result ChangeParts ChangeError) (e : ChangeError) → r ≡ Err e → (e ≡ Short → ⊥) → (e ≡ NoRun → ⊥) → is_fault r ≡ true
+fault_of r e h short ran = rw h (other_apart e short ran)
 
 same_fault : (d e : ChangeError) → (let r : Result ChangeParts ChangeError = Err d in r) ≡ Err e → d ≡ e
 same_fault d e h = cc
@@ -83,10 +95,10 @@ prefix_at bytes fits size e bad n within faulty before =
     let f = fault_is (change_at prefix) faulty in
     let prefix_fits : AreBytes prefix = AreBytes-take n bytes fits in
     let small : length (prefix ++ back) ≤ 4194304 = rw whole size in
-    let on : change_at bytes ≡ Err f.0 = ap change_at (sym whole) ∙ change_stays prefix back f.0 prefix_fits small f.1 f.2 in
+    let on : change_at bytes ≡ Err f.0 = ap change_at (sym whole) ∙ change_stays prefix back f.0 prefix_fits small f.1 (apart_short f.0 f.2) (apart_run f.0 f.2) in
     let same : f.0 ≡ e = same_fault f.0 e (sym on ∙ bad) in
     let longer : (more : List ℕ) → length (prefix ++ more) ≤ 4194304 → change_at (prefix ++ more) ≡ Err e
-    = λ more few. change_stays prefix more f.0 prefix_fits few f.1 f.2 ∙ ap (λ (d : ChangeError). Err d) same in (
+    = λ more few. change_stays prefix more f.0 prefix_fits few f.1 (apart_short f.0 f.2) (apart_run f.0 f.2) ∙ ap (λ (d : ChangeError). Err d) same in (
       prefix,
       back,
       sym whole,
@@ -101,51 +113,58 @@ prefix_at bytes fits size e bad n within faulty before =
             let none : is_fault (change_at begin) ≡ false = subst (λ (b : List ℕ). is_fault (change_at b) ≡ false) is_prefix (before (length begin) lt) in
             elim (no_fault_is (change_at begin) none) [
               | inl read ↦ let t = change_takes begin read.0 begin_fits read.1 in inl (read.0, t.0, t.1)
-              | inr short ↦ inr short
+              | inr wanting ↦ inr wanting
             ];
         longer = longer;
       },
     )
 
--- A fault other than missing bytes has a prefix that is to blame.
-pub some_prefix : (bytes : List ℕ) → AreBytes bytes → length bytes ≤ 4194304 → (e : ChangeError) → change_at bytes ≡ Err e → (e ≡ Short → ⊥) → HasFaultyPrefix bytes e
-some_prefix bytes fits size e bad apart =
+-- A fault other than missing bytes and a missing run has a prefix that is to blame.
+pub some_prefix : (bytes : List ℕ) → AreBytes bytes → length bytes ≤ 4194304 → (e : ChangeError) → change_at bytes ≡ Err e → (e ≡ Short → ⊥) → (e ≡ NoRun → ⊥) → HasFaultyPrefix bytes e
+some_prefix bytes fits size e bad short ran =
     elim (least (λ n. is_fault (change_at (take n bytes))) (suc (length bytes))) [
       | inl l ↦ prefix_at bytes fits size e bad l.at (omega (arith, l.below)) l.holds l.before
       | inr none ↦
           let quiet : is_fault (change_at bytes) ≡ false = subst (λ (b : List ℕ). is_fault (change_at b) ≡ false) (take_all (length bytes) bytes (omega arith)) (none (length bytes) (omega arith)) in
-          let loud : is_fault (change_at bytes) ≡ true = fault_of (change_at bytes) e bad apart in
+          let loud : is_fault (change_at bytes) ≡ true = fault_of (change_at bytes) e bad short ran in
           absurd cc
     ]
 
-short_or : (r : Result ChangeParts ChangeError) → (r ≡ Err Short) ⊎ (((c : ChangeParts) × (r ≡ Ok c)) ⊎ ((e : ChangeError) × (r ≡ Err e) × (e ≡ Short → ⊥)))
-short_or r =
-    elim r as (λ t. r ≡ t → (r ≡ Err Short) ⊎ (((c : ChangeParts) × (r ≡ Ok c)) ⊎ ((e : ChangeError) × (r ≡ Err e) × (e ≡ Short → ⊥)))) [
-      | Ok c ↦ λ h. inr (inl (c, h))
-      | Err e ↦ λ h. by_kind e h (is_other e) refl
-    ] refl
-  where
-    by_kind : (e : ChangeError) → r ≡ Err e → (b : Bool) → is_other e ≡ b → (r ≡ Err Short) ⊎ (((c : ChangeParts) × (r ≡ Ok c)) ⊎ ((d : ChangeError) × (r ≡ Err d) × (d ≡ Short → ⊥)))
-    by_kind e h true k = inr (inr (e, h, apart_other e k))
-    by_kind e h false k = inl (h ∙ ap (λ (f : ChangeError). Err f) (short_is e k))
+-- what the answer to a prefix is
+data Answer (r : Result ChangeParts ChangeError) : Type 0 where
+  reads : (c : ChangeParts) → r ≡ Ok c → Answer r
+  short : r ≡ Err Short → Answer r
+  ran : r ≡ Err NoRun → Answer r
+  other : (e : ChangeError) → r ≡ Err e → is_other e ≡ true → Answer r
+
+answer_of : (r : Result ChangeParts ChangeError) → Answer r
+answer_of (Ok c) = reads c refl
+answer_of (Err Short) = short refl
+answer_of (Err NoRun) = ran refl
+answer_of (Err e) = other e refl refl
 
 not_short : (prefix more : List ℕ) (c : ChangeParts) → AreBytes prefix → length (prefix ++ more) ≤ 4194304 → change_at prefix ≡ Ok c → change_at (prefix ++ more) ≡ Err Short → ⊥
-not_short prefix more c fits size read short =
+not_short prefix more c fits size read bad =
     let t = change_takes prefix c fits read in
     let whole : prefix ++ more ≡ spelling c ++ more = ap (λ (b : List ℕ). b ++ more) t.1 in
     elim (change_and_more c more t.0 (rw (← whole) size)) [
-      | inl ok ↦ let no : (let r : Result ChangeParts ChangeError = Ok c in r) ≡ Err Short = sym ok ∙ ap change_at (sym whole) ∙ short in cc
-      | inr bad ↦ let no : Trailing ≡ Short = same_fault Trailing Short (sym bad ∙ ap change_at (sym whole) ∙ short) in cc
+      | inl ok ↦ let wrong : (let r : Result ChangeParts ChangeError = Ok c in r) ≡ Err Short = sym ok ∙ ap change_at (sym whole) ∙ bad in cc
+      | inr late ↦ let wrong : Trailing ≡ Short = same_fault Trailing Short (sym late ∙ ap change_at (sym whole) ∙ bad) in cc
+    ]
+
+no_run_short : (prefix more : List ℕ) → AreBytes prefix → length (prefix ++ more) ≤ 4194304 → change_at prefix ≡ Err NoRun → change_at (prefix ++ more) ≡ Err Short → ⊥
+no_run_short prefix more fits size r bad =
+    elim (run_wanted_and_more prefix more fits size r) [
+      | inl same ↦ let wrong : NoRun ≡ Short = same_fault NoRun Short (sym same ∙ bad) in cc
+      | inr late ↦ let wrong : Trailing ≡ Short = same_fault Trailing Short (sym late ∙ bad) in cc
     ]
 
 -- Where bytes are missing, nothing is wrong with any prefix but that bytes are missing.
 pub prefix_of_short : (prefix more : List ℕ) → AreBytes prefix → length (prefix ++ more) ≤ 4194304 → change_at (prefix ++ more) ≡ Err Short → change_at prefix ≡ Err Short
-prefix_of_short prefix more fits size short =
-    elim (short_or (change_at prefix)) [
-      | inl same ↦ same
-      | inr other ↦
-          elim other [
-            | inl read ↦ absurd (not_short prefix more read.0 fits size read.1 short)
-            | inr bad ↦ absurd (bad.2 (same_fault bad.0 Short (sym (change_stays prefix more bad.0 fits size bad.1 bad.2) ∙ short)))
-          ]
+prefix_of_short prefix more fits size bad =
+    elim (answer_of (change_at prefix)) [
+      | reads c read ↦ absurd (not_short prefix more c fits size read bad)
+      | short same ↦ same
+      | ran r ↦ absurd (no_run_short prefix more fits size r bad)
+      | other e r apart ↦ absurd (apart_short e apart (same_fault e Short (sym (change_stays prefix more e fits size r (apart_short e apart) (apart_run e apart)) ∙ bad)))
     ]

@@ -3,7 +3,7 @@ use Rattle.std.proofs.Common.{◌≡◌, ℕ, ◌+◌, ◌≤◌, ◌<◌, List,
 use Rattle.std.proofs.lemmas.List.{at_drop_more}
 use Rattle.std.specs.List.{AllByRecursion}
 use Rattle.tp_change.specs.declared.record.Record.{Record}
-use Rattle.tp_change.specs.declared.record.Record.TheVariants.{Insert, Delete}
+use Rattle.tp_change.specs.declared.record.Record.TheVariants.{Insert, Delete, DeleteRun}
 use Rattle.tp_change.specs.declared.parts.ChangeParts.{ChangeParts}
 use Rattle.tp_change.specs.Operations.{count_in, count_of}
 use Rattle.tp_change.specs.Limits.{IsRecord, IsChange}
@@ -12,6 +12,7 @@ use Rattle.tp_change.specs.Limits.{IsRecord, IsChange}
 pub one-le-count_in : (r : Record) → IsRecord r → 1 ≤ count_in r
 one-le-count_in (Insert after text) h = h.2
 one-le-count_in (Delete target) h = omega arith
+one-le-count_in (DeleteRun first count) h = omega (arith, h.1)
 
 -- there are no more records than operations
 pub length-le-count_of : (rs : List Record) → AllByRecursion IsRecord rs → length rs ≤ count_of rs

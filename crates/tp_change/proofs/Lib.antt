@@ -3,6 +3,7 @@ pub mod Refusals
 pub mod ChangeFields
 pub mod WholeChange
 pub mod Blame
+pub mod RunLaws
 pub mod SpellingLaws
 pub mod Counts
 pub mod PutsLaws

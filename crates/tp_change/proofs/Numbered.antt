@@ -1,5 +1,5 @@
 -- The identifiers of a change's operations: its actor's, with running counters.
-use Rattle.std.proofs.Common.{◌≡◌, ℕ, suc, ◌+◌, ◌<◌, ◌≤◌, inl, inr, List, [], ◌∷◌, ◌++◌, length, refl, sym, ap, ◌∙◌, subst, arith}
+use Rattle.std.proofs.Common.{◌≡◌, ℕ, zero, suc, ◌+◌, ◌<◌, ◌≤◌, inl, inr, List, [], ◌∷◌, ◌++◌, length, refl, sym, ap, ◌∙◌, subst, arith}
 use Rattle.tp_list.specs.Members.{In}
 use Rattle.tp_opid.specs.declared.actor.Actor.{Actor}
 use Rattle.tp_opid.specs.declared.op_id.OpId.{OpId}
@@ -9,9 +9,9 @@ use Rattle.tp_opid.specs.Insert as element_of
 use Rattle.tp_change.specs.declared.op.Op.{Op}
 use Rattle.tp_change.specs.declared.op.Op.TheVariants as op_of
 use Rattle.tp_change.specs.declared.record.Record.{Record}
-use Rattle.tp_change.specs.declared.record.Record.TheVariants.{Insert, Delete}
+use Rattle.tp_change.specs.declared.record.Record.TheVariants.{Insert, Delete, DeleteRun}
 use Rattle.tp_change.specs.declared.parts.ChangeParts.{ChangeParts}
-use Rattle.tp_change.specs.Operations.{ops_of, ops_from, ops_in, run, id_of, count_in, op_count}
+use Rattle.tp_change.specs.Operations.{ops_of, ops_from, ops_in, run, deletes_from, id_of, count_in, op_count}
 use Rattle.tp_change.specs.Elements.{element, inserts_in}
 use Rattle.tp_change.proofs.OpsLaws.{length-ops_of}
 
@@ -47,13 +47,23 @@ Numbered-run : (a : Actor) (n : ℕ) (after : Place) (text : List ℕ) → Numbe
 Numbered-run a n after [] = tt
 Numbered-run a n after (ch ∷ text) = (refl, Numbered-run a (n + 1) (After (id_of a n)) text)
 
+length-deletes_from : (a : Actor) (n : ℕ) (target : OpId) (count : ℕ) → length (deletes_from a n target count) ≡ count
+length-deletes_from a n target zero = refl
+length-deletes_from a n target (suc count) = ap suc (length-deletes_from a (n + 1) (id_of target.actor (target.counter + 1)) count)
+
+Numbered-deletes_from : (a : Actor) (n : ℕ) (target : OpId) (count : ℕ) → Numbered a n (deletes_from a n target count)
+Numbered-deletes_from a n target zero = tt
+Numbered-deletes_from a n target (suc count) = (refl, Numbered-deletes_from a (n + 1) (id_of target.actor (target.counter + 1)) count)
+
 Numbered-in : (a : Actor) (n : ℕ) (r : Record) → Numbered a n (ops_in a n r)
 Numbered-in a n (Insert after text) = Numbered-run a n after text
 Numbered-in a n (Delete target) = (refl, tt)
+Numbered-in a n (DeleteRun first count) = Numbered-deletes_from a n first count
 
 pub length-ops_in : (a : Actor) (n : ℕ) (r : Record) → length (ops_in a n r) ≡ count_in r
 length-ops_in a n (Insert after text) = length-run a n after text
 length-ops_in a n (Delete target) = refl
+length-ops_in a n (DeleteRun first count) = length-deletes_from a n first count
 
 Numbered-from : (a : Actor) (n : ℕ) (rs : List Record) → Numbered a n (ops_from a n rs)
 Numbered-from a n [] = tt

@@ -13,7 +13,7 @@ use Rattle.tp_change.specs.declared.op.Op.{Op}
 use Rattle.tp_change.specs.declared.record.Record.{Record}
 use Rattle.tp_change.specs.declared.record.Record.TheVariants as record_of
 use Rattle.tp_change.specs.declared.parts.ChangeParts.{ChangeParts}
-use Rattle.tp_change.specs.Operations.{count_in, count_of, id_of, run, ops_in, ops_from, ops_of, op_count}
+use Rattle.tp_change.specs.Operations.{count_in, count_of, id_of, run, deletes_from, ops_in, ops_from, ops_of, op_count}
 use Rattle.tp_change.specs.OpIds.{op_id, ids_from}
 
 -- ---- the identifiers, as a list
@@ -34,10 +34,16 @@ ids-run : (a : Actor) (n : ℕ) (after : Place) (text : List ℕ) → map op_id 
 ids-run a n after [] = refl
 ids-run a n after (ch ∷ text) = ap (λ ids. id_of a n ∷ ids) (ids-run a (n + 1) (After (id_of a n)) text)
 
+-- those of a run of deletes
+ids-deletes_from : (a : Actor) (n : ℕ) (target : OpId) (count : ℕ) → map op_id (deletes_from a n target count) ≡ ids_from a n count
+ids-deletes_from a n target zero = refl
+ids-deletes_from a n target (suc count) = ap (λ ids. id_of a n ∷ ids) (ids-deletes_from a (n + 1) (id_of target.actor (target.counter + 1)) count)
+
 -- those of a record
 ids-ops_in : (a : Actor) (n : ℕ) (r : Record) → map op_id (ops_in a n r) ≡ ids_from a n (count_in r)
 ids-ops_in a n (record_of.Insert after text) = ids-run a n after text
 ids-ops_in a n (record_of.Delete target) = refl
+ids-ops_in a n (record_of.DeleteRun first count) = ids-deletes_from a n first count
 
 -- those of records
 ids-ops_from : (a : Actor) (n : ℕ) (rs : List Record) → map op_id (ops_from a n rs) ≡ ids_from a n (count_of rs)

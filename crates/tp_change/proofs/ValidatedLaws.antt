@@ -1,6 +1,6 @@
 -- No fault is found exactly in what is within the limits and the grammar.
 use Rattle.std.proofs.Common.{◌≡◌, ℕ, ◌+◌, ◌-◌, ◌^◌, ◌<◌, ◌≤◌, min, Bool, true, false, ◌&&◌, List, [], ◌∷◌, length, Some, None, Result, Ok, Err, refl, sym, ap, ◌∙◌, arith, length-append}
-use Rattle.std.specs.Prelude.{encode_utf8_all, nat_lt, nat_le, OnOk, IfErr}
+use Rattle.std.specs.Prelude.{encode_utf8_all, nat_lt, nat_le, OnOk, IfErr, IsTrue}
 use Rattle.std.specs.List.{flat_map, AllByRecursion}
 use Rattle.std.specs.Ordering.{is_lt}
 use Rattle.std.specs.declared.cmp.Ordering.TheVariants.{Less}
@@ -15,13 +15,13 @@ use Rattle.tp_change.specs.declared.error.ChangeError.{ChangeError}
 use Rattle.tp_change.specs.declared.limits.TheConstants.{MAX_BYTES, MAX_OPS, MAX_DEPS, MAX_MESSAGE_BYTES, COUNTERS_END}
 use Rattle.tp_change.specs.declared.error.ChangeError.TheVariants.{Limit, ZeroSeqOrStart, DepsOrder, NoRecords, EmptyRun, OutOfMemory}
 use Rattle.tp_change.specs.declared.record.Record.{Record}
-use Rattle.tp_change.specs.declared.record.Record.TheVariants.{Insert, Delete}
+use Rattle.tp_change.specs.declared.record.Record.TheVariants.{Insert, Delete, DeleteRun}
 use Rattle.tp_change.specs.declared.parts.ChangeParts.{ChangeParts}
 use Rattle.tp_change.specs.Operations.{count_in, count_of}
 use Rattle.tp_change.specs.Spelling.{spelling, spelling_of_record, spelling_of_place}
 use Rattle.tp_change.specs.Limits.{IsRecord, IsTypedRecord, IsTyped, IsChange}
-use Rattle.tp_change.specs.Validated.{unless, ◌and_then◌, is_above, rises_after, validated_deps, validated_record, validated_records, validated_numbers, validated_list, validated}
-use Rattle.tp_change.proofs.Counts.{one-le-count_in, length-le-count_of}
+use Rattle.tp_change.specs.Validated.{is_fault_of_parts, unless, ◌and_then◌, is_above, rises_after, validated_deps, fewest_in, has_targets_within, validated_record, validated_records, validated_numbers, validated_list, validated}
+use Rattle.tp_change.proofs.Counts.{length-le-count_of}
 use Rattle.tp_change.proofs.Lengths.{length_spelling}
 
 -- a test that gave no fault holds
@@ -71,23 +71,38 @@ rises_of (h ∷ hs) rising = rises_from h hs rising.0 rising.1
 
 -- ---- records
 
--- a record without a fault has operations, and they have room
-validated_record_ok : (room : ℕ) (r : Record) → validated_record room r ≡ Ok tt → (0 < count_in r) × (count_in r ≤ room)
+-- a record without a fault has enough operations, they have room, and its targets are within the limit
+validated_record_ok : (room : ℕ) (r : Record) → validated_record room r ≡ Ok tt → (fewest_in r ≤ count_in r) × (count_in r ≤ room) × (has_targets_within r ≡ true)
 validated_record_ok room r h =
     let two = and_ok _ _ h in
-    (ltb-true _ _ (unless_ok _ _ two.0), leb-true _ _ (unless_ok _ _ two.1))
+    let three = and_ok _ _ two.1 in
+    (leb-true _ _ (unless_ok _ _ two.0), leb-true _ _ (unless_ok _ _ three.0), unless_ok _ _ three.1)
+
+-- a record of a change has enough operations
+fewest-le-count_in : (r : Record) → IsRecord r → fewest_in r ≤ count_in r
+fewest-le-count_in (Insert after text) h = h.2
+fewest-le-count_in (Delete target) h = omega arith
+fewest-le-count_in (DeleteRun first count) h = h.1
+
+-- and its targets are within the limit
+targets_within : (r : Record) → IsRecord r → has_targets_within r ≡ true
+targets_within (Insert after text) h = refl
+targets_within (Delete target) h = refl
+targets_within (DeleteRun first count) h = le-leb (first.counter + count) (2 ^ 48) h.2
 
 -- and back
-ok_validated_record : (room : ℕ) (r : Record) → 0 < count_in r → count_in r ≤ room → validated_record room r ≡ Ok tt
-ok_validated_record room r some few =
-    ok_and _ _ (fine (nat_lt 0 (count_in r)) _ (lt-ltb 0 (count_in r) some)) (fine (nat_le (count_in r) room) _ (le-leb (count_in r) room few))
+ok_validated_record : (room : ℕ) (r : Record) → IsRecord r → count_in r ≤ room → validated_record room r ≡ Ok tt
+ok_validated_record room r is few =
+    ok_and _ _ (fine (nat_le (fewest_in r) (count_in r)) _ (le-leb (fewest_in r) (count_in r) (fewest-le-count_in r is)))
+    (ok_and _ _ (fine (nat_le (count_in r) room) _ (le-leb (count_in r) room few)) (fine (has_targets_within r) _ (targets_within r is)))
 
--- a run's text is no longer than its record
-text_in_record : (r : Record) → IsTypedRecord r → 0 < count_in r → length (spelling_of_record r) ≤ 4194304 → IsRecord r
-text_in_record (Insert after text) typed some short =
+-- a typed record without a fault is one of a change: a run's text is no longer than its record
+record_of : (r : Record) → IsTypedRecord r → fewest_in r ≤ count_in r → has_targets_within r ≡ true → length (spelling_of_record r) ≤ 4194304 → IsRecord r
+record_of (Insert after text) typed some within short =
     let parts : length (spelling_of_record (Insert after text)) ≡ 5 + (length (spelling_of_place after) + length (encode_utf8_all text)) = simp length-append (omega arith) in
     (typed.0, record { scalars = typed.1; bytes = omega arith }, some)
-text_in_record (Delete target) typed some short = typed
+record_of (Delete target) typed some within short = typed
+record_of (DeleteRun first count) typed some within short = (typed.0, some, leb-true (first.counter + count) (2 ^ 48) within)
 
 -- records without a fault are records of a change, and all their operations have room
 records_of : (room : ℕ) (rs : List Record) → AllByRecursion IsTypedRecord rs → length (flat_map spelling_of_record rs) ≤ 4194304 → validated_records room rs ≡ Ok tt → AllByRecursion IsRecord rs × (count_of rs ≤ room)
@@ -98,13 +113,13 @@ records_of room (r ∷ rs) typed short h =
     let sum : length (flat_map spelling_of_record (r ∷ rs)) ≡ length (spelling_of_record r) + length (flat_map spelling_of_record rs) =
     ap length (flat_map-cons spelling_of_record r rs) ∙ length-append (spelling_of_record r) (flat_map spelling_of_record rs) in
     let more = records_of (room - count_in r) rs typed.1 (omega arith) two.1 in
-    ((text_in_record r typed.0 first.0 (omega arith), more.0), omega (arith, first.1, more.1))
+    ((record_of r typed.0 first.0 first.2 (omega arith), more.0), omega (arith, first.1, more.1))
 
 -- and back
 ok_records : (room : ℕ) (rs : List Record) → AllByRecursion IsRecord rs → count_of rs ≤ room → validated_records room rs ≡ Ok tt
 ok_records room [] all few = refl
 ok_records room (r ∷ rs) all few =
-    ok_and _ _ (ok_validated_record room r (one-le-count_in r all.0) (omega arith)) (ok_records (room - count_in r) rs all.1 (omega arith))
+    ok_and _ _ (ok_validated_record room r all.0 (omega arith)) (ok_records (room - count_in r) rs all.1 (omega arith))
 
 -- ---- changes
 
@@ -178,61 +193,66 @@ pub on_change : (c : ChangeParts) (r : Result (Unit {0}) ChangeError) → r ≡ 
 on_change c (Ok tt) e typed = change_of c typed (sym e)
 on_change c (Err _) e typed = tt
 
--- ---- memory is no fault of parts
+-- ---- which faults parts have
 
--- no fault of this validation is want of memory
-abbrev pub IsNever : Result (Unit {0}) ChangeError → Type 0
-IsNever r = r ≡ Err OutOfMemory → ⊥
+abbrev OfParts : Result (Unit {0}) ChangeError → Type 0
+OfParts r = IfErr r (λ e. IsTrue (is_fault_of_parts e))
 
-never_and : (a b : Result (Unit {0}) ChangeError) → IsNever a → IsNever b → IsNever (a and_then b)
-never_and (Ok _) b f g h = g h
-never_and (Err e) b f g h = f h
+of_and : (a b : Result (Unit {0}) ChangeError) → OfParts a → OfParts b → OfParts (a and_then b)
+of_and (Ok _) b f g = g
+of_and (Err e) b f g = f
 
-never_unless : (b : Bool) (e : ChangeError) (rest : Result (Unit {0}) ChangeError) → IsNever (Err e) → IsNever rest → IsNever (unless b e and_then rest)
-never_unless true e rest f g h = g h
-never_unless false e rest f g h = f h
+of_last : (b : Bool) (e : ChangeError) → is_fault_of_parts e ≡ true → OfParts (unless b e)
+of_last true e h = tt
+of_last false e h = h
 
-never_last : (b : Bool) (e : ChangeError) → IsNever (Err e) → IsNever (unless b e)
-never_last true e f h = cc
-never_last false e f h = f h
+of_unless : (b : Bool) (e : ChangeError) (rest : Result (Unit {0}) ChangeError) → is_fault_of_parts e ≡ true → OfParts rest → OfParts (unless b e and_then rest)
+of_unless b e rest h g = of_and (unless b e) rest (of_last b e h) g
 
-never_limit : IsNever (Err Limit)
-never_limit h = cc
+of_record : (room : ℕ) (r : Record) → OfParts (validated_record room r)
+of_record room r =
+    let targets = unless (has_targets_within r) Limit in
+    of_unless (nat_le (fewest_in r) (count_in r)) EmptyRun (unless (nat_le (count_in r) room) Limit and_then targets) refl
+    (of_unless (nat_le (count_in r) room) Limit targets refl (of_last (has_targets_within r) Limit refl))
 
-never_record : (room : ℕ) (r : Record) → IsNever (validated_record room r)
-never_record room r = never_unless (nat_lt 0 (count_in r)) EmptyRun (unless (nat_le (count_in r) room) Limit) (λ h. cc) (never_last (nat_le (count_in r) room) Limit never_limit)
+of_records : (room : ℕ) (rs : List Record) → OfParts (validated_records room rs)
+of_records room [] = tt
+of_records room (r ∷ rs) = of_and (validated_record room r) (validated_records (room - count_in r) rs) (of_record room r) (of_records (room - count_in r) rs)
 
-never_records : (room : ℕ) (rs : List Record) → IsNever (validated_records room rs)
-never_records room [] h = cc
-never_records room (r ∷ rs) h = never_and (validated_record room r) (validated_records (room - count_in r) rs) (never_record room r) (never_records (room - count_in r) rs) h
-
-never_list : (start : ℕ) (rs : List Record) → IsNever (validated_list start rs)
-never_list start rs =
+of_list : (start : ℕ) (rs : List Record) → OfParts (validated_list start rs)
+of_list start rs =
     let records = validated_records (min (COUNTERS_END - start) MAX_OPS) rs in
-    never_unless (nat_lt 0 (length rs)) NoRecords (unless (nat_le (length rs) MAX_OPS) Limit and_then records) (λ h. cc)
-    (never_unless (nat_le (length rs) MAX_OPS) Limit records never_limit (never_records (min (COUNTERS_END - start) MAX_OPS) rs))
+    of_unless (nat_lt 0 (length rs)) NoRecords (unless (nat_le (length rs) MAX_OPS) Limit and_then records) refl
+    (of_unless (nat_le (length rs) MAX_OPS) Limit records refl (of_records (min (COUNTERS_END - start) MAX_OPS) rs))
 
-never_deps : (hs : List Hash) → IsNever (validated_deps hs)
-never_deps hs = never_unless (nat_le (length hs) MAX_DEPS) Limit (unless (rises_after None hs) DepsOrder) never_limit (never_last (rises_after None hs) DepsOrder (λ h. cc))
+of_deps : (hs : List Hash) → OfParts (validated_deps hs)
+of_deps hs = of_unless (nat_le (length hs) MAX_DEPS) Limit (unless (rises_after None hs) DepsOrder) refl (of_last (rises_after None hs) DepsOrder refl)
 
-never_numbers : (seq start : ℕ) → IsNever (validated_numbers seq start)
-never_numbers seq start =
+of_numbers : (seq start : ℕ) → OfParts (validated_numbers seq start)
+of_numbers seq start =
     let top = unless (nat_lt start COUNTERS_END) Limit in
-    never_unless (nat_lt 0 seq) ZeroSeqOrStart (unless (nat_lt 0 start) ZeroSeqOrStart and_then top) (λ h. cc)
-    (never_unless (nat_lt 0 start) ZeroSeqOrStart top (λ h. cc) (never_last (nat_lt start COUNTERS_END) Limit never_limit))
+    of_unless (nat_lt 0 seq) ZeroSeqOrStart (unless (nat_lt 0 start) ZeroSeqOrStart and_then top) refl
+    (of_unless (nat_lt 0 start) ZeroSeqOrStart top refl (of_last (nat_lt start COUNTERS_END) Limit refl))
 
-validated_never : (c : ChangeParts) → IsNever (validated c)
+of_parts : (c : ChangeParts) → OfParts (validated c)
 unfolding validated
-validated_never c =
+of_parts c =
     let list = validated_list c.start c.records in
     let deps = validated_deps c.deps and_then list in
     let short = nat_le (length (encode_utf8_all c.message)) MAX_MESSAGE_BYTES in
     let message = unless short Limit and_then deps in
-    never_unless (nat_le (length (spelling c)) MAX_BYTES) Limit (validated_numbers c.seq c.start and_then message) never_limit
-    (never_and (validated_numbers c.seq c.start) message (never_numbers c.seq c.start)
-    (never_unless short Limit deps never_limit (never_and (validated_deps c.deps) list (never_deps c.deps) (never_list c.start c.records))))
+    of_unless (nat_le (length (spelling c)) MAX_BYTES) Limit (validated_numbers c.seq c.start and_then message) refl
+    (of_and (validated_numbers c.seq c.start) message (of_numbers c.seq c.start)
+    (of_unless short Limit deps refl (of_and (validated_deps c.deps) list (of_deps c.deps) (of_list c.start c.records))))
+
+-- what is refused is refused for a fault that parts can have
+pub faults_of_parts : (c : ChangeParts) (r : Result (Unit {0}) ChangeError) → r ≡ validated c → IfErr r (λ e. IsTrue (is_fault_of_parts e))
+faults_of_parts c r h = rw h (of_parts c)
+
+memory_is_none : (e : ChangeError) → is_fault_of_parts e ≡ true → e ≡ OutOfMemory → ⊥
+memory_is_none e h same = let wrong : is_fault_of_parts e ≡ false = ap is_fault_of_parts same in cc
 
 -- no fault of parts is want of memory
 pub never_memory : (c : ChangeParts) (r : Result (Unit {0}) ChangeError) → r ≡ validated c → IfErr r (λ e. e ≡ OutOfMemory → ⊥)
 never_memory c (Ok tt) h = tt
-never_memory c (Err e) h = λ m. validated_never c (sym h ∙ ap Err m)
+never_memory c (Err e) h = memory_is_none e (faults_of_parts c (Err e) h)

@@ -1,7 +1,7 @@
 -- The numbers of the refusals.
 use Rattle.std.specs.Prelude.{ℕ}
 use Rattle.tp_change.specs.declared.error.ChangeError.{ChangeError}
-use Rattle.tp_change.specs.declared.error.ChangeError.TheVariants.{Version, Short, Trailing, ZeroSeqOrStart, BadUtf8, DepsOrder, NoRecords, BadTag, EmptyRun, Limit, OutOfMemory}
+use Rattle.tp_change.specs.declared.error.ChangeError.TheVariants.{Version, Short, Trailing, ZeroSeqOrStart, BadUtf8, DepsOrder, NoRecords, BadTag, EmptyRun, Limit, OutOfMemory, NoRun}
 
 abbrev pub code_of : ChangeError → ℕ
 code_of Version = 1
@@ -15,3 +15,4 @@ code_of BadTag = 8
 code_of EmptyRun = 9
 code_of Limit = 10
 code_of OutOfMemory = 11
+code_of NoRun = 12

@@ -11,7 +11,7 @@ use Rattle.tp_opid.specs.declared.op_id.Place.TheVariants.{Start, After}
 use Rattle.tp_opid.specs.Order.{hash_cmp}
 use Rattle.tp_change.specs.declared.limits.TheConstants.{MAX_BYTES, MAX_OPS, MAX_DEPS, MAX_MESSAGE_BYTES, COUNTERS_END}
 use Rattle.tp_change.specs.declared.record.Record.{Record}
-use Rattle.tp_change.specs.declared.record.Record.TheVariants.{Insert, Delete}
+use Rattle.tp_change.specs.declared.record.Record.TheVariants.{Insert, Delete, DeleteRun}
 use Rattle.tp_change.specs.declared.parts.ChangeParts.{ChangeParts}
 use Rattle.tp_change.specs.Operations.{count_of}
 use Rattle.tp_change.specs.Spelling.{spelling}
@@ -40,10 +40,12 @@ pub record IsText (limit : ℕ) (text : List ℕ) : Type 0 where
   pub scalars : all_scalars text ≡ true
   pub bytes : length (encode_utf8_all text) ≤ limit
 
--- An insert run has a character at least.
+-- An insert run has a character at least. A run of deletes has two deletes at least, and the last target's counter is at
+-- most 2^48 - 1.
 abbrev pub IsRecord : Record → Type 0
 IsRecord (Insert after text) = IsPlace after × IsText MAX_BYTES text × (0 < length text)
 IsRecord (Delete target) = IsId target
+IsRecord (DeleteRun first count) = IsId first × (2 ≤ count) × (first.counter + count ≤ COUNTERS_END)
 
 -- A change within the limits and the grammar: all that has a spelling.
 pub record IsChange (c : ChangeParts) : Type 0 where
@@ -67,6 +69,7 @@ pub record IsChange (c : ChangeParts) : Type 0 where
 abbrev pub IsTypedRecord : Record → Type 0
 IsTypedRecord (Insert after text) = IsPlace after × (all_scalars text ≡ true)
 IsTypedRecord (Delete target) = IsId target
+IsTypedRecord (DeleteRun first count) = IsId first × (count < 2 ^ 32)
 
 -- what the types of a program say of the parts of a change
 pub record IsTyped (c : ChangeParts) : Type 0 where

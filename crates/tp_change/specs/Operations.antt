@@ -1,5 +1,5 @@
 -- The operations of a change (Automerge's operation identifiers: a counter and an actor).
-use Rattle.std.specs.Prelude.{ℕ, ◌+◌, List, [], ◌∷◌, ◌++◌, length}
+use Rattle.std.specs.Prelude.{ℕ, zero, suc, ◌+◌, List, [], ◌∷◌, ◌++◌, length}
 use Rattle.tp_opid.specs.declared.actor.Actor.{Actor}
 use Rattle.tp_opid.specs.declared.op_id.OpId.{OpId}
 use Rattle.tp_opid.specs.declared.op_id.Place.{Place}
@@ -10,10 +10,11 @@ use Rattle.tp_change.specs.declared.op.Op.{Op}
 use Rattle.tp_change.specs.declared.op.Op.TheVariants as op_of
 use Rattle.tp_change.specs.declared.parts.ChangeParts.{ChangeParts}
 
--- how many operations a record is: one for each inserted character, one for a delete
+-- how many operations a record is: one for each inserted character, one for each delete
 abbrev pub count_in : Record → ℕ
 count_in (record_of.Insert after text) = length text
 count_in (record_of.Delete target) = 1
+count_in (record_of.DeleteRun first count) = count
 
 -- how many operations the records are
 abbrev pub count_of : List Record → ℕ
@@ -30,10 +31,17 @@ abbrev pub run : Actor → ℕ → Place → List ℕ → List Op
 run actor n after [] = []
 run actor n after (ch ∷ text) = op_of.Insert (id_of actor n) after ch ∷ run actor (n + 1) (After (id_of actor n)) text
 
+-- So many deletes whose first counter is n: the first deletes the target, each later one the element of the same actor
+-- with the next counter.
+abbrev pub deletes_from : Actor → ℕ → OpId → ℕ → List Op
+deletes_from actor n target zero = []
+deletes_from actor n target (suc count) = op_of.Delete (id_of actor n) target ∷ deletes_from actor (n + 1) (id_of target.actor (target.counter + 1)) count
+
 -- the operations of a record whose first counter is n
 abbrev pub ops_in : Actor → ℕ → Record → List Op
 ops_in actor n (record_of.Insert after text) = run actor n after text
 ops_in actor n (record_of.Delete target) = op_of.Delete (id_of actor n) target ∷ []
+ops_in actor n (record_of.DeleteRun first count) = deletes_from actor n first count
 
 -- the operations of records whose first counter is n: the counters run on from record to record
 abbrev pub ops_from : Actor → ℕ → List Record → List Op

@@ -5,14 +5,15 @@ use Rattle.std.specs.Str.{chars}
 use Rattle.tp_change.specs.declared.limits.TheConstants.{COUNTERS_END}
 use Rattle.tp_change.specs.declared.op.Op.{Op}
 use Rattle.tp_change.specs.declared.ops.Walk.{Walk}
-use Rattle.tp_change.specs.Operations.{count_of, run, ops_from}
+use Rattle.tp_change.specs.Operations.{count_of, run, deletes_from, ops_from}
 use Rattle.tp_change.specs.Limits.{IsRecord}
 
--- those of the run that the walk stands in, and those of the records after it
+-- those of the text that the walk is in, then those of its run of deletes, then those of the records after it
 abbrev pub ops_left : Walk → List Op
-ops_left w = run w.actor w.counter w.after (chars w.text.now) ++ ops_from w.actor (w.counter + length (chars w.text.now)) w.records.now
+ops_left w = run w.actor w.counter w.after (chars w.text.now) ++ (deletes_from w.actor (w.counter + length (chars w.text.now)) w.target w.deletes ++ ops_from w.actor (w.counter + length (chars w.text.now) + w.deletes) w.records.now)
 
 -- no counter that is to come passes its limit
 pub record IsWalk (w : Walk) : Type 0 where
   pub records : AllByRecursion IsRecord w.records.now
-  pub counters : w.counter + length (chars w.text.now) + count_of w.records.now ≤ COUNTERS_END
+  pub counters : w.counter + length (chars w.text.now) + w.deletes + count_of w.records.now ≤ COUNTERS_END
+  pub targets : w.target.counter + w.deletes ≤ COUNTERS_END

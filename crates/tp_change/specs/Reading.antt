@@ -1,6 +1,6 @@
 -- Reading the bytes of a change from left to right, field by field: the first fault, and at one field the one with
 -- the lowest number.
-use Rattle.std.specs.Prelude.{ℕ, zero, suc, ◌-◌, min, List, length, Bool, true, Option, Some, None, Result, Ok, Err, nat_lt, nat_le, ◌==◌, if◌then◌else◌}
+use Rattle.std.specs.Prelude.{ℕ, zero, suc, ◌+◌, ◌-◌, min, List, length, Bool, true, Option, Some, None, Result, Ok, Err, nat_lt, nat_le, ◌==◌, ◌||◌, if◌then◌else◌}
 use Rattle.std.specs.Int.{w16, w32, w64}
 use Rattle.std.specs.Ordering.{is_lt}
 use Rattle.tp_codec.specs.Prefix.{byte_at, bytes_at, number_at}
@@ -13,17 +13,19 @@ use Rattle.tp_opid.specs.declared.op_id.Place.TheVariants.{Start, After}
 use Rattle.tp_opid.specs.Order.{hash_cmp}
 use Rattle.tp_change.specs.declared.limits.TheConstants.{MAX_BYTES, MAX_OPS, COUNTERS_END}
 use Rattle.tp_change.specs.declared.error.ChangeError.{ChangeError}
-use Rattle.tp_change.specs.declared.error.ChangeError.TheVariants.{Version, Short, Trailing, ZeroSeqOrStart, BadUtf8, DepsOrder, NoRecords, BadTag, EmptyRun, Limit}
+use Rattle.tp_change.specs.declared.error.ChangeError.TheVariants.{Version, Short, Trailing, ZeroSeqOrStart, BadUtf8, DepsOrder, NoRecords, BadTag, EmptyRun, Limit, NoRun}
 use Rattle.tp_change.specs.declared.record.Record.{Record}
-use Rattle.tp_change.specs.declared.record.Record.TheVariants.{Insert, Delete}
+use Rattle.tp_change.specs.declared.record.Record.TheVariants.{Insert, Delete, DeleteRun}
 use Rattle.tp_change.specs.declared.parts.ChangeParts.{ChangeParts}
 use Rattle.tp_change.specs.Operations.{count_in}
+use Rattle.tp_change.specs.Spelling.{version_of}
 
--- the version byte is 1
-unfoldable pub version_at : Reads ChangeError (Unit {0})
+-- the version byte: 1, or 2 with runs of deletes
+unfoldable pub version_at : Reads ChangeError ℕ
 version_at = do
   version ← or_fail Short byte_at
-  require (version == 1) Version
+  require (version == 1 || version == 2) Version
+  give version
 
 -- 16 bytes
 unfoldable pub actor_at : Reads ChangeError Actor
@@ -109,28 +111,40 @@ delete_at room = do
   target ← id_at
   give (Delete target)
 
--- what follows a record's tag
-unfoldable pub record_after_tag : ℕ → ℕ → Reads ChangeError Record
-record_after_tag room zero = fail BadTag
-record_after_tag room (suc zero) = insert_at room
-record_after_tag room (suc (suc zero)) = delete_at room
-record_after_tag room (suc (suc (suc tag))) = fail BadTag
+-- a run of deletes, where the version has them
+unfoldable pub delete_run_at : Bool → ℕ → Reads ChangeError Record
+delete_run_at runs room = do
+  require runs BadTag
+  first ← id_at
+  count ← or_fail Short (number_at w32)
+  require (nat_le 2 count) EmptyRun
+  require (nat_le count room) Limit
+  require (nat_le (first.counter + count) COUNTERS_END) Limit
+  give (DeleteRun first count)
 
-unfoldable pub record_at : ℕ → Reads ChangeError Record
-record_at room = do
+-- what follows a record's tag, where runs says whether the version has runs of deletes
+unfoldable pub record_after_tag : Bool → ℕ → ℕ → Reads ChangeError Record
+record_after_tag runs room zero = fail BadTag
+record_after_tag runs room (suc zero) = insert_at room
+record_after_tag runs room (suc (suc zero)) = delete_at room
+record_after_tag runs room (suc (suc (suc zero))) = delete_run_at runs room
+record_after_tag runs room (suc (suc (suc (suc tag)))) = fail BadTag
+
+unfoldable pub record_at : Bool → ℕ → Reads ChangeError Record
+record_at runs room = do
   tag ← or_fail Short byte_at
-  record_after_tag room tag
+  record_after_tag runs room tag
 
 abbrev pub room_after : ℕ → Record → ℕ
 room_after room r = room - count_in r
 
 -- a count and the records
-unfoldable pub records_at : ℕ → Reads ChangeError (List Record)
-records_at room = do
+unfoldable pub records_at : Bool → ℕ → Reads ChangeError (List Record)
+records_at runs room = do
   count ← or_fail Short (number_at w32)
   require (nat_le 1 count) NoRecords
   require (nat_le count MAX_OPS) Limit
-  repeat_at record_at room_after count room
+  repeat_at (record_at runs) room_after count room
 
 -- How many operations a change may have whose first counter is start: at most 65,536, the last counter at most
 -- 2^48 - 1.
@@ -138,27 +152,32 @@ abbrev pub room_from : ℕ → ℕ
 room_from start = min MAX_OPS (COUNTERS_END - start)
 
 -- all that follows the version
-unfoldable pub parts_at : Reads ChangeError ChangeParts
-parts_at = do
+unfoldable pub parts_at : Bool → Reads ChangeError ChangeParts
+parts_at runs = do
   actor ← actor_at
   seq ← seq_at
   start ← start_at
   time ← or_fail Short (number_at w64)
   message ← text_at Short BadUtf8 w16
   deps ← deps_at
-  records ← records_at (room_from start)
+  records ← records_at runs (room_from start)
   give (record { actor = actor; seq = seq; start = start; time = time; message = message; deps = deps; records = records })
 
--- a change at the start of size bytes
-unfoldable pub sized_at : ℕ → Reads ChangeError ChangeParts
+-- a version and the parts at the start of size bytes
+unfoldable pub sized_at : ℕ → Reads ChangeError (ℕ × ChangeParts)
 sized_at size = do
-  version_at
+  version ← version_at
   require (nat_le size MAX_BYTES) Limit
-  parts_at
+  parts ← parts_at (version == 2)
+  give (version, parts)
 
--- Nothing follows.
-unfoldable pub ended : {X : Type 0} → Result (X × List ℕ) ChangeError → Result X ChangeError
-ended (Ok x) = if length x.1 == 0 then Ok x.0 else Err Trailing
+-- The version is that of the records. Where it was read with them, the one that isn't is 2 where none is a run.
+unfoldable pub versioned : ℕ × ChangeParts → Result ChangeParts ChangeError
+versioned x = if x.0 == version_of x.1.records then Ok x.1 else Err NoRun
+
+-- Nothing follows, and then the version is that of the records.
+unfoldable pub ended : Result ((ℕ × ChangeParts) × List ℕ) ChangeError → Result ChangeParts ChangeError
+ended (Ok x) = if length x.1 == 0 then versioned x.0 else Err Trailing
 ended (Err e) = Err e
 
 -- the change that the bytes are, or the first fault

@@ -1,5 +1,5 @@
 -- What is wrong with the parts of a change: the whole size first, and then the first fault in the order of the fields.
-use Rattle.std.specs.Prelude.{ℕ, ◌-◌, ◌&&◌, nat_le, nat_lt, min, Bool, true, List, [], ◌∷◌, length, encode_utf8_all, Option, Some, None, Result, Ok, Err, if◌then◌else◌}
+use Rattle.std.specs.Prelude.{ℕ, ◌+◌, ◌-◌, ◌&&◌, nat_le, nat_lt, min, Bool, true, List, [], ◌∷◌, length, encode_utf8_all, Option, Some, None, Result, Ok, Err, false, if◌then◌else◌}
 use Rattle.std.specs.Ordering.{is_lt}
 use Rattle.tp_opid.specs.declared.hash.Hash.{Hash}
 use Rattle.tp_opid.specs.Order.{hash_cmp}
@@ -7,9 +7,19 @@ use Rattle.tp_change.specs.declared.limits.TheConstants.{MAX_BYTES, MAX_OPS, MAX
 use Rattle.tp_change.specs.declared.error.ChangeError.{ChangeError}
 use Rattle.tp_change.specs.declared.error.ChangeError.TheVariants.{ZeroSeqOrStart, DepsOrder, NoRecords, EmptyRun, Limit}
 use Rattle.tp_change.specs.declared.record.Record.{Record}
+use Rattle.tp_change.specs.declared.record.Record.TheVariants.{Insert, Delete, DeleteRun}
 use Rattle.tp_change.specs.declared.parts.ChangeParts.{ChangeParts}
 use Rattle.tp_change.specs.Operations.{count_in}
 use Rattle.tp_change.specs.Spelling.{spelling}
+
+-- the faults that the parts of a change can have
+abbrev pub is_fault_of_parts : ChangeError → Bool
+is_fault_of_parts ZeroSeqOrStart = true
+is_fault_of_parts DepsOrder = true
+is_fault_of_parts NoRecords = true
+is_fault_of_parts EmptyRun = true
+is_fault_of_parts Limit = true
+is_fault_of_parts e = false
 
 -- the fault, unless the test holds
 abbrev pub unless : Bool → ChangeError → Result (Unit {0}) ChangeError
@@ -35,9 +45,22 @@ rises_after before (h ∷ hs) = is_above before h && rises_after (Some h) hs
 abbrev pub validated_deps : List Hash → Result (Unit {0}) ChangeError
 validated_deps hs = unless (nat_le (length hs) MAX_DEPS) Limit and_then unless (rises_after None hs) DepsOrder
 
--- where room is how many operations may still come: a run has a character, and the operations have room
+-- the fewest operations of a record: two of a run of deletes
+abbrev pub fewest_in : Record → ℕ
+fewest_in (Insert after text) = 1
+fewest_in (Delete target) = 1
+fewest_in (DeleteRun first count) = 2
+
+-- no target of a run of deletes has a counter past 2^48 - 1
+abbrev pub has_targets_within : Record → Bool
+has_targets_within (Insert after text) = true
+has_targets_within (Delete target) = true
+has_targets_within (DeleteRun first count) = nat_le (first.counter + count) COUNTERS_END
+
+-- where room is how many operations may still come: a run isn't too short, the operations have room, and the counters
+-- of a run's targets are within the limit
 abbrev pub validated_record : ℕ → Record → Result (Unit {0}) ChangeError
-validated_record room r = unless (nat_lt 0 (count_in r)) EmptyRun and_then unless (nat_le (count_in r) room) Limit
+validated_record room r = unless (nat_le (fewest_in r) (count_in r)) EmptyRun and_then unless (nat_le (count_in r) room) Limit and_then unless (has_targets_within r) Limit
 
 -- each record in turn
 abbrev pub validated_records : ℕ → List Record → Result (Unit {0}) ChangeError

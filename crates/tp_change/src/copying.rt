@@ -29,6 +29,10 @@ fn copy_record(alloc: Global, entry: &Record) -> Result<Record, ChangeError>
             text: copy_text(alloc, text)?,
         },
         Record::Delete { target } => Record::Delete { target: *target },
+        Record::DeleteRun { first, count } => Record::DeleteRun {
+            first: *first,
+            count: *count,
+        },
     })
 }
 

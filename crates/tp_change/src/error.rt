@@ -10,7 +10,7 @@ use thiserror::Error;
 /// What is wrong with the bytes or the parts of a change, or that a growth was refused.
 #[derive(Clone, Copy, Debug, PartialEq, Eq, Error)]
 pub enum ChangeError {
-    /// The version byte isn't 1.
+    /// The version byte is neither 1 nor 2.
     #[error("Version")]
     Version,
     /// A field isn't whole.
@@ -31,19 +31,22 @@ pub enum ChangeError {
     /// There is no record.
     #[error("NoRecords")]
     NoRecords,
-    /// A record's or a reference's tag is unknown.
+    /// A record's or a reference's tag is unknown to the version.
     #[error("BadTag")]
     BadTag,
-    /// An insert run has no byte.
+    /// An insert run has no byte, or a run of deletes fewer than two.
     #[error("EmptyRun")]
     EmptyRun,
-    /// A limit is passed: 4,194,304 bytes, 65,536 operations, counters of 2^48 - 1, 65,535 dependencies or
-    /// message bytes.
+    /// A limit is passed: 4,194,304 bytes, 65,536 operations, counters of 2^48 - 1, also those that a run deletes,
+    /// 65,535 dependencies or message bytes.
     #[error("Limit")]
     Limit,
     /// A growth was refused.
     #[error("OutOfMemory")]
     OutOfMemory,
+    /// The version is 2, and no record is a run of deletes.
+    #[error("NoRun")]
+    NoRun,
 }
 
 impl ChangeError {
@@ -63,6 +66,7 @@ impl ChangeError {
             ChangeError::EmptyRun => 9,
             ChangeError::Limit => 10,
             ChangeError::OutOfMemory => 11,
+            ChangeError::NoRun => 12,
         }
     }
 }

@@ -55,5 +55,9 @@ pub(crate) fn ops_in(entry: &Record) -> usize
             of_id(target);
             1
         }
+        Record::DeleteRun { first, count } => {
+            of_id(first);
+            *count as usize
+        }
     }
 }

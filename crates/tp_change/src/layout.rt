@@ -1,16 +1,16 @@
 //! Laws of the layout, each as a function that does nothing and whose contract is the law.
 //!
-//! Bytes are a change's in one way, a change's bytes begin no other change's, and a refusal other than `Short` is
-//! about a prefix of the bytes, whatever follows it. By [`Change::decode`](crate::Change::decode)'s contract they
+//! Bytes are a change's in one way, a change's bytes begin no other change's, and a refusal other than `Short` and
+//! `NoRun` is about a prefix of the bytes, whatever follows it. By [`Change::decode`](crate::Change::decode)'s contract they
 //! are laws of what it answers.
 
-ghost use Rattle.std.specs.Prelude.{◌≡◌, ℕ, ◌<◌, ◌≤◌, List, [], ◌++◌, length, slice_index, Err};
+ghost use Rattle.std.specs.Prelude.{◌≡◌, ◌↔◌, ℕ, ◌<◌, ◌≤◌, List, [], ◌++◌, length, slice_index, Err};
 ghost use Rattle.tp_change.specs.declared.limits.TheConstants.{MAX_BYTES};
 ghost use Rattle.tp_change.specs.declared.parts.ChangeParts.{ChangeParts};
 ghost use Rattle.tp_change.specs.declared.error.ChangeError.{ChangeError};
-ghost use Rattle.tp_change.specs.declared.error.ChangeError.TheVariants.{Short};
+ghost use Rattle.tp_change.specs.declared.error.ChangeError.TheVariants.{Short, NoRun};
 ghost use Rattle.tp_change.specs.ChangeHash.{hash_of};
-ghost use Rattle.tp_change.specs.Faults.{HasFaultyPrefix};
+ghost use Rattle.tp_change.specs.Faults.{HasFaultyPrefix, IsVersion2WithoutRun};
 ghost use Rattle.tp_change.specs.Limits.{IsChange, IsHash};
 ghost use Rattle.tp_change.specs.Reading.{change_at};
 ghost use Rattle.tp_change.specs.Spelling.{spelling};
@@ -33,13 +33,20 @@ pub fn sizes()
     ensures hash { (c : ChangeParts) → IsHash (hash_of c) }
 {}
 
-/// Where bytes within the size limit are refused for another reason than missing bytes, a prefix of them is to
-/// blame: no change's bytes begin with it, each shorter prefix is a change or only misses bytes, and all bytes within
-/// the limit that begin with it are refused for the same reason.
+/// Where bytes within the size limit are refused for another reason than missing bytes or a missing run of deletes,
+/// a prefix of them is to blame: no change's bytes begin with it, each shorter prefix is a change or only misses bytes
+/// or a run, and all bytes within the limit that begin with it are refused for the same reason.
 pub fn a_prefix_is_faulty()
     ensures { (bytes : List ℕ) (e : ChangeError) → ((i : ℕ) → slice_index bytes i < 256)
         → length bytes ≤ MAX_BYTES → change_at bytes ≡ Err e → (e ≡ Short → ⊥)
-        → HasFaultyPrefix bytes e }
+        → (e ≡ NoRun → ⊥) → HasFaultyPrefix bytes e }
+{}
+
+/// Bytes are refused as `NoRun` exactly where they are those of a change without a run of deletes but for the
+/// version, which is 2 in place of 1.
+pub fn no_run_says_the_version_alone()
+    ensures { (bytes : List ℕ) → ((i : ℕ) → slice_index bytes i < 256)
+        → (change_at bytes ≡ Err NoRun) ↔ IsVersion2WithoutRun bytes }
 {}
 
 /// Where bytes within the size limit are refused as `Short`, nothing is wrong with any prefix of them but that bytes

@@ -22,6 +22,7 @@ mod record;
 mod sink;
 mod size;
 mod validating;
+mod version;
 mod writing;
 
 pub use change::Change;

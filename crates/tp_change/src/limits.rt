@@ -1,5 +1,8 @@
 //! The limits of a change. Definitions and contracts name the same constants.
 
+ghost use Rattle.std.specs.Prelude.{◌≡◌, ◌+◌, nat_le};
+ghost use Rattle.tp_change.specs.declared.limits.TheConstants.{COUNTERS_END};
+
 /// The most bytes that a change is spelled with.
 pub const MAX_BYTES: usize = 4_194_304;
 
@@ -14,3 +17,13 @@ pub const MAX_MESSAGE_BYTES: usize = 65_535;
 
 /// One past the last counter.
 pub const COUNTERS_END: u64 = 1 << 48;
+
+/// The fewest deletes of a run.
+pub(crate) const FEWEST_DELETES: u32 = 2;
+
+/// Whether so many counters in a row, from the first on, are at most 2^48 - 1.
+pub(crate) fn are_counters(first: u64, count: u32) -> bool
+    ensures { result ≡ nat_le (first + count) COUNTERS_END }
+{
+    first <= COUNTERS_END - count as u64
+}

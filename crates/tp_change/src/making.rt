@@ -1,8 +1,8 @@
 //! Making changes.
 
-ghost use Rattle.std.specs.Prelude.{◌≡◌, Ok, Err, IsOk, IfOk, IfErr, MatchResult};
+ghost use Rattle.std.specs.Prelude.{◌≡◌, Ok, Err, IsOk, IsTrue, IfOk, IfErr, MatchResult};
 ghost use Rattle.tp_change.specs.ChangeHash.{hash_of};
-ghost use Rattle.tp_change.specs.Validated.{validated};
+ghost use Rattle.tp_change.specs.Validated.{is_fault_of_parts, validated};
 ghost use Rattle.tp_change.specs.Limits.{IsChange};
 ghost use Rattle.tp_change.specs.declared.error.ChangeError.TheVariants.{OutOfMemory};
 
@@ -35,8 +35,9 @@ impl Change {
     /// order of the fields. `ZeroSeqOrStart` where the sequence number or the start is 0; `Limit` where the start
     /// is past 2^48 - 1, where the message has more than 65,535 bytes, or where there are more than 65,535
     /// dependencies; `DepsOrder` where these don't rise strictly; `NoRecords`; `Limit` for more than 65,536
-    /// records; and at a record `EmptyRun` where its run has no character, and `Limit` where with it the
-    /// operations are more than 65,536 or the last counter is past 2^48 - 1. It takes no memory and never answers
+    /// records; and at a record `EmptyRun` where its run has no character or fewer than two deletes, and `Limit`
+    /// where with it the operations are more than 65,536, or a counter is past 2^48 - 1, be it of an operation or of
+    /// an element that a run deletes. No other refusal is answered. It takes no memory, and so never answers
     /// `OutOfMemory`: the change keeps the allocator for what is made of it later.
     ///
     /// The cost is that of going over the parts twice, and of hashing their bytes.
@@ -45,6 +46,7 @@ impl Change {
         ensures only { IsChange parts → IsOk result }
         ensures exact { MatchResult result (λ _. validated parts ≡ Ok tt)
             (λ e. validated parts ≡ Err e) }
+        ensures faults { IfErr result (λ e. IsTrue (is_fault_of_parts e)) }
         ensures memory { IfErr result (λ e. e ≡ OutOfMemory → ⊥) }
     {
         validate(&parts)?;

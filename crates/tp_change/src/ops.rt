@@ -13,13 +13,16 @@ use crate::record::Record;
 use std::marker::Model;
 use tp_opid::{Actor, OpId, Place};
 
-/// Where a walk stands: in a run, before its next character, with the records after it.
+/// Where a walk is: in a run of characters, before the next one, then in a run of deletes, before the next target,
+/// with the records after them.
 #[derive(Drop)]
 struct Walk<'a> {
     actor: Actor,
     counter: u64,
     after: Place,
     text: &'a str,
+    target: OpId,
+    deletes: u32,
     records: &'a [Record],
 }
 
@@ -62,6 +65,24 @@ fn next_of_run(walk: &mut Walk) -> Option<Op>
     Some(Op::Insert { id, after, ch })
 }
 
+/// The next delete of the run of deletes that the walk is in, where no character is left.
+fn next_of_deletes(walk: &mut Walk) -> Option<Op>
+    requires walk { IsWalk walk.old }
+    requires no_text { chars walk.old.text.now ≡ [] }
+    ensures gives { MatchOption result ((walk.old.deletes ≡ 0) × (walk.new ≡ walk.old))
+        (λ op. ops_left walk.old ≡ op ∷ ops_left walk.new) }
+    ensures keeps { IsWalk walk.new }
+{
+    if walk.deletes == 0 {
+        return None;
+    }
+    let target = walk.target;
+    walk.target.counter += 1;
+    walk.deletes -= 1;
+    let id = next_id(walk);
+    Some(Op::Delete { id, target })
+}
+
 /// The next operation.
 fn next_of_walk(walk: &mut Walk) -> Option<Op>
     requires { IsWalk walk.old }
@@ -71,9 +92,12 @@ fn next_of_walk(walk: &mut Walk) -> Option<Op>
     if let Some(op) = next_of_run(walk) {
         return Some(op);
     }
-    let (first, rest) = walk.records.split_first()?;
+    if let Some(op) = next_of_deletes(walk) {
+        return Some(op);
+    }
+    let (entry, rest) = walk.records.split_first()?;
     walk.records = rest;
-    match first {
+    match entry {
         Record::Insert { after, text } => {
             walk.after = *after;
             walk.text = text.as_str();
@@ -85,6 +109,11 @@ fn next_of_walk(walk: &mut Walk) -> Option<Op>
                 id,
                 target: *target,
             })
+        }
+        Record::DeleteRun { first, count } => {
+            walk.target = *first;
+            walk.deletes = *count;
+            next_of_deletes(walk)
         }
     }
 }
@@ -133,6 +162,11 @@ impl Change {
                 counter: self.parts.start,
                 after: Place::Start,
                 text: "",
+                target: OpId {
+                    counter: 0,
+                    actor: self.parts.actor,
+                },
+                deletes: 0,
                 records: self.parts.records.as_slice(),
             },
         }

@@ -3,7 +3,7 @@
 //! Every function takes its field from the start of a reader, and says which field of specs/Reading that is. The
 //! first fault is the refusal. Nothing is reserved for a count or a length: elements are pushed as they are read,
 //! and a text is copied once, when its bytes are there.
-#![tactic(auto, unfolding(tp_codec::specs::Reading::or_fail, tp_codec::specs::Reading::found_or, tp_codec::specs::Reading::and_then, tp_codec::specs::Reading::and_next, tp_codec::specs::Reading::give, tp_codec::specs::Reading::require, tp_codec::specs::Reading::passed, tp_codec::specs::Reading::characters_at, tp_codec::specs::Reading::text_at, tp_codec::specs::Reading::fail, crate::specs::Reading::actor_at, crate::specs::Reading::hash_at, crate::specs::Reading::id_at, crate::specs::Reading::version_at, crate::specs::Reading::seq_at, crate::specs::Reading::start_at, crate::specs::Reading::dep_at, crate::specs::Reading::deps_at, crate::specs::Reading::place_after_tag, crate::specs::Reading::place_at, crate::specs::Reading::insert_at, crate::specs::Reading::delete_at, crate::specs::Reading::record_after_tag, crate::specs::Reading::record_at, crate::specs::Reading::records_at, crate::specs::Reading::parts_at, crate::specs::Reading::sized_at, crate::specs::Reading::change_at, crate::specs::Reading::ended))]
+#![tactic(auto, unfolding(tp_codec::specs::Reading::or_fail, tp_codec::specs::Reading::found_or, tp_codec::specs::Reading::and_then, tp_codec::specs::Reading::and_next, tp_codec::specs::Reading::give, tp_codec::specs::Reading::require, tp_codec::specs::Reading::passed, tp_codec::specs::Reading::characters_at, tp_codec::specs::Reading::text_at, tp_codec::specs::Reading::fail, crate::specs::Reading::actor_at, crate::specs::Reading::hash_at, crate::specs::Reading::id_at, crate::specs::Reading::version_at, crate::specs::Reading::seq_at, crate::specs::Reading::start_at, crate::specs::Reading::dep_at, crate::specs::Reading::deps_at, crate::specs::Reading::place_after_tag, crate::specs::Reading::place_at, crate::specs::Reading::insert_at, crate::specs::Reading::delete_at, crate::specs::Reading::delete_run_at, crate::specs::Reading::record_after_tag, crate::specs::Reading::record_at, crate::specs::Reading::records_at, crate::specs::Reading::parts_at, crate::specs::Reading::sized_at))]
 
 ghost use Rattle.std.specs.Prelude.{◌≡◌, ◌-◌, List, length, true, false, None, Ok, IfOk, IfErr};
 ghost use Rattle.std.specs.Str.{is_utf8};
@@ -19,13 +19,14 @@ ghost use Rattle.tp_change.specs.Limits.{IsChange};
 ghost use Rattle.tp_change.specs.Spelling.{spelling};
 ghost use Rattle.tp_change.specs.declared.parts.ChangeParts.{ChangeParts};
 ghost use Rattle.tp_change.specs.Gives.{Gives};
-ghost use Rattle.tp_change.specs.Reading.{actor_at, hash_at, id_at, version_at, seq_at, start_at, rises, dep_at, next_before, room_after, deps_at, place_after_tag, place_at, insert_at, delete_at, record_after_tag, record_at, records_at, room_from, parts_at, sized_at, change_at};
+ghost use Rattle.tp_change.specs.Reading.{actor_at, hash_at, id_at, version_at, seq_at, start_at, rises, dep_at, next_before, room_after, deps_at, place_after_tag, place_at, insert_at, delete_at, delete_run_at, record_after_tag, record_at, records_at, room_from, parts_at, sized_at, change_at};
 
 use crate::change::Change;
 use crate::error::ChangeError;
-use crate::limits::{COUNTERS_END, MAX_BYTES, MAX_OPS};
+use crate::limits::{COUNTERS_END, FEWEST_DELETES, MAX_BYTES, MAX_OPS, are_counters};
 use crate::parts::ChangeParts;
 use crate::record::Record;
+use crate::version::version_of;
 use sha2::{Digest, Sha256};
 use std::alloc::Global;
 use std::cmp::Ordering;
@@ -143,14 +144,14 @@ fn run_of(alloc: Global, reader: &mut Reader<'_>) -> Result<Text, ChangeError>
     characters_of(alloc, reader, count as usize)
 }
 
-fn version_of(reader: &mut Reader<'_>) -> Result<(), ChangeError>
-    ensures { Gives (λ _. (tt, reader.new)) result (version_at reader.old) }
+fn version_byte_of(reader: &mut Reader<'_>) -> Result<u8, ChangeError>
+    ensures { Gives (λ v. (v, reader.new)) result (version_at reader.old) }
 {
     let version = byte_of(reader)?;
-    if version != 1 {
+    if version != 1 && version != 2 {
         return Err(ChangeError::Version);
     }
-    Ok(())
+    Ok(version)
 }
 
 fn seq_of(reader: &mut Reader<'_>) -> Result<u64, ChangeError>
@@ -273,18 +274,47 @@ fn delete_of(reader: &mut Reader<'_>, room: usize) -> Result<(Record, usize), Ch
 }
 
 // The record, and how many operations may still come after it.
+fn delete_run_of(
+    reader: &mut Reader<'_>,
+    runs: bool,
+    room: usize,
+) -> Result<(Record, usize), ChangeError>
+    ensures record { Gives (λ x. (x.0, reader.new)) result (delete_run_at runs room reader.old) }
+    ensures room { IfOk result (λ x. x.1 ≡ room_after room x.0) }
+{
+    if !runs {
+        return Err(ChangeError::BadTag);
+    }
+    let first = id_of(reader)?;
+    let count = u32_of(reader)?;
+    if count < FEWEST_DELETES {
+        return Err(ChangeError::EmptyRun);
+    }
+    if count as usize > room {
+        return Err(ChangeError::Limit);
+    }
+    if !are_counters(first.counter, count) {
+        return Err(ChangeError::Limit);
+    }
+    Ok((Record::DeleteRun { first, count }, room - count as usize))
+}
+
+// The record, and how many operations may still come after it.
 fn record_behind_tag(
     alloc: Global,
     reader: &mut Reader<'_>,
+    runs: bool,
     room: usize,
     tag: u8,
 ) -> Result<(Record, usize), ChangeError>
-    ensures record { Gives (λ x. (x.0, reader.new)) result (record_after_tag room tag reader.old) }
+    ensures record { Gives (λ x. (x.0, reader.new)) result
+        (record_after_tag runs room tag reader.old) }
     ensures room { IfOk result (λ x. x.1 ≡ room_after room x.0) }
 {
     match tag {
         1 => insert_of(alloc, reader, room),
         2 => delete_of(reader, room),
+        3 => delete_run_of(reader, runs, room),
         _ => Err(ChangeError::BadTag),
     }
 }
@@ -293,29 +323,31 @@ fn record_behind_tag(
 fn record_of(
     alloc: Global,
     reader: &mut Reader<'_>,
+    runs: bool,
     room: usize,
 ) -> Result<(Record, usize), ChangeError>
-    ensures record { Gives (λ x. (x.0, reader.new)) result (record_at room reader.old) }
+    ensures record { Gives (λ x. (x.0, reader.new)) result (record_at runs room reader.old) }
     ensures room { IfOk result (λ x. x.1 ≡ room_after room x.0) }
 {
     let tag = byte_of(reader)?;
-    record_behind_tag(alloc, reader, room, tag)
+    record_behind_tag(alloc, reader, runs, room, tag)
 }
 
 fn counted_records_of(
     alloc: Global,
     reader: &mut Reader<'_>,
+    runs: bool,
     count: u32,
     room: usize,
 ) -> Result<Vec<Record>, ChangeError>
     ensures { Gives (λ v. (v.items, reader.new)) result
-        (repeat_at record_at room_after count room reader.old) }
+        (repeat_at (record_at runs) room_after count room reader.old) }
 {
     let most = (count as usize).min(reader.len() / SMALLEST_RECORD);
     let mut records = Vec::with_capacity(alloc, most)?;
     let mut left = room;
     for _ in 0..count {
-        let (record, after) = record_of(alloc, reader, left)?;
+        let (record, after) = record_of(alloc, reader, runs, left)?;
         records.push(record)?;
         left = after;
     }
@@ -325,9 +357,10 @@ fn counted_records_of(
 fn records_of(
     alloc: Global,
     reader: &mut Reader<'_>,
+    runs: bool,
     room: usize,
 ) -> Result<Items<Record>, ChangeError>
-    ensures { Gives (λ r. (r, reader.new)) result (records_at room reader.old) }
+    ensures { Gives (λ r. (r, reader.new)) result (records_at runs room reader.old) }
 {
     let count = u32_of(reader)?;
     if count < 1 {
@@ -336,7 +369,7 @@ fn records_of(
     if count as usize > MAX_OPS {
         return Err(ChangeError::Limit);
     }
-    Ok(Items::new(counted_records_of(alloc, reader, count, room)?))
+    Ok(Items::new(counted_records_of(alloc, reader, runs, count, room)?))
 }
 
 // How many operations a change may have whose first counter is start.
@@ -346,8 +379,8 @@ fn room_of(start: u64) -> usize
     COUNTERS_END.saturating_sub(start).min(MAX_OPS as u64) as usize
 }
 
-fn parts_of(alloc: Global, reader: &mut Reader<'_>) -> Result<ChangeParts, ChangeError>
-    ensures { Gives (λ c. (c, reader.new)) result (parts_at reader.old) }
+fn parts_of(alloc: Global, reader: &mut Reader<'_>, runs: bool) -> Result<ChangeParts, ChangeError>
+    ensures { Gives (λ c. (c, reader.new)) result (parts_at runs reader.old) }
 {
     let actor = actor_of(reader)?;
     let seq = seq_of(reader)?;
@@ -355,7 +388,7 @@ fn parts_of(alloc: Global, reader: &mut Reader<'_>) -> Result<ChangeParts, Chang
     let time = u64_of(reader)?;
     let message = message_of(alloc, reader)?;
     let deps = deps_of(alloc, reader)?;
-    let records = records_of(alloc, reader, room_of(start))?;
+    let records = records_of(alloc, reader, runs, room_of(start))?;
     Ok(ChangeParts {
         actor,
         seq,
@@ -367,24 +400,33 @@ fn parts_of(alloc: Global, reader: &mut Reader<'_>) -> Result<ChangeParts, Chang
     })
 }
 
-fn sized_of(alloc: Global, reader: &mut Reader<'_>, size: usize) -> Result<ChangeParts, ChangeError>
-    ensures { Gives (λ c. (c, reader.new)) result (sized_at size reader.old) }
+// The version and the parts.
+fn sized_of(
+    alloc: Global,
+    reader: &mut Reader<'_>,
+    size: usize,
+) -> Result<(u8, ChangeParts), ChangeError>
+    ensures { Gives (λ x. ((x.0, x.1), reader.new)) result (sized_at size reader.old) }
 {
-    version_of(reader)?;
+    let version = version_byte_of(reader)?;
     if size > MAX_BYTES {
         return Err(ChangeError::Limit);
     }
-    parts_of(alloc, reader)
+    Ok((version, parts_of(alloc, reader, version == 2)?))
 }
 
 // The parts of the change that the bytes are.
+#[tactic(auto, unfolding(crate::specs::Reading::change_at, crate::specs::Reading::ended, crate::specs::Reading::versioned))]
 fn change_of(alloc: Global, bytes: &[u8]) -> Result<ChangeParts, ChangeError>
     ensures { Gives (λ c. c) result (change_at bytes.now) }
 {
     let mut reader = Reader::new(bytes);
-    let parts = sized_of(alloc, &mut reader, bytes.len())?;
+    let (version, parts) = sized_of(alloc, &mut reader, bytes.len())?;
     if !reader.is_empty() {
         return Err(ChangeError::Trailing);
+    }
+    if version != version_of(parts.records.as_slice()) {
+        return Err(ChangeError::NoRun);
     }
     Ok(parts)
 }

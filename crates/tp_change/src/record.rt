@@ -19,4 +19,12 @@ pub enum Record {
         /// The element that is deleted.
         target: OpId,
     },
+    /// Deletes a run of elements: the first, and those of the same actor with the next counters. Each delete takes
+    /// one counter.
+    DeleteRun {
+        /// The element with the lowest counter.
+        first: OpId,
+        /// How many elements, two at least. The last one's counter is at most 2^48 - 1.
+        count: u32,
+    },
 }

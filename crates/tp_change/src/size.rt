@@ -36,6 +36,7 @@ fn record_len(entry: &Record) -> usize
     match entry {
         Record::Insert { after, text } => text.byte_len().saturating_add(5 + place_len(after)),
         Record::Delete { target } => 1 + id_len(target),
+        Record::DeleteRun { first, count: _ } => 5 + id_len(first),
     }
 }
 

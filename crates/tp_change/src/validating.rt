@@ -7,13 +7,15 @@ ghost use Rattle.tp_change.specs.declared.error.ChangeError.TheVariants.{Limit, 
 ghost use Rattle.std.specs.List.{All};
 ghost use Rattle.std.specs.declared.cmp.Ordering.TheVariants.{Less};
 ghost use Rattle.tp_opid.specs.Order.{hash_cmp};
-ghost use Rattle.tp_change.specs.Validated.{unless, is_above, validated_numbers, validated_list, validated_deps, validated_record, validated_records, validated, rises_after};
+ghost use Rattle.tp_change.specs.Validated.{is_fault_of_parts, unless, is_above, validated_numbers, validated_list, validated_deps, validated_record, validated_records, validated, rises_after, fewest_in, has_targets_within};
 ghost use Rattle.tp_change.specs.Limits.{IsHash, IsChange, IsTypedRecord, IsTyped};
 ghost use Rattle.tp_change.specs.Operations.{count_in};
 
 use crate::error::ChangeError;
 use crate::facts::{of_16, of_32, ops_in};
-use crate::limits::{COUNTERS_END, MAX_BYTES, MAX_DEPS, MAX_MESSAGE_BYTES, MAX_OPS};
+use crate::limits::{
+    COUNTERS_END, FEWEST_DELETES, MAX_BYTES, MAX_DEPS, MAX_MESSAGE_BYTES, MAX_OPS, are_counters,
+};
 use crate::parts::ChangeParts;
 use crate::record::Record;
 use crate::size::parts_len;
@@ -62,6 +64,26 @@ fn validate_deps(deps: &Items<Hash>) -> Result<(), ChangeError>
     ensure(do_rise(deps.as_slice()), ChangeError::DepsOrder)
 }
 
+/// The fewest operations that such a record has.
+fn fewest_ops(entry: &Record) -> usize
+    ensures { result ≡ fewest_in entry.now }
+{
+    match entry {
+        Record::Insert { after: _, text: _ } | Record::Delete { target: _ } => 1,
+        Record::DeleteRun { first: _, count: _ } => FEWEST_DELETES as usize,
+    }
+}
+
+/// Whether no element that a run deletes has a counter past 2^48 - 1.
+fn ends_within(entry: &Record) -> bool
+    ensures { result ≡ has_targets_within entry.now }
+{
+    match entry {
+        Record::Insert { after: _, text: _ } | Record::Delete { target: _ } => true,
+        Record::DeleteRun { first, count } => are_counters(first.counter, *count),
+    }
+}
+
 /// How many operations the record is, of those that still have room.
 fn validate_record(room: usize, entry: &Record) -> Result<usize, ChangeError>
     ensures value { MatchResult result (λ count. validated_record room entry.now ≡ Ok tt)
@@ -70,8 +92,9 @@ fn validate_record(room: usize, entry: &Record) -> Result<usize, ChangeError>
     ensures typed { OnOk result (IsTypedRecord entry.now) }
 {
     let count = ops_in(entry);
-    ensure(0 < count, ChangeError::EmptyRun)?;
+    ensure(fewest_ops(entry) <= count, ChangeError::EmptyRun)?;
     ensure(count <= room, ChangeError::Limit)?;
+    ensure(ends_within(entry), ChangeError::Limit)?;
     Ok(count)
 }
 
@@ -146,6 +169,7 @@ pub(crate) fn validate(parts: &ChangeParts) -> Result<(), ChangeError>
     ensures value { result ≡ validated parts.now }
     ensures within { OnOk result (IsChange parts.now) }
     ensures only { IsChange parts.now → result ≡ Ok tt }
+    ensures faults { IfErr result (λ e. IsTrue (is_fault_of_parts e)) }
     ensures memory { IfErr result (λ e. e ≡ OutOfMemory → ⊥) }
 {
     validate_fields(parts)

@@ -14,6 +14,7 @@ use crate::parts::ChangeParts;
 use crate::record::Record;
 use crate::sink::Sink;
 use crate::size::parts_len;
+use crate::version::version_of;
 use std::alloc::AllocError;
 use tp_list::{Items, Text};
 use tp_opid::{Hash, OpId, Place};
@@ -85,6 +86,11 @@ fn put_record<S: Sink>(out: &mut S, entry: &Record) -> Result<(), AllocError>
             out.put(&[2])?;
             put_id(out, target)
         }
+        Record::DeleteRun { first, count } => {
+            out.put(&[3])?;
+            put_id(out, first)?;
+            out.put(&count.to_be_bytes())
+        }
     }
 }
 
@@ -141,7 +147,7 @@ pub(crate) fn put_change<S: Sink>(out: &mut S, parts: &ChangeParts) -> Result<()
     ensures puts { OnOk result (Puts S.holds out.old out.new (spelling parts.now)) }
     ensures taken { S.takes_all → IsOk result }
 {
-    out.put(&[1])?;
+    out.put(&[version_of(parts.records.as_slice())])?;
     out.put(&parts.actor.0)?;
     put_u64(out, parts.seq)?;
     put_u64(out, parts.start)?;

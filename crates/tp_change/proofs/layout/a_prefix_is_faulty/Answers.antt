@@ -2,4 +2,4 @@ use Rattle.tp_change.proofs.Blame.{some_prefix}
 use Rattle.tp_change.proofs.layout.a_prefix_is_faulty.Goals as goal
 
 pub returns : goal.returns
-returns c = λ bytes e fits size bad apart. some_prefix bytes fits size e bad apart
+returns c = λ bytes e fits size bad short ran. some_prefix bytes fits size e bad short ran

@@ -5,4 +5,4 @@ use Rattle.tp_change.specs.Reading.{record_at, room_after}
 use Rattle.tp_change.proofs.reading.counted_records_of.Given as goal
 
 abbrev pub invariant-loop : goal.invariant-loop
-invariant-loop l = with_prefix l.records.items (repeat_at record_at room_after (l.count - l.counter) l.left l.reader) ≡ repeat_at record_at room_after l.count l.room l.fn.reader
+invariant-loop l = with_prefix l.records.items (repeat_at (record_at l.runs) room_after (l.count - l.counter) l.left l.reader) ≡ repeat_at (record_at l.runs) room_after l.count l.room l.fn.reader

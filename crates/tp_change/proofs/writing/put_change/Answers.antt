@@ -1,5 +1,6 @@
+use Rattle.std.proofs.Common.{◌≡◌, ap, ◌∙◌}
 use Rattle.tp_change.proofs.PutsLaws.{OnOk-then}
-use Rattle.tp_change.specs.Spelling.{spelling}
+use Rattle.tp_change.specs.Spelling.{spelling, version_of}
 use Rattle.tp_change.proofs.writing.put_change.Goals as goal
 
 pub returns-clause-puts : goal.returns-clause-puts
@@ -11,4 +12,5 @@ returns-clause-puts g c =
     let start = OnOk-then _ _ _ _ _ _ _ c.in_ok-put_u64-2.ensures.puts time in
     let seq = OnOk-then _ _ _ _ _ _ _ c.in_ok-put_u64.ensures.puts start in
     let actor = OnOk-then _ _ _ _ _ _ _ c.in_ok-put-2.ensures.puts seq in
-    OnOk-then _ _ _ _ _ _ _ c.in_ok-put.ensures.puts actor
+    let version : c.version_of.result ≡ version_of c.args.parts.now.records = c.version_of.ensures ∙ ap version_of c.as_slice.ensures in
+    OnOk-then _ _ _ _ _ _ _ (rw version at c.in_ok-put.ensures.puts) actor
