@@ -81,7 +81,7 @@ fn document_at<S: Sequence>(
 
 impl<S: Sequence> Document<S> {
     /// A document with the same identifier and copies of the applied changes; nothing waits in it. The only refusal
-    /// is `OutOfMemory`. It enters each change anew, with one walk back over the changes for each that isn't on all heads.
+    /// is `OutOfMemory`. It enters each change anew, which joins the pasts of its dependencies where they aren't all heads.
     pub fn fork(&self) -> Result<Document<S>, DocError>
         ensures id { IfOk result (λ d. d.id ≡ self.now.id) }
         ensures applied { IfOk result (λ d. d.applied ≡ self.now.applied) }

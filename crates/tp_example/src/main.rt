@@ -9,13 +9,13 @@ const BEN: Actor = Actor([2; 16]);
 
 // Deletes `del` characters from `at` on, and inserts a text there.
 fn write(
-    text: &mut TextDocument,
+    doc: &mut TextDocument,
     who: Actor,
     at: usize,
     del: usize,
-    new: &str,
+    text: &str,
 ) -> Result<(), DocError> {
-    text.edit(who, &[Splice { at, del, text: new }], 0, "")?;
+    doc.edit(who, &[Splice { at, del, text }], 0, "")?;
     Ok(())
 }
 
@@ -28,35 +28,24 @@ fn write_apart(ann: &mut TextDocument, ben: &mut TextDocument) -> Result<(), Doc
     Ok(())
 }
 
+// What both have in the end, and the text as it was when just one change was there.
 fn show(rt: &impl Print, ann: &TextDocument, ben: &TextDocument) -> anyhow::Result<()> {
     println!(rt; "{} {}", ann.text()?, ben.text()?)?;
-    Ok(())
-}
-
-// The text as it was when just one change was there.
-fn show_begun(rt: &impl Print, text: &TextDocument) -> anyhow::Result<()> {
-    if let Some(first) = text.changes().first() {
-        println!(rt; "{}", text.text_at(&[first.hash()])?)?;
+    if let Some(first) = ann.changes().first() {
+        println!(rt; "{}", ann.text_at(&[first.hash()])?)?;
     }
     Ok(())
-}
-
-// Both write, and what they have in the end is shown, and what Ann began with.
-fn write_both(
-    rt: &impl Print,
-    ann: &mut TextDocument,
-    ben: &mut TextDocument,
-) -> anyhow::Result<()> {
-    write_apart(ann, ben)?;
-    show(rt, ann, ben)?;
-    show_begun(rt, ann)
 }
 
 // Ann begins, and Ben goes on from a copy of hers.
 fn write_together(rt: &impl Print, ann: &mut TextDocument) -> anyhow::Result<()> {
     write(ann, ANN, 0, 0, "Hello world")?;
     let mut ben = ann.fork()?;
-    write_both(rt, ann, &mut ben)
+    let written = write_apart(ann, &mut ben);
+    let shown = show(rt, ann, &ben);
+    drop(ben);
+    written?;
+    shown
 }
 
 fn main(rt: HostRuntime) -> anyhow::Result<()> {

@@ -151,7 +151,8 @@ fn hold<R: Read, W: Write, H: Host>(
 /// answer is `Io`.
 ///
 /// It waits for bytes as long as the reader does, so the other side can hold it for ever. At most 8,192 bytes are read at
-/// once, and kept until their frames are whole; bytes behind the last frame may have been read.
+/// once, copied into the framer, and kept there until their frames are whole; bytes behind the last frame may have been
+/// read. An answer's bytes are written once. All else is the cost of the host's calls.
 pub fn run_session<R: Read, W: Write, H: Host>(
     alloc: Global,
     reader: &mut R,

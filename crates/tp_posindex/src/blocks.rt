@@ -333,7 +333,8 @@ impl Blocks {
         }
     }
 
-    /// Splits a full block into two of 64.
+    /// Splits a full block into two of 64, which comes at most once in 64 inserts. Numbers of the blocks behind it move, or
+    /// are written anew, and the sums from its group on are made anew.
     fn split(&mut self, index: usize)
         requires block { index < length self.old.blocks }
         requires full { length (block_at self.old.blocks index) ≡ MOST }

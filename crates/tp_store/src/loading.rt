@@ -129,8 +129,8 @@ fn document_of<S: Sequence>(
 /// only where a growth was refused.
 ///
 /// The layout and the digest are judged before anything is made, so no count or length asks for memory before the
-/// bytes are there. It takes one pass over the lengths, one digest of all, and for each change its decoding and its
-/// entry.
+/// bytes are there. It takes one pass over the lengths, one digest of all, and for each change its decoding, with its
+/// hash, and its entry.
 pub fn load<S: Sequence>(alloc: Global, bytes: &[u8]) -> Result<Document<S>, StoreError>
     ensures found { IfOk result (λ d. IsSaved bytes.now d.id d.applied) }
     ensures waiting { IfOk result (λ d. d.waiting ≡ []) }
