@@ -1,3 +1,4 @@
 pub mod Journals
+pub mod GraphLines
 pub mod LogLines
 pub mod TextLines
