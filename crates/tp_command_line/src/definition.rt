@@ -287,7 +287,7 @@ fn graph_command<'a>(alloc: Global) -> Result<Command<'a>, AllocError>
     named(
         alloc,
         "graph",
-        "Prints the changes and their dependencies as a graph in the language DOT, heads with a thick border",
+        "Prints the changes as a graph in DOT, for Graphviz: an edge to each dependency, heads with a thick border",
         "Example:\n  textpeer graph notes.journal | dot -Tsvg > changes.svg",
     )
     .arg(journal(alloc))

@@ -1,9 +1,8 @@
 -- Heads that are searched by halves, and what is printed of the graph of changes.
-use Rattle.std.proofs.Common.{◌≡◌, ◌∙◌, ℕ, ◌+◌, ◌<◌, ◌≤◌, List, [], ◌∷◌, ◌++◌, length, get_or, Result, Ok, Err, true, false, zero, suc, refl, ap, sym, codes, append_assoc, add-one, ⊎_elim, arith}
-use Rattle.std.specs.Fmt.{decimal}
+use Rattle.std.proofs.Common.{◌≡◌, ◌∙◌, ℕ, ◌+◌, ◌<◌, List, [], ◌∷◌, ◌++◌, length, get_or, Result, Ok, Err, zero, suc, ap, sym, codes, append_assoc, add-one, ⊎_elim, arith}
 use Rattle.std.specs.List.Sorted.{IsBinarySearchResult, IsSearchInRange, IsSortedBy}
 use Rattle.std.specs.Ordering.{is_eq, is_lt, ordering_reverse}
-use Rattle.std.specs.declared.cmp.Ordering.TheVariants.{Less, Greater}
+use Rattle.std.specs.declared.cmp.Ordering.TheVariants.{Less}
 use Rattle.std.specs.Prelude.{is_ok}
 use Rattle.std.proofs.lemmas.Bool.{cases_lt}
 use Rattle.std.proofs.lemmas.List.Folds.{list_any_at, list_any_none}
@@ -35,3 +34,14 @@ found_among hs h (Ok i) rises lt equal = sym (list_any_at (λ g. same_hash g h) 
 found_among hs h (Err i) rises le parted =
     let around = parted (searchable_from_sorted hash_total (λ x. x) hs h (sorted hs rises)) in
     sym (list_any_none (λ g. same_hash g h) hs (λ k d lt. ⊎_elim (λ below. ap is_eq (around.0 k d (omega arith) below)) (λ above. ap is_eq (around.1 k d above lt)) (cases_lt k i)))
+
+regrouped : (a b c d e f : List ℕ) → a ++ (b ++ (c ++ (d ++ (e ++ f)))) ≡ a ++ b ++ c ++ d ++ e ++ f
+regrouped a b c d e f = simp append_assoc
+
+-- the line of a node, as it is printed one part behind another
+pub node_joined : (text n l b n' l' b' : List ℕ)
+    → text ≡ codes "  " ++ (n ++ (codes " [label=\"" ++ (l ++ (codes "\"" ++ (b ++ codes "];\n")))))
+    → n ≡ n' → l ≡ l' → b ≡ b'
+    → text ≡ codes "  " ++ n' ++ codes " [label=\"" ++ l' ++ codes "\"" ++ b' ++ codes "];\n"
+node_joined text n l b n' l' b' spelled names labels borders =
+    rw (← names, ← labels, ← borders) (spelled ∙ ap (λ bs. codes "  " ++ bs) (regrouped n (codes " [label=\"") l (codes "\"") b (codes "];\n")))

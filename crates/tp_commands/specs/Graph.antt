@@ -1,5 +1,5 @@
 -- What `graph` prints: the changes as a graph in DOT, the language of Graphviz.
-use Rattle.std.specs.Prelude.{◌≡◌, ◌==◌, ℕ, List, [], ◌++◌, Bool, true, false, codes, encode_utf8, if◌then◌else◌, take}
+use Rattle.std.specs.Prelude.{◌≡◌, ◌==◌, ℕ, List, [], ◌∷◌, ◌++◌, Bool, true, false, codes, encode_utf8, if◌then◌else◌, take}
 use Rattle.std.specs.Fmt.{decimal}
 use Rattle.std.specs.List.{flat_map}
 use Rattle.std.specs.Str.{chars}
@@ -31,6 +31,13 @@ label_char ch = if ch == 34 then codes "\\\"" else if ch == 92 then codes "\\\\"
 -- the label that shows a text
 abbrev pub label_of : List ℕ → List ℕ
 label_of text = flat_map label_char (chars text)
+
+-- What a reader of DOT takes for a string, of the bytes after the quote that opens it: all before the quote that ends it. A
+-- backslash takes along the byte after it.
+abbrev pub string_in : Bool → List ℕ → List ℕ
+string_in along [] = []
+string_in true (b ∷ bs) = b ∷ string_in false bs
+string_in false (b ∷ bs) = if b == 34 then [] else b ∷ string_in (b == 92) bs
 
 -- the hash is one of the heads
 abbrev pub is_head : List ChangeParts → Hash → Bool

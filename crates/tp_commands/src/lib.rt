@@ -4,6 +4,7 @@
 mod editing;
 mod error;
 mod graph;
+pub mod laws;
 mod log;
 mod reading;
 
