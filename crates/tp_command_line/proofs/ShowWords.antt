@@ -16,7 +16,7 @@ use Rattle.tp_command_line.specs.CommandOf.{AskToShow, IsCommandOf, IsFoundAs, I
 use Rattle.tp_command_line.specs.LineError.{parser_fault}
 use Rattle.tp_command_line.proofs.Found.{some_is}
 use Rattle.tp_command_line.specs.declared.command.Command.{Command}
-use Rattle.tp_command_line.specs.declared.command.Command.TheVariants.{New, Edit, Text as ReadText, Heads, Log, Cursor, Merge, Save, Load, Show, Simulate, Serve, Sync}
+use Rattle.tp_command_line.specs.declared.command.Command.TheVariants.{New, Edit, Text as ReadText, Heads, Log, Graph, Cursor, Merge, Save, Load, Show, Simulate, Serve, Sync}
 use Rattle.tp_command_line.specs.declared.error.LineError.{LineError}
 
 -- the name of a subcommand, and the value of its `LOG`
@@ -74,6 +74,7 @@ show_of_name path name rows (Edit file at del text time message key) is log of =
 show_of_name path name rows (ReadText file heads) is log of = other_name (codes "text") refl (sym of.0 ∙ is)
 show_of_name path name rows (Heads file) is log of = other_name (codes "heads") refl (sym of.0 ∙ is)
 show_of_name path name rows (Log file) is log of = other_name (codes "log") refl (sym of.0 ∙ is)
+show_of_name path name rows (Graph file) is log of = other_name (codes "graph") refl (sym of.0 ∙ is)
 show_of_name path name rows (Cursor file at heads) is log of = other_name (codes "cursor") refl (sym of.0 ∙ is)
 show_of_name path name rows (Merge file other key) is log of = other_name (codes "merge") refl (sym of.0 ∙ is)
 show_of_name path name rows (Save file out) is log of = other_name (codes "save") refl (sym of.0 ∙ is)

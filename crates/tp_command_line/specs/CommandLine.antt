@@ -85,6 +85,10 @@ heads_shape = with_rules (codes "heads") (file_rule ∷ [])
 abbrev pub log_shape : Shape
 log_shape = with_rules (codes "log") (file_rule ∷ [])
 
+-- `graph FILE`
+abbrev pub graph_shape : Shape
+graph_shape = with_rules (codes "graph") (file_rule ∷ [])
+
 -- `cursor FILE AT HASH ..`
 abbrev pub cursor_shape : Shape
 cursor_shape = with_rules (codes "cursor")
@@ -142,7 +146,7 @@ bare_app = record {
 abbrev pub journals_app : App
 journals_app = record {
   top = record bare_app.top { is_leaf = false };
-  subs = new_shape ∷ edit_shape ∷ text_shape ∷ heads_shape ∷ log_shape ∷ cursor_shape ∷ [];
+  subs = new_shape ∷ edit_shape ∷ text_shape ∷ heads_shape ∷ log_shape ∷ graph_shape ∷ cursor_shape ∷ [];
 }
 
 -- `textpeer` with the subcommands that need no network

@@ -3,7 +3,7 @@ use Rattle.std.specs.Prelude.{◌≡◌, ◌≢◌, List, [], ◌∷◌, Option,
 use Rattle.std.specs.Borrow.{Bor}
 use Rattle.clap.specs.Words.{Row, Text, all_of, first_of}
 use Rattle.tp_command_line.specs.declared.command.Command.{Command}
-use Rattle.tp_command_line.specs.declared.command.Command.TheVariants.{New, Edit, Text as ReadText, Heads, Log, Cursor, Merge, Save, Load, Show, Simulate, Serve, Sync}
+use Rattle.tp_command_line.specs.declared.command.Command.TheVariants.{New, Edit, Text as ReadText, Heads, Log, Graph, Cursor, Merge, Save, Load, Show, Simulate, Serve, Sync}
 use Rattle.tp_command_line.specs.Values.{HasNumber}
 
 -- the first value of an argument is the text
@@ -29,6 +29,7 @@ IsCommandOf name rows (ReadText file heads) = (name ≡ codes "text") × HasText
     × HasHeads rows heads.items
 IsCommandOf name rows (Heads file) = (name ≡ codes "heads") × HasText (codes "FILE") rows file
 IsCommandOf name rows (Log file) = (name ≡ codes "log") × HasText (codes "FILE") rows file
+IsCommandOf name rows (Graph file) = (name ≡ codes "graph") × HasText (codes "FILE") rows file
 IsCommandOf name rows (Cursor file at heads) = (name ≡ codes "cursor")
     × HasText (codes "FILE") rows file × HasNumber (codes "AT") rows at × HasHeads rows heads.items
 IsCommandOf name rows (Merge file other key) = (name ≡ codes "merge")

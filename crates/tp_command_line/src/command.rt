@@ -45,6 +45,11 @@ pub enum Command<'a> {
         /// The path of the journal.
         file: &'a str,
     },
+    /// Prints the changes as a graph, in the language DOT.
+    Graph {
+        /// The path of the journal.
+        file: &'a str,
+    },
     /// Prints where a character of an earlier text stands now.
     Cursor {
         /// The path of the journal.

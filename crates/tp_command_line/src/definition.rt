@@ -4,7 +4,7 @@ ghost use Rattle.std.specs.Prelude.{◌≡◌, IfOk, [], false, codes};
 ghost use Rattle.clap.specs.Words.{App, Shape, app_of, rule_of, with_subcommand};
 ghost use Rattle.tp_command_line.specs.CommandLine.{mandatory, message_rule, numeric, option_rule, required_rule, several, time_rule};
 ghost use Rattle.tp_command_line.specs.CommandLine.{IsLeaf, bare_app, files_app, journals_app, textpeer_app, with_rules};
-ghost use Rattle.tp_command_line.specs.CommandLine.{cursor_shape, edit_at_shape, edit_shape, heads_shape, load_shape, log_shape, merge_shape, new_shape, save_shape, serve_at_shape, serve_shape, show_shape, simulate_shape, sync_shape, text_shape};
+ghost use Rattle.tp_command_line.specs.CommandLine.{cursor_shape, edit_at_shape, edit_shape, graph_shape, heads_shape, load_shape, log_shape, merge_shape, new_shape, save_shape, serve_at_shape, serve_shape, show_shape, simulate_shape, sync_shape, text_shape};
 
 use clap::{Arg, ArgAction, Command, value_parser};
 use std::alloc::{AllocError, Global};
@@ -39,7 +39,8 @@ fn journal_commands<'a>(alloc: Global) -> Result<Command<'a>, AllocError>
     let read = with(edited, text_command(alloc));
     let headed = with(read, heads_command(alloc));
     let logged = with(headed, log_command(alloc));
-    with(logged, cursor_command(alloc))
+    let drawn = with(logged, graph_command(alloc));
+    with(drawn, cursor_command(alloc))
 }
 
 // The program with one more command, where both could be made.
@@ -276,6 +277,18 @@ fn log_command<'a>(alloc: Global) -> Result<Command<'a>, AllocError>
         "Prints a line for each change: hash, actor, sequence number, time, \
              inserted and deleted characters, message",
         "Example:\n  textpeer log notes.journal",
+    )
+    .arg(journal(alloc))
+}
+
+fn graph_command<'a>(alloc: Global) -> Result<Command<'a>, AllocError>
+    ensures { IfOk result (IsLeaf graph_shape) }
+{
+    named(
+        alloc,
+        "graph",
+        "Prints the changes as a graph in DOT, for Graphviz: an edge to each dependency, heads with a thick border",
+        "Example:\n  textpeer graph notes.journal | dot -Tsvg > changes.svg",
     )
     .arg(journal(alloc))
 }

@@ -85,6 +85,9 @@ pub(crate) fn command_of<'a>(
         "log" => Ok(Command::Log {
             file: text_of(found, "FILE"),
         }),
+        "graph" => Ok(Command::Graph {
+            file: text_of(found, "FILE"),
+        }),
         "cursor" => Ok(Command::Cursor {
             file: text_of(found, "FILE"),
             at: number_of(found, "AT"),

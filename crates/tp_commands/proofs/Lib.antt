@@ -1,3 +1,5 @@
 pub mod Journals
+pub mod GraphLines
+pub mod LabelLaws
 pub mod LogLines
 pub mod TextLines

@@ -1,4 +1,5 @@
 pub mod CommandError
 pub mod Reading
 pub mod Log
+pub mod Graph
 pub mod Editing

@@ -23,7 +23,7 @@ fn deletes(entry: &Record) -> usize
 }
 
 // How many of a change's operations delete a character.
-fn deleted(change: &Change) -> usize
+pub(crate) fn deleted(change: &Change) -> usize
     ensures { result ≡ deleted_count change.now }
 {
     let mut count = 0usize;
@@ -34,7 +34,7 @@ fn deleted(change: &Change) -> usize
 }
 
 // How many of them insert one.
-fn inserted(change: &Change) -> usize
+pub(crate) fn inserted(change: &Change) -> usize
     ensures { result ≡ inserted_count change.now }
 {
     change.op_count() - deleted(change)
@@ -63,7 +63,7 @@ fn put_escaped(line: &mut String, text: &str) -> Result<(), AllocError>
 }
 
 // Puts the message behind the line, if there is one.
-fn put_message(line: &mut String, message: &str) -> Result<(), AllocError>
+pub(crate) fn put_message(line: &mut String, message: &str) -> Result<(), AllocError>
     ensures { OnOk result
         (string_bytes line.new ≡ string_bytes line.old ++ message_part (chars message.now)) }
 {

@@ -23,7 +23,8 @@ use tp_opid::{DocId, Hash, HexError};
 use tp_peer::PeerSequence;
 use tp_store::save;
 
-type Text = Document<PeerSequence>;
+/// A document as it is read of bytes.
+pub(crate) type Text = Document<PeerSequence>;
 
 /// The document of a journal's bytes, as `recover` gives it.
 pub(crate) fn document_in(alloc: Global, journal: &[u8]) -> Result<Text, CommandError>

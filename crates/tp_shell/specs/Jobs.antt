@@ -10,7 +10,7 @@ use Rattle.tp_shell.specs.ShellError.{failed, no_memory}
 use Rattle.tp_shell.specs.declared.error.ShellError.{ShellError}
 use Rattle.tp_shell.specs.declared.error.ShellError.TheVariants.{BadHex, Job as Refused}
 use Rattle.tp_shell.specs.declared.job.FileJob.{FileJob}
-use Rattle.tp_shell.specs.declared.job.FileJob.TheVariants.{New, Edit, Text, Heads, Log, Cursor, Merge, Save, Load, Show, Simulate}
+use Rattle.tp_shell.specs.declared.job.FileJob.TheVariants.{New, Edit, Text, Heads, Log, Graph, Cursor, Merge, Save, Load, Show, Simulate}
 use Rattle.tp_shell.specs.declared.job.Job.{Job}
 use Rattle.tp_shell.specs.declared.job.Job.TheVariants.{Files, Serve, Sync}
 
@@ -23,6 +23,7 @@ IsJobOf (asked.Edit file at del text time message key) (Files (Edit file' splice
 IsJobOf (asked.Text file heads) (Files (Text file' hs)) = (file' ≡ file) × AreHashes heads.items hs.items
 IsJobOf (asked.Heads file) (Files (Heads file')) = file' ≡ file
 IsJobOf (asked.Log file) (Files (Log file')) = file' ≡ file
+IsJobOf (asked.Graph file) (Files (Graph file')) = file' ≡ file
 IsJobOf (asked.Cursor file at heads) (Files (Cursor file' at' hs)) = (file' ≡ file) × (at' ≡ at) × AreHashes heads.items hs.items
 IsJobOf (asked.Merge file other key) (Files (Merge file' other' key')) = (file' ≡ file) × (other' ≡ other) × IsKeyOf key key'
 IsJobOf (asked.Save file out) (Files (Save file' out')) = (file' ≡ file) × (out' ≡ out)

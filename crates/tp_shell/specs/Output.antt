@@ -5,6 +5,7 @@ use Rattle.std.specs.Str.{chars}
 use Rattle.tp_simulate.specs.Script.{IsPrinted as IsScriptPrinted, PrintsPart, StopsAt}
 use Rattle.tp_textpeer.specs.Output.{AppendsPart}
 use Rattle.tp_textpeer.specs.Show.{HasText, line as text_line}
+use Rattle.tp_commands.specs.Graph.{IsChangeGraph}
 use Rattle.tp_commands.specs.Log.{AreChangeLines}
 use Rattle.tp_commands.specs.Reading.{AreHeadLines, IsCursorLine, IsTextLine, line}
 use Rattle.tp_shell.specs.declared.error.JobError.{JobError}
@@ -12,7 +13,7 @@ use Rattle.tp_shell.specs.declared.error.JobError.TheVariants.{Line}
 use Rattle.tp_shell.specs.declared.error.ShellError.{ShellError}
 use Rattle.tp_shell.specs.declared.error.ShellError.TheVariants.{Job as Refused}
 use Rattle.tp_shell.specs.declared.job.FileJob.{FileJob}
-use Rattle.tp_shell.specs.declared.job.FileJob.TheVariants.{New, Edit, Text, Heads, Log, Cursor, Merge, Save, Load, Show, Simulate}
+use Rattle.tp_shell.specs.declared.job.FileJob.TheVariants.{New, Edit, Text, Heads, Log, Graph, Cursor, Merge, Save, Load, Show, Simulate}
 use Rattle.tp_shell.specs.declared.job.Job.{Job}
 use Rattle.tp_shell.specs.declared.job.Job.TheVariants.{Files, Serve, Sync}
 use Rattle.tp_shell.specs.Lines.{IsEditLine, IsMergeLine, IsNewLine}
@@ -24,8 +25,8 @@ use Rattle.tp_shell.specs.ShellError.{failed, no_memory}
 abbrev pub IsShown : List ℕ → Type 0
 IsShown printed = (log : List ℕ) × (text : List ℕ) × HasText log text × (printed ≡ text_line text)
 
--- The bytes are what is printed of the job where it was done, on files that held some bytes: of `text`, `heads`, `log` and
--- `cursor` what these bytes say; of `show` the text of the log that they are; of `new` the identifier that is drawn; of
+-- The bytes are what is printed of the job where it was done, on files that held some bytes: of `text`, `heads`, `log`, `graph`
+-- and `cursor` what these bytes say; of `show` the text of the log that they are; of `new` the identifier that is drawn; of
 -- `edit` the hash of the change that was made, or `nothing`; of `merge` how many changes entered; of `save` and `load`
 -- nothing; of `simulate` the replies to the lines of a script, and the one list of its world.
 abbrev pub IsFilesPrinted : FileJob → List ℕ → Type 0
@@ -34,6 +35,7 @@ IsFilesPrinted (Edit file splice time message key) printed = IsEditLine key spli
 IsFilesPrinted (Text file heads) printed = (journal : List ℕ) × IsTextLine journal heads.items printed
 IsFilesPrinted (Heads file) printed = (journal : List ℕ) × AreHeadLines journal printed
 IsFilesPrinted (Log file) printed = (journal : List ℕ) × AreChangeLines journal printed
+IsFilesPrinted (Graph file) printed = (journal : List ℕ) × IsChangeGraph journal printed
 IsFilesPrinted (Cursor file at heads) printed = (journal : List ℕ) × IsCursorLine journal at heads.items printed
 IsFilesPrinted (Merge file other key) printed = IsMergeLine key printed
 IsFilesPrinted (Save file out) printed = printed ≡ []

@@ -52,6 +52,11 @@ pub enum FileJob<'a> {
         /// The path of the journal.
         file: &'a str,
     },
+    /// Prints the changes as a graph, in the language DOT.
+    Graph {
+        /// The path of the journal.
+        file: &'a str,
+    },
     /// Prints where a character of an earlier text stands now.
     Cursor {
         /// The path of the journal.
@@ -160,6 +165,7 @@ pub fn job_of<'a>(alloc: Global, command: Command<'a>) -> Result<Job<'a>, ShellE
         })),
         Command::Heads { file } => Ok(Job::Files(FileJob::Heads { file })),
         Command::Log { file } => Ok(Job::Files(FileJob::Log { file })),
+        Command::Graph { file } => Ok(Job::Files(FileJob::Graph { file })),
         Command::Cursor { file, at, heads } => Ok(Job::Files(FileJob::Cursor {
             file,
             at: at as usize,

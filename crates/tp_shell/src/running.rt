@@ -6,6 +6,7 @@ ghost use Rattle.std.specs.Str.{chars};
 ghost use Rattle.std.specs.String.{string_bytes};
 ghost use Rattle.tp_simulate.specs.Script.{Prints};
 ghost use Rattle.tp_textpeer.specs.Output.{AppendsPart};
+ghost use Rattle.tp_commands.specs.Graph.{IsChangeGraph};
 ghost use Rattle.tp_commands.specs.Log.{AreChangeLines};
 ghost use Rattle.tp_commands.specs.Reading.{AreHeadLines, IsCursorLine, IsTextLine, line};
 ghost use Rattle.tp_commands.specs.declared.error.CommandError.{CommandError as CommandFault};
@@ -24,8 +25,8 @@ use std::io::{BufReader, Write};
 use std::rt::Files;
 use std::{fs, io};
 use tp_commands::{
-    CommandError, begin, cursor_line, edit, hash_line, head_lines, id_line, log_lines, merge,
-    reopen, saved, text_line,
+    CommandError, begin, cursor_line, edit, graph_lines, hash_line, head_lines, id_line, log_lines,
+    merge, reopen, saved, text_line,
 };
 use tp_document::Document;
 use tp_edit::Splice;
@@ -119,6 +120,7 @@ pub fn carry_out<R: Files + AllocGlobal, W: Write>(
         FileJob::Text { file, heads } => put(out, text(rt, file, &heads)),
         FileJob::Heads { file } => put(out, heads(rt, file)),
         FileJob::Log { file } => put(out, log(rt, file)),
+        FileJob::Graph { file } => put(out, graph(rt, file)),
         FileJob::Cursor { file, at, heads } => put(out, cursor(rt, file, at, &heads)),
         FileJob::Merge { file, other, key } => put(out, merged(rt, file, other, key)),
         FileJob::Save { file, out: path } => put(out, save_to(rt, file, path)),
@@ -186,6 +188,12 @@ fn log<R: Files + AllocGlobal>(rt: &R, file: &str) -> Result<String, CommandErro
     ensures { IfOk result (λ l. (journal : List ℕ) × AreChangeLines journal (string_bytes l)) }
 {
     log_lines(rt.alloc(), &read_file(rt, file)?)
+}
+
+fn graph<R: Files + AllocGlobal>(rt: &R, file: &str) -> Result<String, CommandError>
+    ensures { IfOk result (λ l. (journal : List ℕ) × IsChangeGraph journal (string_bytes l)) }
+{
+    graph_lines(rt.alloc(), &read_file(rt, file)?)
 }
 
 fn cursor<R: Files + AllocGlobal>(

@@ -14,6 +14,9 @@ text_of-requires-in-heads c = named_value (codes "heads") (codes "FILE") c.in-he
 pub text_of-requires-in-log : goal.text_of-requires-in-log
 text_of-requires-in-log c = named_value (codes "log") (codes "FILE") c.in-log.is c.requires refl
 
+pub text_of-requires-in-graph : goal.text_of-requires-in-graph
+text_of-requires-in-graph c = named_value (codes "graph") (codes "FILE") c.in-graph.is c.requires refl
+
 pub text_of-requires-in-cursor : goal.text_of-requires-in-cursor
 text_of-requires-in-cursor c = named_value (codes "cursor") (codes "FILE") c.in-cursor.is c.requires refl
 
@@ -63,4 +66,4 @@ text_of-requires-in-sync-2 c = named_value (codes "sync") (codes "ADDR") c.in-sy
 pub unreachable-requires : goal.unreachable-requires
 unreachable-requires c =
     let d = c.in_default in
-    no_other_name _ _ c.requires d.not-new d.not-edit d.not-text d.not-heads d.not-log d.not-cursor d.not-merge d.not-save d.not-load d.not-show d.not-simulate d.not-serve d.not-sync
+    no_other_name _ _ c.requires d.not-new d.not-edit d.not-text d.not-heads d.not-log d.not-graph d.not-cursor d.not-merge d.not-save d.not-load d.not-show d.not-simulate d.not-serve d.not-sync
