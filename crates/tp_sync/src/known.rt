@@ -1,6 +1,6 @@
 //! Which changes a message tells of as known.
 
-ghost use Rattle.std.specs.Prelude.{◌≡◌, ◌↔◌, IfOk, IsOkUnless};
+ghost use Rattle.std.specs.Prelude.{◌≡◌, IfOk, IsOkUnless};
 ghost use Rattle.tp_sync.specs.Known.{known_hashes};
 ghost use Rattle.tp_sync.specs.declared.error.SyncError.TheVariants.{OutOfMemory};
 
@@ -26,7 +26,8 @@ pub(crate) fn known<S: Sequence>(
     let mut back: usize = 1;
     for _k in 0..MAX_KNOWN {
         if back <= applied.len() {
-            put(&mut known, applied[applied.len() - back].hash())?;
+            let change = &applied[applied.len() - back];
+            put(&mut known, change.hash())?;
         }
         back *= 2;
     }

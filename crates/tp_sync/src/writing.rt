@@ -43,6 +43,7 @@ fn put_hashes(out: &mut Vec<u8>, hashes: &[Hash]) -> Result<(), AllocError>
 }
 
 // Puts the hashes of known changes, which version 2 has alone.
+#[tactic(auto, unfolding(crate::specs::Spelling::spelling_of_known))]
 fn put_known(out: &mut Vec<u8>, version: u8, known: &[Hash]) -> Result<(), AllocError>
     requires { length known.now < 2 ^ 32 }
     ensures { OnOk result (out.new.items ≡ out.old.items ++ spelling_of_known version known.now) }
