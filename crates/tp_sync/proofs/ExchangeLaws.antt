@@ -1,5 +1,5 @@
 -- What an exchange leaves, where nothing waited and nothing was left out or refused.
-use Rattle.std.proofs.Common.{◌≡◌, inl, inr, List, [], ◌++◌, true, false, Some, Option, refl, sym, ap, ◌∙◌, subst, append-nil, filter}
+use Rattle.std.proofs.Common.{◌≡◌, inl, inr, List, [], ◌++◌, false, Some, Option, refl, sym, ap, ◌∙◌, subst, append-nil, filter}
 use Rattle.std.proofs.Common.{Result, Ok, Err, IfOk, IfErr}
 use Rattle.tp_list.specs.Members.{In, AllIn, SameMembers}
 use Rattle.tp_list.proofs.Members.{In-left, In-right, In-append, In-filter, SameMembers-trans}
@@ -9,7 +9,7 @@ use Rattle.tp_opid.specs.declared.hash.Hash.{Hash}
 use Rattle.tp_change.specs.declared.parts.ChangeParts.{ChangeParts}
 use Rattle.tp_graph.specs.declared.error.GraphError.{GraphError}
 use Rattle.tp_graph.specs.declared.error.GraphError.TheVariants.{Known}
-use Rattle.tp_graph.specs.Named.{HashesApart, has_all}
+use Rattle.tp_graph.specs.Named.{HashesApart}
 use Rattle.tp_graph.specs.Heads.{heads}
 use Rattle.tp_graph.specs.Sound.{Sound}
 use Rattle.tp_graph.proofs.SoundLaws.{hashes_apart}

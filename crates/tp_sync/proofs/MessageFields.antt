@@ -8,7 +8,7 @@ use Rattle.tp_opid.specs.declared.hash.Hash.{Hash}
 use Rattle.tp_list.proofs.Tests.{or_cases}
 use Rattle.tp_codec.specs.Prefix.{byte_at, bytes_at, number_at}
 use Rattle.tp_codec.specs.Reading.{Reads, give, fail, and_next, and_then, or_fail, found_or, require, repeat_at}
-use Rattle.tp_codec.proofs.Fields.{IsField, as_field, give_field, then_field, require_field, test_field, byte_field, bytes_field, AreSoMany, number_field, repeat_field, EachFits, wide32}
+use Rattle.tp_codec.proofs.Fields.{IsField, as_field, give_field, then_field, require_field, byte_field, bytes_field, AreSoMany, number_field, repeat_field, EachFits, wide32}
 use Rattle.tp_change.specs.declared.error.ChangeError.{ChangeError}
 use Rattle.tp_change.specs.declared.parts.ChangeParts.{ChangeParts}
 use Rattle.tp_change.specs.Limits.{IsChange}

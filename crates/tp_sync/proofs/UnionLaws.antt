@@ -10,14 +10,12 @@ use Rattle.tp_graph.specs.declared.error.GraphError.{GraphError}
 use Rattle.tp_graph.specs.declared.error.GraphError.TheVariants.{Known}
 use Rattle.tp_graph.specs.Named.{names, has, has_all, HashesApart}
 use Rattle.tp_graph.specs.Past.{past}
-use Rattle.tp_graph.specs.Heads.{heads}
 use Rattle.tp_graph.specs.Fit.{defect, or_full, cause, most_changes}
 use Rattle.tp_graph.specs.Sound.{Sound}
 use Rattle.tp_graph.proofs.CauseLaws.{known_is}
 use Rattle.tp_graph.proofs.NamedLaws.{has-In, In-has, has-left, has_all-In, In-has_all}
 use Rattle.tp_graph.proofs.SoundLaws.{Fits-at, deps_there}
 use Rattle.tp_graph.proofs.ReachLaws.{InPast-from_past}
-use Rattle.tp_graph.proofs.HeadsLaws.{has_all-heads}
 use Rattle.tp_graph.proofs.SetLaws.{NoTwins, chain_over}
 use Rattle.tp_receive.specs.Receiving.{hashes}
 use Rattle.tp_receive.specs.Intake.{Intake}

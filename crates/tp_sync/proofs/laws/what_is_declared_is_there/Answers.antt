@@ -1,4 +1,4 @@
-use Rattle.std.proofs.Common.{◌≡◌, ◌∙◌, ◌++◌, ap, subst, sym, true, List}
+use Rattle.std.proofs.Common.{◌∙◌, ◌++◌, ap, List}
 use Rattle.tp_opid.specs.declared.hash.Hash.{Hash}
 use Rattle.tp_graph.specs.Heads.{heads}
 use Rattle.tp_graph.specs.Named.{has_all}
