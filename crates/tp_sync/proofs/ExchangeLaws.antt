@@ -27,9 +27,11 @@ use Rattle.tp_document.specs.Applying.{no_keeper, keeps_nothing}
 use Rattle.tp_sync.specs.declared.error.SyncError.{SyncError}
 use Rattle.tp_sync.specs.declared.error.SyncError.TheVariants.{BadMessage, BadChange, TooManyHeads, PendingFull, OutOfMemory, OtherDocument, NotKept}
 use Rattle.tp_sync.specs.Receiving.{refusal_of}
-use Rattle.tp_sync.specs.State.{SyncParts, fresh}
+use Rattle.tp_sync.specs.State.{SyncParts, declared, fresh}
+use Rattle.tp_sync.specs.Known.{known_hashes}
 use Rattle.tp_sync.specs.Due.{due_of, is_due, leaves_out}
 use Rattle.tp_sync.specs.Exchange.{Exchanges, IsOtherOnly, PassFails, Passes, RefusesKnownAlone, ReplyFails, Side, Stops, side}
+use Rattle.tp_sync.proofs.KnownLaws.{has_all-declared}
 use Rattle.tp_sync.proofs.TakeLaws.{all_carried}
 use Rattle.tp_sync.proofs.UnionLaws.{Arrived, Delivered, came_due, delivered, no_member, twins_of}
 
@@ -49,20 +51,31 @@ arrived D W K t sound apart idle space run ends known =
       known = known;
     }
 
--- A message that leaves out nothing that is due, to a document whose heads were declared and in which nothing waits,
+-- the hashes of changes that a document with these declares to have
+abbrev tells : List ChangeParts → List Hash
+tells C = heads C ++ known_hashes C
+
+-- Who received a message knows what its sender has.
+declares : (from : Side) (told : SyncParts) (to to' : Side) (r : Applied) → Passes from told to to' r → declared to'.state ≡ Some (tells from.document.applied)
+declares from told to to' r p =
+    let C : List ChangeParts = from.document.applied in
+    ap declared p.hears ∙ ap (λ (hs : List Hash). Some (hs ++ p.message.known)) p.says.heads ∙ ap (λ (ks : List Hash). Some (heads C ++ ks)) p.says.known
+
+-- A message that leaves out nothing that is due, to a document that declared what it has and in which nothing waits,
 -- delivers the sender's changes.
 passed : (from : Side) (told : SyncParts) (to to' : Side) (r : Applied) → Passes from told to to' r → Sound from.document.applied → Sound to.document.applied
-    → HashesApart (to.document.applied ++ from.document.applied) → to.document.waiting ≡ [] → from.state.theirs ≡ Some (heads to.document.applied)
+    → HashesApart (to.document.applied ++ from.document.applied) → to.document.waiting ≡ [] → declared from.state ≡ Some (tells to.document.applied)
     → leaves_out from.document.applied from.state ≡ false → RefusesKnownAlone r
     → Delivered from.document.applied to.document.applied to'.document.applied to'.document.waiting
 passed from told to to' r p sound held apart idle theirs whole known =
     let C : List ChangeParts = from.document.applied in
     let D : List ChangeParts = to.document.applied in
-    let F : List ChangeParts = filter (is_due C (heads D) from.state.wants) C in
+    let H : List Hash = tells D in
+    let F : List ChangeParts = filter (is_due C H from.state.wants) C in
     let sends : p.message.changes ≡ F = p.says.changes ∙ all_carried C from.state whole ∙ ap (λ o. due_of C o from.state.wants C) theirs in
     let t : Intake NoKeeper = intake no_keeper to'.document.applied to'.document.waiting [] r.applied.items r.refused.items in
-    let mine : AllIn F C = λ c i. (In-filter (is_due C (heads D) from.state.wants) C c i).0 in
-    delivered keeps_nothing no_keeper C D F t sound apart mine (came_due C D from.state.wants held (twins_of D C apart))
+    let mine : AllIn F C = λ c i. (In-filter (is_due C H from.state.wants) C c i).0 in
+    delivered keeps_nothing no_keeper C D F t sound apart mine (came_due C D H from.state.wants held (has_all-declared D) (twins_of D C apart))
     (arrived D to.document.waiting F t held (apart_within C F mine (hashes_apart C sound)) idle
     (subst (λ K. is_full D to.document.waiting K ≡ false) sends p.space)
     (subst (λ K. Run keeps_nothing (begin no_keeper D to.document.waiting K) t) sends p.takes.run) p.takes.ends known)
@@ -112,16 +125,17 @@ one_set a b a' b' into_a into_b sa sb apart ia ib x ka kb =
     let still = begun_still B begun (subst (λ K. Run keeps_nothing (begin no_keeper B [] K) begun) none_sent (subst (λ W. Run keeps_nothing (begin no_keeper B W x.first.message.changes) begun) ib run)) in
     let B_is : x.asked.document.applied ≡ B = still.0 in
     let sasked : Sound x.asked.document.applied = subst Sound (sym B_is) sb in
-    let to_a : x.asked.state.theirs ≡ Some (heads A) = ap (λ (s : SyncParts). s.theirs) x.first.hears ∙ ap Some x.first.says.heads in
+    let to_a : declared x.asked.state ≡ Some (tells A) = declares (side a fresh) x.told (side b fresh) x.asked x.begun x.first in
     let lefts = x.replies.left_out in
     let second = passed x.asked x.replies.answered (side a x.told) (side a' x.replies.knows) into_a x.replies.second sasked sa (subst (λ l. HashesApart (A ++ l)) (sym B_is) apart) ia to_a
     (neither_left (leaves_out x.asked.document.applied x.asked.state) (leaves_out a'.applied x.replies.knows) (sym lefts)) ka in
     let here : SameMembers a'.applied (A ++ B) = subst (λ l. SameMembers a'.applied (A ++ l)) B_is second.members in
     let to_b : x.replies.knows.theirs ≡ Some (heads x.asked.document.applied) = ap (λ (s : SyncParts). s.theirs) x.replies.second.hears ∙ ap Some x.replies.second.says.heads in
+    let told_b : declared x.replies.knows ≡ Some (tells x.asked.document.applied) = declares x.asked x.replies.answered (side a x.told) (side a' x.replies.knows) into_a x.replies.second in
     let apart_b : HashesApart (x.asked.document.applied ++ a'.applied) = subst (λ l. HashesApart (l ++ a'.applied)) (sym B_is) (apart_of A B a'.applied apart here) in
     let there : SameMembers b'.applied (x.asked.document.applied ++ a'.applied) = elim x.replies.third [
       | inl p ↦
-          (passed (side a' x.replies.knows) p.0 (side x.asked.document x.replies.answered) (side b' x.replies.ends) into_b p.1 second.sound sasked apart_b still.1 to_b
+          (passed (side a' x.replies.knows) p.0 (side x.asked.document x.replies.answered) (side b' x.replies.ends) into_b p.1 second.sound sasked apart_b still.1 told_b
           (neither_right (leaves_out x.asked.document.applied x.asked.state) (leaves_out a'.applied x.replies.knows) (sym lefts)) kb).members
       | inr q ↦
           let heads_are : heads x.asked.document.applied ≡ heads a'.applied = some_is _ _ (sym to_b ∙ q.quiet.even.theirs) in

@@ -1,7 +1,7 @@
 -- Bytes that are no message are refused for two reasons alone.
 use Rattle.std.proofs.Common.{◌≡◌, ◌⊎◌, inl, inr, ℕ, zero, suc, List, ◌∷◌, Bool, true, false, Option, Some, None, Result, Ok, Err, eqb, cond, ap, length}
 use Rattle.std.specs.Int.{w32}
-use Rattle.std.specs.Prelude.{nat_le, ◌==◌}
+use Rattle.std.specs.Prelude.{nat_le, ◌==◌, ◌||◌, []}
 use Rattle.tp_codec.specs.Prefix.{byte_at, bytes_at, number_at}
 use Rattle.tp_codec.specs.Reading.{Reads, and_next, and_then, fail, found_or, give, or_fail, passed, repeat_at, require}
 use Rattle.tp_opid.specs.declared.hash.Hash.{Hash}
@@ -10,9 +10,9 @@ use Rattle.tp_change.specs.declared.parts.ChangeParts.{ChangeParts}
 use Rattle.tp_change.specs.Reading.{change_at, next_before, rises}
 use Rattle.tp_sync.specs.declared.error.SyncError.{SyncError}
 use Rattle.tp_sync.specs.declared.error.SyncError.TheVariants.{BadMessage, BadChange}
-use Rattle.tp_sync.specs.declared.limits.TheConstants.{MAX_CHANGES, MAX_HASHES}
+use Rattle.tp_sync.specs.declared.limits.TheConstants.{MAX_CHANGES, MAX_HASHES, MAX_KNOWN}
 use Rattle.tp_sync.specs.Message.{MessageParts}
-use Rattle.tp_sync.specs.Reading.{changes_at, decoded, each_entry, ended, entry_at, hash_at, hashes_at, message_at, parts_at, stay, version_at}
+use Rattle.tp_sync.specs.Reading.{changes_at, decoded, each_entry, ended, entry_at, hash_at, hashes_at, known_at, message_at, parts_at, stay, version_at}
 
 abbrev pub IsFault : SyncError → Type 0
 IsFault e = (e ≡ BadMessage) ⊎ (e ≡ BadChange)
@@ -62,7 +62,9 @@ repeat_faults field step (suc n) s f bytes e h =
 
 version_faults : Faults version_at
 unfolding version_at
-version_faults = then_faults (or_fail BadMessage byte_at) (λ version. require (version == 1) BadMessage) (or_faults byte_at) (λ version. require_faults (version == 1))
+version_faults =
+    then_faults (or_fail BadMessage byte_at) _ (or_faults byte_at)
+    (λ version. then_faults (require (version == 1 || version == 2) BadMessage) _ (require_faults (version == 1 || version == 2)) (λ _. give_faults version))
 
 hash_faults : (before : Option Hash) → Faults (hash_at before)
 unfolding hash_at
@@ -70,11 +72,19 @@ hash_faults before =
     then_faults (or_fail BadMessage (bytes_at 32)) _ (or_faults (bytes_at 32))
     (λ bytes. then_faults (require (rises before (record { 0 = bytes })) BadMessage) _ (require_faults (rises before (record { 0 = bytes }))) (λ _. give_faults (record { 0 = bytes })))
 
-hashes_faults : Faults hashes_at
+hashes_faults : (limit : ℕ) → Faults (hashes_at limit)
 unfolding hashes_at
-hashes_faults =
+hashes_faults limit =
     then_faults (or_fail BadMessage (number_at w32)) _ (or_faults (number_at w32))
-    (λ count. then_faults (require (nat_le count MAX_HASHES) BadMessage) _ (require_faults (nat_le count MAX_HASHES)) (λ _. repeat_faults hash_at next_before count None hash_faults))
+    (λ count. then_faults (require (nat_le count limit) BadMessage) _ (require_faults (nat_le count limit)) (λ _. repeat_faults hash_at next_before count None hash_faults))
+
+known_faults : (version : ℕ) → Faults (known_at version)
+unfolding known_at
+known_faults version =
+    elim (version == 2) as (λ b. Faults (cond b (hashes_at MAX_KNOWN) (give []))) [
+      | true ↦ hashes_faults MAX_KNOWN
+      | false ↦ give_faults []
+    ]
 
 fail_faults : Faults {X = ChangeParts} (fail BadChange)
 unfolding fail
@@ -101,9 +111,10 @@ parts_faults : Faults parts_at
 unfolding parts_at
 parts_faults =
     then_faults version_at _ version_faults
-    (λ _. then_faults hashes_at _ hashes_faults
-    (λ heads. then_faults hashes_at _ hashes_faults
-    (λ wants. then_faults changes_at _ changes_faults (λ changes. give_faults (record { heads = heads; wants = wants; changes = changes })))))
+    (λ version. then_faults (hashes_at MAX_HASHES) _ (hashes_faults MAX_HASHES)
+    (λ heads. then_faults (hashes_at MAX_HASHES) _ (hashes_faults MAX_HASHES)
+    (λ wants. then_faults (known_at version) _ (known_faults version)
+    (λ known. then_faults changes_at _ changes_faults (λ changes. give_faults (record { version = version; heads = heads; wants = wants; known = known; changes = changes }))))))
 
 ended_faults : (r : Result (MessageParts × List ℕ) SyncError) → ((e : SyncError) → r ≡ Err e → IsFault e) → (e : SyncError) → ended r ≡ Err e → IsFault e
 unfolding ended

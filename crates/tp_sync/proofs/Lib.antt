@@ -3,6 +3,7 @@ pub mod TakeLaws
 pub mod LoadLaws
 pub mod LimitLaws
 pub mod WantLaws
+pub mod KnownLaws
 pub mod UnionLaws
 pub mod ExchangeLaws
 pub mod Refusals

@@ -1,10 +1,11 @@
 -- What a message carries, by marks of the changes that are due.
 use Rattle.std.proofs.Common.{◌≡◌, ◌<◌, ◌↔◌, inl, inr, ℕ, List, [], ◌∷◌, ◌++◌, length, Bool, true, false, ◌||◌, ◌&&◌, not, cond, Some, drop, map, filter, refl, sym, ap, ◌∙◌, subst, nat_lt, arith}
 use Rattle.std.specs.List.{list_any}
+use Rattle.std.specs.Option.{option_map}
 use Rattle.std.proofs.lemmas.List.{length-map}
 use Rattle.std.proofs.lemmas.Bool.Decides.{nat_tests}
 use Rattle.tp_list.specs.Members.{In}
-use Rattle.tp_list.proofs.Members.{filter-In}
+use Rattle.tp_list.proofs.Members.{filter-In, In-left}
 use Rattle.tp_list.proofs.Tests.{truth, never, not_true, neither, or_left}
 use Rattle.tp_opid.specs.declared.hash.Hash.{Hash}
 use Rattle.tp_change.specs.declared.parts.ChangeParts.{ChangeParts}
@@ -18,7 +19,8 @@ use Rattle.tp_graph.specs.Sound.{Sound}
 use Rattle.tp_graph.proofs.NamedLaws.{has-In, In-has, names-In, In-names}
 use Rattle.tp_graph.proofs.SoundLaws.{deps_first}
 use Rattle.tp_graph.proofs.HeadsLaws.{past-heads}
-use Rattle.tp_sync.specs.State.{SyncParts}
+use Rattle.tp_graph.proofs.PastLaws.{past-more}
+use Rattle.tp_sync.specs.State.{SyncParts, declared}
 use Rattle.tp_sync.specs.Due.{begins_again, begins_at, carried, due, due_from, due_of, is_any, is_due, leaves_out, take_due}
 use Rattle.tp_sync.proofs.MarkLaws.{marks_are_due, any-drop, pick-drop, length-marked}
 use Rattle.tp_sync.proofs.TakeLaws.{piece}
@@ -32,11 +34,11 @@ pub record AreMarks (C : List ChangeParts) (s : SyncParts) (marks : List Bool) :
   pub picks : (n : ℕ) → pick (drop n marks) (drop n C) ≡ due_from C s n
   pub count : length (filter (λ (b : Bool). b) marks) ≡ length (due C s)
 
-pub are_marks : (C : List ChangeParts) (theirs : List Hash) (s : SyncParts) (marks : List Bool) → Sound C → s.theirs ≡ Some theirs → marks ≡ marks_since C theirs s.wants → AreMarks C s marks
+pub are_marks : (C : List ChangeParts) (theirs : List Hash) (s : SyncParts) (marks : List Bool) → Sound C → declared s ≡ Some theirs → marks ≡ marks_since C theirs s.wants → AreMarks C s marks
 are_marks C theirs s marks sound e m =
     let f : ChangeParts → Bool = is_due C theirs s.wants in
     let are : marks ≡ map f C = m ∙ marks_are_due C theirs s.wants sound in
-    let by : (D : List ChangeParts) → filter f D ≡ due_of C s.theirs s.wants D = λ D. ap (λ o. due_of C o s.wants D) (sym e) in
+    let by : (D : List ChangeParts) → filter f D ≡ due_of C (declared s) s.wants D = λ D. ap (λ o. due_of C o s.wants D) (sym e) in
     record {
       long = ap length are ∙ length-map C f;
       any = λ n. ap (λ l. list_any (λ (b : Bool). b) (drop n l)) are ∙ any-drop f C n ∙ ap is_any (by (drop n C));
@@ -104,22 +106,25 @@ In-any C (g ∷ H) h (inr j) e = elim (truth (has C g)) [
 ]
 
 -- where the other has the heads, only what it wants is due
-even_due : (C : List ChangeParts) (wants : List Hash) (c : ChangeParts) → Sound C → In c C → is_due C (heads C) wants c ≡ (names wants c || false)
-even_due C wants c sound i =
-    let all : has (past C (heads C)) (hash_of c) ≡ true = subst (λ l. has l (hash_of c) ≡ true) (sym (past-heads C (deps_first C sound))) (In-has C c (hash_of c) i refl) in
+even_due : (C : List ChangeParts) (known wants : List Hash) (c : ChangeParts) → Sound C → In c C → is_due C (heads C ++ known) wants c ≡ (names wants c || false)
+even_due C known wants c sound i =
+    let theirs : List Hash = heads C ++ known in
+    let under : In c (past C (heads C)) = subst (In c) (sym (past-heads C (deps_first C sound))) i in
+    let all : has (past C theirs) (hash_of c) ≡ true = In-has (past C theirs) c (hash_of c) (past-more C (heads C) theirs (λ h j. In-left h (heads C) known j) c under) refl in
     ap (λ b. names wants c || not b) all
 
 pub even_is : (C : List ChangeParts) (s : SyncParts) → Sound C → s.theirs ≡ Some (heads C) → (list_any (λ (h : Hash). has C h) s.wants ≡ false) ↔ (due C s ≡ [])
 even_is C s sound e =
-    let by : due C s ≡ filter (is_due C (heads C) s.wants) C = ap (λ o. due_of C o s.wants C) e in (
-      λ none. by ∙ filter-none (is_due C (heads C) s.wants) C (λ c i. even_due C s.wants c sound i ∙ neither (names s.wants c) false
+    let theirs : List Hash = heads C ++ s.known in
+    let by : due C s ≡ filter (is_due C theirs s.wants) C = ap (λ o. due_of C (option_map (λ (hs : List Hash). hs ++ s.known) o) s.wants C) e in (
+      λ none. by ∙ filter-none (is_due C theirs s.wants) C (λ c i. even_due C s.known s.wants c sound i ∙ neither (names s.wants c) false
           (not_true (names s.wants c) (λ t. never (In-any C s.wants (hash_of c) (names-In s.wants c t) (In-has C c (hash_of c) i refl)) none)) refl),
       λ none. not_true (list_any (λ (h : Hash). has C h) s.wants) (λ t.
           let w = any-In C s.wants t in
           let c = has-In C w.0 w.2 in
           let wanted : names s.wants c.0 ≡ true = In-names s.wants c.0 (subst (λ h. In h s.wants) (sym c.2) w.1) in
-          let is : is_due C (heads C) s.wants c.0 ≡ true = even_due C s.wants c.0 sound c.1 ∙ or_left (names s.wants c.0) false wanted in
-          subst (In c.0) (sym by ∙ none) (filter-In (is_due C (heads C) s.wants) C c.0 c.1 is)),
+          let is : is_due C theirs s.wants c.0 ≡ true = even_due C s.known s.wants c.0 sound c.1 ∙ or_left (names s.wants c.0) false wanted in
+          subst (In c.0) (sym by ∙ none) (filter-In (is_due C theirs s.wants) C c.0 c.1 is)),
     )
 
 pub not_any : (b : Bool) → (not b ≡ true) ↔ (b ≡ false)

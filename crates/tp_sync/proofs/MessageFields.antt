@@ -1,13 +1,14 @@
 -- The fields of a message: what is read is spelled so, and what is spelled is read again.
-use Rattle.std.proofs.Common.{◌≡◌, ℕ, ◌^◌, ◌<◌, ◌≤◌, true, eqb, leb, List, [], ◌∷◌, ◌++◌, length, Option, None, Result, Ok, Err, refl, sym, ap, subst, ◌∙◌, append-nil, append_assoc, arith, eqb-true, le-leb, leb-true, inl, inr}
+use Rattle.std.proofs.Common.{◌≡◌, ◌⊎◌, ℕ, ◌^◌, ◌<◌, ◌≤◌, ◌||◌, true, eqb, leb, List, [], ◌∷◌, ◌++◌, length, Option, None, Result, Ok, Err, refl, sym, ap, subst, ◌∙◌, append-nil, append_assoc, arith, eqb-true, le-leb, leb-true, inl, inr}
 use Rattle.std.specs.Int.{w32, to_be_bytes}
 use Rattle.std.specs.List.{flat_map}
 use Rattle.std.proofs.lemmas.List.{take_at, drop_at, length-append}
 use Rattle.std.proofs.lemmas.Bool.{le-ltb}
 use Rattle.tp_opid.specs.declared.hash.Hash.{Hash}
+use Rattle.tp_list.proofs.Tests.{or_cases}
 use Rattle.tp_codec.specs.Prefix.{byte_at, bytes_at, number_at}
 use Rattle.tp_codec.specs.Reading.{Reads, give, fail, and_next, and_then, or_fail, found_or, require, repeat_at}
-use Rattle.tp_codec.proofs.Fields.{IsField, as_field, give_field, then_field, require_field, test_field, byte_field, bytes_field, AreSoMany, number_field, repeat_field, EachFits, wide32}
+use Rattle.tp_codec.proofs.Fields.{IsField, as_field, give_field, then_field, require_field, byte_field, bytes_field, AreSoMany, number_field, repeat_field, EachFits, wide32}
 use Rattle.tp_change.specs.declared.error.ChangeError.{ChangeError}
 use Rattle.tp_change.specs.declared.parts.ChangeParts.{ChangeParts}
 use Rattle.tp_change.specs.Limits.{IsChange}
@@ -18,19 +19,31 @@ use Rattle.tp_change.proofs.WholeChange.{change_takes, change_again}
 use Rattle.tp_document.specs.DocState.{AllChanges}
 use Rattle.tp_sync.specs.declared.error.SyncError.{SyncError}
 use Rattle.tp_sync.specs.declared.error.SyncError.TheVariants.{BadMessage}
-use Rattle.tp_sync.specs.Message.{MessageParts, AreHashes, IsMessage}
-use Rattle.tp_sync.specs.Spelling.{entry, spelling_of_hashes, spelling_of_changes, message_spelling}
-use Rattle.tp_sync.specs.Reading.{version_at, hash_at, hashes_at, decoded, entry_at, each_entry, stay, changes_at, parts_at}
+use Rattle.tp_sync.specs.Message.{MessageParts, AreHashes, IsMessage, TellsKnown}
+use Rattle.tp_sync.specs.Spelling.{entry, spelling_of_hashes, spelling_of_changes, spelling_of_known, message_spelling}
+use Rattle.tp_sync.specs.Reading.{version_at, hash_at, hashes_at, known_at, decoded, entry_at, each_entry, stay, changes_at, parts_at}
 
-version_field : IsField BadMessage version_at (λ _. 1 ∷ []) (λ _. Unit {0})
+-- a version that there is
+abbrev pub IsVersion : ℕ → Type 0
+IsVersion v = (eqb v 1 || eqb v 2) ≡ true
+
+-- there are two of them
+two_versions : (v : ℕ) → IsVersion v → (v ≡ 1) ⊎ (v ≡ 2)
+two_versions v is = elim (or_cases (eqb v 1) (eqb v 2) is) [ inl e ↦ inl (eqb-true v 1 e) | inr e ↦ inr (eqb-true v 2 e) ]
+
+version_fits : (v : ℕ) → IsVersion v → v < 256
+version_fits v is = elim (two_versions v is) [ inl e ↦ omega (arith, e) | inr e ↦ omega (arith, e) ]
+
+version_field : IsField BadMessage version_at (λ v. v ∷ []) IsVersion
 unfolding version_at
 version_field =
-    as_field BadMessage version_at (λ _. (1 ∷ []) ++ []) (λ _. 1 ∷ []) (λ _. (1 < 256) × (eqb 1 1 ≡ true)) (λ _. Unit {0})
-    (then_field BadMessage (or_fail BadMessage byte_at) (λ v. require (eqb v 1) BadMessage) (λ b. b ∷ []) (λ b. b < 256) (λ (_ : Unit {0}). 1) (λ _. []) (λ v _. eqb v 1 ≡ true)
+    as_field BadMessage version_at (λ v. (v ∷ []) ++ []) (λ v. v ∷ []) (λ v. (v < 256) × (IsVersion v × (v ≡ v))) IsVersion
+    (then_field BadMessage (or_fail BadMessage byte_at) (λ b. and_then (require (eqb b 1 || eqb b 2) BadMessage) (λ _. give b)) (λ b. b ∷ []) (λ b. b < 256)
+    (λ (v : ℕ). v) (λ _. []) (λ b v. IsVersion b × (v ≡ b))
     (byte_field BadMessage)
-    (λ v lt. test_field BadMessage (eqb v 1) BadMessage)
-    (λ v x fit. sym (eqb-true v 1 fit)))
-    (λ x fit. refl) (λ x fit. tt) (λ x fit. (omega arith, refl))
+    (λ b lt. require_field BadMessage (eqb b 1 || eqb b 2) BadMessage (give b) (λ _. []) (λ v. v ≡ b) (λ _. give_field BadMessage b))
+    (λ b v fit. fit.1))
+    (λ v fit. refl) (λ v fit. fit.1.0) (λ v fit. (version_fits v fit, (fit, refl)))
 
 -- ---- hashes
 
@@ -50,19 +63,50 @@ hash_field before =
     (λ h fit. (record { count = fit.0.count; each = fit.0.each }, fit.1.0))
     (λ h fit. (record { count = fit.0.count; each = fit.0.each }, (fit.1, refl)))
 
-hashes_field : IsField BadMessage hashes_at spelling_of_hashes AreHashes
+hashes_field : (limit : ℕ) → limit < 2 ^ 32 → IsField BadMessage (hashes_at limit) spelling_of_hashes (AreHashes limit)
 unfolding hashes_at
-hashes_field =
-    as_field BadMessage hashes_at spelling_of_hashes spelling_of_hashes (λ hs. (length hs < 2 ^ 32) × ((leb (length hs) 65535 ≡ true) × ((length hs ≡ length hs) × EachFits DepFits next_before None hs))) AreHashes
-    (then_field BadMessage (or_fail BadMessage (number_at w32)) (λ count. and_then (require (leb count 65535) BadMessage) (λ _. repeat_at hash_at next_before count None)) (to_be_bytes w32) (λ n. n < 2 ^ 32)
-    (λ (hs : List Hash). length hs) (flat_map (λ (h : Hash). h.0)) (λ count hs. (leb count 65535 ≡ true) × ((length hs ≡ count) × EachFits DepFits next_before None hs))
+hashes_field limit small =
+    as_field BadMessage (hashes_at limit) spelling_of_hashes spelling_of_hashes (λ hs. (length hs < 2 ^ 32) × ((leb (length hs) limit ≡ true) × ((length hs ≡ length hs) × EachFits DepFits next_before None hs))) (AreHashes limit)
+    (then_field BadMessage (or_fail BadMessage (number_at w32)) (λ count. and_then (require (leb count limit) BadMessage) (λ _. repeat_at hash_at next_before count None)) (to_be_bytes w32) (λ n. n < 2 ^ 32)
+    (λ (hs : List Hash). length hs) (flat_map (λ (h : Hash). h.0)) (λ count hs. (leb count limit ≡ true) × ((length hs ≡ count) × EachFits DepFits next_before None hs))
     (number_field BadMessage w32 (2 ^ 32) wide32)
-    (λ count lt. require_field BadMessage (leb count 65535) BadMessage (repeat_at hash_at next_before count None) (flat_map (λ (h : Hash). h.0)) (λ hs. (length hs ≡ count) × EachFits DepFits next_before None hs)
+    (λ count lt. require_field BadMessage (leb count limit) BadMessage (repeat_at hash_at next_before count None) (flat_map (λ (h : Hash). h.0)) (λ hs. (length hs ≡ count) × EachFits DepFits next_before None hs)
     (λ _. repeat_field BadMessage hash_at next_before (λ h. h.0) DepFits hash_field count None))
     (λ count hs fit. fit.1.0))
     (λ hs fit. refl)
-    (λ hs fit. record { each = hashes_all None hs fit.1.1.1; rise = rising_all hs fit.1.1.1; few = leb-true (length hs) 65535 fit.1.0 })
-    (λ hs fit. (omega (arith, fit.few), (le-leb (length hs) 65535 fit.few, (refl, fit_all hs fit.each fit.rise))))
+    (λ hs fit. record { each = hashes_all None hs fit.1.1.1; rise = rising_all hs fit.1.1.1; few = leb-true (length hs) limit fit.1.0 })
+    (λ hs fit. (omega (arith, fit.few, small), (le-leb (length hs) limit fit.few, (refl, fit_all hs fit.each fit.rise))))
+
+heads_field : IsField BadMessage (hashes_at 65535) spelling_of_hashes (AreHashes 65535)
+heads_field = hashes_field 65535 (omega arith)
+
+-- version 1 has no known hashes
+none_field : IsField BadMessage (known_at 1) (spelling_of_known 1) (TellsKnown 1)
+unfolding known_at spelling_of_known
+none_field =
+    as_field BadMessage (known_at 1) (λ _. []) (spelling_of_known 1) (λ hs. hs ≡ []) (TellsKnown 1) (give_field BadMessage [])
+    (λ hs fit. refl)
+    (λ hs fit. inl (refl, fit))
+    (λ hs fit. elim fit [ inl e ↦ e.1 | inr e ↦ absurd (let no : 1 ≡ 2 = e.0 in cc) ])
+
+-- version 2 has them
+some_field : IsField BadMessage (known_at 2) (spelling_of_known 2) (TellsKnown 2)
+unfolding known_at spelling_of_known
+some_field =
+    as_field BadMessage (known_at 2) spelling_of_hashes (spelling_of_known 2) (AreHashes 32) (TellsKnown 2) (hashes_field 32 (omega arith))
+    (λ hs fit. refl)
+    (λ hs fit. inr (refl, fit))
+    (λ hs fit. elim fit [ inl e ↦ absurd (let no : 2 ≡ 1 = e.0 in cc) | inr e ↦ e.1 ])
+
+known_field : (version : ℕ) → IsVersion version → IsField BadMessage (known_at version) (spelling_of_known version) (TellsKnown version)
+known_field version is = elim (two_versions version is) [
+  | inl e ↦ subst (λ v. IsField BadMessage (known_at v) (spelling_of_known v) (TellsKnown v)) (sym e) none_field
+  | inr e ↦ subst (λ v. IsField BadMessage (known_at v) (spelling_of_known v) (TellsKnown v)) (sym e) some_field
+]
+
+version_of_known : (version : ℕ) (known : List Hash) → TellsKnown version known → IsVersion version
+version_of_known version known (inl t) = rw t.0 refl
+version_of_known version known (inr t) = rw t.0 refl
 
 -- ---- changes
 
@@ -169,58 +213,81 @@ changes_field =
 
 -- ---- the message
 
-abbrev made : List Hash → List Hash → List ChangeParts → MessageParts
-made heads wants changes = record { heads = heads; wants = wants; changes = changes }
+abbrev made : ℕ → List Hash → List Hash → List Hash → List ChangeParts → MessageParts
+made version heads wants known changes = record { version = version; heads = heads; wants = wants; known = known; changes = changes }
 
 abbrev spell_changes : MessageParts → List ℕ
 spell_changes m = spelling_of_changes m.changes ++ []
 
+abbrev spell_known : MessageParts → List ℕ
+spell_known m = spelling_of_known m.version m.known ++ spell_changes m
+
 abbrev spell_wants : MessageParts → List ℕ
-spell_wants m = spelling_of_hashes m.wants ++ spell_changes m
+spell_wants m = spelling_of_hashes m.wants ++ spell_known m
 
 abbrev spell_lists : MessageParts → List ℕ
 spell_lists m = spelling_of_hashes m.heads ++ spell_wants m
 
-abbrev ChangesFit : List Hash → List Hash → MessageParts → Type 0
-ChangesFit heads wants m = FitsChanges m.changes × (m ≡ made heads wants m.changes)
+abbrev ChangesFit : ℕ → List Hash → List Hash → List Hash → MessageParts → Type 0
+ChangesFit version heads wants known m = FitsChanges m.changes × (m ≡ made version heads wants known m.changes)
 
-abbrev WantsFit : List Hash → MessageParts → Type 0
-WantsFit heads m = AreHashes m.wants × ChangesFit heads m.wants m
+abbrev KnownFit : ℕ → List Hash → List Hash → MessageParts → Type 0
+KnownFit version heads wants m = TellsKnown version m.known × ChangesFit version heads wants m.known m
 
-abbrev ListsFit : MessageParts → Type 0
-ListsFit m = AreHashes m.heads × WantsFit m.heads m
+abbrev WantsFit : ℕ → List Hash → MessageParts → Type 0
+WantsFit version heads m = AreHashes 65535 m.wants × KnownFit version heads m.wants m
 
-abbrev changes_behind : List Hash → List Hash → Reads SyncError MessageParts
-changes_behind heads wants = and_then changes_at (λ changes. give (made heads wants changes))
+abbrev ListsFit : ℕ → MessageParts → Type 0
+ListsFit version m = AreHashes 65535 m.heads × WantsFit version m.heads m
 
-abbrev wants_behind : List Hash → Reads SyncError MessageParts
-wants_behind heads = and_then hashes_at (λ wants. changes_behind heads wants)
+abbrev changes_behind : ℕ → List Hash → List Hash → List Hash → Reads SyncError MessageParts
+changes_behind version heads wants known = and_then changes_at (λ changes. give (made version heads wants known changes))
 
-lists_field : IsField BadMessage (and_then hashes_at wants_behind) spell_lists ListsFit
-lists_field =
-    then_field BadMessage hashes_at wants_behind spelling_of_hashes AreHashes
-    (λ (m : MessageParts). m.heads) spell_wants WantsFit
-    hashes_field
-    (λ heads is. then_field BadMessage hashes_at (λ wants. changes_behind heads wants) spelling_of_hashes AreHashes
-    (λ (m : MessageParts). m.wants) spell_changes (ChangesFit heads)
-    hashes_field
-    (λ wants are. then_field BadMessage changes_at (λ changes. give (made heads wants changes)) spelling_of_changes FitsChanges
-    (λ (m : MessageParts). m.changes) (λ _. []) (λ changes m. m ≡ made heads wants changes)
+abbrev known_behind : ℕ → List Hash → List Hash → Reads SyncError MessageParts
+known_behind version heads wants = and_then (known_at version) (λ known. changes_behind version heads wants known)
+
+abbrev wants_behind : ℕ → List Hash → Reads SyncError MessageParts
+wants_behind version heads = and_then (hashes_at 65535) (λ wants. known_behind version heads wants)
+
+abbrev lists_behind : ℕ → Reads SyncError MessageParts
+lists_behind version = and_then (hashes_at 65535) (λ heads. wants_behind version heads)
+
+known_read : (version : ℕ) (heads wants : List Hash) → IsVersion version → IsField BadMessage (known_behind version heads wants) spell_known (KnownFit version heads wants)
+known_read version heads wants is =
+    as_field BadMessage (known_behind version heads wants) (λ m. spelling_of_known version m.known ++ spell_changes m) spell_known (KnownFit version heads wants) (KnownFit version heads wants)
+    (then_field BadMessage (known_at version) (λ known. changes_behind version heads wants known) (spelling_of_known version) (TellsKnown version)
+    (λ (m : MessageParts). m.known) spell_changes (ChangesFit version heads wants)
+    (known_field version is)
+    (λ known are. then_field BadMessage changes_at (λ changes. give (made version heads wants known changes)) spelling_of_changes FitsChanges
+    (λ (m : MessageParts). m.changes) (λ _. []) (λ changes m. m ≡ made version heads wants known changes)
     changes_field
-    (λ changes fit. give_field BadMessage (made heads wants changes))
+    (λ changes fit. give_field BadMessage (made version heads wants known changes))
     (λ changes m e. ap (λ (x : MessageParts). x.changes) e))
-    (λ wants m fit. ap (λ (x : MessageParts). x.wants) fit.1))
-    (λ heads m fit. ap (λ (x : MessageParts). x.heads) fit.1.1)
+    (λ known m fit. ap (λ (x : MessageParts). x.known) fit.1))
+    (λ m fit. ap (λ (v : ℕ). spelling_of_known v m.known ++ spell_changes m) (sym (ap (λ (x : MessageParts). x.version) fit.1.1)))
+    (λ m fit. fit) (λ m fit. fit)
+
+lists_field : (version : ℕ) → IsVersion version → IsField BadMessage (lists_behind version) spell_lists (ListsFit version)
+lists_field version is =
+    then_field BadMessage (hashes_at 65535) (λ heads. wants_behind version heads) spelling_of_hashes (AreHashes 65535)
+    (λ (m : MessageParts). m.heads) spell_wants (WantsFit version)
+    heads_field
+    (λ heads have. then_field BadMessage (hashes_at 65535) (λ wants. known_behind version heads wants) spelling_of_hashes (AreHashes 65535)
+    (λ (m : MessageParts). m.wants) spell_known (KnownFit version heads)
+    heads_field
+    (λ wants are. known_read version heads wants is)
+    (λ wants m fit. ap (λ (x : MessageParts). x.wants) fit.1.1))
+    (λ heads m fit. ap (λ (x : MessageParts). x.heads) fit.1.1.1)
 
 pub parts_field : IsField BadMessage parts_at message_spelling IsMessage
 unfolding parts_at message_spelling
 parts_field =
-    as_field BadMessage parts_at (λ m. (1 ∷ []) ++ spell_lists m) message_spelling (λ m. Unit {0} × ListsFit m) IsMessage
-    (then_field BadMessage version_at (λ _. and_then hashes_at wants_behind) (λ _. 1 ∷ []) (λ _. Unit {0})
-    (λ (m : MessageParts). tt) spell_lists (λ _ m. ListsFit m)
+    as_field BadMessage parts_at (λ m. (m.version ∷ []) ++ spell_lists m) message_spelling (λ m. IsVersion m.version × ListsFit m.version m) IsMessage
+    (then_field BadMessage version_at lists_behind (λ v. v ∷ []) IsVersion
+    (λ (m : MessageParts). m.version) spell_lists ListsFit
     version_field
-    (λ x fit. lists_field)
-    (λ x m fit. refl))
-    (λ m fit. ap (λ (b : List ℕ). 1 ∷ (spelling_of_hashes m.heads ++ (spelling_of_hashes m.wants ++ b))) (append-nil (spelling_of_changes m.changes)))
-    (λ m fit. record { heads = fit.1.0; wants = fit.1.1.0; changes = fit.1.1.1.0.each; few = fit.1.1.1.0.few })
-    (λ m is. (tt, (is.heads, (is.wants, (record { each = is.changes; few = is.few }, refl)))))
+    lists_field
+    (λ v m fit. ap (λ (x : MessageParts). x.version) fit.1.1.1.1))
+    (λ m fit. ap (λ (b : List ℕ). m.version ∷ (spelling_of_hashes m.heads ++ (spelling_of_hashes m.wants ++ (spelling_of_known m.version m.known ++ b)))) (append-nil (spelling_of_changes m.changes)))
+    (λ m fit. record { heads = fit.1.0; wants = fit.1.1.0; known = fit.1.1.1.0; changes = fit.1.1.1.1.0.each; few = fit.1.1.1.1.0.few })
+    (λ m is. (version_of_known m.version m.known is.known, (is.heads, (is.wants, (is.known, (record { each = is.changes; few = is.few }, refl))))))

@@ -11,7 +11,7 @@ use Rattle.tp_list.specs.Members.{In}
 use Rattle.tp_list.proofs.Members.{In-filter, In-left, In-right}
 use Rattle.tp_list.proofs.Tests.{neither_left, truth}
 use Rattle.tp_sync.specs.declared.limits.TheConstants.{FULL_BYTES, MAX_CHANGES}
-use Rattle.tp_sync.specs.State.{SyncParts}
+use Rattle.tp_sync.specs.State.{SyncParts, declared}
 use Rattle.tp_sync.specs.Due.{begins_at, carried, due, due_from, due_of, is_any, is_due, is_laden, leaves_out, take_due, IsPiece, MovesOn}
 
 pick-step : (bs : List Bool) (C : List ChangeParts) (i : ℕ) (c : ChangeParts) → length bs ≡ length C → slice_get C i ≡ Some c
@@ -72,9 +72,9 @@ piece C s =
     let n = begins_at C s in
     let w = taken_prefix 0 0 (due_from C s n) in
     record {
-      before = due_of C s.theirs s.wants (take n C);
+      before = due_of C (declared s) s.wants (take n C);
       behind = w.0;
-      joined = ap (due_of C s.theirs s.wants) (sym (take-append-drop n C)) ∙ due_of-append C s.theirs s.wants (take n C) (drop n C) ∙ ap (λ l. due_of C s.theirs s.wants (take n C) ++ l) w.1;
+      joined = ap (due_of C (declared s) s.wants) (sym (take-append-drop n C)) ∙ due_of-append C (declared s) s.wants (take n C) (drop n C) ∙ ap (λ l. due_of C (declared s) s.wants (take n C) ++ l) w.1;
     }
 
 whole_piece : (part whole : List ChangeParts) → IsPiece part whole → length whole ≤ length part → part ≡ whole
@@ -148,7 +148,7 @@ due_of-In C (Some theirs) wants D c i = (In-filter (is_due C theirs wants) D c i
 pub carried-In : (C : List ChangeParts) (s : SyncParts) (c : ChangeParts) → In c (carried C s) → In c C
 carried-In C s c i =
     let p = piece C s in
-    due_of-In C s.theirs s.wants C c (subst (In c) (sym p.joined) (In-right c p.before (carried C s ++ p.behind) (In-left c (carried C s) p.behind i)))
+    due_of-In C (declared s) s.wants C c (subst (In c) (sym p.joined) (In-right c p.before (carried C s ++ p.behind) (In-left c (carried C s) p.behind i)))
 
 take_few : (count bytes : ℕ) (D : List ChangeParts) → count ≤ MAX_CHANGES → length (take_due count bytes D) + count ≤ MAX_CHANGES
 take_few count bytes [] h = omega arith

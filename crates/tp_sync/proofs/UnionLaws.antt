@@ -10,14 +10,12 @@ use Rattle.tp_graph.specs.declared.error.GraphError.{GraphError}
 use Rattle.tp_graph.specs.declared.error.GraphError.TheVariants.{Known}
 use Rattle.tp_graph.specs.Named.{names, has, has_all, HashesApart}
 use Rattle.tp_graph.specs.Past.{past}
-use Rattle.tp_graph.specs.Heads.{heads}
 use Rattle.tp_graph.specs.Fit.{defect, or_full, cause, most_changes}
 use Rattle.tp_graph.specs.Sound.{Sound}
 use Rattle.tp_graph.proofs.CauseLaws.{known_is}
 use Rattle.tp_graph.proofs.NamedLaws.{has-In, In-has, has-left, has_all-In, In-has_all}
 use Rattle.tp_graph.proofs.SoundLaws.{Fits-at, deps_there}
 use Rattle.tp_graph.proofs.ReachLaws.{InPast-from_past}
-use Rattle.tp_graph.proofs.HeadsLaws.{has_all-heads}
 use Rattle.tp_graph.proofs.SetLaws.{NoTwins, chain_over}
 use Rattle.tp_receive.specs.Receiving.{hashes}
 use Rattle.tp_receive.specs.Intake.{Intake}
@@ -27,14 +25,14 @@ use Rattle.tp_sync.specs.Due.{is_due}
 
 -- ---- what isn't due is there
 
--- The other, whose heads were declared, has each change that isn't due to it.
-pub not_due_held : (C D : List ChangeParts) (wants : List Hash) (c : ChangeParts) → Sound D → NoTwins C D → In c C
-    → is_due C (heads D) wants c ≡ false → has D (hash_of c) ≡ true
-not_due_held C D wants c sound twins i e =
-    let held : has (past C (heads D)) (hash_of c) ≡ true = held_by (has (past C (heads D)) (hash_of c)) (neither_right (names wants c) (not (has (past C (heads D)) (hash_of c))) e) in
-    let x = has-In (past C (heads D)) (hash_of c) held in
-    let p = InPast-from_past C (heads D) x.0 x.1 in
-    let head : has D p.1 ≡ true = has_all-In D (heads D) (has_all-heads D) p.1 p.2 in
+-- The other, which declared that it has some hashes, has each change that isn't due to it.
+pub not_due_held : (C D : List ChangeParts) (theirs wants : List Hash) (c : ChangeParts) → Sound D → has_all D theirs ≡ true → NoTwins C D → In c C
+    → is_due C theirs wants c ≡ false → has D (hash_of c) ≡ true
+not_due_held C D theirs wants c sound there twins i e =
+    let held : has (past C theirs) (hash_of c) ≡ true = held_by (has (past C theirs) (hash_of c)) (neither_right (names wants c) (not (has (past C theirs) (hash_of c))) e) in
+    let x = has-In (past C theirs) (hash_of c) held in
+    let p = InPast-from_past C theirs x.0 x.1 in
+    let head : has D p.1 ≡ true = has_all-In D theirs there p.1 p.2 in
     subst (λ h. has D h ≡ true) x.2 (chain_over C D (deps_there D sound) twins p.3.0 p.1 (hash_of x.0) p.3.1 head) where
       held_by : (b : Bool) → not b ≡ false → b ≡ true
       held_by true f = refl
@@ -149,11 +147,11 @@ delivered keeps k C D K t sound apart of came w =
     }
 
 -- what came is what isn't held, where all that is due came
-pub came_due : (C D : List ChangeParts) (wants : List Hash) → Sound D → NoTwins C D → (c : ChangeParts) → In c C
-    → In c (filter (is_due C (heads D) wants) C) ⊎ (has D (hash_of c) ≡ true)
-came_due C D wants sound twins c i = elim (truth (is_due C (heads D) wants c)) [
-  | inl e ↦ inl (filter-In (is_due C (heads D) wants) C c i e)
-  | inr e ↦ inr (not_due_held C D wants c sound twins i e)
+pub came_due : (C D : List ChangeParts) (theirs wants : List Hash) → Sound D → has_all D theirs ≡ true → NoTwins C D → (c : ChangeParts) → In c C
+    → In c (filter (is_due C theirs wants) C) ⊎ (has D (hash_of c) ≡ true)
+came_due C D theirs wants sound there twins c i = elim (truth (is_due C theirs wants c)) [
+  | inl e ↦ inl (filter-In (is_due C theirs wants) C c i e)
+  | inr e ↦ inr (not_due_held C D theirs wants c sound there twins i e)
 ]
 
 pub twins_of : (D C : List ChangeParts) → HashesApart (D ++ C) → NoTwins C D

@@ -10,7 +10,7 @@ use Rattle.tp_change.specs.declared.parts.ChangeParts.{ChangeParts}
 use Rattle.tp_sync.specs.declared.error.SyncError.{SyncError}
 use Rattle.tp_sync.specs.declared.error.SyncError.TheVariants.{BadMessage, BadChange}
 use Rattle.tp_sync.specs.Message.{MessageParts, IsMessage}
-use Rattle.tp_sync.specs.Spelling.{entry, spelling_of_hashes, message_spelling}
+use Rattle.tp_sync.specs.Spelling.{entry, spelling_of_hashes, spelling_of_known, message_spelling}
 use Rattle.tp_sync.specs.Reading.{parts_at, ended, message_at}
 use Rattle.tp_sync.proofs.MessageFields.{parts_field}
 
@@ -76,14 +76,16 @@ bad_change_bars bytes more m fits h is same =
     let read : message_at (bytes ++ more) ≡ Ok m = ap message_at same ∙ message_again m is in
     cc
 
-regroup : (hs ws n cs : List ℕ) → ((((1 ∷ []) ++ hs) ++ ws) ++ n) ++ cs ≡ 1 ∷ (hs ++ (ws ++ (n ++ cs)))
-regroup hs ws n cs = simp append_assoc
+regroup : (v : ℕ) (hs ws ks n cs : List ℕ) → (((((v ∷ []) ++ hs) ++ ws) ++ ks) ++ n) ++ cs ≡ v ∷ (hs ++ (ws ++ (ks ++ (n ++ cs))))
+regroup v hs ws ks n cs = simp append_assoc
 
 -- What is written field by field is the bytes of the message.
-pub written : (m : MessageParts) (heads wants : List Hash) (changes : List ChangeParts) (a b d e bytes : List ℕ)
-    → heads ≡ m.heads → wants ≡ m.wants → changes ≡ m.changes
-    → a ≡ 1 ∷ [] → b ≡ a ++ spelling_of_hashes heads → d ≡ b ++ spelling_of_hashes wants → e ≡ d ++ to_be_bytes w32 (length changes) → bytes ≡ e ++ flat_map entry changes
+pub written : (m : MessageParts) (version : ℕ) (heads wants known : List Hash) (changes : List ChangeParts) (a b d e f bytes : List ℕ)
+    → version ≡ m.version → heads ≡ m.heads → wants ≡ m.wants → known ≡ m.known → changes ≡ m.changes
+    → a ≡ version ∷ [] → b ≡ a ++ spelling_of_hashes heads → d ≡ b ++ spelling_of_hashes wants → e ≡ d ++ spelling_of_known version known
+    → f ≡ e ++ to_be_bytes w32 (length changes) → bytes ≡ f ++ flat_map entry changes
     → bytes ≡ message_spelling m
 unfolding message_spelling
-written m heads wants changes a b d e bytes hs ws cs one two three four five =
-    rw (five, four, three, two, one, hs, ws, cs) (regroup (spelling_of_hashes m.heads) (spelling_of_hashes m.wants) (to_be_bytes w32 (length m.changes)) (flat_map entry m.changes))
+written m version heads wants known changes a b d e f bytes v hs ws ks cs one two three four five six =
+    rw (six, five, four, three, two, one, v, hs, ws, ks, cs)
+    (regroup m.version (spelling_of_hashes m.heads) (spelling_of_hashes m.wants) (spelling_of_known m.version m.known) (to_be_bytes w32 (length m.changes)) (flat_map entry m.changes))

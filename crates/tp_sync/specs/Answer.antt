@@ -5,6 +5,7 @@ use Rattle.tp_graph.specs.Heads as head
 use Rattle.tp_sync.specs.Message.{MessageParts}
 use Rattle.tp_sync.specs.State.{SyncParts}
 use Rattle.tp_sync.specs.Due as of_due
+use Rattle.tp_sync.specs.Known.{known_hashes}
 use Rattle.tp_sync.specs.Wanting.{wanted}
 
 -- Nothing is to be said: the heads were told, the other declared the same, and nothing is due.
@@ -12,14 +13,18 @@ pub record IsQuiet (C : List ChangeParts) (s : SyncParts) : Type 0 where
   pub told : s.told ≡ Some (head.heads C)
   pub even : of_due.IsEven C s
 
--- The message m says what there is to say: the heads, what is wanted, and changes that are due. It leaves the state t.
+-- The message m says what there is to say: the heads, what is wanted, what is known, and changes that are due. It is of
+-- version 2, and leaves the state t.
 pub record Says (C W : List ChangeParts) (s : SyncParts) (m : MessageParts) (t : SyncParts) : Type 0 where
   pub loud : IsQuiet C s → ⊥
+  pub version : m.version ≡ 2
   pub heads : m.heads ≡ head.heads C
   pub wants : m.wants ≡ wanted C W s.theirs
+  pub known : m.known ≡ known_hashes C
   pub changes : m.changes ≡ of_due.carried C s
   pub theirs : t.theirs ≡ s.theirs
   pub their_wants : t.wants ≡ s.wants
+  pub their_known : t.known ≡ s.known
   pub told : t.told ≡ Some (head.heads C)
   pub next : of_due.MovesOn C (of_due.carried C s) s.next t.next
   pub again : t.again ≡ of_due.begins_again C s

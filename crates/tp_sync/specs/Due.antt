@@ -9,10 +9,10 @@ use Rattle.tp_graph.specs.Named.{names, has}
 use Rattle.tp_graph.specs.Past.{past}
 use Rattle.tp_graph.specs.Heads.{heads}
 use Rattle.tp_sync.specs.declared.limits.TheConstants.{MAX_CHANGES, FULL_BYTES}
-use Rattle.tp_sync.specs.State.{SyncParts}
+use Rattle.tp_sync.specs.State.{SyncParts, declared}
 
--- c is due to a peer that declared the heads `theirs` and wants the hashes `wants`: it is wanted, or it isn't in the
--- past of those of the heads that C has.
+-- c is due to a peer that declared that it has `theirs` and wants the hashes `wants`: it is wanted, or it isn't in the
+-- past of those of `theirs` that C has.
 abbrev pub is_due : List ChangeParts → List Hash → List Hash → ChangeParts → Bool
 is_due C theirs wants c = names wants c || not (has (past C theirs) (hash_of c))
 
@@ -23,7 +23,7 @@ due_of C (Some theirs) wants D = filter (is_due C theirs wants) D
 
 -- the changes of C that are due, in applied order
 abbrev pub due : List ChangeParts → SyncParts → List ChangeParts
-due C s = due_of C s.theirs s.wants C
+due C s = due_of C (declared s) s.wants C
 
 -- The other declared the very heads of C, and nothing is due to it.
 pub record IsEven (C : List ChangeParts) (s : SyncParts) : Type 0 where
@@ -32,7 +32,7 @@ pub record IsEven (C : List ChangeParts) (s : SyncParts) : Type 0 where
 
 -- those that stand at the place n or behind it
 abbrev pub due_from : List ChangeParts → SyncParts → ℕ → List ChangeParts
-due_from C s n = due_of C s.theirs s.wants (drop n C)
+due_from C s n = due_of C (declared s) s.wants (drop n C)
 
 -- the list has a member
 abbrev pub is_any : List ChangeParts → Bool

@@ -1,6 +1,7 @@
 pub mod SyncError
 pub mod Message
 pub mod State
+pub mod Known
 pub mod Due
 pub mod Room
 pub mod Wanting

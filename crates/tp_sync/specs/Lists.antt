@@ -1,6 +1,6 @@
--- The lists of a message, as its parts.
+-- What was read of a message, as its parts.
 use Rattle.tp_sync.specs.declared.reading.Lists.{Lists}
 use Rattle.tp_sync.specs.Message.{MessageParts}
 
 abbrev pub parts_in : Lists → MessageParts
-parts_in l = record { heads = l.heads.items; wants = l.wants.items; changes = l.changes.items }
+parts_in l = record { version = l.version; heads = l.heads.items; wants = l.wants.items; known = l.known.items; changes = l.changes.items }

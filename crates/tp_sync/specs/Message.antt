@@ -1,5 +1,5 @@
 -- What contracts see of a message, and its limits.
-use Rattle.std.specs.Prelude.{◌≤◌, List, length}
+use Rattle.std.specs.Prelude.{◌≡◌, ◌⊎◌, ℕ, ◌≤◌, List, [], length}
 use Rattle.std.specs.List.{AllByRecursion}
 use Rattle.tp_list.specs.Rising.{IsRising}
 use Rattle.tp_opid.specs.declared.hash.Hash.{Hash}
@@ -7,23 +7,31 @@ use Rattle.tp_opid.specs.Order.{hash_cmp}
 use Rattle.tp_change.specs.declared.parts.ChangeParts.{ChangeParts}
 use Rattle.tp_change.specs.Limits.{IsHash}
 use Rattle.tp_document.specs.DocState.{AllChanges}
-use Rattle.tp_sync.specs.declared.limits.TheConstants.{MAX_HASHES, MAX_CHANGES}
+use Rattle.tp_sync.specs.declared.limits.TheConstants.{MAX_HASHES, MAX_KNOWN, MAX_CHANGES}
 
--- The heads of the sender, the hashes of the changes that it wants, and the changes that it sends.
+-- The version of the layout, the heads of the sender, the hashes of the changes that it wants, those of changes that it
+-- has, and the changes that it sends.
 pub record MessageParts : Type 0 where
+  pub version : ℕ
   pub heads : List Hash
   pub wants : List Hash
+  pub known : List Hash
   pub changes : List ChangeParts
 
--- At most 65,535 hashes, strictly rising.
-pub record AreHashes (hashes : List Hash) : Type 0 where
+-- At most so many hashes, strictly rising.
+pub record AreHashes (limit : ℕ) (hashes : List Hash) : Type 0 where
   pub each : AllByRecursion IsHash hashes
   pub rise : IsRising hash_cmp hashes
-  pub few : length hashes ≤ MAX_HASHES
+  pub few : length hashes ≤ limit
+
+-- What messages of each version tell of known changes: those of version 1 nothing, those of version 2 up to 32 hashes.
+abbrev pub TellsKnown : ℕ → List Hash → Type 0
+TellsKnown version known = ((version ≡ 1) × (known ≡ [])) ⊎ ((version ≡ 2) × AreHashes MAX_KNOWN known)
 
 -- A message within the limits: all that has a spelling.
 pub record IsMessage (m : MessageParts) : Type 0 where
-  pub heads : AreHashes m.heads
-  pub wants : AreHashes m.wants
+  pub heads : AreHashes MAX_HASHES m.heads
+  pub wants : AreHashes MAX_HASHES m.wants
+  pub known : TellsKnown m.version m.known
   pub changes : AllChanges m.changes
   pub few : length m.changes ≤ MAX_CHANGES

@@ -1,6 +1,6 @@
 -- Reading the bytes of a message from left to right, field by field, up to the first fault: BadChange where the bytes
 -- of a change are no change's, and BadMessage for all else.
-use Rattle.std.specs.Prelude.{ℕ, ◌==◌, nat_le, List, length, Option, None, Result, Ok, Err, if◌then◌else◌}
+use Rattle.std.specs.Prelude.{ℕ, ◌==◌, ◌||◌, nat_le, List, [], length, Option, None, Result, Ok, Err, if◌then◌else◌}
 use Rattle.std.specs.Int.{w32}
 use Rattle.tp_codec.specs.Prefix.{byte_at, bytes_at, number_at}
 use Rattle.tp_codec.specs.Reading.{Reads, ◌>>=◌, ◌>>◌, give, fail, or_fail, require, repeat_at}
@@ -8,16 +8,17 @@ use Rattle.tp_opid.specs.declared.hash.Hash.{Hash}
 use Rattle.tp_change.specs.declared.error.ChangeError.{ChangeError}
 use Rattle.tp_change.specs.declared.parts.ChangeParts.{ChangeParts}
 use Rattle.tp_change.specs.Reading.{rises, next_before, change_at}
-use Rattle.tp_sync.specs.declared.limits.TheConstants.{MAX_HASHES, MAX_CHANGES}
+use Rattle.tp_sync.specs.declared.limits.TheConstants.{MAX_HASHES, MAX_KNOWN, MAX_CHANGES}
 use Rattle.tp_sync.specs.declared.error.SyncError.{SyncError}
 use Rattle.tp_sync.specs.declared.error.SyncError.TheVariants.{BadMessage, BadChange}
 use Rattle.tp_sync.specs.Message.{MessageParts}
 
--- the version byte is 1
-unfoldable pub version_at : Reads SyncError (Unit {0})
+-- the version byte is 1 or 2
+unfoldable pub version_at : Reads SyncError ℕ
 version_at = do
   version ← or_fail BadMessage byte_at
-  require (version == 1) BadMessage
+  require (version == 1 || version == 2) BadMessage
+  give version
 
 -- 32 bytes, above the hash before
 unfoldable pub hash_at : Option Hash → Reads SyncError Hash
@@ -26,12 +27,16 @@ hash_at before = do
   require (rises before (record { 0 = bytes })) BadMessage
   give (record { 0 = bytes })
 
--- a count, and so many hashes
-unfoldable pub hashes_at : Reads SyncError (List Hash)
-hashes_at = do
+-- a count of no more than the limit, and so many hashes
+unfoldable pub hashes_at : ℕ → Reads SyncError (List Hash)
+hashes_at limit = do
   count ← or_fail BadMessage (number_at w32)
-  require (nat_le count MAX_HASHES) BadMessage
+  require (nat_le count limit) BadMessage
   repeat_at hash_at next_before count None
+
+-- the hashes of known changes, which version 2 has alone
+unfoldable pub known_at : ℕ → Reads SyncError (List Hash)
+known_at version = if version == 2 then hashes_at MAX_KNOWN else give []
 
 -- the change that bytes are
 unfoldable pub decoded : Result ChangeParts ChangeError → Reads SyncError ChangeParts
@@ -61,11 +66,12 @@ changes_at = do
 
 unfoldable pub parts_at : Reads SyncError MessageParts
 parts_at = do
-  version_at
-  heads ← hashes_at
-  wants ← hashes_at
+  version ← version_at
+  heads ← hashes_at MAX_HASHES
+  wants ← hashes_at MAX_HASHES
+  known ← known_at version
   changes ← changes_at
-  give (record { heads = heads; wants = wants; changes = changes })
+  give (record { version = version; heads = heads; wants = wants; known = known; changes = changes })
 
 -- Nothing follows.
 unfoldable pub ended : {X : Type 0} → Result (X × List ℕ) SyncError → Result X SyncError

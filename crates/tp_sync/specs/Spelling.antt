@@ -1,5 +1,5 @@
--- The bytes of a message, version 1: all numbers big-endian.
-use Rattle.std.specs.Prelude.{ℕ, List, ◌∷◌, ◌++◌, length}
+-- The bytes of a message: all numbers big-endian.
+use Rattle.std.specs.Prelude.{ℕ, ◌==◌, List, [], ◌∷◌, ◌++◌, length, if◌then◌else◌}
 use Rattle.std.specs.Int.{w32, to_be_bytes}
 use Rattle.std.specs.List.{flat_map}
 use Rattle.tp_opid.specs.declared.hash.Hash.{Hash}
@@ -19,6 +19,11 @@ entry c = to_be_bytes w32 (length (spelling c)) ++ spelling c
 abbrev pub spelling_of_changes : List ChangeParts → List ℕ
 spelling_of_changes changes = to_be_bytes w32 (length changes) ++ flat_map entry changes
 
+-- the hashes of known changes, which version 2 has alone
+unfoldable pub spelling_of_known : ℕ → List Hash → List ℕ
+spelling_of_known version known = if version == 2 then spelling_of_hashes known else []
+
 -- the bytes of a message
 unfoldable pub message_spelling : MessageParts → List ℕ
-message_spelling m = 1 ∷ (spelling_of_hashes m.heads ++ (spelling_of_hashes m.wants ++ spelling_of_changes m.changes))
+message_spelling m =
+    m.version ∷ (spelling_of_hashes m.heads ++ (spelling_of_hashes m.wants ++ (spelling_of_known m.version m.known ++ spelling_of_changes m.changes)))

@@ -7,12 +7,13 @@ ghost use Rattle.tp_graph.specs.Marks.{pick};
 ghost use Rattle.tp_graph.specs.Named.{has};
 ghost use Rattle.tp_sync.specs.Due as of_due;
 ghost use Rattle.tp_sync.specs.Due.{carried, leaves_out, take_due, IsEven, MovesOn};
+ghost use Rattle.tp_sync.specs.State.{declared};
 ghost use Rattle.tp_sync.specs.declared.error.SyncError.TheVariants.{OutOfMemory};
 
 use crate::error::SyncError;
 use crate::limits::{FULL_BYTES, MAX_CHANGES};
 use crate::state::SyncState;
-use std::alloc::Global;
+use std::alloc::{AllocError, Global};
 use tp_change::Change;
 use tp_document::Document;
 use tp_graph::same_hashes;
@@ -189,14 +190,24 @@ impl Load {
     }
 }
 
-// What the next message to a peer that declared these heads carries.
+// The hashes of both lists.
+fn joined(alloc: Global, front: &[Hash], rest: &[Hash]) -> Result<Vec<Hash>, AllocError>
+    ensures { IfOk result (λ v. v.items ≡ front.now ++ rest.now) }
+{
+    let mut hashes = Vec::with_capacity(alloc, front.len().saturating_add(rest.len()))?;
+    hashes.extend_from_slice(front)?;
+    hashes.extend_from_slice(rest)?;
+    Ok(hashes)
+}
+
+// What the next message to a peer that declared that it has these changes carries.
 fn load_declared<S: Sequence>(
     alloc: Global,
     document: &Document<S>,
     theirs: &[Hash],
     state: &SyncState,
 ) -> Result<Load, SyncError>
-    requires { state.now.theirs ≡ Some theirs.now }
+    requires { declared state.now ≡ Some theirs.now }
     ensures changes { IfOk result
         (λ l. l.changes.items ≡ carried document.now.applied state.now) }
     ensures next { IfOk result (λ l. MovesOn document.now.applied l.changes.items
@@ -247,7 +258,10 @@ pub(crate) fn load_for<S: Sequence>(
         return Ok(Load::nothing(alloc, state.next));
     }
     match &state.theirs {
-        Some(theirs) => load_declared(alloc, document, theirs.as_slice(), state),
+        Some(heads) => {
+            let theirs = joined(alloc, heads.as_slice(), state.known.as_slice())?;
+            load_declared(alloc, document, &theirs, state)
+        }
         None => Ok(Load::nothing(alloc, state.next)),
     }
 }

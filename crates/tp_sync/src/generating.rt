@@ -14,7 +14,8 @@ ghost use Rattle.tp_sync.specs.declared.error.SyncError.TheVariants.{OutOfMemory
 
 use crate::due::{are, is_even, load_for};
 use crate::error::SyncError;
-use crate::limits::{MAX_CHANGES, MAX_HASHES};
+use crate::known::known;
+use crate::limits::{MAX_CHANGES, MAX_HASHES, MAX_KNOWN};
 use crate::message::Message;
 use crate::state::SyncState;
 use crate::wanting::wants;
@@ -66,9 +67,10 @@ pub(crate) fn send<S: Sequence>(
     let _changes = document.changes();
     let load = load_for(alloc, document, state)?;
     let wants = wants(document, state)?;
+    let known = known(alloc, document)?;
     let told = Vec::from_slice(alloc, heads)?;
     let heads = Vec::from_slice(alloc, heads)?;
-    let message = Message::new(heads, wants, load.changes);
+    let message = Message::new(heads, wants, known, load.changes);
     state.tell(told, load.next, load.again);
     Ok(Some(Sent {
         message,
@@ -78,12 +80,14 @@ pub(crate) fn send<S: Sequence>(
 
 /// The next message to another peer, as Automerge's call `generate_sync_message`: the document's heads; the hashes that
 /// it wants, which are those of the other's heads and of the dependencies of waiting changes that are neither applied nor
-/// waiting, the least 65,535 of them; and changes that are due. `None` where the heads were told, the other declared the
-/// same, and nothing is due; the state stays then.
+/// waiting, the least 65,535 of them; those of the applied changes that are 1, 2, 4, 8 and so on places before the end of the
+/// list; and changes that are due. It is of version 2. `None` where the heads were told, the other declared the same, and
+/// nothing is due; the state stays then.
 ///
 /// Nothing is due before the other declared heads. Then those of the applied changes are that the other wants, or that
-/// aren't in the past of those of its heads that are applied here. Whether they were sent before makes no difference:
-/// nothing that was sent counts as received, so a lost message is made up for. The message takes them in applied order,
+/// aren't in the past of those of its heads and of the changes that it knew that are applied here. Whether they were sent
+/// before makes no difference: nothing that was sent counts as received, so a lost message is made up for. The message takes
+/// them in applied order,
 /// from behind the place up to which the one before took them, or from the first where nothing is due from there on,
 /// until it has 1,024 of them or 1,048,576 bytes of them.
 ///
@@ -91,7 +95,8 @@ pub(crate) fn send<S: Sequence>(
 /// refusal leaves the state as it was.
 ///
 /// Cost: where the other's heads are the document's, a comparison of them and a look-up for each hash that it wants. Else
-/// one pass over the applied changes, with a byte for each; only those that are sent are copied.
+/// one pass over the applied changes, with a byte for each, and a copy of the other's heads; only the changes that are sent
+/// are copied.
 pub fn generate<S: Sequence>(
     alloc: Global,
     document: &Document<S>,

@@ -1,12 +1,12 @@
 //! Laws of syncing, each the contract of a function that does nothing.
 
-ghost use Rattle.std.specs.Prelude.{◌≡◌, [], ◌∷◌, ◌++◌, List, true, false, length};
+ghost use Rattle.std.specs.Prelude.{◌≡◌, ◌↔◌, ◌≤◌, [], ◌∷◌, ◌++◌, List, true, false, length};
 ghost use Rattle.tp_list.specs.Members.{In, SameMembers};
 ghost use Rattle.tp_opid.specs.declared.hash.Hash.{Hash};
 ghost use Rattle.tp_change.specs.declared.parts.ChangeParts.{ChangeParts};
 ghost use Rattle.tp_change.specs.ChangeHash.{hash_of};
-ghost use Rattle.tp_graph.specs.Heads.{heads};
-ghost use Rattle.tp_graph.specs.Named.{has, HashesApart};
+ghost use Rattle.tp_graph.specs.Fit.{most_changes};
+ghost use Rattle.tp_graph.specs.Named.{has, has_all, HashesApart};
 ghost use Rattle.tp_graph.specs.Sound.{Sound};
 ghost use Rattle.tp_receive.specs.declared.intake.Applied.{Applied};
 ghost use Rattle.tp_document.specs.DocState.{DocState};
@@ -14,6 +14,7 @@ ghost use Rattle.tp_sync.specs.Message.{MessageParts};
 ghost use Rattle.tp_sync.specs.State.{SyncParts};
 ghost use Rattle.tp_sync.specs.Due.{carried, due, is_any, is_due, leaves_out, IsPiece};
 ghost use Rattle.tp_sync.specs.Answer.{Says};
+ghost use Rattle.tp_sync.specs.Known.{known_hashes, IsPowerBeforeEnd};
 ghost use Rattle.tp_sync.specs.Room.{HasRoom, size_of};
 ghost use Rattle.tp_sync.specs.Exchange.{Exchanges, RefusesKnownAlone};
 
@@ -47,12 +48,26 @@ pub fn what_was_sent_stays_due()
         → due C t ≡ due C s }
 {}
 
-/// Who declared all its heads has each change that isn't due to it, where equal hashes mean equal changes: nothing that it
-/// lacks is held back.
+/// Who declared hashes of changes that it has, its heads or others, has each change that isn't due to it, where equal hashes
+/// mean equal changes: nothing that it lacks is held back.
 pub fn what_lacks_is_due()
-    ensures { (C D : List ChangeParts) (wants : List Hash) (c : ChangeParts) → Sound D
-        → HashesApart (D ++ C) → In c C → is_due C (heads D) wants c ≡ false
-        → has D (hash_of c) ≡ true }
+    ensures { (C D : List ChangeParts) (theirs wants : List Hash) (c : ChangeParts) → Sound D
+        → has_all D theirs ≡ true → HashesApart (D ++ C) → In c C
+        → is_due C theirs wants c ≡ false → has D (hash_of c) ≡ true }
+{}
+
+/// The heads that a message declares and the changes that it tells of as known are there: so nothing that the sender lacks
+/// is held back from it.
+pub fn what_is_declared_is_there()
+    ensures { (C W : List ChangeParts) (s t : SyncParts) (m : MessageParts) → Says C W s m t
+        → has_all C (m.heads ++ m.known) ≡ true }
+{}
+
+/// A message tells as known of the changes that are 1, 2, 4, 8 and so on places before the end of the list, as far as it has
+/// so many, and of no others.
+pub fn what_is_told_as_known()
+    ensures { (C : List ChangeParts) (h : Hash) → length C ≤ most_changes
+        → In h (known_hashes C) ↔ IsPowerBeforeEnd C h }
 {}
 
 /// An exchange that left out nothing, and in which nothing was refused but as `Known`, between documents in which nothing

@@ -1,15 +1,16 @@
 //! Peers tell each other what they have, and send what the other lacks.
 //!
-//! It is after Automerge's sync protocol, without its filters: each message declares the sender's heads, asks for the
-//! changes that it heard of and lacks, and carries changes that are due to the other, dependencies before dependents. What
-//! is due follows from what the other declared and wants, and from nothing that was sent, so messages may be lost, come
-//! twice or late.
+//! It is after Automerge's sync protocol, without its filters: each message declares the sender's heads and a few of the
+//! changes that it has, asks for the changes that it heard of and lacks, and carries changes that are due to the other,
+//! dependencies before dependents. What is due follows from what the other declared and wants, and from nothing that was
+//! sent, so messages may be lost, come twice or late.
 #![tactic(auto)]
 
 mod due;
 mod error;
 mod exchanging;
 mod generating;
+mod known;
 pub mod laws;
 pub mod layout;
 mod limits;
@@ -23,7 +24,7 @@ mod writing;
 pub use error::SyncError;
 pub use exchanging::{Exchanged, exchange};
 pub use generating::generate;
-pub use limits::{FULL_BYTES, MAX_CHANGES, MAX_HASHES};
+pub use limits::{FULL_BYTES, MAX_CHANGES, MAX_HASHES, MAX_KNOWN};
 pub use message::Message;
 pub use receiving::{receive, receive_with};
 pub use state::SyncState;

@@ -7,20 +7,26 @@ ghost use Rattle.tp_opid.specs.Order.{hash_cmp};
 ghost use Rattle.tp_change.specs.Limits.{IsHash};
 ghost use Rattle.tp_document.specs.DocState.{AllChanges};
 
-use crate::limits::{MAX_CHANGES, MAX_HASHES};
+use crate::limits::{MAX_CHANGES, MAX_HASHES, MAX_KNOWN};
 use std::marker::Model;
 use tp_change::Change;
 use tp_opid::Hash;
 
-/// A message: the heads of the sender, the hashes of the changes that it wants, and changes that it sends, as
-/// Automerge's sync messages have them.
+// The version of the messages that are made.
+const VERSION: u8 = 2;
+
+/// A message: the heads of the sender, the hashes of the changes that it wants, those of a few changes that it has, and
+/// changes that it sends. Automerge's sync messages have a filter in place of the few.
 ///
-/// It is within its limits: at most 65,535 heads and as many wants, each strictly rising, and at most 1,024 changes. It
-/// is made by [`decode`](Message::decode) and by [`generate`](crate::generate) alone.
+/// It is within its limits: at most 65,535 heads, as many wants and 32 known changes, each strictly rising, and at most
+/// 1,024 changes. It has version 2, or version 1, which has no known changes. It is made by [`decode`](Message::decode) and
+/// by [`generate`](crate::generate) alone.
 #[derive(Drop)]
 pub struct Message {
+    pub(crate) version: u8,
     pub(crate) heads: Vec<Hash>,
     pub(crate) wants: Vec<Hash>,
+    pub(crate) known: Vec<Hash>,
     pub(crate) changes: Vec<Change>,
 }
 
@@ -29,9 +35,9 @@ impl Model for Message {
 
     ghost Value = { MessageParts };
 
-    ghost view = { λ m. record { heads = m.heads.items; wants = m.wants.items; changes = m.changes.items } };
+    ghost view = { λ m. record { version = m.version; heads = m.heads.items; wants = m.wants.items; known = m.known.items; changes = m.changes.items } };
 
-    ghost invariant = { λ m. IsMessage (record { heads = m.heads.items; wants = m.wants.items; changes = m.changes.items }) };
+    ghost invariant = { λ m. IsMessage (record { version = m.version; heads = m.heads.items; wants = m.wants.items; known = m.known.items; changes = m.changes.items }) };
 }
 
 // What the type of a hash says: it has 32 bytes. Answers their number.
@@ -54,22 +60,40 @@ fn of_hashes(hashes: &[Hash])
 impl Message {
     ghost use Rattle.tp_sync.specs.Message.{IsMessage};
 
-    /// A message of its parts, which are within the limits.
-    pub(crate) fn new(heads: Vec<Hash>, wants: Vec<Hash>, changes: Vec<Change>) -> Message
+    /// A message of version 2 of its parts, which are within the limits.
+    pub(crate) fn new(
+        heads: Vec<Hash>,
+        wants: Vec<Hash>,
+        known: Vec<Hash>,
+        changes: Vec<Change>,
+    ) -> Message
         requires heads { IsRising hash_cmp heads.items × (length heads.items ≤ MAX_HASHES) }
         requires wants { IsRising hash_cmp wants.items × (length wants.items ≤ MAX_HASHES) }
+        requires known { IsRising hash_cmp known.items × (length known.items ≤ MAX_KNOWN) }
         requires changes { AllChanges changes.items × (length changes.items ≤ MAX_CHANGES) }
+        ensures version { result.version ≡ 2 }
         ensures heads { result.heads ≡ heads.items }
         ensures wants { result.wants ≡ wants.items }
+        ensures known { result.known ≡ known.items }
         ensures changes { result.changes ≡ changes.items }
     {
         of_hashes(&heads);
         of_hashes(&wants);
+        of_hashes(&known);
         Message {
+            version: VERSION,
             heads,
             wants,
+            known,
             changes,
         }
+    }
+
+    /// The version of its layout: 2, or 1 in a message that was read.
+    pub fn version(&self) -> u8
+        ensures { result ≡ self.now.version }
+    {
+        self.version
     }
 
     /// The heads of the sender, rising.
@@ -85,6 +109,14 @@ impl Message {
         ensures { result.now ≡ self.now.wants }
     {
         self.wants.as_slice()
+    }
+
+    /// The hashes of a few changes that the sender has, rising: so it has all that these depend on. None in a message of
+    /// version 1.
+    pub fn known(&self) -> &[Hash]
+        ensures { result.now ≡ self.now.known }
+    {
+        self.known.as_slice()
     }
 
     /// The changes that are sent.

@@ -3,7 +3,7 @@
 //! Every function takes its field from the start of a reader, and says which field of specs/Reading that is. The first
 //! fault is the refusal. A count takes no more room than the bytes that are left can fill, and a change is decoded
 //! where its bytes stand.
-#![tactic(auto, unfolding(tp_codec::specs::Reading::or_fail, tp_codec::specs::Reading::found_or, tp_codec::specs::Reading::and_then, tp_codec::specs::Reading::and_next, tp_codec::specs::Reading::give, tp_codec::specs::Reading::require, tp_codec::specs::Reading::passed, tp_codec::specs::Reading::fail, crate::specs::Reading::version_at, crate::specs::Reading::hash_at, crate::specs::Reading::hashes_at, crate::specs::Reading::decoded, crate::specs::Reading::entry_at, crate::specs::Reading::changes_at, crate::specs::Reading::parts_at, crate::specs::Reading::message_at, crate::specs::Reading::ended))]
+#![tactic(auto, unfolding(tp_codec::specs::Reading::or_fail, tp_codec::specs::Reading::found_or, tp_codec::specs::Reading::and_then, tp_codec::specs::Reading::and_next, tp_codec::specs::Reading::give, tp_codec::specs::Reading::require, tp_codec::specs::Reading::passed, tp_codec::specs::Reading::fail, crate::specs::Reading::version_at, crate::specs::Reading::hash_at, crate::specs::Reading::hashes_at, crate::specs::Reading::known_at, crate::specs::Reading::decoded, crate::specs::Reading::entry_at, crate::specs::Reading::changes_at, crate::specs::Reading::parts_at, crate::specs::Reading::message_at, crate::specs::Reading::ended))]
 
 ghost use Rattle.std.specs.Prelude.{◌≡◌, ℕ, List, None, Ok, IfOk};
 ghost use Rattle.std.specs.Int.{w32};
@@ -15,10 +15,10 @@ ghost use Rattle.tp_sync.specs.Message.{MessageParts, IsMessage};
 ghost use Rattle.tp_sync.specs.Spelling.{message_spelling};
 ghost use Rattle.tp_sync.specs.Gives.{Gives};
 ghost use Rattle.tp_sync.specs.Lists.{parts_in};
-ghost use Rattle.tp_sync.specs.Reading.{version_at, hash_at, hashes_at, decoded, entry_at, each_entry, stay, changes_at, parts_at, message_at};
+ghost use Rattle.tp_sync.specs.Reading.{version_at, hash_at, hashes_at, known_at, decoded, entry_at, each_entry, stay, changes_at, parts_at, message_at};
 
 use crate::error::SyncError;
-use crate::limits::{MAX_CHANGES, MAX_HASHES};
+use crate::limits::{MAX_CHANGES, MAX_HASHES, MAX_KNOWN};
 use crate::message::Message;
 use std::alloc::Global;
 use std::cmp::Ordering;
@@ -60,14 +60,14 @@ fn bytes_of<'a>(reader: &mut Reader<'a>, count: usize) -> Result<&'a [u8], SyncE
     }
 }
 
-fn version_of(reader: &mut Reader<'_>) -> Result<(), SyncError>
-    ensures { Gives (λ _. (tt, reader.new)) result (version_at reader.old) }
+fn version_of(reader: &mut Reader<'_>) -> Result<u8, SyncError>
+    ensures { Gives (λ v. (v, reader.new)) result (version_at reader.old) }
 {
     let version = u8_of(reader)?;
-    if version != 1 {
-        return Err(SyncError::BadMessage);
+    if version == 1 || version == 2 {
+        return Ok(version);
     }
-    Ok(())
+    Err(SyncError::BadMessage)
 }
 
 // Whether a hash is greater than the one before it.
@@ -114,14 +114,24 @@ fn counted_hashes_of(
     Ok(hashes)
 }
 
-fn hashes_of(alloc: Global, reader: &mut Reader<'_>) -> Result<Vec<Hash>, SyncError>
-    ensures { Gives (λ v. (v.items, reader.new)) result (hashes_at reader.old) }
+fn hashes_of(alloc: Global, reader: &mut Reader<'_>, limit: usize) -> Result<Vec<Hash>, SyncError>
+    ensures { Gives (λ v. (v.items, reader.new)) result (hashes_at limit reader.old) }
 {
     let count = u32_of(reader)?;
-    if count as usize > MAX_HASHES {
+    if count as usize > limit {
         return Err(SyncError::BadMessage);
     }
     counted_hashes_of(alloc, reader, count)
+}
+
+// The hashes of known changes, which version 2 has alone.
+fn known_of(alloc: Global, reader: &mut Reader<'_>, version: u8) -> Result<Vec<Hash>, SyncError>
+    ensures { Gives (λ v. (v.items, reader.new)) result (known_at version reader.old) }
+{
+    if version == 2 {
+        return hashes_of(alloc, reader, MAX_KNOWN);
+    }
+    Ok(Vec::new(alloc))
 }
 
 // The change that the bytes are.
@@ -170,24 +180,29 @@ fn changes_of(alloc: Global, reader: &mut Reader<'_>) -> Result<Vec<Change>, Syn
     counted_changes_of(alloc, reader, count)
 }
 
-/// The three lists of a message.
+/// The version and the lists of a message.
 #[derive(Drop)]
 pub(crate) struct Lists {
+    version: u8,
     heads: Vec<Hash>,
     wants: Vec<Hash>,
+    known: Vec<Hash>,
     changes: Vec<Change>,
 }
 
 fn lists_of(alloc: Global, reader: &mut Reader<'_>) -> Result<Lists, SyncError>
     ensures { Gives (λ l. (parts_in l, reader.new)) result (parts_at reader.old) }
 {
-    version_of(reader)?;
-    let heads = hashes_of(alloc, reader)?;
-    let wants = hashes_of(alloc, reader)?;
+    let version = version_of(reader)?;
+    let heads = hashes_of(alloc, reader, MAX_HASHES)?;
+    let wants = hashes_of(alloc, reader, MAX_HASHES)?;
+    let known = known_of(alloc, reader, version)?;
     let changes = changes_of(alloc, reader)?;
     Ok(Lists {
+        version,
         heads,
         wants,
+        known,
         changes,
     })
 }
@@ -219,13 +234,17 @@ impl Message {
     {
         let lists = whole_of(alloc, bytes)?;
         let Lists {
+            version,
             heads,
             wants,
+            known,
             changes,
         } = lists;
         Ok(Message {
+            version,
             heads,
             wants,
+            known,
             changes,
         })
     }

@@ -49,14 +49,16 @@ pub fn receive_with<S: Sequence, K: Keeper>(
     ensures unheard { OnErr result (state.new ≡ state.old) }
 {
     let Message {
+        version: _,
         heads,
         wants,
+        known,
         changes,
     } = message;
     let sent_changes = !changes.is_empty();
     match document.apply_with(changes, keeper) {
         Ok(applied) => {
-            state.hear(heads, wants, sent_changes);
+            state.hear(heads, wants, known, sent_changes);
             Ok(applied)
         }
         Err(error) => Err(refusal(error)),
@@ -64,8 +66,9 @@ pub fn receive_with<S: Sequence, K: Keeper>(
 }
 
 /// Receives a message of another peer, as Automerge's call `receive_sync_message`: its changes, as [`Document::apply`]
-/// receives them, and then the heads that it declares and the hashes that it wants. Where it carried changes, the other
-/// counts as told nothing, so that the next message answers it.
+/// receives them, and then the heads that it declares, the hashes that it wants and those of changes that it knows, which
+/// are none in a message of version 1. Where it carried changes, the other counts as told nothing, so that the next message
+/// answers it.
 ///
 /// A message may come twice or late: what it carries is then refused as `Known`, and reported.
 ///

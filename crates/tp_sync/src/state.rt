@@ -12,12 +12,13 @@ use tp_list::Items;
 use tp_opid::Hash;
 
 /// What a peer knows of another one to which it sends changes, as Automerge's `sync::State`: the heads that the other
-/// declared last and the hashes that it wanted then, and what it was told.
+/// declared last, the hashes that it wanted and those of changes that it knew then, and what it was told.
 ///
 /// Nothing that was sent counts as received: what is due to the other follows from what it declared and wants alone.
 pub struct SyncState {
     pub(crate) theirs: Option<Items<Hash>>,
     pub(crate) wants: Items<Hash>,
+    pub(crate) known: Items<Hash>,
     pub(crate) told: Option<Items<Hash>>,
     pub(crate) next: usize,
     pub(crate) again: bool,
@@ -28,6 +29,7 @@ impl Drop for SyncState {
         let SyncState {
             theirs: _,
             wants: _,
+            known: _,
             told: _,
             next: _,
             again: _,
@@ -40,7 +42,7 @@ impl Model for SyncState {
 
     ghost Value = { SyncParts };
 
-    ghost view = { λ s. record { theirs = s.theirs; wants = s.wants; told = s.told; next = s.next; again = s.again } };
+    ghost view = { λ s. record { theirs = s.theirs; wants = s.wants; known = s.known; told = s.told; next = s.next; again = s.again } };
 }
 
 // Equal hashes, if there are any.
@@ -64,6 +66,7 @@ impl SyncState {
         SyncState {
             theirs: None,
             wants: Items::new(Vec::new(alloc)),
+            known: Items::new(Vec::new(alloc)),
             told: None,
             next: 0,
             again: false,
@@ -85,10 +88,12 @@ impl SyncState {
     {
         let theirs = copy_of(alloc, &self.theirs)?;
         let wants = Vec::from_slice(alloc, self.wants.as_slice())?;
+        let known = Vec::from_slice(alloc, self.known.as_slice())?;
         let told = copy_of(alloc, &self.told)?;
         Ok(SyncState {
             theirs,
             wants: Items::new(wants),
+            known: Items::new(known),
             told,
             next: self.next,
             again: self.again,
@@ -114,7 +119,7 @@ impl SyncState {
     }
 
     /// The heads that the other declared last, or none where none was heard yet.
-    pub(crate) fn declared(&self) -> &[Hash]
+    pub(crate) fn declared_heads(&self) -> &[Hash]
         ensures { result.now ≡ unwrap_or self.now.theirs [] }
     {
         match &self.theirs {
@@ -132,17 +137,25 @@ impl SyncState {
         self.again = again;
     }
 
-    /// Takes up the heads that the other declared and the hashes that it wants. What it was told counts no longer where
-    /// it sent changes: so it is told what they led to.
-    pub(crate) fn hear(&mut self, heads: Vec<Hash>, wants: Vec<Hash>, sent_changes: bool)
+    /// Takes up the heads that the other declared, the hashes that it wants and those of changes that it knows. What it was
+    /// told counts no longer where it sent changes: so it is told what they led to.
+    pub(crate) fn hear(
+        &mut self,
+        heads: Vec<Hash>,
+        wants: Vec<Hash>,
+        known: Vec<Hash>,
+        sent_changes: bool,
+    )
         ensures { self.new ≡ record self.old {
           theirs = Some heads.items;
           wants = wants.items;
+          known = known.items;
           told = (if sent_changes then None else self.old.told);
         } }
     {
         self.theirs = Some(Items::new(heads));
         self.wants = Items::new(wants);
+        self.known = Items::new(known);
         if sent_changes {
             self.told = None;
         }

@@ -46,8 +46,8 @@ fn index_for(hashes: &[Hash], hash: &Hash) -> Option<usize>
     Some(0)
 }
 
-// Puts the hash at its index, once.
-fn put(hashes: &mut Vec<Hash>, hash: Hash) -> Result<(), AllocError>
+/// Puts the hash at its index, once.
+pub(crate) fn put(hashes: &mut Vec<Hash>, hash: Hash) -> Result<(), AllocError>
     requires { IsRising hash_cmp hashes.old.items }
     ensures { OnOk result (hashes.new.items ≡ list.put hash_cmp hash hashes.old.items) }
 {
@@ -88,7 +88,7 @@ pub(crate) fn wants<S: Sequence>(
         Ok(missing) => missing,
         Err(_) => return Err(SyncError::OutOfMemory),
     };
-    put_absent(document, &mut found, state.declared())?;
+    put_absent(document, &mut found, state.declared_heads())?;
     found.truncate(MAX_HASHES);
     Ok(found)
 }

@@ -5,7 +5,7 @@ ghost use Rattle.std.specs.List.{flat_map};
 ghost use Rattle.tp_opid.specs.declared.hash.Hash.{Hash};
 ghost use Rattle.tp_sync.specs.declared.error.SyncError.TheVariants.{OutOfMemory};
 ghost use Rattle.tp_sync.specs.Message.{IsMessage};
-ghost use Rattle.tp_sync.specs.Spelling.{entry, spelling_of_hashes, message_spelling};
+ghost use Rattle.tp_sync.specs.Spelling.{entry, spelling_of_hashes, spelling_of_known, message_spelling};
 
 use crate::error::SyncError;
 use crate::message::Message;
@@ -40,6 +40,18 @@ fn put_hashes(out: &mut Vec<u8>, hashes: &[Hash]) -> Result<(), AllocError>
 {
     out.extend_from_slice(&(hashes.len() as u32).to_be_bytes())?;
     put_each(out, hashes)
+}
+
+// Puts the hashes of known changes, which version 2 has alone.
+#[tactic(auto, unfolding(crate::specs::Spelling::spelling_of_known))]
+fn put_known(out: &mut Vec<u8>, version: u8, known: &[Hash]) -> Result<(), AllocError>
+    requires { length known.now < 2 ^ 32 }
+    ensures { OnOk result (out.new.items ≡ out.old.items ++ spelling_of_known version known.now) }
+{
+    if version == 2 {
+        return put_hashes(out, known);
+    }
+    Ok(())
 }
 
 // The bytes with those of a change and their length behind them.
@@ -78,13 +90,15 @@ impl Message {
     {
         let heads = self.heads();
         let wants = self.wants();
+        let known = self.known();
         let changes = self.changes();
-        let hashes = 32 * (heads.len() + wants.len());
-        let len = entries_len(changes).saturating_add(13 + hashes);
+        let hashes = 32 * (heads.len() + wants.len() + known.len());
+        let len = entries_len(changes).saturating_add(17 + hashes);
         let mut out = Vec::with_capacity(*self.changes.allocator(), len)?;
-        out.push(1)?;
+        out.push(self.version)?;
         put_hashes(&mut out, heads)?;
         put_hashes(&mut out, wants)?;
+        put_known(&mut out, self.version, known)?;
         out.extend_from_slice(&(changes.len() as u32).to_be_bytes())?;
         let whole = with_changes(out, changes)?;
         Ok(whole)

@@ -51,11 +51,18 @@ fn put_changes(out: &mut Vec<u8>, changes: &Shelf<Change>, items: &str) -> Resul
     Ok(total)
 }
 
-fn laid_out(alloc: Global, changes: &Shelf<Change>, words: &mut Words) -> Result<Vec<u8>, Fault> {
+// The bytes of a message of version 1 or 2, by the hashes and changes that the words list.
+fn laid_out(
+    alloc: Global,
+    changes: &Shelf<Change>,
+    version: u8,
+    words: &mut Words,
+) -> Result<Vec<u8>, Fault> {
     let mut out = Vec::new(alloc);
-    out.push(1)?;
-    put_hashes(&mut out, &hashes(changes, words.next()?)?)?;
-    put_hashes(&mut out, &hashes(changes, words.next()?)?)?;
+    out.push(version)?;
+    for _ in 0..=version {
+        put_hashes(&mut out, &hashes(changes, words.next()?)?)?;
+    }
     let items = inside(words.next()?)?;
     let mut carried = Vec::new(alloc);
     let total = if items.is_empty() {
@@ -68,10 +75,11 @@ fn laid_out(alloc: Global, changes: &Shelf<Change>, words: &mut Words) -> Result
     Ok(out)
 }
 
-/// `laid_out NAME HASHES HASHES CHANGES`: the bytes of a message with these heads, wants and changes.
-pub fn call(world: &mut World, words: &mut Words) -> Result<String, Fault> {
+/// `laid_out NAME HASHES HASHES CHANGES`: the bytes of a message of version 1 with these heads, wants and changes;
+/// `laid_out_2 NAME HASHES HASHES HASHES CHANGES` of version 2 with these heads, wants, known hashes and changes.
+pub fn call(world: &mut World, version: u8, words: &mut Words) -> Result<String, Fault> {
     let name = words.next()?;
-    let bytes = laid_out(world.alloc, &world.changes, words)?;
+    let bytes = laid_out(world.alloc, &world.changes, version, words)?;
     world.bytes.put(name, bytes)?;
     done(world.alloc)
 }

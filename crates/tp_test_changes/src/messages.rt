@@ -6,7 +6,7 @@ use tp_change::Change;
 use tp_sync::{Message, SyncError};
 use tp_test_runner::{Fault, Shelf, Words, keep_bytes, names_of, put_names, refusal};
 
-/// Adds what a message says: `heads [..] wants [..] changes [..]`.
+/// Adds what a message says: `heads [..] wants [..] known [..] changes [..]`; without what is known in version 1.
 pub fn put_message(
     changes: &Shelf<Change>,
     out: &mut String,
@@ -16,6 +16,10 @@ pub fn put_message(
     put_names(changes, out, message.heads())?;
     out.push_str(" wants ")?;
     put_names(changes, out, message.wants())?;
+    if message.version() != 1 {
+        out.push_str(" known ")?;
+        put_names(changes, out, message.known())?;
+    }
     out.push_str(" changes ")?;
     let carried = names_of(changes, message.changes())?;
     Ok(out.push_str(carried.as_str())?)

@@ -94,7 +94,8 @@ fn carried(world: &mut World, word: &str, words: &mut Words) -> Result<String, F
         return answer;
     }
     match word {
-        "laid_out" => layouts::call(world, words),
+        "laid_out" => layouts::call(world, 1, words),
+        "laid_out_2" => layouts::call(world, 2, words),
         "exchange" => exchanges::call(world, words),
         "errors" => errors::call(world.alloc, words),
         _ => Err(Fault::Row("no such call")),

@@ -6,7 +6,8 @@ use Rattle.tp_opid.specs.Order.{hash_cmp}
 use Rattle.tp_change.specs.declared.parts.ChangeParts.{ChangeParts}
 use Rattle.tp_graph.specs.Heads as head
 use Rattle.tp_graph.proofs.HeadsLaws.{heads_rise}
-use Rattle.tp_sync.specs.declared.limits.TheConstants.{MAX_CHANGES, MAX_HASHES}
+use Rattle.tp_sync.specs.declared.limits.TheConstants.{MAX_CHANGES, MAX_HASHES, MAX_KNOWN}
+use Rattle.tp_sync.proofs.KnownLaws.{known_few, known_rises}
 use Rattle.tp_sync.proofs.TakeLaws.{carried-In, carried_few}
 use Rattle.tp_sync.proofs.WantLaws.{wanted_few, wanted_rises}
 use Rattle.tp_sync.proofs.generating.send.Goals as goal
@@ -24,6 +25,13 @@ new-message-requires-clause-wants g c =
     let W : List ChangeParts = c.args.document.now.waiting in (
       subst (IsRising hash_cmp) (sym c.in_ok-wants.ensures.wants) (wanted_rises C W c.args.state.now.theirs),
       subst (λ (l : List Hash). length l ≤ MAX_HASHES) (sym c.in_ok-wants.ensures.wants) (wanted_few C W c.args.state.now.theirs),
+    )
+
+pub new-message-requires-clause-known : goal.new-message-requires-clause-known
+new-message-requires-clause-known g c =
+    let C : List ChangeParts = c.args.document.now.applied in (
+      subst (IsRising hash_cmp) (sym c.in_ok-known.ensures.known) (known_rises C),
+      subst (λ (l : List Hash). length l ≤ MAX_KNOWN) (sym c.in_ok-known.ensures.known) (known_few C),
     )
 
 pub new-message-requires-clause-changes : goal.new-message-requires-clause-changes

@@ -1,6 +1,12 @@
-use Rattle.std.proofs.Common.{◌∙◌, ap}
+use Rattle.std.proofs.Common.{◌≡◌, ◌∙◌, ◌++◌, ap, List, Option}
+use Rattle.std.specs.Option.{option_map}
+use Rattle.tp_opid.specs.declared.hash.Hash.{Hash}
+use Rattle.tp_sync.specs.State.{declared}
 use Rattle.tp_sync.specs.Due.{due_of}
 use Rattle.tp_sync.proofs.laws.what_was_sent_stays_due.Goals as goal
 
 pub returns : goal.returns
-returns c C W s t m w = ap (λ o. due_of C o t.wants C) w.theirs ∙ ap (λ k. due_of C s.theirs k C) w.their_wants
+returns c C W s t m w =
+    let same : declared t ≡ declared s =
+    ap (λ (o : Option (List Hash)). option_map (λ (hs : List Hash). hs ++ t.known) o) w.theirs ∙ ap (λ (k : List Hash). option_map (λ (hs : List Hash). hs ++ k) s.theirs) w.their_known in
+    ap (λ o. due_of C o t.wants C) same ∙ ap (λ k. due_of C (declared s) k C) w.their_wants

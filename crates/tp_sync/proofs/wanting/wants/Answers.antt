@@ -15,5 +15,5 @@ returns-clause-wants g c =
     let W : List ChangeParts = c.args.document.now.waiting in
     let all : List Hash → List Hash = λ l. take MAX_HASHES (rising hash_cmp (filter (is_absent C W) (l ++ flat_map (λ (d : ChangeParts). d.deps) W))) in
     c.truncate.ensures.items
-    ∙ ap (take MAX_HASHES) (wanted_is C W c.declared.result.now c.in-Ok.missing.items c.put_absent.new.found.items c.in-Ok.ensures.there c.in_ok-put_absent.ensures)
-    ∙ ap all c.declared.ensures
+    ∙ ap (take MAX_HASHES) (wanted_is C W c.declared_heads.result.now c.in-Ok.missing.items c.put_absent.new.found.items c.in-Ok.ensures.there c.in_ok-put_absent.ensures)
+    ∙ ap all c.declared_heads.ensures

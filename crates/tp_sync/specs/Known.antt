@@ -1,0 +1,30 @@
+-- Which changes a message tells of as known: fewer and fewer, the farther they are from the end of the list.
+use Rattle.std.specs.Prelude.{◌≡◌, ◌≤◌, ℕ, suc, zero, ◌-◌, ◌^◌, List, [], ◌++◌, length, nat_le, cond, drop, take, map, Some}
+use Rattle.std.specs.List.{slice_get}
+use Rattle.tp_list.specs.Rising.{rising}
+use Rattle.tp_opid.specs.declared.hash.Hash.{Hash}
+use Rattle.tp_opid.specs.Order.{hash_cmp}
+use Rattle.tp_change.specs.declared.parts.ChangeParts.{ChangeParts}
+use Rattle.tp_change.specs.ChangeHash.{hash_of}
+use Rattle.tp_sync.specs.declared.limits.TheConstants.{MAX_KNOWN}
+
+-- the hash of the change that is so many places before the end of C, where there are so many
+abbrev pub before_end : List ChangeParts → ℕ → List Hash
+before_end C n = cond (nat_le n (length C)) (map hash_of (take 1 (drop (length C - n) C))) []
+
+-- the hashes of the changes that are 2 ^ k places before the end of C, for each k below the number
+abbrev pub powers_before_end : List ChangeParts → ℕ → List Hash
+powers_before_end C zero = []
+powers_before_end C (suc k) = before_end C (2 ^ k) ++ powers_before_end C k
+
+-- the hashes of the changes that are 1, 2, 4, 8 and so on places before the end of C, rising
+abbrev pub known_hashes : List ChangeParts → List Hash
+known_hashes C = rising hash_cmp (powers_before_end C MAX_KNOWN)
+
+-- The hash is that of the change that is 2 ^ k places before the end of C.
+pub record IsPowerBeforeEnd (C : List ChangeParts) (h : Hash) : Type 0 where
+  pub k : ℕ
+  pub change : ChangeParts
+  pub within : 2 ^ k ≤ length C
+  pub stands : slice_get C (length C - 2 ^ k) ≡ Some change
+  pub hash : hash_of change ≡ h
