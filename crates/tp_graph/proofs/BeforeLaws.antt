@@ -7,9 +7,9 @@ use Rattle.tp_list.proofs.Tests.{truth}
 use Rattle.tp_opid.specs.declared.op_id.OpId.{OpId}
 use Rattle.tp_opid.specs.declared.op_id.Place.{Place}
 use Rattle.tp_change.specs.declared.record.Record.{Record}
-use Rattle.tp_change.specs.declared.record.Record.TheVariants.{Insert, Delete}
+use Rattle.tp_change.specs.declared.record.Record.TheVariants.{Insert, Delete, DeleteRun}
 use Rattle.tp_change.specs.Operations.{count_in, count_of}
-use Rattle.tp_graph.specs.Before.{IsClear, Marks}
+use Rattle.tp_graph.specs.Before.{IsClear, AreSet, Marks}
 use Rattle.tp_graph.specs.Covers.{covers}
 use Rattle.tp_graph.proofs.InsertLaws.{count_of-take}
 
@@ -25,6 +25,9 @@ covers-append n (Insert after text ∷ rs) ts k =
 covers-append n (Delete target ∷ rs) ts k =
     let e : n + 1 + count_of rs ≡ n + (1 + count_of rs) = omega arith in
     covers-append (n + 1) rs ts k ∙ ap (λ m. covers (n + 1) rs k || covers m ts k) e
+covers-append n (DeleteRun first count ∷ rs) ts k =
+    let e : n + count + count_of rs ≡ n + (count + count_of rs) = omega arith in
+    covers-append (n + count) rs ts k ∙ ap (λ m. covers (n + count) rs k || covers m ts k) e
 
 count_of-last : (rs : List Record) (r : Record) → count_of (rs ++ r ∷ []) ≡ count_of rs + count_in r
 count_of-last [] r = omega arith
@@ -86,6 +89,43 @@ marks-delete marks n count rs target small h = record {
     | inl t ↦ let e : j ≡ count = eqb-true j count t in subst (λ i. ((nat_lt i count && not (get_or marks i false)) || false) ≡ (nat_lt i (count + 1) && not (get_or (set marks count true) i false))) (sym e)
         (here count (get_or marks count false) ∙ ap (λ b. nat_lt count (count + 1) && not b) (sym (get_or-set_same marks count true false small)))
     | inr t ↦ let f : j ≢ count = λ e. apart (sym (eq-eqb j count e) ∙ t) in one j count (get_or marks j false) f ∙ ap (λ b. nat_lt j (count + 1) && not b) (sym (get_or-set_other marks count j true false f))
+  ]
+
+-- a run of deletes is marked
+pub marks-run : (marks new : List Bool) (n count more : ℕ) (rs : List Record) (first : OpId) → AreSet marks new count (count + more) → Marks marks n count rs
+    → Marks new n (count + more) (rs ++ DeleteRun first more ∷ [])
+marks-run marks new n count more rs first set h = record {
+  counted = ap (λ m. m + more) h.counted ∙ sym (count_of-last rs (DeleteRun first more));
+  each = λ j.
+      covers-append n rs (DeleteRun first more ∷ []) (n + j)
+      ∙ ap (λ b. b || false) (h.each j)
+      ∙ at j;
+  rest = λ j le. set.above j le ∙ h.rest j (omega (arith, le));
+} where
+  low : (j c m : ℕ) (b : Bool) → j < c → ((nat_lt j c && not b) || false) ≡ (nat_lt j (c + m) && not b)
+  low j c m b lt = grind (arith, nat_tests)
+
+  in_run : (j c m : ℕ) (b : Bool) → c ≤ j → ((nat_lt j c && not b) || false) ≡ (nat_lt j (c + m) && not true)
+  in_run j c m b le = grind (arith, nat_tests)
+
+  high : (j c m : ℕ) (b d : Bool) → c + m ≤ j → ((nat_lt j c && not b) || false) ≡ (nat_lt j (c + m) && not d)
+  high j c m b d le = grind (arith, nat_tests)
+
+  at : (j : ℕ) → ((nat_lt j count && not (get_or marks j false)) || false) ≡ (nat_lt j (count + more) && not (get_or new j false))
+  at j = elim (truth (nat_lt j count)) [
+    | inl t ↦
+        let lt : j < count = grind (arith, nat_tests) in
+        low j count more (get_or marks j false) lt ∙ ap (λ b. nat_lt j (count + more) && not b) (sym (set.below j lt))
+    | inr f ↦
+        let le : count ≤ j = grind (arith, nat_tests) in
+        elim (truth (nat_lt j (count + more))) [
+          | inl t ↦
+              let lt : j < count + more = grind (arith, nat_tests) in
+              in_run j count more (get_or marks j false) le ∙ ap (λ b. nat_lt j (count + more) && not b) (sym (set.within j le lt))
+          | inr g ↦
+              let past : count + more ≤ j = grind (arith, nat_tests) in
+              high j count more (get_or marks j false) (get_or new j false) past
+        ]
   ]
 
 -- marks that were just made are clear

@@ -1,5 +1,5 @@
 -- Laws of inserts and references.
-use Rattle.std.proofs.Common.{◌≡◌, ℕ, suc, zero, ◌+◌, ◌<◌, ◌≤◌, ◌==◌, inl, inr, List, [], ◌∷◌, ◌++◌, length, Bool, true, false, ◌||◌, ◌&&◌, nat_lt, nat_le, refl, sym, ap, ◌∙◌, subst, arith, take, drop, get_or, add-one, drop-cons}
+use Rattle.std.proofs.Common.{◌≡◌, ℕ, suc, zero, ◌+◌, ◌-◌, ◌<◌, ◌≤◌, ◌==◌, inl, inr, List, [], ◌∷◌, ◌++◌, length, Bool, true, false, ◌||◌, ◌&&◌, nat_lt, nat_le, refl, sym, ap, ◌∙◌, subst, arith, take, drop, get_or, add-one, drop-cons}
 use Rattle.std.proofs.lemmas.List.{append-nil, take_more, drop_all}
 use Rattle.std.proofs.lemmas.Bool.{eqb-true, eq-eqb}
 use Rattle.std.proofs.lemmas.Bool.Decides.{nat_tests}
@@ -13,13 +13,13 @@ use Rattle.tp_opid.specs.Insert as element_of
 use Rattle.tp_opid.specs.Same.{same_actor, id_eq}
 use Rattle.tp_opid.proofs.Orders.{same_actor-same, same_actor-itself, id_eq-same, id_eq-itself}
 use Rattle.tp_change.specs.declared.record.Record.{Record}
-use Rattle.tp_change.specs.declared.record.Record.TheVariants.{Insert, Delete}
+use Rattle.tp_change.specs.declared.record.Record.TheVariants.{Insert, Delete, DeleteRun}
 use Rattle.tp_change.specs.declared.parts.ChangeParts.{ChangeParts}
-use Rattle.tp_change.specs.Operations.{ops_of, ops_from, ops_in, run, id_of, count_in, count_of, op_count}
+use Rattle.tp_change.specs.Operations.{ops_of, ops_from, ops_in, run, deletes_from, id_of, count_in, count_of, op_count}
 use Rattle.tp_change.specs.Limits.{IsRecord, IsChange}
 use Rattle.tp_change.specs.Elements.{element, inserts_in, is_inserted, is_reference, refers}
 use Rattle.tp_change.proofs.ElementLaws.{inserts_in-append, is_inserted-append, ops_from-append, SameIds, is_reference-same, grown, refers-append, grown-ids}
-use Rattle.tp_graph.specs.Covers.{covers, only_inserts, is_there, all_there}
+use Rattle.tp_graph.specs.Covers.{covers, only_inserts, all_inserted, is_there, all_there}
 
 -- ---- which identifiers are inserted
 
@@ -56,6 +56,11 @@ is_inserted-run a n after (ch ∷ text) id =
     ∙ ap (λ b. (same_actor a id.actor && (n == id.counter)) || b) (is_inserted-run a (n + 1) (After (id_of a n)) text id)
     ∙ one_more (same_actor a id.actor) n id.counter (length text)
 
+-- a run of deletes inserts nothing
+inserts_in-deletes_from : (a : Actor) (n : ℕ) (target : OpId) (count : ℕ) → inserts_in (deletes_from a n target count) ≡ []
+inserts_in-deletes_from a n target zero = refl
+inserts_in-deletes_from a n target (suc count) = inserts_in-deletes_from a (n + 1) (id_of target.actor (target.counter + 1)) count
+
 -- the inserts of records are those at the counters that they cover
 pub is_inserted-covers : (a : Actor) (n : ℕ) (rs : List Record) (id : OpId) → is_inserted (inserts_in (ops_from a n rs)) id ≡ (same_actor a id.actor && covers n rs id.counter)
 is_inserted-covers a n [] id = none (same_actor a id.actor) where
@@ -70,6 +75,10 @@ is_inserted-covers a n (Insert after text ∷ rs) id =
       joined : (s x y : Bool) → ((s && x) || (s && y)) ≡ (s && (x || y))
       joined s x y = grind arith
 is_inserted-covers a n (Delete target ∷ rs) id = is_inserted-covers a (n + 1) rs id
+is_inserted-covers a n (DeleteRun first count ∷ rs) id =
+    ap (λ l. is_inserted l id)
+    (inserts_in-append (deletes_from a n first count) (ops_from a (n + count) rs) ∙ ap (λ l. l ++ inserts_in (ops_from a (n + count) rs)) (inserts_in-deletes_from a n first count))
+    ∙ is_inserted-covers a (n + count) rs id
 
 -- ---- references depend on which identifiers are inserted
 
@@ -89,15 +98,28 @@ refers-run a n after (ch ∷ text) S some =
       alone : (b : Bool) → (b && true) ≡ b
       alone b = grind arith
 
+refers-deletes_from : (a : Actor) (n : ℕ) (target : OpId) (count : ℕ) (S : List element_of.Insert) → refers S (deletes_from a n target count) ≡ all_inserted S target count
+refers-deletes_from a n target zero S = refl
+refers-deletes_from a n target (suc count) S =
+    ap (λ b. is_inserted S target && b) (refers-deletes_from a (n + 1) (id_of target.actor (target.counter + 1)) count S)
+
 refers-record : (a : Actor) (n : ℕ) (r : Record) (S : List element_of.Insert) → IsRecord r → refers S (ops_in a n r) ≡ is_there S r
 refers-record a n (Insert after text) S h = refers-run a n after text S h.2
 refers-record a n (Delete target) S h = alone (is_inserted S target) where
   alone : (b : Bool) → (b && true) ≡ b
   alone b = grind arith
+refers-record a n (DeleteRun first count) S h = refers-deletes_from a n first count S
+
+all_inserted-same : (S T : List element_of.Insert) (target : OpId) (count : ℕ) → SameIds S T → all_inserted S target count ≡ all_inserted T target count
+all_inserted-same S T target zero f = refl
+all_inserted-same S T target (suc count) f =
+    let next = id_of target.actor (target.counter + 1) in
+    ap (λ b. b && all_inserted S next count) (f target) ∙ ap (λ b. is_inserted T target && b) (all_inserted-same S T next count f)
 
 is_there-same : (S T : List element_of.Insert) (r : Record) → SameIds S T → is_there S r ≡ is_there T r
 is_there-same S T (Insert after text) f = is_reference-same S T after f
 is_there-same S T (Delete target) f = f target
+is_there-same S T (DeleteRun first count) f = all_inserted-same S T first count f
 
 -- references, record by record
 refers-records : (a : Actor) (n : ℕ) (S T : List element_of.Insert) (before rs : List Record)
@@ -148,6 +170,7 @@ pub covers-low : (n : ℕ) (rs : List Record) (k : ℕ) → k < n → covers n r
 covers-low n [] k h = refl
 covers-low n (Insert after text ∷ rs) k h = let rest = covers-low (n + length text) rs k (omega arith) in grind (arith, nat_tests)
 covers-low n (Delete target ∷ rs) k h = covers-low (n + 1) rs k (omega arith)
+covers-low n (DeleteRun first count ∷ rs) k h = covers-low (n + count) rs k (omega arith)
 
 covers-high : (n : ℕ) (rs : List Record) (k : ℕ) → n + count_of rs ≤ k → covers n rs k ≡ false
 covers-high n [] k h = refl
@@ -155,10 +178,12 @@ covers-high n (Insert after text ∷ rs) k h =
     let within : n + length text ≤ k = omega arith in
     let rest = covers-high (n + length text) rs k (omega arith) in grind (arith, nat_tests)
 covers-high n (Delete target ∷ rs) k h = covers-high (n + 1) rs k (omega arith)
+covers-high n (DeleteRun first count ∷ rs) k h = covers-high (n + count) rs k (omega arith)
 
 covers-all : (n : ℕ) (rs : List Record) (k : ℕ) → only_inserts rs ≡ true → n ≤ k → k < n + count_of rs → covers n rs k ≡ true
 covers-all n [] k e le lt = absurd (omega arith)
 covers-all n (Delete target ∷ rs) k e le lt = cc
+covers-all n (DeleteRun first count ∷ rs) k e le lt = cc
 covers-all n (Insert after text ∷ rs) k e le lt =
     elim (truth (nat_lt k (n + length text))) [
       | inl here ↦ grind (arith, nat_tests)
@@ -231,6 +256,36 @@ all_there-on a n S rs i r small e f = sym (all_there-step a n S rs i r small e �
 
 pub all_there-end : (a : Actor) (n : ℕ) (S : List element_of.Insert) (rs : List Record) (i : ℕ) → length rs ≤ i → all_there a n S (take i rs) (drop i rs) ≡ true
 all_there-end a n S rs i h = ap (all_there a n S (take i rs)) (drop_all i rs h)
+
+-- ---- the targets of a run, one after another
+
+id_next : (first : OpId) (i : ℕ) → id_of first.actor (first.counter + i + 1) ≡ id_of first.actor (first.counter + (i + 1))
+id_next first i = let e : first.counter + i + 1 ≡ first.counter + (i + 1) = omega arith in ap (id_of first.actor) e
+
+-- the targets from the place i on: the one there, and those after it
+pub all_inserted-step : (S : List element_of.Insert) (first : OpId) (count i : ℕ) → i < count
+    → all_inserted S (id_of first.actor (first.counter + i)) (count - i) ≡ (is_inserted S (id_of first.actor (first.counter + i)) && all_inserted S (id_of first.actor (first.counter + (i + 1))) (count - (i + 1)))
+all_inserted-step S first count i lt =
+    let left : count - i ≡ suc (count - (i + 1)) = omega arith in
+    ap (all_inserted S (id_of first.actor (first.counter + i))) left
+    ∙ ap (λ id. is_inserted S (id_of first.actor (first.counter + i)) && all_inserted S id (count - (i + 1))) (id_next first i)
+
+pub all_inserted-first : (S : List element_of.Insert) (first : OpId) (count : ℕ) → all_inserted S (id_of first.actor (first.counter + 0)) (count - 0) ≡ all_inserted S first count
+all_inserted-first S first count =
+    let at : first.counter + 0 ≡ first.counter = omega arith in
+    let all : count - 0 ≡ count = omega arith in
+    ap (λ n. all_inserted S (id_of first.actor n) (count - 0)) at ∙ ap (all_inserted S first) all
+
+pub all_inserted-end : (S : List element_of.Insert) (first : OpId) (count i : ℕ) → count ≤ i → all_inserted S (id_of first.actor (first.counter + i)) (count - i) ≡ true
+all_inserted-end S first count i le =
+    let none : count - i ≡ 0 = omega arith in
+    ap (all_inserted S (id_of first.actor (first.counter + i))) none
+
+-- a record of a change is within the limits
+pub record_at : (rs : List Record) (i : ℕ) (r : Record) → AllByRecursion IsRecord rs → i < length rs → r ≡ get_or rs i r → IsRecord r
+record_at [] i r h lt e = absurd (omega arith)
+record_at (x ∷ rs) zero r h lt e = subst IsRecord (sym e) h.0
+record_at (x ∷ rs) (suc i) r h lt e = record_at rs i r h.1 (omega arith) e
 
 -- a change without deletes inserts at each of its counters
 pub inserts_id-all : (c : ChangeParts) (id : OpId) (end : ℕ) → end ≡ c.start + op_count c → same_actor c.actor id.actor ≡ true → only_inserts c.records ≡ true

@@ -3,7 +3,7 @@
 ghost use Rattle.std.specs.Prelude.{◌≡◌, ℕ, ◌+◌, ◌≤◌, List, [], ◌∷◌, ◌++◌, length};
 ghost use Rattle.tp_change.specs.declared.record.Record.{Record};
 ghost use Rattle.tp_change.specs.Operations.{count_in};
-ghost use Rattle.tp_graph.specs.Before.{Tells, Marks};
+ghost use Rattle.tp_graph.specs.Before.{Tells, Marks, AreSet};
 ghost use Rattle.tp_graph.specs.Covers.{covers};
 
 use tp_change::Record;
@@ -38,8 +38,20 @@ impl<'a> Before<'a> {
     }
 }
 
-/// Marks the operation of the record behind those that are counted, where it is a delete; how many there are then. The
-/// cost is that of going over a run's text.
+// Sets the marks from one place to before another.
+fn mark_all(deletes: &mut [bool], from: usize, end: usize)
+    requires order { from ≤ end }
+    requires room { end ≤ length deletes.old }
+    ensures len { length deletes.new ≡ length deletes.old }
+    ensures marks { AreSet deletes.old deletes.new from end }
+{
+    for number in from..end {
+        deletes[number] = true;
+    }
+}
+
+/// Marks the operations of the record behind those that are counted, where they are deletes; how many there are then.
+/// The cost is that of going over a text, or over the marks of a run of deletes.
 pub(crate) fn put(deletes: &mut [bool], count: usize, entry: &Record) -> usize
     requires { count + count_in entry.now ≤ length deletes.old }
     ensures len { length deletes.new ≡ length deletes.old }
@@ -51,6 +63,11 @@ pub(crate) fn put(deletes: &mut [bool], count: usize, entry: &Record) -> usize
         Record::Delete { .. } => {
             deletes[count] = true;
             count + 1
+        }
+        Record::DeleteRun { count: more, .. } => {
+            let end = count + *more as usize;
+            mark_all(deletes, count, end);
+            end
         }
     }
 }

@@ -2,9 +2,11 @@
 
 ghost use Rattle.std.specs.Prelude.{◌≡◌, ◌+◌, ◌<◌, ◌≤◌, ◌^◌, ◌++◌, ◌||◌, List, length, Some};
 ghost use Rattle.std.specs.List.{slice_get};
+ghost use Rattle.tp_change.specs.declared.limits.TheConstants.{COUNTERS_END};
 ghost use Rattle.tp_change.specs.declared.parts.ChangeParts.{ChangeParts};
 ghost use Rattle.tp_change.specs.declared.record.Record.{Record};
 ghost use Rattle.tp_change.specs.Elements as made;
+ghost use Rattle.tp_change.specs.Limits.{IsRecord};
 ghost use Rattle.tp_change.specs.Operations.{count_of, op_count, ops_of, ops_from};
 ghost use Rattle.tp_graph.specs.Before.{Tells, IsClear};
 ghost use Rattle.tp_graph.specs.ByActor.{IsMaker};
@@ -40,18 +42,21 @@ fn covers(records: &[Record], first: u64, counter: u64) -> bool
                 next = end;
             }
             Record::Delete { .. } => next += 1,
+            Record::DeleteRun { count, .. } => next += *count as u64,
         }
     }
     false
 }
 
-// Whether no record is a delete. No text is gone over.
+// Whether no record is a delete or a run of deletes. No text is gone over.
 fn only_inserts(records: &[Record]) -> bool
     ensures { result ≡ cover.only_inserts records.now }
 {
     for record in records {
-        if let Record::Delete { .. } = record {
-            return false;
+        match record {
+            Record::Insert { .. } => {}
+            Record::Delete { .. } => return false,
+            Record::DeleteRun { .. } => return false,
         }
     }
     true
@@ -204,10 +209,33 @@ impl Applied {
         self.is_inserted(part, id)
     }
 
-    // Whether the reference or the target of the record is inserted by a change of the past, or by one of the
+    // Whether a change of the past, or one of the records before, inserts each element of a run: the first one, and
+    // those of the same actor with the next counters. A look-up for each.
+    fn are_known(&self, part: &Part, before: &Before, first: &OpId, count: u32) -> bool
+        requires part { IsPartOf part.now self.now.changes }
+        requires room { before.now.count ≤ length before.now.deletes.now }
+        requires counters { first.now.counter + count ≤ COUNTERS_END }
+        ensures { (rs : List Record) → Tells before.now rs → result
+            ≡ cover.all_inserted (made.inserts_in (ops_from before.now.actor before.now.first rs)
+            ++ made.inserts (picked part.now self.now.changes)) first.now count }
+    {
+        for i in 0..count {
+            let target = OpId {
+                counter: first.counter + i as u64,
+                actor: first.actor,
+            };
+            if !self.is_known(part, before, &target) {
+                return false;
+            }
+        }
+        true
+    }
+
+    // Whether the reference or each target of the record is inserted by a change of the past, or by one of the
     // records before it.
     fn is_there(&self, part: &Part, before: &Before, entry: &Record) -> bool
         requires part { IsPartOf part.now self.now.changes }
+        requires entry { IsRecord entry.now }
         requires room { before.now.count ≤ length before.now.deletes.now }
         ensures { (rs : List Record) → Tells before.now rs → result
             ≡ cover.is_there (made.inserts_in (ops_from before.now.actor before.now.first rs)
@@ -219,6 +247,7 @@ impl Applied {
                 Place::After(id) => self.is_known(part, before, id),
             },
             Record::Delete { target } => self.is_known(part, before, target),
+            Record::DeleteRun { first, count } => self.are_known(part, before, first, *count),
         }
     }
 

@@ -1,11 +1,13 @@
 use Rattle.std.proofs.Common.{◌≡◌, ◌≤◌, ◌+◌, ◌++◌, ◌∷◌, ◌∙◌, ap, sym, refl, subst, arith, false, take, length, []}
+use Rattle.std.specs.List.{AllByRecursion}
 use Rattle.tp_change.specs.Elements as made
+use Rattle.tp_change.specs.Limits.{IsRecord}
 use Rattle.tp_change.specs.Operations.{count_in, count_of, op_count}
 use Rattle.tp_graph.specs.Before.{Marks}
 use Rattle.tp_graph.specs.Covers as cover
 use Rattle.tp_graph.specs.Parts.{picked}
 use Rattle.tp_graph.proofs.BeforeLaws.{marks-none, taken, counted-more}
-use Rattle.tp_graph.proofs.InsertLaws.{refers-all_there, count_of-take, all_there-stop, all_there-on, all_there-end}
+use Rattle.tp_graph.proofs.InsertLaws.{refers-all_there, record_at, count_of-take, all_there-stop, all_there-on, all_there-end}
 use Rattle.tp_graph.proofs.applied.Applied.refers_with.Goals as goal
 
 pub loop-i-init : goal.loop-i-init
@@ -15,6 +17,11 @@ loop-i-init c =
     let few : count_of c.args.change.now.records ≤ length c.args.deletes.now = c.requires.room in
     let room : count_of c.records-records.result.now ≤ length c.args.deletes.now = omega arith in
     (refl, marks-none c.args.deletes.now c.start-first.result c.requires.clear, room)
+
+pub is_there-requires-clause-entry : goal.is_there-requires-clause-entry
+is_there-requires-clause-entry c =
+    record_at c.records-records.result.now c.loop-i.i c.index-records-i.result
+    (subst (AllByRecursion IsRecord) (sym c.records-records.ensures) c.hash-hash.ensures.limits.records) c.loop-i-test.true c.index-records-i.is
 
 pub is_there-requires-clause-room : goal.is_there-requires-clause-room
 is_there-requires-clause-room c =

@@ -1,0 +1,15 @@
+use Rattle.std.proofs.Common.{◌≡◌, ◌+◌, ◌-◌, ◌++◌, List}
+use Rattle.tp_change.specs.declared.record.Record.{Record}
+use Rattle.tp_change.specs.Elements as made
+use Rattle.tp_change.specs.Operations.{id_of, ops_from}
+use Rattle.tp_graph.specs.Before.{Tells}
+use Rattle.tp_graph.specs.Covers as cover
+use Rattle.tp_graph.specs.Parts.{picked}
+use Rattle.tp_graph.proofs.applied.Applied.are_known.Given as goal
+
+-- whether all are there rests on those from i on
+abbrev pub invariant-loop-i : goal.invariant-loop-i
+invariant-loop-i l =
+    (rs : List Record) → Tells l.before rs
+    → let S = made.inserts_in (ops_from l.before.actor l.before.first rs) ++ made.inserts (picked l.part l.self.changes) in
+    cover.all_inserted S (id_of l.first.actor (l.first.counter + l.i)) (l.count - l.i) ≡ cover.all_inserted S l.first l.count
