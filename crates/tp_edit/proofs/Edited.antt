@@ -30,9 +30,10 @@ use Rattle.tp_text.specs.Text.{chars_of}
 use Rattle.tp_text.proofs.Numbered.{CanApply-refers, IsFresh-under}
 use Rattle.tp_edit.specs.declared.splice.Splice.{Splice}
 use Rattle.tp_edit.specs.Splices.{inserted, count_of, total_count, spliced, IsInRange, AllInRange, all_spliced}
-use Rattle.tp_edit.specs.EditRecords.{ids_of, after_last, deletes_of, runs_of, records_of_splice, ids_after, records_of, ids_after_all}
+use Rattle.tp_edit.specs.EditRecords.{ids_of, after_last, deletes_of, removals_of, runs_of, records_of_splice, ids_after, records_of, ids_after_all}
 use Rattle.tp_edit.specs.EditLaw.{IsReady, ops_of_edit, EditLaw, AppliedLaw}
 use Rattle.tp_edit.proofs.Landed.{length-spliced}
+use Rattle.tp_edit.proofs.Removals.{ops_from-removals, count-removals}
 use Rattle.tp_edit.proofs.ShownEdits.{shown-append, shown_kept, shown_cut, split_shown, named_from-target, AreApart-filter}
 use Rattle.tp_edit.proofs.RunPlaces.{elements_of_run, ids_of-run, chars_of-run, deletes_in-run, run-counter, run_in_order}
 
@@ -224,14 +225,23 @@ record Splices (T L : List Insert) (R : List (OpId × OpId)) (a : Actor) (n : �
   pub ids : ids_of visible ≡ V
   pub text : chars_of visible ≡ t
 
+-- the operations of removals and what comes after them are those of a delete of each element, and then the same
+ops_from-removed : (a : Actor) (n : ℕ) (xs : List OpId) (rs : List Record) → ops_from a n (removals_of xs ++ rs) ≡ ops_from a n (deletes_of xs ++ rs)
+ops_from-removed a n xs rs =
+    let count : operations.count_of (removals_of xs) ≡ operations.count_of (deletes_of xs) = count-removals xs ∙ sym (count-deletes xs) in
+    ops_from-append a n (removals_of xs) rs
+    ∙ ap (λ l. l ++ ops_from a (n + operations.count_of (removals_of xs)) rs) (ops_from-removals a n xs)
+    ∙ ap (λ k. ops_from a n (deletes_of xs) ++ ops_from a (n + k) rs) count
+    ∙ sym (ops_from-append a n (deletes_of xs) rs)
+
 -- how many records one splice has operations
 pub count-splice : (V : List OpId) (s : Splice) → IsInRange (length V) s → operations.count_of (records_of_splice V s) ≡ count_of s
 count-splice V s range =
     let xs = take s.del (drop s.at V) in
     let after = after_last Start (take s.at V) in
-    let whole = count-append (deletes_of xs) (runs_of after (inserted s)) in
+    let whole = count-append (removals_of xs) (runs_of after (inserted s)) in
     let size = length-take-le s.del (drop s.at V) (let rest = length-drop s.at V in omega (arith, rest)) in
-    omega (arith, whole, count-deletes xs, count-runs after (inserted s), size)
+    omega (arith, whole, count-removals xs, count-runs after (inserted s), size)
 
 -- one splice
 splice_leaves : (T L : List Insert) (R : List (OpId × OpId)) (a : Actor) (n : ℕ) (s : Splice) → IsReady T L R a n → IsInRange (length (shown R L)) s → Splices T L R a n (ops_from a n (records_of_splice (ids_of (shown R L)) s)) (n + count_of s) (ids_after a n (ids_of (shown R L)) s) (spliced (chars_of (shown R L)) s.at s.del (inserted s))
@@ -262,7 +272,8 @@ splice_leaves T L R a n s ready range =
     ap (λ l. cut ++ l) (sym (ap (λ m. ops_from a (n + m) (runs_of after text)) counter ∙ ops_from-runs a (n + length X) after text))
     ∙ sym (ops_from-append a n (deletes_of (ids_of X)) (runs_of after text))
     ∙ ap (λ xs. ops_from a n (deletes_of xs ++ runs_of after text)) (sym middle)
-    ∙ ap (λ xs. ops_from a n (deletes_of (take s.del (drop s.at V)) ++ runs_of (after_last Start xs) text)) (sym prefix) in
+    ∙ ap (λ xs. ops_from a n (deletes_of (take s.del (drop s.at V)) ++ runs_of (after_last Start xs) text)) (sym prefix)
+    ∙ sym (ops_from-removed a n (take s.del (drop s.at V)) (runs_of (after_last Start (take s.at V)) text)) in
     let end : (n + length X) + length text ≡ n + count_of s = omega (arith, size) in
     record {
       placed = q.0;

@@ -1,7 +1,7 @@
 -- The records of a splice, one after another.
-use Rattle.std.proofs.Common.{◌≡◌, ℕ, ◌+◌, ◌-◌, ◌<◌, ◌^◌, List, [], ◌∷◌, ◌++◌, length, get_or, Some, refl, sym, ap, ◌∙◌, subst, arith, take, drop, append_assoc}
-use Rattle.std.specs.Prelude.{slice_get}
-use Rattle.std.proofs.lemmas.List.{take_more, drop_more, take-append-drop, length-drop, get_or-drop}
+use Rattle.std.proofs.Common.{◌≡◌, ℕ, ◌+◌, ◌-◌, ◌<◌, ◌≤◌, ◌^◌, ◌&&◌, true, false, List, [], ◌∷◌, ◌++◌, length, get_or, Some, refl, sym, ap, ◌∙◌, subst, arith, take, drop, append_assoc, append-nil}
+use Rattle.std.specs.Prelude.{slice_get, if◌then◌else◌}
+use Rattle.std.proofs.lemmas.List.{take_more, drop_more, drop_all, take-append-drop, length-drop, length-take-le, get_or-drop, get_or-take}
 use Rattle.std.proofs.lemmas.Option.{slice_get_within, get_or_from_slice_get}
 use Rattle.tp_opid.specs.declared.actor.Actor.{Actor}
 use Rattle.tp_opid.specs.declared.op_id.OpId.{OpId}
@@ -11,23 +11,18 @@ use Rattle.tp_change.specs.declared.record.Record.{Record}
 use Rattle.tp_change.specs.declared.record.Record.TheVariants as record_of
 use Rattle.tp_edit.specs.declared.splice.Splice.{Splice}
 use Rattle.tp_edit.specs.Splices.{count_of, total_count, IsInRange, AllInRange}
-use Rattle.tp_edit.specs.EditRecords.{after_last, deletes_of, runs_of, records_of_splice, ids_after, ids_after_all, records_of}
+use Rattle.tp_edit.specs.EditRecords.{after_last, removals_of, grouped, removal, goes_on, can_count, runs_of, records_of_splice, ids_after, ids_after_all, records_of}
 use Rattle.tp_edit.specs.Landings.{landing_of, landings_of, ids_through, AllFit}
 use Rattle.tp_edit.proofs.Landed.{length-ids_landed}
 
-deletes_of-push : (xs : List OpId) (x : OpId) → deletes_of (xs ++ x ∷ []) ≡ deletes_of xs ++ record_of.Delete x ∷ []
-deletes_of-push [] x = refl
-deletes_of-push (y ∷ xs) x = ap (λ l. record_of.Delete y ∷ l) (deletes_of-push xs x)
-
--- the delete of one element more
-deletes_of-more : (W : List OpId) (at k : ℕ) (x : OpId) → slice_get W (at + k) ≡ Some x → deletes_of (take (k + 1) (drop at W)) ≡ deletes_of (take k (drop at W)) ++ record_of.Delete x ∷ []
-deletes_of-more W at k x is =
-    let within = slice_get_within W (at + k) x is in
+-- the deleted elements from the place k on: the one there, and those after it
+removed_at : (W : List OpId) (at del k : ℕ) (x : OpId) → at + del ≤ length W → k < del → slice_get W (at + k) ≡ Some x → drop k (take del (drop at W)) ≡ x ∷ drop (k + 1) (take del (drop at W))
+removed_at W at del k x range lt is =
     let size = length-drop at W in
-    let short : k < length (drop at W) = omega (arith, within, size) in
-    let there : get_or (drop at W) k x ≡ x = get_or-drop at W k x ∙ get_or_from_slice_get W (at + k) x x is in
-    ap deletes_of (take_more (drop at W) k x short ∙ ap (λ y. take k (drop at W) ++ y ∷ []) there)
-    ∙ deletes_of-push (take k (drop at W)) x
+    let whole = length-take-le del (drop at W) (omega (arith, range, size)) in
+    let short : k < length (take del (drop at W)) = omega (arith, whole) in
+    let there : get_or (take del (drop at W)) k x ≡ x = get_or-take del (drop at W) k x lt ∙ get_or-drop at W k x ∙ get_or_from_slice_get W (at + k) x x is in
+    drop_more (take del (drop at W)) k x short ∙ ap (λ y. y ∷ drop (k + 1) (take del (drop at W))) there
 
 after_last-push : (p : Place) (xs : List OpId) (x : OpId) → after_last p (xs ++ x ∷ []) ≡ After x
 after_last-push p [] x = refl
@@ -50,22 +45,58 @@ runs_of-some : (after : Place) (text : List ℕ) → 0 < length text → runs_of
 runs_of-some after [] some = absurd (omega arith)
 runs_of-some after (ch ∷ text) some = refl
 
--- a delete of one element more, behind what was there
-pub delete_put : (W : List OpId) (at k : ℕ) (x : OpId) (first old new : List Record) → new ≡ old ++ record_of.Delete x ∷ [] → old ≡ first ++ deletes_of (take k (drop at W)) → slice_get W (at + k) ≡ Some x
-    → new ≡ first ++ deletes_of (take (k + 1) (drop at W))
-delete_put W at k x first old new e f is =
-    e ∙ ap (λ l. l ++ record_of.Delete x ∷ []) f ∙ append_assoc first (deletes_of (take k (drop at W))) (record_of.Delete x ∷ [])
-    ∙ ap (λ l. first ++ l) (sym (deletes_of-more W at k x is))
+-- With the open stretch of n elements from x on, and the elements from the place k on, the records are those that were
+-- there and the removals of all.
+abbrev pub IsGrouped : (W : List OpId) (at del k : ℕ) (x : OpId) (n : ℕ) (before now : List Record) → Type 0
+IsGrouped W at del k x n before now = now ++ grouped x n (drop k (take del (drop at W))) ≡ before ++ removals_of (take del (drop at W))
 
--- a run behind all deletes of a splice
-pub run_put : (W : List OpId) (at k del : ℕ) (after : Place) (text : List ℕ) (p : Place) (t : List ℕ) (first old new : List Record)
-    → new ≡ old ++ record_of.Insert p t ∷ [] → old ≡ first ++ deletes_of (take k (drop at W)) → k ≡ del → p ≡ after → t ≡ text → 0 < length text
-    → new ≡ first ++ (deletes_of (take del (drop at W)) ++ runs_of after text)
-run_put W at k del after text p t first old new e f all place same some =
-    let deletes = deletes_of (take del (drop at W)) in
-    e ∙ ap (λ l. l ++ record_of.Insert p t ∷ []) (f ∙ ap (λ j. first ++ deletes_of (take j (drop at W))) all) ∙ append_assoc first deletes (record_of.Insert p t ∷ [])
-    ∙ ap (λ r. first ++ (deletes ++ r ∷ [])) (ap (λ q. record_of.Insert q t) place ∙ ap (record_of.Insert after) same)
-    ∙ ap (λ l. first ++ (deletes ++ l)) (sym (runs_of-some after text some))
+pub grouped_first : (W : List OpId) (at del : ℕ) (x : OpId) (before : List Record) → at + del ≤ length W → 0 < del → slice_get W at ≡ Some x → IsGrouped W at del 1 x 1 before before
+grouped_first W at del x before range some is =
+    let here : at + 0 ≡ at = omega arith in
+    ap (λ l. before ++ removals_of l) (sym (removed_at W at del 0 x range some (ap (slice_get W) here ∙ is)))
+
+-- the next element goes on the stretch
+pub grouped_on : (W : List OpId) (at del k : ℕ) (x : OpId) (n : ℕ) (y : OpId) (before now : List Record) → at + del ≤ length W → k < del → slice_get W (at + k) ≡ Some y
+    → (goes_on x n y && can_count (n + 1)) ≡ true → IsGrouped W at del k x n before now → IsGrouped W at del (k + 1) x (n + 1) before now
+grouped_on W at del k x n y before now range lt is on h =
+    let rest = drop (k + 1) (take del (drop at W)) in
+    sym (ap (λ l. now ++ grouped x n l) (removed_at W at del k y range lt is)
+    ∙ ap (λ b. now ++ (if b then grouped x (n + 1) rest else removal x n ∷ grouped y 1 rest)) on)
+    ∙ h
+
+-- the next element begins another
+pub grouped_off : (W : List OpId) (at del k : ℕ) (x : OpId) (n : ℕ) (y : OpId) (before now new : List Record) → at + del ≤ length W → k < del → slice_get W (at + k) ≡ Some y
+    → (goes_on x n y && can_count (n + 1)) ≡ false → new ≡ now ++ removal x n ∷ [] → IsGrouped W at del k x n before now → IsGrouped W at del (k + 1) y 1 before new
+grouped_off W at del k x n y before now new range lt is off put h =
+    let rest = drop (k + 1) (take del (drop at W)) in
+    ap (λ l. l ++ grouped y 1 rest) put
+    ∙ append_assoc now (removal x n ∷ []) (grouped y 1 rest)
+    ∙ sym (ap (λ l. now ++ grouped x n l) (removed_at W at del k y range lt is)
+    ∙ ap (λ b. now ++ (if b then grouped x (n + 1) rest else removal x n ∷ grouped y 1 rest)) off)
+    ∙ h
+
+-- no element is left
+pub grouped_end : (W : List OpId) (at del k : ℕ) (x : OpId) (n : ℕ) (before now new : List Record) → at + del ≤ length W → del ≤ k → new ≡ now ++ removal x n ∷ []
+    → IsGrouped W at del k x n before now → new ≡ before ++ removals_of (take del (drop at W))
+grouped_end W at del k x n before now new range past put h =
+    let size = length-drop at W in
+    let whole = length-take-le del (drop at W) (omega (arith, range, size)) in
+    let none : drop k (take del (drop at W)) ≡ [] = drop_all k (take del (drop at W)) (omega (arith, whole)) in
+    put ∙ ap (λ l. now ++ grouped x n l) (sym none) ∙ h
+
+-- a run of text behind the removals of a splice
+pub run_put : (removed : List Record) (after : Place) (text : List ℕ) (p : Place) (t : List ℕ) (first old new : List Record)
+    → new ≡ old ++ record_of.Insert p t ∷ [] → old ≡ first ++ removed → p ≡ after → t ≡ text → 0 < length text
+    → new ≡ first ++ (removed ++ runs_of after text)
+run_put removed after text p t first old new e f place same some =
+    e ∙ ap (λ l. l ++ record_of.Insert p t ∷ []) f ∙ append_assoc first removed (record_of.Insert p t ∷ [])
+    ∙ ap (λ r. first ++ (removed ++ r ∷ [])) (ap (λ q. record_of.Insert q t) place ∙ ap (record_of.Insert after) same)
+    ∙ ap (λ l. first ++ (removed ++ l)) (sym (runs_of-some after text some))
+
+-- no run where there is no text
+pub no_run_put : (removed : List Record) (after : Place) (text : List ℕ) (first new : List Record) → new ≡ first ++ removed → length text ≤ 0 → new ≡ first ++ (removed ++ runs_of after text)
+no_run_put removed after [] first new e none = e ∙ ap (λ l. first ++ l) (sym (append-nil removed))
+no_run_put removed after (ch ∷ text) first new e none = absurd (omega arith)
 
 -- ---- one splice after others
 

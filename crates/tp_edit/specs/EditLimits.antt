@@ -1,20 +1,20 @@
 -- What the records of an edit are made of.
-use Rattle.std.specs.Prelude.{◌≡◌, ℕ, ◌+◌, ◌≤◌, ◌^◌, List, [], ◌∷◌, length}
+use Rattle.std.specs.Prelude.{◌≡◌, ℕ, ◌+◌, ◌<◌, ◌≤◌, List, [], ◌∷◌, length}
 use Rattle.std.specs.List.{AllByRecursion, flat_map}
 use Rattle.tp_list.specs.Members.{In}
 use Rattle.tp_opid.specs.declared.actor.Actor.{Actor}
 use Rattle.tp_opid.specs.declared.op_id.OpId.{OpId}
-use Rattle.tp_change.specs.declared.limits.TheConstants.{MAX_BYTES}
+use Rattle.tp_change.specs.declared.limits.TheConstants.{MAX_BYTES, COUNTERS_END}
 use Rattle.tp_change.specs.Operations as operations
 use Rattle.tp_change.specs.Spelling.{spelling_of_record}
-use Rattle.tp_change.specs.Limits.{IsActor, IsId, IsText, IsRecord}
+use Rattle.tp_change.specs.Limits.{IsActor, IsText, IsRecord}
 use Rattle.tp_edit.specs.declared.splice.Splice.{Splice}
 use Rattle.tp_edit.specs.Splices.{inserted, total_count, AllInRange, AllScalars}
 use Rattle.tp_edit.specs.EditRecords.{records_of}
 
--- Each identifier has a counter and an actor of their sizes.
+-- Each identifier has a counter within the limit and an actor of its size.
 abbrev pub AllIds : List OpId → Type 0
-AllIds V = (x : OpId) → In x V → IsId x
+AllIds V = (x : OpId) → In x V → (x.counter < COUNTERS_END) × IsActor x.actor
 
 -- Each inserted text is within the limit of a run.
 abbrev pub AllTexts : List Splice → Type 0
@@ -26,9 +26,9 @@ abbrev pub CountLaw : Type 0
 CountLaw = (actor : Actor) (n : ℕ) (V : List OpId) (ss : List Splice) → AllInRange (length V) ss → operations.count_of (records_of actor n V ss) ≡ total_count ss
 
 -- The records of an edit keep the grammar of a change: identifiers of their sizes, texts within their limit, no
--- empty run.
+-- empty run, and runs of deletes whose targets are within the limit of counters.
 abbrev pub RecordLaw : Type 0
-RecordLaw = (actor : Actor) (n : ℕ) (V : List OpId) (ss : List Splice) → IsActor actor → n + total_count ss ≤ 2 ^ 64 → AllIds V → AllTexts ss → AllByRecursion IsRecord (records_of actor n V ss)
+RecordLaw = (actor : Actor) (n : ℕ) (V : List OpId) (ss : List Splice) → IsActor actor → n + total_count ss ≤ COUNTERS_END → AllIds V → AllTexts ss → AllByRecursion IsRecord (records_of actor n V ss)
 
 -- Where the records are spelled within the limit of a change, each text is within that of a run.
 abbrev pub SizeLaw : Type 0

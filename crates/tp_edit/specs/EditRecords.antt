@@ -1,10 +1,11 @@
 -- The records of an edit. They depend on the identifiers of the visible elements alone.
-use Rattle.std.specs.Prelude.{ℕ, ◌+◌, List, [], ◌∷◌, ◌++◌, length, take, drop, map}
+use Rattle.std.specs.Prelude.{ℕ, ◌+◌, ◌^◌, ◌==◌, ◌&&◌, Bool, nat_lt, if◌then◌else◌, List, [], ◌∷◌, ◌++◌, length, take, drop, map}
 use Rattle.tp_opid.specs.declared.actor.Actor.{Actor}
 use Rattle.tp_opid.specs.declared.op_id.OpId.{OpId}
 use Rattle.tp_opid.specs.declared.op_id.Place.{Place}
 use Rattle.tp_opid.specs.declared.op_id.Place.TheVariants.{Start, After}
 use Rattle.tp_opid.specs.Insert.{Insert}
+use Rattle.tp_opid.specs.Same.{same_actor}
 use Rattle.tp_change.specs.declared.record.Record.{Record}
 use Rattle.tp_change.specs.declared.record.Record.TheVariants as record_of
 use Rattle.tp_change.specs.OpIds.{ids_from}
@@ -30,15 +31,38 @@ abbrev pub deletes_of : List OpId → List Record
 deletes_of [] = []
 deletes_of (x ∷ xs) = record_of.Delete x ∷ deletes_of xs
 
+-- Whether the element goes on a stretch: it is of the same actor as the first one, and its counter is n higher.
+abbrev pub goes_on : OpId → ℕ → OpId → Bool
+goes_on first n x = same_actor first.actor x.actor && (x.counter == (first.counter + n))
+
+-- whether the count of a record holds as many elements
+abbrev pub can_count : ℕ → Bool
+can_count n = nat_lt n (2 ^ 32)
+
+-- one element alone as a delete, a stretch of more as a run
+abbrev pub removal : OpId → ℕ → Record
+removal first n = if n == 1 then record_of.Delete first else record_of.DeleteRun first n
+
+-- the removals of a stretch, of which n elements went before, and of the elements after these
+abbrev pub grouped : OpId → ℕ → List OpId → List Record
+grouped first n [] = removal first n ∷ []
+grouped first n (x ∷ xs) = if goes_on first n x && can_count (n + 1) then grouped first (n + 1) xs else removal first n ∷ grouped x 1 xs
+
+-- The removals of elements, in order: each longest stretch of one actor's elements whose counters rise by 1 is one
+-- record.
+abbrev pub removals_of : List OpId → List Record
+removals_of [] = []
+removals_of (x ∷ xs) = grouped x 1 xs
+
 -- one run where there is text, none where there is none
 abbrev pub runs_of : Place → List ℕ → List Record
 runs_of after [] = []
 runs_of after (ch ∷ text) = record_of.Insert after (ch ∷ text) ∷ []
 
--- The records of a splice, where V are the visible elements: a delete of each of the `del` elements from `at` on, and
--- then the text as a run after the element at `at - 1`, or at the start.
+-- The records of a splice, where V are the visible elements: the removals of the `del` elements from `at` on, and then
+-- the text as a run after the element at `at - 1`, or at the start.
 abbrev pub records_of_splice : List OpId → Splice → List Record
-records_of_splice V s = deletes_of (take s.del (drop s.at V)) ++ runs_of (after_last Start (take s.at V)) (inserted s)
+records_of_splice V s = removals_of (take s.del (drop s.at V)) ++ runs_of (after_last Start (take s.at V)) (inserted s)
 
 -- the visible elements after a splice whose first counter is n: the run's counters come after those of the deletes
 abbrev pub ids_after : Actor → ℕ → List OpId → Splice → List OpId

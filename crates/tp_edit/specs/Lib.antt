@@ -3,3 +3,4 @@ pub mod EditRecords
 pub mod Landings
 pub mod EditLaw
 pub mod EditLimits
+pub mod RemovalLaws

@@ -2,6 +2,7 @@
 
 ghost use Rattle.tp_edit.specs.EditLaw.{AppliedLaw, EditLaw};
 ghost use Rattle.tp_edit.specs.EditLimits.{CountLaw, RecordLaw, SizeLaw};
+ghost use Rattle.tp_edit.specs.RemovalLaws.{LongestLaw, RemovalLaw};
 
 /// The text after an edit is the text before with each splice done in turn.
 ///
@@ -18,13 +19,23 @@ pub fn applied_edit_does_its_splices()
     ensures { AppliedLaw }
 {}
 
+/// The operations of the removals of elements are those of a delete of each, in order.
+pub fn removals_delete_each_element()
+    ensures { RemovalLaw }
+{}
+
+/// No two removals of elements, one after the other, could be one record.
+pub fn removals_are_as_few_as_can_be()
+    ensures { LongestLaw }
+{}
+
 /// The records of an edit that is in range are as many operations as its splices take.
 pub fn edit_takes_its_operations()
     ensures { CountLaw }
 {}
 
 /// The records of an edit keep the grammar of a change: identifiers of their sizes, texts within the limit of a run,
-/// and no empty run.
+/// no empty run, and runs of deletes whose targets are within the limit of counters.
 pub fn edit_makes_records_of_a_change()
     ensures { RecordLaw }
 {}

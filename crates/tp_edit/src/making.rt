@@ -1,9 +1,9 @@
 //! The records of an edit.
 
-ghost use Rattle.std.specs.Prelude.{◌≡◌, ◌+◌, ◌<◌, ◌^◌, ◌++◌, length, IfOk, OnOk};
+ghost use Rattle.std.specs.Prelude.{◌≡◌, ◌+◌, ◌<◌, ◌^◌, ◌++◌, ◌&&◌, length, drop, take, IfOk, OnOk};
 ghost use Rattle.tp_rga.specs.Shown.{shown};
 ghost use Rattle.tp_edit.specs.Splices.{AllInRange, IsInRange, inserted, total_count};
-ghost use Rattle.tp_edit.specs.EditRecords.{records_of, records_of_splice, visible_ids};
+ghost use Rattle.tp_edit.specs.EditRecords.{can_count, goes_on, records_of, records_of_splice, removal, removals_of, visible_ids};
 ghost use Rattle.tp_edit.specs.Landings.{AllFit, ids_through};
 
 use crate::landing::{Landing, id_through};
@@ -11,8 +11,74 @@ use crate::splice::Splice;
 use std::alloc::{AllocError, Global};
 use tp_change::Record;
 use tp_list::Text;
-use tp_opid::{Actor, Place};
+use tp_opid::{Actor, OpId, Place};
 use tp_rga::Sequence;
+
+// The record of a stretch: a delete of one element, a run of several.
+fn removal_of(first: OpId, count: u32) -> Record
+    ensures { result ≡ removal first count }
+{
+    if count == 1 {
+        Record::Delete { target: first }
+    } else {
+        Record::DeleteRun { first, count }
+    }
+}
+
+// Whether the element goes on a stretch of so many, and a record can count it too.
+fn extends(first: &OpId, count: u32, target: &OpId) -> bool
+    ensures { result ≡ (goes_on first.now count target.now && can_count (count + 1)) }
+{
+    if !first.actor.is(&target.actor) || target.counter < first.counter {
+        return false;
+    }
+    target.counter - first.counter == count as u64 && count < u32::MAX
+}
+
+// Appends the removals of the elements that one splice, which comes after the landings, deletes.
+fn append_removals<S: Sequence>(
+    records: &mut Vec<Record>,
+    sequence: &S,
+    actor: Actor,
+    landings: &[Landing],
+    splice: &Splice,
+) -> Result<(), AllocError>
+    requires fit { AllFit actor
+        (visible_ids (S.removals sequence.now) (S.placed sequence.now))
+        landings.now }
+    requires in_range { IsInRange
+        (length (ids_through actor
+        (visible_ids (S.removals sequence.now) (S.placed sequence.now))
+        landings.now))
+        splice.now }
+    requires counted { length (shown (S.removals sequence.now) (S.placed sequence.now)) < 2 ^ 64 }
+    ensures { OnOk result (records.new.items
+        ≡ records.old.items
+        ++ removals_of (take splice.now.del
+        (drop splice.now.at
+        (ids_through actor
+        (visible_ids (S.removals sequence.now) (S.placed sequence.now))
+        landings.now)))) }
+{
+    if splice.del == 0 {
+        return Ok(());
+    }
+    let at = splice.at as u128;
+    let mut first = id_through(sequence, actor, landings, at);
+    let mut count = 1;
+    for k in 1..splice.del {
+        let target = id_through(sequence, actor, landings, at + k as u128);
+        if extends(&first, count, &target) {
+            count += 1;
+        } else {
+            records.push(removal_of(first, count))?;
+            first = target;
+            count = 1;
+        }
+    }
+    records.push(removal_of(first, count))?;
+    Ok(())
+}
 
 // Appends the records of one splice, which comes after the landings. `count` is how many characters it inserts.
 fn append_splice<S: Sequence>(
@@ -42,12 +108,9 @@ fn append_splice<S: Sequence>(
         landings.now)
         splice.now) }
 {
-    let at = splice.at as u128;
-    for k in 0..splice.del {
-        let target = id_through(sequence, actor, landings, at + k as u128);
-        records.push(Record::Delete { target })?;
-    }
+    append_removals(records, sequence, actor, landings, splice)?;
     if count > 0 {
+        let at = splice.at as u128;
         let after = if at == 0 {
             Place::Start
         } else {
@@ -59,25 +122,23 @@ fn append_splice<S: Sequence>(
     Ok(())
 }
 
-// How many records splices have.
-fn record_count(splices: &[Splice]) -> usize {
-    let mut count = 0usize;
-    for splice in splices {
-        let runs = usize::from(!splice.text.is_empty());
-        count = count.saturating_add(splice.del).saturating_add(runs);
-    }
-    count
+// How many of the splices have a text.
+fn text_count(splices: &[Splice]) -> usize {
+    splices.iter().filter(|s| !s.text.is_empty()).count()
 }
 
 /// The records of an edit by `actor` of the text that a sequence shows, where `start` is the counter of the first
-/// operation: splice by splice, each on the text that the ones before it leave, a delete of each element in its order
-/// and then the inserted text as one run after the visible element before it. Operations take successive counters.
+/// operation: splice by splice, each on the text that the ones before it leave, the deletes of its elements in their
+/// order and then the inserted text as one run after the visible element before it. Of the deleted elements each
+/// longest stretch of two or more that are of one actor and whose counters rise by 1 is one run of deletes, and each
+/// other a delete. Operations take successive counters.
 ///
 /// The caller sees to it that the splices are in range, by [`in_range`](crate::in_range), and that the counters stay
 /// below 2^64, by [`operation_count`](crate::operation_count). The only refusal is for want of memory.
 ///
 /// One splice looks up each deleted element in the sequence and the one before the run, and makes no pass over the
-/// text. A later splice traces each position back through the ones before it. Each inserted text is copied once.
+/// text. A later splice traces each position back through the ones before it. Each inserted text is copied once. Memory
+/// is for the records alone: the deletes of a stretch take that of one record.
 pub fn records<S: Sequence>(
     alloc: Global,
     sequence: &S,
@@ -96,7 +157,7 @@ pub fn records<S: Sequence>(
 {
     // So its length is known to fit a `usize`.
     let _len = sequence.len();
-    let mut records = Vec::with_capacity(alloc, record_count(splices))?;
+    let mut records = Vec::with_capacity(alloc, text_count(splices))?;
     let mut landings: Vec<Landing> = Vec::with_capacity(alloc, splices.len())?;
     let mut next = start;
     for splice in splices {

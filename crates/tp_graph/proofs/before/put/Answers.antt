@@ -1,5 +1,5 @@
 use Rattle.std.proofs.Common.{◌≡◌, ◌+◌, ◌<◌, set, true, ◌∷◌, ◌++◌, [], length, ap, sym, ◌∙◌, subst, arith}
-use Rattle.tp_change.specs.declared.record.Record.TheVariants.{Insert, DeleteRun}
+use Rattle.tp_change.specs.declared.record.Record.TheVariants.{Insert}
 use Rattle.tp_change.specs.Operations.{count_in}
 use Rattle.tp_graph.specs.Before.{Marks}
 use Rattle.tp_graph.proofs.BeforeLaws.{marks-insert, marks-delete, marks-run}
