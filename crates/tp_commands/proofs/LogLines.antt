@@ -1,5 +1,5 @@
 -- What a change inserts and deletes, and its message, as they are counted and printed.
-use Rattle.std.proofs.Common.{◌≡◌, ◌∙◌, ◌==◌, ◌||◌, ◌⊎◌, inl, inr, cond, ℕ, ◌+◌, List, [], ◌∷◌, ◌++◌, length, Bool, true, false, refl, ap, sym, subst, codes, append_assoc, eq-eqb, arith}
+use Rattle.std.proofs.Common.{◌≡◌, ◌∙◌, ◌==◌, ◌||◌, ◌⊎◌, inl, inr, cond, ℕ, zero, suc, ◌+◌, List, [], ◌∷◌, ◌++◌, length, Bool, true, false, refl, ap, sym, subst, codes, append_assoc, length-append, eq-eqb, arith}
 use Rattle.std.proofs.lemmas.Bool.{eqb-true}
 use Rattle.std.proofs.lemmas.List.Sums.{sum_by-cons}
 use Rattle.std.proofs.lemmas.Str.{chars-nil}
@@ -10,15 +10,16 @@ use Rattle.std.specs.List.{flat_map, sum_by}
 use Rattle.std.specs.Prelude.{encode_utf8_all, IfOk, Result, Ok}
 use Rattle.std.specs.Str.{chars}
 use Rattle.tp_opid.specs.declared.actor.Actor.{Actor}
+use Rattle.tp_opid.specs.declared.op_id.OpId.{OpId}
 use Rattle.tp_opid.specs.declared.op_id.Place.{Place}
 use Rattle.tp_opid.specs.declared.op_id.Place.TheVariants.{After}
 use Rattle.tp_change.specs.declared.op.Op.{Op}
 use Rattle.tp_change.specs.declared.op.Op.TheVariants as op_of
 use Rattle.tp_change.specs.declared.parts.ChangeParts.{ChangeParts}
 use Rattle.tp_change.specs.declared.record.Record.{Record}
-use Rattle.tp_change.specs.declared.record.Record.TheVariants.{Insert, Delete}
+use Rattle.tp_change.specs.declared.record.Record.TheVariants.{Insert, Delete, DeleteRun}
 use Rattle.tp_change.specs.Elements.{deletes_in, inserts_in}
-use Rattle.tp_change.specs.Operations.{id_of, op_count, ops_from, ops_of, run}
+use Rattle.tp_change.specs.Operations.{id_of, op_count, deletes_from, ops_from, ops_of, run}
 use Rattle.tp_change.proofs.ElementLaws.{deletes_in-append}
 use Rattle.tp_change.proofs.OpsLaws.{length-ops_of}
 use Rattle.tp_commands.specs.Log.{delete_count, deleted_count, escaped, inserted_count, message_part}
@@ -40,6 +41,11 @@ deletes_in-run : (a : Actor) (n : ℕ) (after : Place) (text : List ℕ) → del
 deletes_in-run a n after [] = refl
 deletes_in-run a n after (ch ∷ text) = deletes_in-run a (n + 1) (After (id_of a n)) text
 
+-- a run of deletes has its count of them
+length-deletes_from : (a : Actor) (n : ℕ) (target : OpId) (count : ℕ) → length (deletes_in (deletes_from a n target count)) ≡ count
+length-deletes_from a n target zero = refl
+length-deletes_from a n target (suc count) = ap suc (length-deletes_from a (n + 1) (id_of target.actor (target.counter + 1)) count)
+
 -- the deletes of records are counted record by record
 length-deletes_in : (a : Actor) (n : ℕ) (rs : List Record) → length (deletes_in (ops_from a n rs)) ≡ sum_by delete_count rs
 length-deletes_in a n [] = refl
@@ -53,6 +59,14 @@ length-deletes_in a n (Insert after text ∷ rs) =
 length-deletes_in a n (Delete target ∷ rs) =
     let e : length (deletes_in (ops_from a (n + 1) rs)) ≡ sum_by delete_count rs = length-deletes_in a (n + 1) rs in
     let g : sum_by delete_count (Delete target ∷ rs) ≡ 1 + sum_by delete_count rs = sum_by-cons delete_count (Delete target) rs in
+    omega arith
+length-deletes_in a n (DeleteRun first count ∷ rs) =
+    let rest = ops_from a (n + count) rs in
+    let e : length (deletes_in rest) ≡ sum_by delete_count rs = length-deletes_in a (n + count) rs in
+    let f : length (deletes_in (deletes_from a n first count ++ rest)) ≡ count + length (deletes_in rest) =
+    ap length (deletes_in-append (deletes_from a n first count) rest) ∙ length-append (deletes_in (deletes_from a n first count)) (deletes_in rest)
+    ∙ ap (λ k. k + length (deletes_in rest)) (length-deletes_from a n first count) in
+    let g : sum_by delete_count (DeleteRun first count ∷ rs) ≡ count + sum_by delete_count rs = sum_by-cons delete_count (DeleteRun first count) rs in
     omega arith
 
 -- so those of a change are

@@ -10,7 +10,7 @@ use Rattle.tp_change.specs.Elements.{deletes_in, inserts_in}
 use Rattle.tp_change.specs.Operations.{ops_of}
 use Rattle.tp_change.specs.declared.parts.ChangeParts.{ChangeParts}
 use Rattle.tp_change.specs.declared.record.Record.{Record}
-use Rattle.tp_change.specs.declared.record.Record.TheVariants.{Insert, Delete}
+use Rattle.tp_change.specs.declared.record.Record.TheVariants.{Insert, Delete, DeleteRun}
 use Rattle.tp_commands.specs.Reading.{HasChanges, line}
 
 -- how many of a change's operations insert a character
@@ -25,6 +25,7 @@ deleted_count c = length (deletes_in (ops_of c))
 abbrev pub delete_count : Record → ℕ
 delete_count (Insert after text) = 0
 delete_count (Delete target) = 1
+delete_count (DeleteRun first count) = count
 
 -- The bytes of a message's character: a control character and the backslash as Rust escapes them (`\n`, `\\`,
 -- `\u{7f}`), each other as it is. So a message stays in its line.

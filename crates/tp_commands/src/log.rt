@@ -14,11 +14,12 @@ use tp_change::{Change, Record};
 // How many deletes a record is.
 fn deletes(entry: &Record) -> usize
     ensures count { result ≡ delete_count entry.now }
-    ensures one { result ≤ 1 }
+    ensures most { result ≤ count_in entry.now }
 {
     match entry {
         Record::Insert { .. } => 0,
         Record::Delete { .. } => 1,
+        Record::DeleteRun { count, .. } => *count as usize,
     }
 }
 

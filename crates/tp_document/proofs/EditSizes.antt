@@ -15,7 +15,7 @@ use Rattle.tp_change.specs.declared.op.Op.{Op}
 use Rattle.tp_change.specs.declared.op.Op.TheVariants as op_of
 use Rattle.tp_change.specs.declared.parts.ChangeParts.{ChangeParts}
 use Rattle.tp_change.specs.Elements.{inserts_in, inserts, deletes, next_counter}
-use Rattle.tp_change.specs.Limits.{IsActor, IsHash, IsId, IsRecord, IsChange}
+use Rattle.tp_change.specs.Limits.{IsActor, IsHash, IsRecord, IsChange}
 use Rattle.tp_change.specs.Operations.{ops_of, op_count}
 use Rattle.tp_change.specs.Operations as operations
 use Rattle.tp_change.specs.Spelling.{spelling, spelling_of_message, spelling_of_deps, spelling_of_record}
@@ -50,7 +50,7 @@ counter_of (op_of.Insert id after ch ∷ ops) a n e h (inl same) =
 counter_of (op_of.Insert id after ch ∷ ops) a n e h (inr i) = let k = counter_of ops a (n + 1) e h.1 i in omega arith
 counter_of (op_of.Delete id target ∷ ops) a n e h i = let k = counter_of ops a (n + 1) e h.1 i in omega arith
 
-id_is : (C : List ChangeParts) → AllChanges C → (e : Insert) → In e (inserts C) → IsId e.id
+id_is : (C : List ChangeParts) → AllChanges C → (e : Insert) → In e (inserts C) → (e.id.counter < 2 ^ 48) × IsActor e.id.actor
 unfolding op_count
 id_is C all e i =
     let w = inserts-In C e i in
@@ -58,12 +58,11 @@ id_is C all e i =
     let is : IsChange d = all d w.1 in
     let below : e.id.counter < d.start + length (ops_of d) = counter_of (ops_of d) d.actor d.start e (Numbered-ops_of d) w.2 in
     let size : length (ops_of d) ≡ operations.count_of d.records = length-ops_of d in
-    let most : d.start + operations.count_of d.records ≤ 2 ^ 48 = is.counters in
-    record {
-      counter = within e.id.counter (d.start + length (ops_of d)) below (subst (λ k. d.start + k ≤ 2 ^ 48) (sym size) most);
-      actor = subst IsActor (sym (actor_of (ops_of d) d.actor d.start e (Numbered-ops_of d) w.2)) is.actor;
-    } where
-      within : (k n : ℕ) → k < n → n ≤ 2 ^ 48 → k < 2 ^ 64
+    let most : d.start + operations.count_of d.records ≤ 2 ^ 48 = is.counters in (
+      within e.id.counter (d.start + length (ops_of d)) below (subst (λ k. d.start + k ≤ 2 ^ 48) (sym size) most),
+      subst IsActor (sym (actor_of (ops_of d) d.actor d.start e (Numbered-ops_of d) w.2)) is.actor,
+    ) where
+      within : (k n : ℕ) → k < n → n ≤ 2 ^ 48 → k < 2 ^ 48
       within k n lt le = omega arith
 
 In-ids : (L : List Insert) (x : OpId) → In x (ids_of L) → (e : Insert) × In e L × (x ≡ e.id)
@@ -75,7 +74,7 @@ ids_are : (C : List ChangeParts) (L : List Insert) → AllChanges C → IsInOrde
 ids_are C L all order x i =
     let w = In-ids (shown (deletes C) L) x i in
     let j = In-filter (λ (e : Insert). not (is_removed (deletes C) e.id)) L w.0 w.1 in
-    subst IsId (sym w.2) (id_is C all w.0 (order.same.back w.0 j.0))
+    subst (λ (y : OpId). (y.counter < 2 ^ 48) × IsActor y.actor) (sym w.2) (id_is C all w.0 (order.same.back w.0 j.0))
 
 -- ---- dependencies
 
@@ -100,8 +99,7 @@ edit_limits C asked c s all e h typed seq message size =
     let count : operations.count_of c.records ≡ total_count ss = ap operations.count_of e.records ∙ count_of-records_of asked.actor n V ss range in
     let spelled : length (flat_map spelling_of_record c.records) ≤ 4194304 = within (length (spelling c)) (length c.actor.0) (length (spelling_of_message c.message)) (length (spelling_of_deps c.deps)) (length (flat_map spelling_of_record c.records)) (length-spelling c) size in
     let texts : AllTexts ss = AllTexts-size asked.actor n V ss typed.texts (subst (λ r. length (flat_map spelling_of_record r) ≤ 4194304) e.records spelled) in
-    let wide : n + total_count ss ≤ 2 ^ 64 = room (n + total_count ss) h.counters in
-    let is : AllByRecursion IsRecord rs = records_of-IsRecord asked.actor n V ss typed.actor wide (ids_are C e.elements all e.order) texts in
+    let is : AllByRecursion IsRecord rs = records_of-IsRecord asked.actor n V ss typed.actor h.counters (ids_are C e.elements all e.order) texts in
     let some : 0 < operations.count_of c.records = subst (λ k. 0 < k) (sym count) asks.some in
     record {
       actor = subst IsActor (sym e.actor) typed.actor;
@@ -124,6 +122,3 @@ edit_limits C asked c s all e h typed seq message size =
     } where
       within : (size a m d r : ℕ) → size ≡ 1 + (a + (8 + (8 + (8 + (m + (d + (4 + r))))))) → size ≤ 4194304 → r ≤ 4194304
       within size a m d r e le = omega arith
-
-      room : (k : ℕ) → k ≤ 2 ^ 48 → k ≤ 2 ^ 64
-      room k le = omega arith

@@ -1,5 +1,5 @@
 -- The text that a document shows.
-use Rattle.std.proofs.Common.{◌≡◌, ℕ, ◌+◌, inl, inr, List, [], ◌∷◌, length, Bool, true, false, not, ◌&&◌, cond, Option, refl, sym, ap, ◌∙◌, subst}
+use Rattle.std.proofs.Common.{◌≡◌, ℕ, ◌+◌, inl, inr, List, [], ◌∷◌, ◌++◌, length, Bool, true, false, not, ◌&&◌, cond, Option, refl, sym, ap, ◌∙◌, subst}
 use Rattle.std.specs.Prelude.{encode_utf8_all}
 use Rattle.std.specs.List.{AllByRecursion, slice_get}
 use Rattle.std.specs.Option.{option_map}
@@ -17,7 +17,7 @@ use Rattle.tp_opid.specs.Insert.{Insert}
 use Rattle.tp_change.specs.declared.record.Record.{Record}
 use Rattle.tp_change.specs.declared.record.Record.TheVariants as record_of
 use Rattle.tp_change.specs.declared.parts.ChangeParts.{ChangeParts}
-use Rattle.tp_change.specs.Operations.{id_of, run, ops_from, ops_of}
+use Rattle.tp_change.specs.Operations.{id_of, run, deletes_from, ops_from, ops_of}
 use Rattle.tp_change.specs.Elements.{inserts_in, inserts, deletes}
 use Rattle.tp_change.specs.Limits.{IsRecord}
 use Rattle.tp_rga.specs.Shown.{is_removed, shown, shown_before}
@@ -26,6 +26,7 @@ use Rattle.tp_rga.proofs.OneOrder.{one_order}
 use Rattle.tp_text.specs.Text.{chars_of, IsTextOf}
 use Rattle.tp_change.proofs.ElementLaws.{inserts_in-append, inserts-In}
 use Rattle.tp_graph.specs.Sound.{Sound}
+use Rattle.tp_graph.proofs.InsertLaws.{inserts_in-deletes_from}
 use Rattle.tp_document.specs.DocState.{Holds, AllChanges}
 use Rattle.tp_document.specs.Showing.{HasLength, HasCharAt, HasElementAt, HasPosition}
 use Rattle.tp_graph.proofs.TreeLaws.{inserts_tree}
@@ -56,6 +57,11 @@ scalar_from a n (record_of.Insert after text ∷ rs) is e i =
       | inr j ↦ scalar_from a (n + length text) rs is.1 e j
     ]
 scalar_from a n (record_of.Delete target ∷ rs) is e i = scalar_from a (n + 1) rs is.1 e i
+scalar_from a n (record_of.DeleteRun first count ∷ rs) is e i =
+    let rest = inserts_in (ops_from a (n + count) rs) in
+    let same : inserts_in (deletes_from a n first count ++ ops_from a (n + count) rs) ≡ rest =
+    inserts_in-append (deletes_from a n first count) (ops_from a (n + count) rs) ∙ ap (λ l. l ++ rest) (inserts_in-deletes_from a n first count) in
+    scalar_from a (n + count) rs is.1 e (subst (In e) same i)
 
 scalar_inserts : (C : List ChangeParts) → AllChanges C → (e : Insert) → In e (inserts C) → IsScalar e.ch
 unfolding ops_of

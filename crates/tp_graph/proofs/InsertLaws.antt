@@ -57,7 +57,7 @@ is_inserted-run a n after (ch ∷ text) id =
     ∙ one_more (same_actor a id.actor) n id.counter (length text)
 
 -- a run of deletes inserts nothing
-inserts_in-deletes_from : (a : Actor) (n : ℕ) (target : OpId) (count : ℕ) → inserts_in (deletes_from a n target count) ≡ []
+pub inserts_in-deletes_from : (a : Actor) (n : ℕ) (target : OpId) (count : ℕ) → inserts_in (deletes_from a n target count) ≡ []
 inserts_in-deletes_from a n target zero = refl
 inserts_in-deletes_from a n target (suc count) = inserts_in-deletes_from a (n + 1) (id_of target.actor (target.counter + 1)) count
 

@@ -1,6 +1,6 @@
 -- Spellings of changes, records and journals are bytes.
-use Rattle.std.proofs.Common.{ℕ, zero, suc, inl, inr, refl, List, [], ◌∷◌, ◌++◌, length, arith}
-use Rattle.std.specs.Prelude.{encode_utf8_all}
+use Rattle.std.proofs.Common.{ℕ, zero, suc, ◌<◌, true, false, inl, inr, refl, List, [], ◌∷◌, ◌++◌, length, arith}
+use Rattle.std.specs.Prelude.{encode_utf8_all, if◌then◌else◌}
 use Rattle.std.specs.Int.{w16, w32, w64, to_be_bytes}
 use Rattle.std.specs.List.{flat_map, AllByRecursion}
 use Rattle.tp_codec.proofs.Fields.{AreBytes, AreBytes-cons, AreBytes-append, AreBytes-encodes}
@@ -11,10 +11,10 @@ use Rattle.tp_opid.specs.declared.op_id.Place.{Place}
 use Rattle.tp_opid.specs.declared.op_id.Place.TheVariants.{Start, After}
 use Rattle.tp_change.specs.declared.parts.ChangeParts.{ChangeParts}
 use Rattle.tp_change.specs.declared.record.Record.{Record}
-use Rattle.tp_change.specs.declared.record.Record.TheVariants.{Insert, Delete}
+use Rattle.tp_change.specs.declared.record.Record.TheVariants.{Insert, Delete, DeleteRun}
 use Rattle.tp_change.specs.ChangeHash.{hash_of}
 use Rattle.tp_change.specs.Limits.{IsHash, IsId, IsPlace, IsText, IsRecord, IsChange}
-use Rattle.tp_change.specs.Spelling.{spelling_of_id, spelling_of_place, spelling_of_run, spelling_of_message, spelling_of_record, spelling_of_deps, spelling_of_records, spelling}
+use Rattle.tp_change.specs.Spelling.{spelling_of_id, spelling_of_place, spelling_of_run, spelling_of_message, spelling_of_record, spelling_of_deps, spelling_of_records, has_run, version_of, spelling}
 use Rattle.tp_change.proofs.SpellingLaws.{hash_of_is}
 use Rattle.tp_document.specs.DocState.{AllChanges}
 use Rattle.tp_journal.specs.declared.layout.TheConstants.{MAGIC}
@@ -71,6 +71,12 @@ entry_is (Insert after text) is =
     AreBytes-cons 1 (spelling_of_place after ++ spelling_of_run text) (omega arith)
     (AreBytes-append (spelling_of_place after) (spelling_of_run text) (place_is after is.0) (run_is 4194304 text is.1))
 entry_is (Delete target) is = AreBytes-cons 2 (spelling_of_id target) (omega arith) (id_is target is)
+entry_is (DeleteRun first count) is =
+    AreBytes-cons 3 (spelling_of_id first ++ to_be_bytes w32 count) (omega arith)
+    (AreBytes-append (spelling_of_id first) (to_be_bytes w32 count) (id_is first is.0) (number32 count))
+
+version_is : (rs : List Record) → version_of rs < 256
+version_is rs = elim (has_run rs) as (λ b. (if b then 2 else 1) < 256) [ true ↦ omega arith | false ↦ omega arith ]
 
 deps_are : (deps : List Hash) → AllByRecursion IsHash deps → AreBytes (spelling_of_deps deps)
 deps_are deps all =
@@ -91,7 +97,7 @@ spelling_is c is =
     let time = to_be_bytes w64 c.time ++ message in
     let start = to_be_bytes w64 c.start ++ time in
     let seq = to_be_bytes w64 c.seq ++ start in
-    AreBytes-cons 1 (c.actor.0 ++ seq) (omega arith)
+    AreBytes-cons (version_of c.records) (c.actor.0 ++ seq) (version_is c.records)
     (AreBytes-append c.actor.0 seq is.actor.each
     (AreBytes-append (to_be_bytes w64 c.seq) start (number64 c.seq)
     (AreBytes-append (to_be_bytes w64 c.start) time (number64 c.start)

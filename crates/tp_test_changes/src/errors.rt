@@ -28,6 +28,7 @@ fn of_changes(out: &mut String) -> Result<(), Fault> {
         ChangeError::EmptyRun,
         ChangeError::Limit,
         ChangeError::OutOfMemory,
+        ChangeError::NoRun,
     ] {
         put_error(out, error.code(), error)?;
     }

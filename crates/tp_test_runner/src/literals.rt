@@ -22,6 +22,11 @@ pub fn count(word: &str) -> Result<usize, Fault> {
     word.parse::<usize>().ok().ok_or(Fault::Row("no number"))
 }
 
+// How many elements a run has.
+fn run_count(word: &str) -> Result<u32, Fault> {
+    word.parse::<u32>().ok().ok_or(Fault::Row("no number"))
+}
+
 /// An actor: a number up to 65,535, for its last two bytes behind zeros.
 pub fn actor(word: &str) -> Result<Actor, Fault> {
     let number = word.parse::<u16>().ok().ok_or(Fault::Row("no actor"))?;
@@ -76,12 +81,21 @@ pub fn text(alloc: Global, word: &str) -> Result<String, Fault> {
     Ok(text)
 }
 
-// Records of one kind: `-ID` deletes an element, and `PLACE+TEXT` inserts behind one.
+// What deletes: `ID` one element, `ID*N` a run of N from it on.
+fn removal(word: &str) -> Result<Record, Fault> {
+    match word.split_once('*') {
+        Some((first, count)) => Ok(Record::DeleteRun {
+            first: id(first)?,
+            count: run_count(count)?,
+        }),
+        None => Ok(Record::Delete { target: id(word)? }),
+    }
+}
+
+// Records of one kind: `-ID` and `-ID*N` delete, and `PLACE+TEXT` inserts behind an element.
 fn record(alloc: Global, word: &str) -> Result<Record, Fault> {
-    if let Some(target) = word.strip_prefix('-') {
-        return Ok(Record::Delete {
-            target: id(target)?,
-        });
+    if let Some(deleted) = word.strip_prefix('-') {
+        return removal(deleted);
     }
     let (after, inserted) = word.split_once('+').ok_or(Fault::Row("no record"))?;
     Ok(Record::Insert {

@@ -76,6 +76,12 @@ pub fn put_record(out: &mut String, record: &Record) -> Result<(), Fault> {
             out.push('-')?;
             put_id(out, target)
         }
+        Record::DeleteRun { first, count } => {
+            out.push('-')?;
+            put_id(out, first)?;
+            write!(out, "*{count}")?;
+            Ok(())
+        }
         Record::Insert { after, text } => {
             put_place(out, after)?;
             out.push('+')?;

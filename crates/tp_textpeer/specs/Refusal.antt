@@ -20,6 +20,7 @@ change_name change.BadTag = codes "BadTag"
 change_name change.EmptyRun = codes "EmptyRun"
 change_name change.Limit = codes "Limit"
 change_name change.OutOfMemory = codes "OutOfMemory"
+change_name change.NoRun = codes "NoRun"
 
 -- the name of the innermost refusal
 abbrev pub fault_name : ShowFault → List ℕ

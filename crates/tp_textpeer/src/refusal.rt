@@ -64,5 +64,6 @@ fn name_of_change(e: ChangeError) -> &'static str
         ChangeError::EmptyRun => "EmptyRun",
         ChangeError::Limit => "Limit",
         ChangeError::OutOfMemory => "OutOfMemory",
+        ChangeError::NoRun => "NoRun",
     }
 }
