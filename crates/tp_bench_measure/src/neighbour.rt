@@ -53,6 +53,12 @@ impl Neighbour {
         self.behind = SyncState::new(self.alloc);
     }
 
+    /// Knows nothing of its neighbours from now on.
+    pub fn part(&mut self) {
+        self.before = SyncState::new(self.alloc);
+        self.behind = SyncState::new(self.alloc);
+    }
+
     /// How many changes it has.
     pub fn change_count(&self) -> usize {
         self.document.changes().len()

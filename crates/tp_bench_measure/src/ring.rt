@@ -46,6 +46,14 @@ impl Ring {
         Ok(())
     }
 
+    /// No peer knows anything of its neighbours from now on.
+    pub fn part(&mut self) -> anyhow::Result<()> {
+        for number in 0..self.peers.len() {
+            self.peer(number)?.part();
+        }
+        Ok(())
+    }
+
     /// Each peer has so many changes.
     pub fn expect_counts(&self, changes: usize) -> anyhow::Result<()> {
         for peer in self.peers.as_slice() {

@@ -74,6 +74,7 @@ fn run_peers<R: Threads + Wait + Sync + Files + Clock + Print + AllocGlobal>(
     match name {
         "typing" => syncing::run_typing(rt),
         "authors" => syncing::run_authors(rt),
+        "apart" => syncing::run_apart(rt),
         "merged" => syncing::run_merged(rt),
         "one-place" => syncing::run_one_place(rt),
         "ring" => syncing::run_ring(rt),

@@ -121,6 +121,34 @@ pub fn run_authors<R: Clock + Print + AllocGlobal>(rt: &R) -> anyhow::Result<()>
     run_rounds_to(rt, &mut ring, 1_000, 20_000)
 }
 
+// Rounds in which each peer makes changes, and messages pass then over links that know nothing.
+fn run_rounds_apart<R: Clock + Print>(
+    rt: &R,
+    ring: &mut Ring,
+    changes: usize,
+) -> anyhow::Result<()> {
+    for _ in 0..ROUNDS {
+        write(rt, ring, changes)?;
+        ring.part()?;
+        settle(rt, ring)?;
+    }
+    Ok(())
+}
+
+// The first author's changes are shared; then both write alone, and meet again and again.
+fn share_and_part<R: Clock + Print>(rt: &R, ring: &mut Ring) -> anyhow::Result<()> {
+    ring.peer(0)?.write(10_000)?;
+    settle(rt, ring)?;
+    run_rounds_apart(rt, ring, 10)?;
+    ring.expect_counts(10_200)
+}
+
+/// Two authors who share 10,000 changes, and make 10 each in a round; each time they meet anew.
+pub fn run_apart<R: Clock + Print + AllocGlobal>(rt: &R) -> anyhow::Result<()> {
+    let mut ring = Ring::new(rt.alloc(), 2, 1)?;
+    share_and_part(rt, &mut ring)
+}
+
 /// A ring of 20 peers, which make a change each in a round.
 pub fn run_ring<R: Clock + Print + AllocGlobal>(rt: &R) -> anyhow::Result<()> {
     let mut ring = Ring::new(rt.alloc(), 20, 20)?;

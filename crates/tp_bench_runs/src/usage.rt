@@ -32,6 +32,7 @@ Makes changes of one character, and passes messages as bytes until nobody has an
 
   typing    one author, 100,000 changes, without messages
   authors   two authors, 10 rounds of 1,000 changes each
+  apart     two authors who share 10,000 changes, 10 rounds of 10 changes each over links that know nothing
   merged    20 peers with 500 changes each; the first meets each of the others
   one-place two authors, 5,000 changes each at the start of the text
   ring      20 peers, each linked to two, 10 rounds of a change each
