@@ -2,4 +2,3 @@ pub mod Journals
 pub mod GraphLines
 pub mod LabelLaws
 pub mod LogLines
-pub mod TextLines
