@@ -1,9 +1,11 @@
 -- What merges and messages bring.
-use Rattle.std.proofs.Common.{◌≡◌, ◌⊎◌, inl, inr, ℕ, List, [], ◌∷◌, ◌++◌, ◌<◌, length, Bool, true, false, Some, None, Ok, refl, sym, ap, ◌∙◌, subst}
+use Rattle.std.proofs.Common.{◌≡◌, ◌⊎◌, inl, inr, ℕ, List, [], ◌∷◌, ◌++◌, ◌<◌, length, Bool, true, false, Option, Some, None, Ok, refl, sym, ap, ◌∙◌, subst}
 use Rattle.std.specs.List.{slice_get}
+use Rattle.std.specs.Option.{option_map}
 use Rattle.tp_list.specs.Members.{In, AllIn}
-use Rattle.tp_list.proofs.Members.{filter-In}
+use Rattle.tp_list.proofs.Members.{In-append, filter-In}
 use Rattle.tp_list.proofs.Tests.{truth}
+use Rattle.tp_opid.specs.declared.hash.Hash.{Hash}
 use Rattle.tp_change.specs.declared.parts.ChangeParts.{ChangeParts}
 use Rattle.tp_change.specs.ChangeHash.{hash_of}
 use Rattle.tp_document.specs.Merging.{absent}
@@ -11,7 +13,8 @@ use Rattle.tp_graph.specs.Fit.{most_changes}
 use Rattle.tp_graph.specs.Heads.{heads}
 use Rattle.tp_graph.specs.Named.{has_all}
 use Rattle.tp_graph.specs.Sound.{Sound}
-use Rattle.tp_graph.proofs.NamedLaws.{has-In}
+use Rattle.tp_graph.proofs.HeadsLaws.{has_all-heads}
+use Rattle.tp_graph.proofs.NamedLaws.{In-has_all, has-In, has_all-In}
 use Rattle.tp_graph.proofs.SetLaws.{NoTwins}
 use Rattle.tp_graph.proofs.SoundLaws.{Sound-prefix, hashes_apart}
 use Rattle.tp_receive.specs.Receiving.{Begins}
@@ -23,6 +26,7 @@ use Rattle.tp_peer.specs.Taking.{Report, TakesAll}
 use Rattle.tp_sync.specs.Due.{carried, due_of, is_due, leaves_out}
 use Rattle.tp_sync.specs.Message.{MessageParts}
 use Rattle.tp_sync.specs.Reading.{message_at}
+use Rattle.tp_sync.specs.State.{declared}
 use Rattle.tp_sync.proofs.TakeLaws.{all_carried}
 use Rattle.tp_sync.proofs.UnionLaws.{not_due_held}
 use Rattle.tp_sync.proofs.WholeMessage.{message_again}
@@ -183,10 +187,14 @@ message_stands w from to n m p there (inr does) =
     let stands : slice_get m.wire n ≡ Some entry = ap (λ k. slice_get m.wire k) made.0 ∙ ap (λ l. slice_get l next) wire ∙ slice_get-last w.wire entry in
     subst (λ y. IsSent m n y to) (same_peer w from c.before p c.stands there) (record { entry = entry; stands = stands; changes = made.1.changes })
 
+has_all-append : (D : List ChangeParts) (H K : List Hash) → has_all D H ≡ true → has_all D K ≡ true → has_all D (H ++ K) ≡ true
+has_all-append D H K a b = In-has_all D (H ++ K) (λ h i. elim (In-append h H K i) [ inl j ↦ has_all-In D H a h j | inr j ↦ has_all-In D K b h j ])
+
 pub message_brings : (w : World) (from to n : ℕ) (p q : PeerData) (D : List ChangeParts) (m : World) (events : List Event) (replies : List Reply) (v : World) (report : Report) (same : Bool) (w' : World)
-    → Carried w → HasPeer w from p → HasPeer w to q → Begins D q.applied → (known_of p.links to).theirs ≡ Some (heads D) → leaves_out p.applied (known_of p.links to) ≡ false
+    → Carried w → HasPeer w from p → HasPeer w to q → Begins D q.applied → (known_of p.links to).theirs ≡ Some (heads D)
+    → has_all D (known_of p.links to).known ≡ true → leaves_out p.applied (known_of p.links to) ≡ false
     → Next w (Send from to) (Wire n) m → GoesOn m events replies v → Next v (Deliver n to) (Delivered report same) w' → HoldsAll w' to p.applied
-message_brings w from to n p q D m events replies v report same w' h stands_p stands_q b declared whole send goes deliver =
+message_brings w from to n p q D m events replies v report same w' h stands_p stands_q b told knows whole send goes deliver =
     let C = p.applied in
     let s = known_of p.links to in
     let hp = h.peers from p stands_p in
@@ -206,11 +214,14 @@ message_brings w from to n p q D m events replies v report same w' h stands_p st
     let old : AllIn D q.applied = begins-In D q.applied b in
     let apart : NoTwins C D = λ c d i j same_hash. hashes_apart w.made h.sound c d (hp.applied c i) (hq.applied d (old d j)) same_hash in
     let sound : Sound D = Sound-prefix D b.0 (subst Sound b.1 hq.history.sound) in
-    let carries : K ≡ due_of C (Some (heads D)) s.wants C = sent.changes ∙ all_carried C s whole ∙ ap (λ o. due_of C o s.wants C) declared in
-    let came : (c : ChangeParts) → In c C → In c P.applied ⊎ In c K = λ c i. elim (truth (is_due C (heads D) s.wants c)) [
-      | inl is ↦ inr (subst (λ l. In c l) (sym carries) (filter-In (is_due C (heads D) s.wants) C c i is))
+    let theirs : List Hash = heads D ++ s.known in
+    let there : has_all D theirs ≡ true = has_all-append D (heads D) s.known (has_all-heads D) knows in
+    let declares : declared s ≡ Some theirs = ap (λ (o : Option (List Hash)). option_map (λ (hs : List Hash). hs ++ s.known) o) told in
+    let carries : K ≡ due_of C (Some theirs) s.wants C = sent.changes ∙ all_carried C s whole ∙ ap (λ o. due_of C o s.wants C) declares in
+    let came : (c : ChangeParts) → In c C → In c P.applied ⊎ In c K = λ c i. elim (truth (is_due C theirs s.wants c)) [
+      | inl is ↦ inr (subst (λ l. In c l) (sym carries) (filter-In (is_due C theirs s.wants) C c i is))
       | inr not ↦
-          let held = has-In D (hash_of c) (not_due_held C D s.wants c sound apart i not) in
+          let held = has-In D (hash_of c) (not_due_held C D theirs s.wants c sound there apart i not) in
           let is : c ≡ held.0 = apart c held.0 i held.1 (sym held.2) in
           inl (longer c (old c (subst (λ x. In x D) (sym is) held.1)))
     ] in

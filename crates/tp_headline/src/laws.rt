@@ -1,6 +1,6 @@
 //! The laws of a world, as functions without a body: what each says is its contract.
 
-ghost use Rattle.std.specs.Prelude.{◌≡◌, ◌⊎◌, ℕ, Bool, List, [], ◌∷◌, ◌++◌, length, false, Some, Err};
+ghost use Rattle.std.specs.Prelude.{◌≡◌, ◌⊎◌, ℕ, Bool, List, [], ◌∷◌, ◌++◌, length, true, false, Some, Err};
 ghost use Rattle.tp_list.specs.Members.{In};
 ghost use Rattle.tp_opid.specs.declared.actor.Actor.{Actor};
 ghost use Rattle.tp_opid.specs.declared.doc_id.DocId.{DocId};
@@ -9,7 +9,7 @@ ghost use Rattle.tp_change.specs.ChangeHash.{hash_of};
 ghost use Rattle.tp_edit.specs.declared.splice.Splice.{Splice};
 ghost use Rattle.tp_journal.specs.Layout.{IsDocId};
 ghost use Rattle.tp_graph.specs.Heads.{heads};
-ghost use Rattle.tp_graph.specs.Named.{has};
+ghost use Rattle.tp_graph.specs.Named.{has, has_all};
 ghost use Rattle.tp_receive.specs.Receiving.{Begins};
 ghost use Rattle.tp_peer.specs.Laws.{changes_in};
 ghost use Rattle.tp_peer.specs.PeerData.{PeerData, opened};
@@ -138,14 +138,16 @@ pub fn a_delivery_brings_what_is_ready()
         → HoldsReady w' to (changes_in e.bytes) }
 {}
 
-/// A message brings all. Where the other peer had told the sender what it held, and the message leaves out nothing that
-/// is due, then however late it is delivered there, and whatever happens in between: once the delivery was answered, the
-/// other peer holds every change that the sender held when it made the message, where it has a place left.
+/// A message brings all. Where the other peer had told the sender what it held, and holds what the sender thinks it knows,
+/// and the message leaves out nothing that is due, then however late it is delivered there, and whatever happens in between:
+/// once the delivery was answered, the other peer holds every change that the sender held when it made the message, where it
+/// has a place left.
 pub fn a_message_brings_all()
     ensures { (w : World) (from to n : ℕ) (p q : PeerData) (D : List ChangeParts) (m : World)
         (events : List Event) (replies : List Reply) (v : World) (report : Report)
         (same_heads : Bool) (w' : World) → Carried w → HasPeer w from p → HasPeer w to q
         → Begins D q.applied → (known_of p.links to).theirs ≡ Some (heads D)
+        → has_all D (known_of p.links to).known ≡ true
         → leaves_out p.applied (known_of p.links to) ≡ false
         → Next w (Send from to) (Wire n) m → GoesOn m events replies v
         → Next v (Deliver n to) (Delivered report same_heads) w' → HoldsAll w' to p.applied }

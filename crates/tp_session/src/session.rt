@@ -16,7 +16,7 @@ use tp_opid::DocId;
 use tp_peer::{Outgoing, Received};
 
 /// The version of the protocol that a hello names.
-pub const VERSION: u8 = 1;
+pub const VERSION: u8 = 2;
 
 /// Which side of a session it is.
 #[derive(Clone, Copy, Debug, PartialEq, Eq)]
