@@ -4,6 +4,7 @@ ghost use Rattle.std.specs.Prelude.{◌≡◌, ◌≤◌, ◌++◌, IfOk, OnOk};
 ghost use Rattle.std.specs.List.{flat_map};
 ghost use Rattle.std.specs.Str.{chars};
 ghost use Rattle.std.specs.String.{string_bytes};
+ghost use Rattle.tp_change.specs.Operations.{count_in};
 ghost use Rattle.tp_commands.specs.Log.{AreChangeLines, change_line as line_of_change, delete_count, deleted_count, escaped, fields_part, inserted_count, message_part};
 
 use crate::error::CommandError;
@@ -27,6 +28,7 @@ fn deletes(entry: &Record) -> usize
 pub(crate) fn deleted(change: &Change) -> usize
     ensures { result ≡ deleted_count change.now }
 {
+    let _hash = change.hash();
     let mut count = 0usize;
     for entry in change.records() {
         count += deletes(entry);
