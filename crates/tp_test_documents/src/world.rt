@@ -1,8 +1,8 @@
 //! What the rows of an example have made so far, and what makes their calls.
 
 use crate::{
-    blocks, cursors, documents, edits, elements, errors, graphs, history, orders, receiving, restored,
-    saved,
+    blocks, cursors, documents, edits, elements, errors, graphs, history, orders, receiving,
+    restored, saved,
 };
 use std::alloc::Global;
 use tp_change::Change;
