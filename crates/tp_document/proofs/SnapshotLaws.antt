@@ -177,10 +177,6 @@ before_none K R (e ∷ L) x out = by_test (id_eq e.id x) refl (before_none K R L
       let hidden : has_op K e.id ≡ false = ap (has_op K) (id_eq-same e.id x same) ∙ out in
       ap (λ b. shown_before (deletes_by K R) (cond b (e ∷ inserts_by K L) (inserts_by K L)) x) hidden ∙ rest
 
--- at the beginning all are left
-pub before_begun : (K : List (Actor × ℕ)) (R : List (OpId × OpId)) (L : List Insert) (x : OpId) → option_map (λ n. 0 + n) (before_by K R (drop 0 L) x) ≡ before_by K R L x
-before_begun K R L x = sym (none_more (before_by K R L x))
-
 left_from : (L : List Insert) (k : ℕ) (e : Insert) → k < length L → get_or L k e ≡ e → drop k L ≡ e ∷ drop (k + 1) L
 left_from L k e lt is =
     let next : suc k ≡ k + 1 = omega arith in
