@@ -24,7 +24,7 @@ const FOREIGN: [u8; 75] = [
 ];
 
 // What was replied, as one line.
-fn told(alloc: Global, reply: Reply) -> Result<String, AllocError> {
+fn told(alloc: Global, reply: &Reply) -> Result<String, AllocError> {
     match reply {
         Reply::Peer(n) => format!(in alloc; "peer {n}"),
         Reply::Edited(Some(_)) => String::from_str(alloc, "made"),
@@ -59,14 +59,35 @@ fn ends_with_a_message_of(world: &World, peer: usize) -> bool {
     }
 }
 
-// The first reply that isn't the one beside its event, or nothing where there is none.
-fn first_other(
+// The replies to the events, one after another or in one run.
+fn replies_to(
     alloc: Global,
     world: &mut World,
     rows: &[(Event, &str)],
+    in_one_run: bool,
+) -> Result<Vec<Reply>, Fail> {
+    let mut events = Vec::new(alloc);
+    for (event, _) in rows {
+        events.push(*event)?;
+    }
+    if in_one_run {
+        return Ok(world.run(events)?);
+    }
+    let mut replies = Vec::new(alloc);
+    for event in &events {
+        replies.push(world.step(*event))?;
+    }
+    Ok(replies)
+}
+
+// The first reply that isn't the one beside its event, or nothing where there is none.
+fn first_other(
+    alloc: Global,
+    replies: &[Reply],
+    rows: &[(Event, &str)],
 ) -> Result<String, AllocError> {
-    for (event, answer) in rows {
-        let reply = told(alloc, world.step(*event))?;
+    for (reply, (_, answer)) in replies.iter().zip(rows) {
+        let reply = told(alloc, reply)?;
         if reply.as_str() != *answer {
             return Ok(reply);
         }
@@ -341,16 +362,19 @@ const SCHEDULES: [Schedule; 2] = [
 #[test]
 fn schedules(rt: HostRuntime) -> Result<(), Fail> {
     for schedule in SCHEDULES.iter() {
-        let mut world = World::new(rt.alloc(), DocId([0; 16]));
-        let other = first_other(rt.alloc(), &mut world, schedule.rows)?;
-        assert_eq!(rt; other.as_str(), "");
-        let list = listed(rt.alloc(), &world)?;
-        assert_eq!(rt; list.as_str(), schedule.list);
-        assert_eq!(rt;
-            (world.wire().len(), world.reads().len()),
-            (schedule.messages, schedule.reads)
-        );
-        assert!(rt; ends_with_a_message_of(&world, schedule.sender));
+        for in_one_run in [false, true] {
+            let mut world = World::new(rt.alloc(), DocId([0; 16]));
+            let replies = replies_to(rt.alloc(), &mut world, schedule.rows, in_one_run)?;
+            let other = first_other(rt.alloc(), &replies, schedule.rows)?;
+            let list = listed(rt.alloc(), &world)?;
+            assert_eq!(rt; (replies.len(), other.as_str()), (schedule.rows.len(), ""));
+            assert_eq!(rt; list.as_str(), schedule.list);
+            assert_eq!(rt;
+                (world.wire().len(), world.reads().len()),
+                (schedule.messages, schedule.reads)
+            );
+            assert!(rt; ends_with_a_message_of(&world, schedule.sender));
+        }
     }
     Ok(())
 }
