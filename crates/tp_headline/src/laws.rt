@@ -80,7 +80,8 @@ pub fn an_edit_is_new()
         (c : ChangeParts) → Carried w → IsEditAt w n splices time message c → In c w.made → ⊥ }
 {}
 
-/// A crash within an edit makes nothing, or the edit's change: just where the record is whole, though no reply came.
+/// A crash within an edit makes nothing, or the edit's change, though no reply came: then its record was kept whole, and
+/// the peer that came back has it.
 pub fn a_crash_within_an_edit()
     ensures { (w : World) (n : ℕ) (splices : List Splice) (time : ℕ) (message : List ℕ) (kept : ℕ)
         (actor : Actor) (reply : Reply) (w' : World) → Carried w

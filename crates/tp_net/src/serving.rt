@@ -153,9 +153,9 @@ fn work_with<
 /// Accepts as many connections as said, and holds a session over each, as the server, about the served peer's document.
 ///
 /// Each seat has a worker in a thread of its own, which takes the next connection once it has ended a session; a
-/// connection waits for that in a queue without bound. So as many sessions go on at once as there are seats, and each
-/// call of a session has the whole peer for itself. A session that ends for an error ends alone: its worker takes the
-/// next. The gate is called before and after each. Without seats nothing is accepted.
+/// connection waits for that in a queue without bound. So as many sessions may go on at once as there are seats, and
+/// each call of a session has the whole peer for itself. A session that ends for an error ends alone: its worker takes
+/// the next. The gate is called before and after each. Without seats nothing is accepted.
 ///
 /// It answers once all sessions have ended. `Io` where a connection can't be accepted, `OutOfMemory` where one can't be
 /// queued; the sessions that were accepted before go on to their end first. The seats come back either way. Where no

@@ -76,8 +76,8 @@ pub fn a_peer_in_memory_never_fails(peer: &Peer<MemJournal>)
     peer.appender.never_fails();
 }
 
-/// The journal of a running peer recovers to its changes, whole. That of one that has stopped recovers to its changes,
-/// and to the one that was being appended where its record is whole.
+/// The journal of a running peer recovers to its changes, whole. That of one that has stopped has a beginning of one
+/// change's record after them, and recovers to its changes, and to that one too where the beginning is the whole record.
 pub fn a_peer_recovers()
     ensures running { (p : PeerData) → IsPeer p → p.stopped ≡ false
         → Recovers p.journal p.id p.applied (length p.journal) }
