@@ -9,7 +9,7 @@ use tp_document::Document;
 use tp_journal::{FileJournal, Journal, header, put_record, record, recover};
 use tp_opid::DocId;
 use tp_posindex::BlockSequence;
-use tp_store::{StoreError, load, save};
+use tp_store::{load, save};
 
 type Doc = Document<BlockSequence>;
 
@@ -22,9 +22,9 @@ const ID: DocId = DocId([7; 16]);
 const PATH: &str = "tp_bench_runs.journal";
 
 // Appends the record of the change.
-fn append<J: Journal>(alloc: Global, journal: &mut J, change: &Change) -> Result<(), StoreError> {
+fn append<J: Journal>(alloc: Global, journal: &mut J, change: &Change) -> anyhow::Result<()> {
     let bytes = record(alloc, change)?;
-    journal.append(&bytes)
+    Ok(journal.append(&bytes)?)
 }
 
 // Appends the records of the changes one by one, and answers what that took in microseconds.

@@ -22,7 +22,8 @@ use Rattle.tp_change.specs.declared.record.Record.{Record}
 use Rattle.tp_change.specs.declared.record.Record.TheVariants.{Insert, Delete, DeleteRun}
 use Rattle.tp_change.specs.declared.parts.ChangeParts.{ChangeParts}
 use Rattle.tp_change.specs.Spelling.{spelling_of_id, spelling_of_place, spelling_of_run, spelling_of_message, spelling_of_record, spelling_of_deps, spelling_of_records}
-use Rattle.tp_change.specs.Limits.{IsBytes, IsActor, IsHash, IsId, IsPlace, IsText}
+use Rattle.tp_list.specs.Bytes.{IsBytes}
+use Rattle.tp_change.specs.Limits.{IsActor, IsHash, IsId, IsPlace, IsText}
 use Rattle.tp_change.specs.Reading.{version_at, actor_at, hash_at, id_at, seq_at, start_at, rises, dep_at, next_before, deps_at, place_after_tag, place_at, insert_at, delete_at, delete_run_at, record_after_tag, record_at, room_after, records_at, room_from, parts_at}
 
 bytes_are : (n : ℕ) (bytes : List ℕ) → AreSoMany n bytes → IsBytes n bytes

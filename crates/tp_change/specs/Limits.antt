@@ -2,6 +2,7 @@
 use Rattle.std.specs.Prelude.{◌≡◌, ℕ, ◌+◌, ◌<◌, ◌≤◌, ◌^◌, List, length, slice_index, encode_utf8_all, true}
 use Rattle.std.specs.List.{AllByRecursion}
 use Rattle.std.specs.Str.{all_scalars}
+use Rattle.tp_list.specs.Bytes.{IsBytes}
 use Rattle.tp_list.specs.Rising.{IsRising}
 use Rattle.tp_opid.specs.declared.actor.Actor.{Actor}
 use Rattle.tp_opid.specs.declared.hash.Hash.{Hash}
@@ -15,11 +16,6 @@ use Rattle.tp_change.specs.declared.record.Record.TheVariants.{Insert, Delete, D
 use Rattle.tp_change.specs.declared.parts.ChangeParts.{ChangeParts}
 use Rattle.tp_change.specs.Operations.{count_of}
 use Rattle.tp_change.specs.Spelling.{spelling}
-
--- the list is n bytes
-pub record IsBytes (n : ℕ) (bytes : List ℕ) : Type 0 where
-  pub count : length bytes ≡ n
-  pub each : (i : ℕ) → slice_index bytes i < 256
 
 abbrev pub IsActor : Actor → Type 0
 IsActor a = IsBytes 16 a.0

@@ -5,9 +5,9 @@ ghost use Rattle.std.specs.List.{flat_map};
 ghost use Rattle.tp_opid.specs.declared.hash.Hash.{Hash};
 ghost use Rattle.tp_change.specs.Spelling.{spelling, spelling_of_id, spelling_of_place, spelling_of_record};
 
-use crate::facts::{of_16, of_32};
 use crate::parts::ChangeParts;
 use crate::record::Record;
+use tp_list::array_len;
 use tp_opid::{Hash, OpId, Place};
 
 /// How many bytes an identifier has.
@@ -15,7 +15,7 @@ fn id_len(id: &OpId) -> usize
     ensures small { result ≡ 24 }
     ensures len { result ≡ length (spelling_of_id id.now) }
 {
-    8 + of_16(id.actor.0)
+    8 + array_len(id.actor.0)
 }
 
 /// How many bytes a reference has.
@@ -57,7 +57,7 @@ fn hashes_len(hashes: &[Hash]) -> usize
 {
     let mut total: usize = 0;
     for hash in hashes {
-        total = total.saturating_add(of_32(hash.0));
+        total = total.saturating_add(array_len(hash.0));
     }
     total
 }
@@ -71,7 +71,7 @@ pub(crate) fn parts_len(parts: &ChangeParts) -> usize
     let deps = hashes_len(parts.deps.as_slice());
     let records = records_len(parts.records.as_slice());
     let message = parts.message.byte_len();
-    let head: usize = 33 + of_16(parts.actor.0);
+    let head: usize = 33 + array_len(parts.actor.0);
     head.saturating_add(message)
         .saturating_add(deps)
         .saturating_add(records)

@@ -12,14 +12,14 @@ ghost use Rattle.tp_change.specs.Limits.{IsHash, IsChange, IsTypedRecord, IsType
 ghost use Rattle.tp_change.specs.Operations.{count_in};
 
 use crate::error::ChangeError;
-use crate::facts::{of_16, of_32, ops_in};
+use crate::facts::ops_in;
 use crate::limits::{
     COUNTERS_END, FEWEST_DELETES, MAX_BYTES, MAX_DEPS, MAX_MESSAGE_BYTES, MAX_OPS, are_counters,
 };
 use crate::parts::ChangeParts;
 use crate::record::Record;
 use crate::size::parts_len;
-use tp_list::{Items, Text};
+use tp_list::{Items, Text, array_len};
 use tp_opid::Hash;
 
 /// The fault, unless the test holds.
@@ -49,7 +49,7 @@ fn do_rise(hashes: &[Hash]) -> bool
         if !is_next(before, hash) {
             return false;
         }
-        let _bytes = of_32(hash.0);
+        let _bytes = array_len(hash.0);
         before = Some(*hash);
     }
     true
@@ -159,7 +159,7 @@ fn validate_fields(parts: &ChangeParts) -> Result<(), ChangeError>
     validate_message(&parts.message)?;
     validate_deps(&parts.deps)?;
     let _time = parts.time;
-    let _actor = of_16(parts.actor.0);
+    let _actor = array_len(parts.actor.0);
     validate_list(parts.start, &parts.records)
 }
 

@@ -4,6 +4,8 @@ use Rattle.tp_document.specs.declared.error.DocError.{DocError}
 use Rattle.tp_document.specs.declared.error.DocError.TheVariants as doc
 use Rattle.tp_peer.specs.declared.error.PeerError.{PeerError}
 use Rattle.tp_peer.specs.declared.error.PeerError.TheVariants as peer
+use Rattle.tp_journal.specs.declared.error.JournalError.{JournalError}
+use Rattle.tp_journal.specs.declared.error.JournalError.TheVariants as journal
 use Rattle.tp_store.specs.declared.error.StoreError.{StoreError}
 use Rattle.tp_store.specs.declared.error.StoreError.TheVariants as store
 use Rattle.tp_commands.specs.declared.error.CommandError.{CommandError}
@@ -28,6 +30,10 @@ refusal_of_peer e = Peer e
 abbrev pub refusal_of_document : DocError → CommandError
 refusal_of_document doc.OutOfMemory = OutOfMemory
 refusal_of_document e = Doc e
+
+abbrev pub refusal_of_journal : JournalError → CommandError
+refusal_of_journal journal.Io = Io
+refusal_of_journal journal.OutOfMemory = OutOfMemory
 
 abbrev pub refusal_of_bytes : StoreError → CommandError
 refusal_of_bytes store.Io = Io

@@ -2,12 +2,13 @@
 
 ghost use Rattle.std.specs.Prelude.{◌≡◌};
 ghost use Rattle.tp_commands.specs.declared.error.CommandError.TheVariants.{OutOfMemory};
-ghost use Rattle.tp_commands.specs.CommandError.{code_of, IsOfSystem, refusal_of_bytes, refusal_of_document, refusal_of_peer};
+ghost use Rattle.tp_commands.specs.CommandError.{code_of, IsOfSystem, refusal_of_bytes, refusal_of_document, refusal_of_journal, refusal_of_peer};
 
 use std::alloc::{AllocError, AllocFailed};
 use std::io;
 use std::io::ErrorKind;
 use tp_document::DocError;
+use tp_journal::JournalError;
 use tp_peer::PeerError;
 use tp_store::StoreError;
 
@@ -86,6 +87,17 @@ impl From<DocError> for CommandError {
         match error {
             DocError::OutOfMemory => CommandError::OutOfMemory,
             error => CommandError::Doc(error),
+        }
+    }
+}
+
+impl From<JournalError> for CommandError {
+    ghost from_gives = { λ error e. e ≡ refusal_of_journal error };
+
+    fn from(error: JournalError) -> CommandError {
+        match error {
+            JournalError::Io => CommandError::Io,
+            JournalError::OutOfMemory => CommandError::OutOfMemory,
         }
     }
 }

@@ -1,26 +1,9 @@
 -- Changes at places, clocks and targets, step by step.
-use Rattle.std.proofs.Common.{◌≡◌, ℕ, suc, ◌+◌, ◌<◌, ◌≤◌, inl, inr, List, [], ◌∷◌, ◌++◌, length, take, get_or, true, false, ◌||◌, cond, Option, Some, None, refl, sym, ap, ◌∙◌, subst, arith, append_assoc}
-use Rattle.std.specs.List.{slice_get}
-use Rattle.std.specs.Option.{unwrap_or}
-use Rattle.std.specs.Map.{lookup}
-use Rattle.std.proofs.lemmas.Bool.Decides.{nat_tests}
-use Rattle.std.proofs.lemmas.List.{take_more, length-append}
+use Rattle.tp_document.proofs.Common.{◌≡◌, ℕ, suc, ◌+◌, ◌<◌, ◌≤◌, inl, inr, List, [], ◌∷◌, ◌++◌, length, take, get_or, true, false, ◌||◌, cond, Option, Some, None, refl, sym, ap, ◌∙◌, subst, arith, append_assoc, slice_get, nat_tests, take_more, length-append, In, Actor, Hash, same_actor, ChangeParts, op_count, later, past, past_places, truth, end_at, end_of, AreEnds, changes_at, unwrap_or, lookup, same_actor-same, with_change}
 use Rattle.std.proofs.lemmas.Option.{slice_get-get_or}
-use Rattle.tp_list.specs.Members.{In}
-use Rattle.tp_opid.specs.declared.actor.Actor.{Actor}
-use Rattle.tp_opid.specs.declared.hash.Hash.{Hash}
-use Rattle.tp_opid.specs.Same.{same_actor}
-use Rattle.tp_opid.proofs.Orders.{same_actor-same}
-use Rattle.tp_change.specs.declared.parts.ChangeParts.{ChangeParts}
-use Rattle.tp_change.specs.Operations.{op_count}
-use Rattle.tp_change.specs.Elements.{later}
 use Rattle.tp_list.proofs.Members.{In-slice_get}
 use Rattle.tp_graph.specs.Named.{names, is_needed}
-use Rattle.tp_graph.specs.Past.{past}
 use Rattle.tp_graph.specs.Marks.{marks, places_from}
-use Rattle.tp_graph.specs.Since.{past_places}
-use Rattle.tp_list.proofs.Tests.{truth}
-use Rattle.tp_document.specs.History.{end_at, end_of, AreEnds, with_change, changes_at}
 use Rattle.tp_document.proofs.EndLaws.{end_of-push}
 
 -- ---- the changes at the places of a past are the past

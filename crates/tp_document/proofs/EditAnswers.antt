@@ -1,22 +1,7 @@
 -- What an edit answers, exit by exit.
-use Rattle.std.proofs.Common.{◌≡◌, ℕ, zero, suc, ◌+◌, ◌<◌, ◌≤◌, List, length, refl, sym, ap, ◌∙◌, subst, arith}
-use Rattle.std.proofs.lemmas.List.{length-map}
-use Rattle.tp_opid.specs.declared.hash.Hash.{Hash}
-use Rattle.tp_opid.specs.declared.op_id.OpId.{OpId}
-use Rattle.tp_opid.specs.Insert.{Insert}
-use Rattle.tp_change.specs.declared.parts.ChangeParts.{ChangeParts}
-use Rattle.tp_change.specs.Elements.{next_counter}
-use Rattle.tp_rga.specs.Shown.{shown}
-use Rattle.tp_text.specs.Text.{chars_of}
+use Rattle.tp_document.proofs.Common.{◌≡◌, ℕ, zero, suc, ◌+◌, ◌<◌, ◌≤◌, List, length, refl, sym, ap, ◌∙◌, subst, arith, length-map, Hash, OpId, Insert, ChangeParts, next_counter, shown, chars_of, count_by, AllInRange, total_count, records_of, visible_ids, Holds, Asked, AreInRange, IsEdit, Splice, DocError, OutOfRange, CounterLimit, TooManyOps, TooManyHeads, UnknownHead, UnknownElement, PendingFull, HashTaken, OutOfMemory, OtherDocument, TooLong, Full, NotKept, IsRefused}
 use Rattle.tp_graph.specs.Heads as head
-use Rattle.tp_graph.specs.Fit.{count_by}
-use Rattle.tp_edit.specs.declared.splice.Splice.{Splice}
-use Rattle.tp_edit.specs.Splices.{AllInRange, total_count}
-use Rattle.tp_edit.specs.EditRecords.{records_of, visible_ids}
-use Rattle.tp_document.specs.declared.error.DocError.{DocError}
-use Rattle.tp_document.specs.declared.error.DocError.TheVariants.{OutOfRange, CounterLimit, TooManyOps, TooManyHeads, UnknownHead, UnknownElement, PendingFull, HashTaken, OutOfMemory, OtherDocument, TooLong, Full, NotKept}
-use Rattle.tp_document.specs.DocState.{Holds}
-use Rattle.tp_document.specs.Editing.{Asked, AreInRange, IsEdit, AsksSome, IsRefused}
+use Rattle.tp_document.specs.Editing.{AsksSome}
 use Rattle.tp_document.specs.Making.{IsBad, parts_made}
 use Rattle.tp_document.proofs.ShowingLaws.{Holds-text}
 

@@ -1,39 +1,17 @@
 -- The change of an edit fits behind the changes that it is made of, and does the splices.
-use Rattle.std.proofs.Common.{take, drop, get_or, add-one, drop-cons, ◌≡◌, ℕ, ◌+◌, ◌<◌, ◌≤◌, ◌==◌, List, [], ◌∷◌, ◌++◌, length, false, ◌&&◌, cond, Some, None, refl, sym, ap, ◌∙◌, subst, arith}
-use Rattle.std.proofs.lemmas.Bool.Decides.{nat_tests}
-use Rattle.std.proofs.lemmas.List.{length-map, take-append-drop, length-take-le}
-use Rattle.tp_opid.specs.declared.actor.Actor.{Actor}
-use Rattle.tp_opid.specs.declared.hash.Hash.{Hash}
-use Rattle.tp_opid.specs.Insert.{Insert}
-use Rattle.tp_opid.proofs.Orders.{same_actor-same}
-use Rattle.tp_change.specs.declared.record.Record.{Record}
-use Rattle.tp_change.specs.declared.parts.ChangeParts.{ChangeParts}
-use Rattle.tp_change.specs.ChangeHash.{hash_of}
-use Rattle.tp_change.specs.Elements.{inserts_in, inserts, deletes_in, deletes, refers, next_counter}
-use Rattle.tp_change.specs.Operations.{ops_of, ops_from}
-use Rattle.tp_rga.specs.Order.{IsInOrder}
-use Rattle.tp_rga.specs.Shown.{shown}
-use Rattle.tp_rga.proofs.OneOrder.{order_exists, one_order}
-use Rattle.tp_text.specs.Text.{chars_of, IsTextOf}
-use Rattle.tp_change.proofs.ElementLaws.{inserts-push, deletes-push}
+use Rattle.tp_document.proofs.Common.{take, drop, get_or, add-one, drop-cons, ◌≡◌, ℕ, ◌+◌, ◌<◌, ◌≤◌, ◌==◌, List, [], ◌∷◌, ◌++◌, length, false, ◌&&◌, cond, Some, None, refl, sym, ap, ◌∙◌, subst, arith, nat_tests, length-map, Actor, Hash, Insert, ChangeParts, hash_of, inserts_in, inserts, deletes_in, deletes, next_counter, IsInOrder, shown, chars_of, IsTextOf, has_all, past, defect, or_full, most_changes, count_by, Sound, Fits-at, deps_first, AllInRange, total_count, records_of, visible_ids, Asked, AreInRange, IsEdit, Edited, inserts_tree, take-append-drop, same_actor-same, Record, ops_from, order_exists, one_order, inserts-push, deletes-push, has, Fits, defect-from_Fits, Sound-push, past-heads, Splice, all_spliced, Fits-from_cause}
+use Rattle.std.proofs.lemmas.List.{length-take-le}
+use Rattle.tp_change.specs.Elements.{refers}
+use Rattle.tp_change.specs.Operations.{ops_of}
 use Rattle.tp_graph.specs.declared.error.GraphError.TheVariants.{Full}
-use Rattle.tp_graph.specs.Named.{has, has_all}
-use Rattle.tp_graph.specs.Past.{past}
-use Rattle.tp_graph.specs.Fit.{defect, or_full, cause, most_changes, clashes, count_by}
-use Rattle.tp_graph.specs.Sound.{Sound, Fits}
+use Rattle.tp_graph.specs.Fit.{cause, clashes}
 use Rattle.tp_list.proofs.Tests.{not_true}
-use Rattle.tp_graph.proofs.SoundLaws.{Fits-at, defect-from_Fits, deps_first, Sound-push}
-use Rattle.tp_graph.proofs.HeadsLaws.{has_all-heads, past-heads}
+use Rattle.tp_graph.proofs.HeadsLaws.{has_all-heads}
 use Rattle.tp_graph.proofs.CountLaws.{seqs_run}
-use Rattle.tp_edit.specs.declared.splice.Splice.{Splice}
-use Rattle.tp_edit.specs.Splices.{AllInRange, total_count, all_spliced, inserted, spliced}
-use Rattle.tp_edit.specs.EditRecords.{records_of, visible_ids}
+use Rattle.tp_edit.specs.Splices.{inserted, spliced}
 use Rattle.tp_edit.specs.EditLaw.{IsReady, DoesItsSplices, ops_of_edit}
 use Rattle.tp_edit.proofs.Edited.{edit_law}
-use Rattle.tp_document.specs.Editing.{Asked, AreInRange, IsEdit, Edited}
 use Rattle.tp_document.proofs.SoundText.{AllUnder-inserts, targets_there}
-use Rattle.tp_graph.proofs.KeptLaws.{Fits-from_cause}
-use Rattle.tp_graph.proofs.TreeLaws.{inserts_tree}
 use Rattle.tp_graph.proofs.ClashLaws.{clash_of}
 use Rattle.tp_document.proofs.ShowingLaws.{one_text}
 

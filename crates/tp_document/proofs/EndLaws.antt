@@ -1,28 +1,10 @@
 -- An actor's changes in a past are those below one counter.
-use Rattle.std.proofs.Common.{◌≡◌, ℕ, suc, zero, ◌+◌, ◌<◌, ◌≤◌, ◌⊎◌, inl, inr, List, [], ◌∷◌, ◌++◌, Bool, true, false, cond, nat_lt, refl, sym, ap, ◌∙◌, subst, arith, append_assoc}
-use Rattle.std.proofs.lemmas.Bool.Decides.{nat_tests}
-use Rattle.tp_list.specs.Members.{In, AllIn}
-use Rattle.tp_opid.specs.declared.actor.Actor.{Actor}
-use Rattle.tp_opid.specs.declared.hash.Hash.{Hash}
-use Rattle.tp_opid.specs.declared.op_id.OpId.{OpId}
-use Rattle.tp_opid.specs.Same.{same_actor}
+use Rattle.tp_document.proofs.Common.{◌≡◌, ℕ, suc, zero, ◌+◌, ◌<◌, ◌≤◌, ◌⊎◌, inl, inr, List, [], ◌∷◌, ◌++◌, Bool, true, false, cond, nat_lt, refl, sym, ap, ◌∙◌, subst, arith, append_assoc, nat_tests, In, Actor, Hash, OpId, same_actor, ChangeParts, hash_of, op_count, later, In-append, past, Sound, truth, past-In, deps_first, Fits-at, end_of, AllIn, IsOwnId, In-right, Sound-before, own_past, next_counter-above}
 use Rattle.tp_opid.proofs.Orders.{same_actor-itself, same_actor-flip}
-use Rattle.tp_change.specs.declared.parts.ChangeParts.{ChangeParts}
-use Rattle.tp_change.specs.ChangeHash.{hash_of}
-use Rattle.tp_change.specs.Operations.{op_count}
-use Rattle.tp_change.specs.OpIds.{IsOwnId}
-use Rattle.tp_change.specs.Elements.{later}
-use Rattle.tp_list.proofs.Members.{In-right, In-append, In-split}
-use Rattle.tp_graph.specs.Past.{past}
+use Rattle.tp_list.proofs.Members.{In-split}
 use Rattle.tp_graph.specs.Reach.{Chain}
-use Rattle.tp_graph.specs.Sound.{Sound}
-use Rattle.tp_list.proofs.Tests.{truth}
-use Rattle.tp_graph.proofs.PastLaws.{past-In}
-use Rattle.tp_graph.proofs.SoundLaws.{DepsFirst, deps_first, past-closed, Fits-at, Sound-prefix, Sound-before}
+use Rattle.tp_graph.proofs.SoundLaws.{DepsFirst, past-closed, Sound-prefix}
 use Rattle.tp_graph.proofs.ReachLaws.{InPast-from_past}
-use Rattle.tp_graph.proofs.CountLaws.{own_past}
-use Rattle.tp_change.proofs.ElementLaws.{next_counter-above}
-use Rattle.tp_document.specs.History.{end_of}
 
 -- ---- the end of an actor's changes
 

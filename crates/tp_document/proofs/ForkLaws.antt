@@ -1,18 +1,7 @@
 -- A document made of the changes at the places of a past: each enters behind those before it.
-use Rattle.std.proofs.Common.{take, drop, get_or, add-one, drop-cons, ◌≡◌, ℕ, suc, ◌+◌, ◌<◌, ◌≤◌, ◌==◌, List, [], ◌∷◌, ◌++◌, length, false, ◌||◌, cond, Option, Some, None, sym, ap, ◌∙◌, subst, arith}
-use Rattle.std.proofs.lemmas.Bool.Decides.{nat_tests}
-use Rattle.std.proofs.lemmas.List.{length-append, take-append-drop}
-use Rattle.std.specs.List.{slice_get}
-use Rattle.tp_opid.specs.declared.hash.Hash.{Hash}
-use Rattle.tp_change.specs.declared.parts.ChangeParts.{ChangeParts}
+use Rattle.tp_document.proofs.Common.{take, drop, get_or, add-one, drop-cons, ◌≡◌, ℕ, suc, ◌+◌, ◌<◌, ◌≤◌, ◌==◌, List, [], ◌∷◌, ◌++◌, length, false, ◌||◌, cond, Option, Some, None, sym, ap, ◌∙◌, subst, arith, nat_tests, length-append, slice_get, Hash, ChangeParts, past, past_places, defect, or_full, most_changes, Sound, Fits-at, changes_at, take-append-drop, length-past, defect-from_Fits, with_change}
 use Rattle.tp_graph.specs.declared.error.GraphError.TheVariants.{Full}
-use Rattle.tp_graph.specs.Past.{past}
-use Rattle.tp_graph.specs.Since.{past_places}
-use Rattle.tp_graph.specs.Fit.{defect, or_full, cause, most_changes}
-use Rattle.tp_graph.specs.Sound.{Sound}
-use Rattle.tp_graph.proofs.PastLaws.{length-past}
-use Rattle.tp_graph.proofs.SoundLaws.{Fits-at, defect-from_Fits}
-use Rattle.tp_document.specs.History.{with_change, changes_at}
+use Rattle.tp_graph.specs.Fit.{cause}
 use Rattle.tp_document.proofs.ClockLaws.{changes_at-append, changes_at-past}
 
 -- each change of a sound list enters behind those before it

@@ -1,3 +1,4 @@
+pub mod Common
 pub mod SoundText
 pub mod ShowingLaws
 pub mod EditFits

@@ -1,42 +1,13 @@
 -- The elements and the deletes of a past, among those of the whole.
-use Rattle.std.proofs.Common.{◌≡◌, ℕ, suc, ◌+◌, ◌<◌, ◌≤◌, ◌||◌, inl, inr, List, [], ◌∷◌, length, take, true, None, Some, nat_lt, map, position, refl, ap, ◌∙◌, subst, arith}
+use Rattle.tp_document.proofs.Common.{◌≡◌, ℕ, suc, ◌+◌, ◌<◌, ◌≤◌, ◌||◌, inl, inr, List, [], ◌∷◌, length, take, true, None, Some, nat_lt, map, position, refl, ap, ◌∙◌, subst, arith, slice_get, option_map, chars, nat_tests, In, Actor, Hash, OpId, Insert, id_eq, Op, ChangeParts, id_of, ops_of, inserts_in, inserts, deletes_in, deletes, IsInOrder, shown, shown_before, In-append, Numbered-ops_of, Numbered, length-ops_of, past, most_changes, Sound, past-In, sound_pasts, inserts-In, chars_of, IsTextOf, Holds, HasElementAt, HasLength, HasPosition, end_at, end_of, AreEnds, shown_by, inserts_tree, SameMembers, IsOwnId, In-left, In-right, In-filter, order_of_set, shown_of_set, length-past, In-inserts, has_op, inserts_by, deletes_by}
 use Rattle.std.specs.Prelude.{Option, encode_utf8_all}
-use Rattle.std.specs.List.{slice_get}
-use Rattle.std.specs.Option.{option_map}
-use Rattle.std.specs.Str.{chars}
-use Rattle.std.proofs.lemmas.Bool.Decides.{nat_tests}
-use Rattle.tp_list.specs.Members.{In, SameMembers}
-use Rattle.tp_opid.specs.declared.actor.Actor.{Actor}
-use Rattle.tp_opid.specs.declared.hash.Hash.{Hash}
-use Rattle.tp_opid.specs.declared.op_id.OpId.{OpId}
-use Rattle.tp_opid.specs.Insert.{Insert}
-use Rattle.tp_opid.specs.Same.{id_eq}
-use Rattle.tp_change.specs.declared.op.Op.{Op}
 use Rattle.tp_change.specs.declared.op.Op.TheVariants as op_of
-use Rattle.tp_change.specs.declared.parts.ChangeParts.{ChangeParts}
-use Rattle.tp_change.specs.Operations.{id_of, ops_of}
-use Rattle.tp_change.specs.OpIds.{op_id, IsOwnId}
-use Rattle.tp_change.specs.Elements.{inserts_in, inserts, deletes_in, deletes}
+use Rattle.tp_change.specs.OpIds.{op_id}
 use Rattle.tp_opid.specs.Tree.{IsTree}
-use Rattle.tp_rga.specs.Order.{IsInOrder}
-use Rattle.tp_rga.specs.Shown.{shown, shown_before}
 use Rattle.tp_opid.proofs.Trees.{IsTree-same}
-use Rattle.tp_list.proofs.Members.{In-left, In-right, In-append, SameMembers-sym, In-filter, filter-In}
-use Rattle.tp_rga.proofs.OneOrder.{order_of_part, order_of_set, shown_of_set}
-use Rattle.tp_change.proofs.Numbered.{Numbered-ops_of, Numbered}
-use Rattle.tp_change.proofs.OpsLaws.{length-ops_of}
-use Rattle.tp_graph.specs.Past.{past}
-use Rattle.tp_graph.specs.Fit.{most_changes}
-use Rattle.tp_graph.specs.Sound.{Sound}
-use Rattle.tp_graph.proofs.PastLaws.{past-In, length-past}
-use Rattle.tp_graph.proofs.SoundLaws.{sound_pasts}
-use Rattle.tp_change.proofs.ElementLaws.{In-inserts, inserts-In}
-use Rattle.tp_text.specs.Text.{chars_of, IsTextOf}
-use Rattle.tp_document.specs.DocState.{Holds}
-use Rattle.tp_document.specs.Showing.{HasElementAt, HasLength, HasPosition}
+use Rattle.tp_list.proofs.Members.{SameMembers-sym, filter-In}
+use Rattle.tp_rga.proofs.OneOrder.{order_of_part}
 use Rattle.tp_document.proofs.ShowingLaws.{Holds-bytes, Holds-element, Holds-length}
-use Rattle.tp_document.specs.History.{end_at, end_of, has_op, AreEnds, inserts_by, deletes_by, shown_by}
-use Rattle.tp_graph.proofs.TreeLaws.{inserts_tree}
 use Rattle.tp_document.proofs.EndLaws.{below_end, in_past}
 
 -- ---- the identifiers of a change's inserts and deletes are its own

@@ -1,35 +1,15 @@
 -- The text that a document shows.
-use Rattle.std.proofs.Common.{◌≡◌, ℕ, ◌+◌, inl, inr, List, [], ◌∷◌, ◌++◌, length, Bool, true, false, not, ◌&&◌, cond, Option, refl, sym, ap, ◌∙◌, subst}
+use Rattle.tp_document.proofs.Common.{◌≡◌, ℕ, ◌+◌, inl, inr, List, [], ◌∷◌, ◌++◌, length, Bool, true, false, not, ◌&&◌, cond, Option, refl, sym, ap, ◌∙◌, subst, slice_get, option_map, chars, length-map, In, Actor, OpId, Insert, ChangeParts, id_of, inserts_in, inserts, deletes, is_removed, shown, shown_before, In-append, chars_of, IsTextOf, inserts-In, Sound, Holds, AllChanges, HasLength, HasElementAt, HasPosition, inserts_tree, AllByRecursion, all_scalars, Record, ops_from, IsRecord, one_order, HasCharAt}
 use Rattle.std.specs.Prelude.{encode_utf8_all}
-use Rattle.std.specs.List.{AllByRecursion, slice_get}
-use Rattle.std.specs.Option.{option_map}
-use Rattle.std.specs.Str.{chars, all_scalars}
 use Rattle.std.proofs.lemmas.Str.{chars-encodes}
 use Rattle.std.proofs.lemmas.Option.{slice_get-map}
-use Rattle.std.proofs.lemmas.List.{length-map}
-use Rattle.tp_list.specs.Members.{In}
 use Rattle.tp_list.proofs.Tests.{both_right}
-use Rattle.tp_opid.specs.declared.actor.Actor.{Actor}
-use Rattle.tp_opid.specs.declared.op_id.OpId.{OpId}
 use Rattle.tp_opid.specs.declared.op_id.Place.{Place}
 use Rattle.tp_opid.specs.declared.op_id.Place.TheVariants.{After}
-use Rattle.tp_opid.specs.Insert.{Insert}
-use Rattle.tp_change.specs.declared.record.Record.{Record}
 use Rattle.tp_change.specs.declared.record.Record.TheVariants as record_of
-use Rattle.tp_change.specs.declared.parts.ChangeParts.{ChangeParts}
-use Rattle.tp_change.specs.Operations.{id_of, run, deletes_from, ops_from, ops_of}
-use Rattle.tp_change.specs.Elements.{inserts_in, inserts, deletes}
-use Rattle.tp_change.specs.Limits.{IsRecord}
-use Rattle.tp_rga.specs.Shown.{is_removed, shown, shown_before}
-use Rattle.tp_list.proofs.Members.{In-append}
-use Rattle.tp_rga.proofs.OneOrder.{one_order}
-use Rattle.tp_text.specs.Text.{chars_of, IsTextOf}
-use Rattle.tp_change.proofs.ElementLaws.{inserts_in-append, inserts-In}
-use Rattle.tp_graph.specs.Sound.{Sound}
+use Rattle.tp_change.specs.Operations.{run, deletes_from, ops_of}
+use Rattle.tp_change.proofs.ElementLaws.{inserts_in-append}
 use Rattle.tp_graph.proofs.InsertLaws.{inserts_in-deletes_from}
-use Rattle.tp_document.specs.DocState.{Holds, AllChanges}
-use Rattle.tp_document.specs.Showing.{HasLength, HasCharAt, HasElementAt, HasPosition}
-use Rattle.tp_graph.proofs.TreeLaws.{inserts_tree}
 
 -- ---- characters are Unicode scalar values
 

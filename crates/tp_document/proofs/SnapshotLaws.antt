@@ -1,23 +1,14 @@
 -- What a snapshot shows, element by element.
-use Rattle.std.proofs.Common.{◌≡◌, ℕ, suc, zero, ◌+◌, ◌-◌, ◌<◌, inl, inr, List, [], ◌∷◌, ◌++◌, length, take, drop, get_or, Bool, true, false, not, ◌||◌, ◌&&◌, cond, Option, Some, None, position, refl, sym, ap, ◌∙◌, arith, append-nil, drop-cons}
+use Rattle.tp_document.proofs.Common.{◌≡◌, ℕ, suc, zero, ◌+◌, ◌-◌, ◌<◌, inl, inr, List, [], ◌∷◌, ◌++◌, length, take, drop, get_or, Bool, true, false, not, ◌||◌, ◌&&◌, cond, Option, Some, None, position, refl, sym, ap, ◌∙◌, arith, append-nil, drop-cons, slice_get, option_map, take_more, length-append, Actor, OpId, Insert, id_eq, is_removed, shown, shown_before, chars_of, shown_by, id_eq-same, has_op, AreTargets, is_one_of, inserts_by, deletes_by}
 use Rattle.std.specs.Prelude.{encode_utf8, encode_utf8_all}
-use Rattle.std.specs.List.{slice_get}
-use Rattle.std.specs.Option.{option_map}
-use Rattle.std.proofs.lemmas.List.{take_more, map-append, length-append}
+use Rattle.std.proofs.lemmas.List.{map-append}
 use Rattle.std.proofs.lemmas.List.Elements.{filter-append}
 use Rattle.std.proofs.lemmas.Option.{slice_get_cases}
 use Rattle.std.proofs.lemmas.Str.{encodes-append}
-use Rattle.tp_opid.specs.declared.actor.Actor.{Actor}
-use Rattle.tp_opid.specs.declared.op_id.OpId.{OpId}
-use Rattle.tp_opid.specs.Insert.{Insert}
-use Rattle.tp_opid.specs.Same.{id_eq}
 use Rattle.tp_rga.specs.declared.element.Element.{Element}
-use Rattle.tp_opid.proofs.Orders.{id_eq-same}
-use Rattle.tp_rga.specs.Shown.{is_removed, shown, shown_before, element_of}
+use Rattle.tp_rga.specs.Shown.{element_of}
 use Rattle.tp_rga.proofs.Lookups.{position-cons}
-use Rattle.tp_text.specs.Text.{chars_of}
 use Rattle.tp_list.proofs.Tests.{or_right}
-use Rattle.tp_document.specs.History.{has_op, AreTargets, is_one_of, inserts_by, deletes_by, shown_by}
 
 -- whether an element is shown
 abbrev is_shown : List (Actor × ℕ) → List (OpId × OpId) → Insert → Bool

@@ -1,41 +1,17 @@
 -- The elements of sound changes: they are a tree, the next counter stands above them, and the operations of a change
 -- that fits may come.
-use Rattle.std.proofs.Common.{◌≡◌, ℕ, ◌+◌, ◌≤◌, ◌==◌, inl, inr, List, [], ◌∷◌, ◌++◌, length, Bool, true, false, Option, Some, None, refl, sym, ap, ◌∙◌, subst, arith, append_assoc}
-use Rattle.std.proofs.lemmas.List.{length-append}
-use Rattle.std.proofs.lemmas.Bool.Decides.{nat_tests}
-use Rattle.tp_list.specs.Members.{In}
-use Rattle.tp_opid.specs.declared.actor.Actor.{Actor}
-use Rattle.tp_opid.specs.declared.op_id.OpId.{OpId}
-use Rattle.tp_opid.specs.Insert.{Insert}
-use Rattle.tp_opid.specs.Same.{same_actor, id_eq}
-use Rattle.tp_opid.proofs.Orders.{same_actor-apart, id_eq-same}
-use Rattle.tp_change.specs.declared.op.Op.{Op}
+use Rattle.tp_document.proofs.Common.{◌≡◌, ℕ, ◌+◌, ◌≤◌, ◌==◌, inl, inr, List, [], ◌∷◌, ◌++◌, length, Bool, true, false, Option, Some, None, refl, sym, ap, ◌∙◌, subst, arith, append_assoc, length-append, nat_tests, In, Actor, OpId, Insert, same_actor, id_eq, Op, ChangeParts, id_of, ops_of, inserts_in, inserts, deletes_in, deletes, next_counter, IsInOrder, In-append, Numbered-ops_of, Numbered, length-ops_of, inserts-In, past, defect, or_full, most_changes, Sound, truth, past-In, inserts_tree, Holds, id_eq-same, IsChange, In-left, inserts-push, deletes-push, In-inserts, inserts-more, next_counter-above, Fits, Sound-push, own_past, Fits-from_cause}
+use Rattle.tp_opid.proofs.Orders.{same_actor-apart}
 use Rattle.tp_change.specs.declared.op.Op.TheVariants as op_of
-use Rattle.tp_change.specs.declared.parts.ChangeParts.{ChangeParts}
-use Rattle.tp_change.specs.Operations.{id_of, ops_of}
-use Rattle.tp_change.specs.Limits.{IsChange}
-use Rattle.tp_change.specs.Elements.{element, inserts_in, inserts, deletes_in, deletes, next_counter}
+use Rattle.tp_change.specs.Elements.{element}
 use Rattle.tp_opid.specs.Tree.{IsThere}
-use Rattle.tp_rga.specs.Order.{IsInOrder}
 use Rattle.tp_opid.proofs.Trees.{IsThere-grow}
-use Rattle.tp_list.proofs.Members.{In-left, In-append}
 use Rattle.tp_text.specs.Applying.{CanApply, Extends, AllUnder}
 use Rattle.tp_text.proofs.Applied.{CanApply-same}
 use Rattle.tp_text.proofs.Numbered.{IsFresh, IsFresh-under, CanApply-refers, AllUnder-ops, AllUnder-up}
-use Rattle.tp_change.proofs.Numbered.{Numbered-ops_of, Numbered}
-use Rattle.tp_change.proofs.OpsLaws.{length-ops_of}
-use Rattle.tp_change.proofs.ElementLaws.{inserts-push, deletes-push, In-inserts, inserts-In, inserts-more, next_counter-above}
 use Rattle.tp_graph.specs.declared.error.GraphError.{GraphError}
-use Rattle.tp_graph.specs.Past.{past}
-use Rattle.tp_graph.specs.Fit.{defect, or_full, cause, most_changes}
-use Rattle.tp_graph.specs.Sound.{Sound, Fits}
-use Rattle.tp_list.proofs.Tests.{truth}
-use Rattle.tp_graph.proofs.PastLaws.{past-In}
-use Rattle.tp_graph.proofs.SoundLaws.{Sound-push, sound-induct}
-use Rattle.tp_graph.proofs.CountLaws.{own_past}
-use Rattle.tp_graph.proofs.KeptLaws.{Fits-from_cause}
-use Rattle.tp_graph.proofs.TreeLaws.{inserts_tree}
-use Rattle.tp_document.specs.DocState.{Holds}
+use Rattle.tp_graph.specs.Fit.{cause}
+use Rattle.tp_graph.proofs.SoundLaws.{sound-induct}
 
 -- ---- the next counter
 

@@ -1,24 +1,9 @@
 -- Laws of the texts of sets and of pasts.
-use Rattle.std.proofs.Common.{◌≡◌, ◌↔◌, ℕ, List, ◌++◌, true, refl, sym, ap, ◌∙◌, subst}
-use Rattle.tp_list.specs.Members.{In, AllIn, SameMembers}
-use Rattle.tp_opid.specs.declared.hash.Hash.{Hash}
-use Rattle.tp_change.specs.declared.parts.ChangeParts.{ChangeParts}
-use Rattle.tp_change.specs.ChangeHash.{hash_of}
-use Rattle.tp_change.specs.Elements.{inserts, deletes}
-use Rattle.tp_rga.specs.Shown.{shown}
-use Rattle.tp_rga.proofs.OneOrder.{order_exists, order_of_set, shown_of_set}
-use Rattle.tp_text.specs.Text.{chars_of, IsTextOf}
-use Rattle.tp_graph.specs.Named.{has_all}
+use Rattle.tp_document.proofs.Common.{◌≡◌, ◌↔◌, ℕ, List, ◌++◌, true, refl, sym, ap, ◌∙◌, subst, In, Hash, ChangeParts, hash_of, inserts, deletes, shown, chars_of, IsTextOf, has_all, past, Sound, deps_first, sound_pasts, inserts_tree, AllIn, SameMembers, order_exists, order_of_set, shown_of_set, inserts-more, past-heads, Sound-before}
 use Rattle.tp_graph.specs.Heads as head
-use Rattle.tp_graph.specs.Past.{past}
-use Rattle.tp_graph.specs.Sound.{Sound}
-use Rattle.tp_change.proofs.ElementLaws.{inserts-more}
-use Rattle.tp_graph.proofs.HeadsLaws.{past-heads}
 use Rattle.tp_graph.proofs.SetLaws.{heads_decide}
-use Rattle.tp_graph.proofs.SoundLaws.{deps_first, Sound-before, sound_pasts}
 use Rattle.tp_document.proofs.PastElements.{In-deletes, deletes-In}
 use Rattle.tp_document.proofs.ShowingLaws.{one_text}
-use Rattle.tp_graph.proofs.TreeLaws.{inserts_tree}
 
 deletes-more : (C D : List ChangeParts) → AllIn C D → AllIn (deletes C) (deletes D)
 deletes-more C D more r i = let w = deletes-In C r i in In-deletes D w.0 r (more w.0 w.1) w.2

@@ -1,5 +1,7 @@
 -- The numbers of the refusals, and what stands for the refusals of a graph.
-use Rattle.std.specs.Prelude.{ℕ}
+use Rattle.std.specs.Prelude.{ℕ, Option, Some, None}
+use Rattle.tp_receive.specs.declared.error.ReceiveError.{ReceiveError}
+use Rattle.tp_receive.specs.declared.error.ReceiveError.TheVariants as receive
 use Rattle.tp_document.specs.declared.error.DocError.{DocError}
 use Rattle.tp_document.specs.declared.error.DocError.TheVariants.{OutOfRange, CounterLimit, TooManyOps, TooManyHeads, UnknownHead, UnknownElement, PendingFull, HashTaken, OutOfMemory, OtherDocument, TooLong, Full, NotKept}
 
@@ -17,3 +19,10 @@ code_of OtherDocument = 10
 code_of TooLong = 11
 code_of Full = 12
 code_of NotKept = 13
+
+-- the refusal of receiving that a refusal of a document is, if it is one
+abbrev pub receiving : DocError → Option ReceiveError
+receiving PendingFull = Some receive.PendingFull
+receiving NotKept = Some receive.NotKept
+receiving OutOfMemory = Some receive.OutOfMemory
+receiving _ = None

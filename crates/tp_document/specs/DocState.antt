@@ -1,18 +1,6 @@
 -- What contracts see of a document, and what it keeps.
-use Rattle.std.specs.Prelude.{◌≡◌, ℕ, ◌≤◌, List, length, Option, Some}
-use Rattle.tp_list.specs.Members.{In}
-use Rattle.tp_opid.specs.declared.doc_id.DocId.{DocId}
-use Rattle.tp_opid.specs.declared.hash.Hash.{Hash}
-use Rattle.tp_opid.specs.declared.op_id.OpId.{OpId}
-use Rattle.tp_opid.specs.Insert.{Insert}
-use Rattle.tp_change.specs.declared.parts.ChangeParts.{ChangeParts}
-use Rattle.tp_change.specs.ChangeHash.{hash_of}
-use Rattle.tp_change.specs.Elements.{inserts, deletes}
-use Rattle.tp_change.specs.Limits.{IsChange}
-use Rattle.tp_change.specs.Operations.{op_count}
-use Rattle.tp_rga.specs.Order.{IsInOrder}
-use Rattle.tp_graph.specs.Fit.{most_changes}
-use Rattle.tp_graph.specs.Sound.{Sound}
+use Rattle.std.specs.Prelude.{◌≡◌, ℕ, ◌≤◌, List, [], length, Option, Some}
+use Rattle.tp_document.specs.Common.{In, Hash, OpId, Insert, ChangeParts, hash_of, inserts, deletes, IsChange, IsInOrder, most_changes, Sound, DocId, op_count}
 
 -- Its identifier; the changes that are applied, in the order in which they entered; those that wait, in the order in
 -- which they came; the hash of the change for whose entry room was made, if there is one; and how many operations the
@@ -28,6 +16,19 @@ pub record DocState : Type 0 where
 pub record HasRoomFor (d : DocState) (c : ChangeParts) : Type 0 where
   pub noted : d.room ≡ Some (hash_of c)
   pub space : op_count c ≤ d.space
+
+-- Room was made at most: d' has what d has.
+pub record MakesRoom (d d' : DocState) : Type 0 where
+  pub id : d'.id ≡ d.id
+  pub applied : d'.applied ≡ d.applied
+  pub waiting : d'.waiting ≡ d.waiting
+  pub space : d.space ≤ d'.space
+
+-- The document has that identifier and those applied changes, and none waits.
+pub record HasJust (id : DocId) (C : List ChangeParts) (d : DocState) : Type 0 where
+  pub named : d.id ≡ id
+  pub applied : d.applied ≡ C
+  pub waiting : d.waiting ≡ []
 
 -- Each change is within the limits of changes.
 abbrev pub AllChanges : List ChangeParts → Type 0

@@ -1,22 +1,9 @@
 -- The change that an edit makes, and when an edit is refused.
-use Rattle.std.specs.Prelude.{◌≡◌, ℕ, ◌+◌, ◌<◌, ◌≤◌, ◌^◌, ◌⊎◌, List, [], ◌∷◌, ◌++◌, length, true, None, Some, Option, encode_utf8_all}
-use Rattle.tp_opid.specs.declared.actor.Actor.{Actor}
-use Rattle.tp_opid.specs.declared.hash.Hash.{Hash}
-use Rattle.tp_opid.specs.Insert.{Insert}
-use Rattle.tp_change.specs.declared.limits.TheConstants.{MAX_BYTES, MAX_OPS, MAX_DEPS, MAX_MESSAGE_BYTES, COUNTERS_END}
-use Rattle.tp_change.specs.declared.parts.ChangeParts.{ChangeParts}
-use Rattle.tp_change.specs.ChangeHash.{hash_of}
-use Rattle.tp_change.specs.Elements.{inserts, deletes, next_counter}
-use Rattle.tp_change.specs.Limits.{IsChange}
-use Rattle.tp_change.specs.Spelling.{spelling}
-use Rattle.tp_rga.specs.Order.{IsInOrder}
-use Rattle.tp_text.specs.Text.{IsTextOf}
-use Rattle.tp_graph.specs.Named.{has}
+use Rattle.std.specs.Prelude.{◌≡◌, ℕ, ◌+◌, ◌<◌, ◌≤◌, ◌^◌, ◌⊎◌, List, [], ◌∷◌, ◌++◌, length, true, None, Some, Option, encode_utf8_all, Result, Ok, Err}
+use Rattle.tp_document.specs.Common.{Actor, Hash, Insert, MAX_BYTES, ChangeParts, hash_of, inserts, deletes, IsChange, spelling, IsInOrder, IsTextOf, has, cause, most_changes, AllInRange, total_count, records_of, visible_ids, MAX_OPS, MAX_MESSAGE_BYTES, next_counter, count_by, Splice}
+use Rattle.tp_change.specs.declared.limits.TheConstants.{MAX_DEPS, COUNTERS_END}
 use Rattle.tp_graph.specs.Heads as head
-use Rattle.tp_graph.specs.Fit.{count_by, cause, most_changes}
-use Rattle.tp_edit.specs.declared.splice.Splice.{Splice}
-use Rattle.tp_edit.specs.Splices.{AllInRange, total_count, all_spliced}
-use Rattle.tp_edit.specs.EditRecords.{records_of, visible_ids}
+use Rattle.tp_edit.specs.Splices.{all_spliced}
 use Rattle.tp_document.specs.declared.error.DocError.{DocError}
 use Rattle.tp_document.specs.declared.error.DocError.TheVariants.{OutOfRange, CounterLimit, TooManyOps, TooManyHeads, UnknownHead, UnknownElement, PendingFull, HashTaken, OutOfMemory, OtherDocument, TooLong, Full, NotKept}
 
@@ -115,6 +102,11 @@ asking actor splices time message = record { actor = actor; splices = splices; t
 abbrev pub IsEditDone : List ChangeParts → Asked → List ChangeParts → Option Hash → Type 0
 IsEditDone C asked D None = AsksNothing C asked × (D ≡ C)
 IsEditDone C asked D (Some h) = (c : ChangeParts) × Edited C asked c × (D ≡ C ++ c ∷ []) × (h ≡ hash_of c)
+
+-- What an edit answered of the changes C, where D are those afterwards: a refusal leaves them.
+abbrev pub EditsTo : List ChangeParts → Asked → List ChangeParts → Result (Option Hash) DocError → Type 0
+EditsTo C asked D (Ok made) = IsEditDone C asked D made
+EditsTo C asked D (Err e) = IsRefused C asked e × (D ≡ C)
 
 -- The text of D is that of C with each splice done in turn.
 abbrev pub DoesSplices : List ChangeParts → List ChangeParts → List Splice → Type 0

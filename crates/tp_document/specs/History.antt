@@ -1,16 +1,11 @@
 -- The operations of a part of the changes, given by counters: of each actor the part has those below one number.
 use Rattle.std.specs.Prelude.{◌≡◌, ℕ, ◌+◌, List, [], ◌∷◌, Bool, cond, nat_lt, filter, Option, Some, None}
-use Rattle.std.specs.List.{slice_get, list_any}
+use Rattle.tp_document.specs.Common.{slice_get, Actor, OpId, Insert, ChangeParts, shown, op_count, later}
+use Rattle.std.specs.List.{list_any}
 use Rattle.std.specs.Map.{lookup}
 use Rattle.std.specs.Option.{unwrap_or}
-use Rattle.tp_opid.specs.declared.actor.Actor.{Actor}
-use Rattle.tp_opid.specs.declared.op_id.OpId.{OpId}
-use Rattle.tp_opid.specs.Insert.{Insert}
 use Rattle.tp_opid.specs.Same.{same_actor, id_eq}
-use Rattle.tp_change.specs.declared.parts.ChangeParts.{ChangeParts}
-use Rattle.tp_change.specs.Operations.{op_count}
-use Rattle.tp_change.specs.Elements.{later}
-use Rattle.tp_rga.specs.Shown.{is_removed, shown}
+use Rattle.tp_rga.specs.Shown.{is_removed}
 
 -- one more than the greatest counter that the actor has in the changes, or 0 where it made none
 abbrev pub end_of : List ChangeParts → Actor → ℕ

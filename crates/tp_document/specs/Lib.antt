@@ -1,3 +1,4 @@
+pub mod Common
 pub mod DocError
 pub mod DocState
 pub mod Showing

@@ -1,20 +1,9 @@
 -- What the steps of an edit answer.
 use Rattle.std.specs.Prelude.{◌≡◌, ℕ, ◌<◌, ◌≤◌, ◌^◌, List, length, Bool, true, false, Result, Ok, Err, encode_utf8_all}
-use Rattle.std.specs.Str.{all_scalars}
-use Rattle.tp_change.specs.declared.limits.TheConstants.{MAX_BYTES, MAX_OPS, MAX_MESSAGE_BYTES}
-use Rattle.tp_change.specs.Limits.{IsActor, IsChange}
+use Rattle.tp_document.specs.Common.{MAX_BYTES, IsChange, Actor, hash_of, has, most_changes, Hash, OpId, ChangeParts, spelling, AllInRange, total_count, records_of, all_scalars, MAX_OPS, MAX_MESSAGE_BYTES, Splice}
+use Rattle.tp_change.specs.Limits.{IsActor}
 use Rattle.tp_document.specs.Editing.{Asked, asking, AsksNothing, IsRefused, IsEdit, HasCounters, HasSize}
-use Rattle.tp_opid.specs.declared.actor.Actor.{Actor}
-use Rattle.tp_change.specs.ChangeHash.{hash_of}
-use Rattle.tp_graph.specs.Named.{has}
-use Rattle.tp_graph.specs.Fit.{most_changes}
-use Rattle.tp_opid.specs.declared.hash.Hash.{Hash}
-use Rattle.tp_opid.specs.declared.op_id.OpId.{OpId}
-use Rattle.tp_change.specs.declared.parts.ChangeParts.{ChangeParts}
-use Rattle.tp_change.specs.Spelling.{spelling}
-use Rattle.tp_edit.specs.declared.splice.Splice.{Splice}
-use Rattle.tp_edit.specs.Splices.{AllInRange, AllScalars, total_count}
-use Rattle.tp_edit.specs.EditRecords.{records_of}
+use Rattle.tp_edit.specs.Splices.{AllScalars}
 use Rattle.tp_document.specs.declared.error.DocError.{DocError}
 use Rattle.tp_document.specs.declared.error.DocError.TheVariants.{OutOfRange, TooManyOps, HashTaken, OutOfMemory, TooLong, Full}
 

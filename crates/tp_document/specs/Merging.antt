@@ -1,8 +1,6 @@
 -- What a document takes from another: the changes that it hasn't.
 use Rattle.std.specs.Prelude.{List, [], ◌∷◌, cond}
-use Rattle.tp_change.specs.declared.parts.ChangeParts.{ChangeParts}
-use Rattle.tp_change.specs.ChangeHash.{hash_of}
-use Rattle.tp_graph.specs.Named.{has}
+use Rattle.tp_document.specs.Common.{ChangeParts, hash_of, has}
 
 -- the changes of D whose hash no change of C has, in their order
 abbrev pub absent : List ChangeParts → List ChangeParts → List ChangeParts

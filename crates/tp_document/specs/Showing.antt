@@ -1,14 +1,6 @@
 -- What is seen of the text of changes.
 use Rattle.std.specs.Prelude.{◌≡◌, ℕ, List, length, Option}
-use Rattle.std.specs.List.{slice_get}
-use Rattle.std.specs.Option.{option_map}
-use Rattle.tp_opid.specs.declared.op_id.OpId.{OpId}
-use Rattle.tp_opid.specs.Insert.{Insert}
-use Rattle.tp_change.specs.declared.parts.ChangeParts.{ChangeParts}
-use Rattle.tp_change.specs.Elements.{inserts, deletes}
-use Rattle.tp_rga.specs.Order.{IsInOrder}
-use Rattle.tp_rga.specs.Shown.{shown, shown_before}
-use Rattle.tp_text.specs.Text.{IsTextOf}
+use Rattle.tp_document.specs.Common.{slice_get, OpId, Insert, ChangeParts, inserts, deletes, IsInOrder, shown, IsTextOf, option_map, shown_before}
 
 -- The text of the changes has so many characters.
 abbrev pub HasLength : List ChangeParts → ℕ → Type 0

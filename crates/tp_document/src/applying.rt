@@ -1,29 +1,19 @@
 //! Receiving changes, in a list or from another document.
 
-ghost use Rattle.std.specs.Prelude.{◌≡◌, false, IfOk, IfErr, OnOk};
+ghost use Rattle.std.specs.Prelude.{◌≡◌, false};
 ghost use Rattle.tp_graph.specs.Sound.{Sound};
 ghost use Rattle.tp_receive.specs.Delivery as delivery;
-ghost use Rattle.tp_receive.specs.Replies.{KeepsNew};
-ghost use Rattle.tp_document.specs.Applying.{refusal_of, no_keeper, keeps_nothing, refuses_nothing, Takes, TakesPart, MergesPart, IsFullAlone, IsOtherAlone};
+ghost use Rattle.tp_receive.specs.Outcome.{HasOutcome, ReceivesAlone, ReceivesWith};
+ghost use Rattle.tp_document.specs.Applying.{HasMergeOutcome, kept_by, kept_by_none};
+ghost use Rattle.tp_document.specs.DocError.{receiving};
 ghost use Rattle.tp_document.specs.Merging as merging;
 
 use crate::document::Document;
 use crate::error::DocError;
 use crate::merging::absent;
 use tp_change::Change;
-use tp_receive::{Applied, Keeper, NoKeeper, ReceiveError, receive};
+use tp_receive::{Applied, Keeper, NoKeeper, receive};
 use tp_rga::Sequence;
-
-// The refusal as one of a document.
-fn refusal(error: ReceiveError) -> DocError
-    ensures { result ≡ refusal_of error }
-{
-    match error {
-        ReceiveError::PendingFull => DocError::PendingFull,
-        ReceiveError::NotKept => DocError::NotKept,
-        ReceiveError::OutOfMemory => DocError::OutOfMemory,
-    }
-}
 
 impl<S: Sequence> Document<S> {
     /// Receives changes, as [`apply`](Document::apply) does, and asks the keeper to keep each before it enters.
@@ -37,20 +27,13 @@ impl<S: Sequence> Document<S> {
     ) -> Result<Applied, DocError>
         ensures id { self.new.id ≡ self.old.id }
         ensures sound { Sound self.old.applied }
-        ensures ok { IfOk result
-            (λ r. Takes K.keeps keeper.old keeper.new changes.items self.old self.new r) }
-        ensures kept { OnOk result
-            (KeepsNew K.keeps keeper.old keeper.new self.old.applied self.new.applied) }
-        ensures full { IsFullAlone result
-            (delivery.is_full self.old.applied self.old.waiting changes.items) }
-        ensures err { IfErr result
-            (λ e. TakesPart K.keeps K.refuses keeper.old keeper.new changes.items
-            self.old self.new e) }
+        ensures outcome { HasOutcome receiving result (ReceivesWith K.keeps K.refuses
+            (kept_by keeper.old self.old) changes.items (kept_by keeper.new self.new)) }
     {
         let alloc = self.alloc;
         match receive(alloc, self, keeper, changes) {
             Ok(applied) => Ok(applied),
-            Err(error) => Err(refusal(error)),
+            Err(error) => Err(DocError::from(error)),
         }
     }
 
@@ -68,13 +51,8 @@ impl<S: Sequence> Document<S> {
     pub fn apply(&mut self, changes: Vec<Change>) -> Result<Applied, DocError>
         ensures id { self.new.id ≡ self.old.id }
         ensures sound { Sound self.old.applied }
-        ensures ok { IfOk result
-            (λ r. Takes keeps_nothing no_keeper no_keeper changes.items self.old self.new r) }
-        ensures full { IsFullAlone result
-            (delivery.is_full self.old.applied self.old.waiting changes.items) }
-        ensures err { IfErr result
-            (λ e. TakesPart keeps_nothing refuses_nothing no_keeper no_keeper changes.items
-            self.old self.new e) }
+        ensures outcome { HasOutcome receiving result (ReceivesAlone
+            (kept_by_none self.old) changes.items (kept_by_none self.new)) }
     {
         let mut keeper = NoKeeper;
         self.apply_with(changes, &mut keeper)
@@ -91,16 +69,12 @@ impl<S: Sequence> Document<S> {
     ) -> Result<Applied, DocError>
         ensures id { self.new.id ≡ self.old.id }
         ensures sound { Sound self.old.applied }
-        ensures ok { IfOk result
-            (λ r. Takes K.keeps keeper.old keeper.new
-            (merging.absent self.old.applied other.now.applied) self.old self.new r) }
-        ensures kept { OnOk result
-            (KeepsNew K.keeps keeper.old keeper.new self.old.applied self.new.applied) }
-        ensures other { IsOtherAlone result self.old.id other.now.id }
         ensures space { delivery.is_full self.old.applied self.old.waiting
             (merging.absent self.old.applied other.now.applied) ≡ false }
-        ensures err { IfErr result (λ e. MergesPart K.keeps K.refuses keeper.old keeper.new
-            (merging.absent self.old.applied other.now.applied) self.old self.new e) }
+        ensures outcome { HasMergeOutcome self.old.id other.now.id
+            (kept_by keeper.old self.old) (kept_by keeper.new self.new) result
+            (ReceivesWith K.keeps K.refuses (kept_by keeper.old self.old)
+            (merging.absent self.old.applied other.now.applied) (kept_by keeper.new self.new)) }
     {
         let _pending = self.pending().len();
         if !self.id.is(&other.id) {
@@ -120,14 +94,12 @@ impl<S: Sequence> Document<S> {
     pub fn merge(&mut self, other: &Document<S>) -> Result<Applied, DocError>
         ensures id { self.new.id ≡ self.old.id }
         ensures sound { Sound self.old.applied }
-        ensures ok { IfOk result (λ r. Takes keeps_nothing no_keeper no_keeper
-            (merging.absent self.old.applied other.now.applied) self.old self.new r) }
-        ensures other { IsOtherAlone result self.old.id other.now.id }
         ensures space { delivery.is_full self.old.applied self.old.waiting
             (merging.absent self.old.applied other.now.applied) ≡ false }
-        ensures err { IfErr result
-            (λ e. MergesPart keeps_nothing refuses_nothing no_keeper no_keeper
-            (merging.absent self.old.applied other.now.applied) self.old self.new e) }
+        ensures outcome { HasMergeOutcome self.old.id other.now.id
+            (kept_by_none self.old) (kept_by_none self.new) result
+            (ReceivesAlone (kept_by_none self.old)
+            (merging.absent self.old.applied other.now.applied) (kept_by_none self.new)) }
     {
         let mut keeper = NoKeeper;
         self.merge_with(other, &mut keeper)

@@ -1,11 +1,10 @@
 //! The operations of a past, reported by their counters.
 
 ghost use Rattle.std.specs.Prelude.{◌≡◌, ℕ, [], IfOk, OnOk, OnErr, cond, ◌||◌, ◌<◌, length};
-ghost use Rattle.tp_list.specs.Members.{In};
+ghost use Rattle.tp_document.specs.Common.{In, later};
 ghost use Rattle.tp_opid.specs.declared.actor.Actor.{Actor as ActorOf};
 ghost use Rattle.tp_opid.specs.declared.op_id.OpId.{OpId as Id};
 ghost use Rattle.tp_opid.specs.Same.{same_actor, id_eq};
-ghost use Rattle.tp_change.specs.Elements.{later};
 ghost use Rattle.tp_document.specs.History.{end_at, has_op, is_one_of, AreEnds, AreTargets, changes_at};
 
 use std::alloc::{AllocError, Global};

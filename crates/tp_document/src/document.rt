@@ -1,29 +1,22 @@
 //! The document: applied changes with the elements that they insert, and changes that wait.
 
 ghost use Rattle.std.specs.Prelude.{◌≡◌, ◌↔◌, ◌<◌, ◌≤◌, [], ◌∷◌, ◌++◌, length, map, false, None, Some, is_ok, if◌then◌else◌, MatchOption, IfOk, IfErr, IsOkUnless, OnOk, OnErr};
-ghost use Rattle.std.specs.List.{slice_get, remove};
-ghost use Rattle.std.specs.Str.{chars};
-ghost use Rattle.std.specs.String.{string_bytes};
-ghost use Rattle.tp_list.specs.Members.{In};
+ghost use Rattle.tp_document.specs.Common.{slice_get, chars, In, IsTextOf, cause, most_changes, Sound, hash_of, ChangeParts, string_bytes};
+ghost use Rattle.std.specs.List.{remove};
 ghost use Rattle.tp_list.specs.Rising.{IsRising};
 ghost use Rattle.tp_opid.specs.declared.hash.Hash.{Hash as HashOf};
 ghost use Rattle.tp_opid.specs.Order.{hash_cmp};
-ghost use Rattle.tp_text.specs.Text.{IsTextOf};
 ghost use Rattle.tp_graph.specs.Named as named;
 ghost use Rattle.tp_graph.specs.Heads as head;
-ghost use Rattle.tp_graph.specs.Fit.{cause, most_changes};
-ghost use Rattle.tp_graph.specs.Sound.{Sound};
 ghost use Rattle.tp_graph.specs.Since.{marks_since, since, IsMissing};
 ghost use Rattle.tp_graph.specs.Answers.{Answers};
 ghost use Rattle.tp_graph.specs.GraphState.{most_waiting, HashesOnce};
-ghost use Rattle.tp_change.specs.ChangeHash.{hash_of};
-ghost use Rattle.tp_change.specs.declared.parts.ChangeParts.{ChangeParts};
-ghost use Rattle.tp_document.specs.DocState.{HasRoomFor, AllChanges};
+ghost use Rattle.tp_document.specs.DocState.{HasRoomFor, MakesRoom, AllChanges};
 ghost use Rattle.tp_document.specs.Showing.{HasLength, HasCharAt};
 ghost use Rattle.tp_document.specs.declared.error.DocError.TheVariants.{OutOfMemory};
 
 use crate::error::DocError;
-use std::alloc::Global;
+use std::alloc::{AllocError, Global};
 use std::marker::Model;
 use tp_change::Change;
 use tp_graph::{Graph, GraphError, Rejected};
@@ -222,11 +215,7 @@ impl<S: Sequence> Document<S> {
 
     /// Drops the changes that wait. No memory.
     pub fn forget_pending(&mut self)
-        ensures id { self.new.id ≡ self.old.id }
-        ensures applied { self.new.applied ≡ self.old.applied }
-        ensures waiting { self.new.waiting ≡ [] }
-        ensures room { self.new.room ≡ self.old.room }
-        ensures space { self.new.space ≡ self.old.space }
+        ensures { self.new ≡ record self.old { waiting = [] } }
     {
         drop_waiting(&mut self.graph);
     }
@@ -238,16 +227,24 @@ impl<S: Sequence> Document<S> {
         self.graph.check(change)
     }
 
-    /// Checks as [`check`](Document::check) does, and makes every growth that the entry of the change takes, so that
-    /// [`enter`](Document::enter) takes no memory. What a caller sees stays as it was.
+    /// Makes every growth that the entry of a change takes that can enter, so that [`enter`](Document::enter) takes no
+    /// memory. What a caller sees stays as it was. The change isn't judged.
+    pub fn reserve(&mut self, change: &Change) -> Result<(), AllocError>
+        requires { cause self.old.applied change.now ≡ None }
+        ensures stays { MakesRoom self.old self.new }
+        ensures room { OnOk result (HasRoomFor self.new change.now) }
+    {
+        self.sequence.reserve(change.op_count())?;
+        self.graph.reserve(change)
+    }
+
+    /// Checks as [`check`](Document::check) does, and makes every growth as [`reserve`](Document::reserve) does. What a
+    /// caller sees stays as it was.
     pub fn ready(&mut self, change: &Change) -> Result<(), GraphError>
         ensures answers { Answers result (cause self.old.applied change.now) }
-        ensures id { self.new.id ≡ self.old.id }
-        ensures applied { self.new.applied ≡ self.old.applied }
-        ensures waiting { self.new.waiting ≡ self.old.waiting }
+        ensures stays { MakesRoom self.old self.new }
         ensures room { OnOk result (HasRoomFor self.new change.now) }
         ensures err { OnErr result (self.new.room ≡ self.old.room) }
-        ensures space { self.old.space ≤ self.new.space }
     {
         self.sequence.reserve(change.op_count())?;
         self.graph.ready(change)
@@ -259,9 +256,7 @@ impl<S: Sequence> Document<S> {
         requires { i < length self.old.waiting }
         ensures answers { (c : ChangeParts) → slice_get self.old.waiting i ≡ Some c
             → Answers result (cause self.old.applied c) }
-        ensures id { self.new.id ≡ self.old.id }
-        ensures applied { self.new.applied ≡ self.old.applied }
-        ensures waiting { self.new.waiting ≡ self.old.waiting }
+        ensures stays { MakesRoom self.old self.new }
         ensures room { (c : ChangeParts) → slice_get self.old.waiting i ≡ Some c
             → OnOk result (HasRoomFor self.new c) }
     {
@@ -270,8 +265,8 @@ impl<S: Sequence> Document<S> {
         self.graph.ready_waiting(i)
     }
 
-    /// Enters a change that can enter and that was made [`ready`](Document::ready) for, as the last applied one: its
-    /// operations go into the sequence. No memory.
+    /// Enters a change that can enter, as the last applied one, once its growths were made by [`reserve`](Document::reserve)
+    /// or [`ready`](Document::ready): its operations go into the sequence. No memory.
     pub fn enter(&mut self, change: Change)
         requires enters { cause self.old.applied change ≡ None }
         requires room { HasRoomFor self.old change }

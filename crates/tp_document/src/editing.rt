@@ -1,28 +1,21 @@
 //! Edits of a document.
 
-ghost use Rattle.std.specs.Prelude.{◌≡◌, ◌+◌, ◌≤◌, ◌<◌, ◌^◌, ◌++◌, ◌∷◌, [], false, true, length, Ok, Err, Some, None, encode_utf8_all, MatchResult, MatchOption, IfOk, IfErr, OnErr};
-ghost use Rattle.std.specs.Str.{chars, all_scalars};
+ghost use Rattle.std.specs.Prelude.{◌≡◌, ◌+◌, ◌≤◌, ◌<◌, ◌^◌, ◌++◌, ◌∷◌, [], false, true, length, Ok, Err, Some, None, encode_utf8_all, MatchResult, MatchOption, IfOk};
+ghost use Rattle.tp_document.specs.Common.{chars, most_changes, AllInRange, total_count, records_of, visible_ids, shown, has, hash_of, all_scalars, next_counter};
 ghost use Rattle.tp_change.specs.declared.parts.ChangeParts.{ChangeParts as Parts};
-ghost use Rattle.tp_change.specs.Elements.{next_counter};
 ghost use Rattle.tp_graph.specs.Heads as head;
-ghost use Rattle.tp_graph.specs.Fit.{most_changes};
-ghost use Rattle.tp_edit.specs.Splices.{AllInRange, total_count};
-ghost use Rattle.tp_edit.specs.EditRecords.{records_of, visible_ids};
-ghost use Rattle.tp_rga.specs.Shown.{shown};
-ghost use Rattle.tp_document.specs.Editing.{asking, IsRefused, AsksNothing, Edited, IsEditDone, DoesSplices};
+ghost use Rattle.tp_document.specs.Editing.{asking, IsRefused, AsksNothing, Edited, EditsTo, DoesSplices};
 ghost use Rattle.tp_document.specs.Making.{parts_made, IsAllowed, IsWithinLimits, IsWithinSize, IsShut};
 ghost use Rattle.tp_document.specs.DocState.{Holds};
-ghost use Rattle.tp_graph.specs.Named.{has};
-ghost use Rattle.tp_change.specs.ChangeHash.{hash_of};
 
 use crate::document::Document;
 use crate::error::DocError;
-use crate::making::{actor_len, make_change, next_seq, validate_splices};
+use crate::making::{make_change, next_seq, validate_splices};
 use std::alloc::{AllocError, Global};
 use tp_change::{COUNTERS_END, Change, ChangeParts, MAX_DEPS, MAX_MESSAGE_BYTES};
 use tp_edit::{Splice, records};
 use tp_graph::{Graph, MOST_CHANGES};
-use tp_list::{Items, Text};
+use tp_list::{Items, Text, array_len};
 use tp_opid::{Actor, Hash};
 use tp_rga::Sequence;
 
@@ -114,7 +107,7 @@ fn change_of<S: Sequence>(
         (λ c. IsWithinSize graph.now.applied (asking actor splices.now time (chars message.now)) c)
         (λ e. IsRefused graph.now.applied (asking actor splices.now time (chars message.now)) e) }
 {
-    let _actor = actor_len(actor);
+    let _actor = array_len(actor.0);
     let seq = next_seq(graph, &actor);
     let next = graph.next_counter();
     let heads = graph.heads();
@@ -199,21 +192,16 @@ impl<S: Sequence> Document<S> {
         time: u64,
         message: &str,
     ) -> Result<Option<Hash>, DocError>
-        ensures done { IfOk result
-            (λ made. IsEditDone self.old.applied
-            (asking actor splices.now time (chars message.now)) self.new.applied made) }
+        ensures done { EditsTo self.old.applied
+            (asking actor splices.now time (chars message.now)) self.new.applied result }
         ensures text { IfOk result
             (λ _. DoesSplices self.old.applied self.new.applied splices.now) }
-        ensures refused { IfErr result
-            (λ e. IsRefused self.old.applied
-            (asking actor splices.now time (chars message.now)) e) }
-        ensures err { OnErr result (self.new.applied ≡ self.old.applied) }
         ensures id { self.new.id ≡ self.old.id }
         ensures waiting { self.new.waiting ≡ self.old.waiting }
     {
         let _count = self.changes().len();
         match self.make_edit(actor, splices, time, message) {
-            Ok(Some(change)) => match self.ready(&change) {
+            Ok(Some(change)) => match self.reserve(&change) {
                 Ok(()) => {
                     let hash = change.hash();
                     self.enter(change);

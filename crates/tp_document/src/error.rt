@@ -1,11 +1,12 @@
 //! Why a call on a document was refused.
 
-ghost use Rattle.std.specs.Prelude.{◌≡◌};
-ghost use Rattle.tp_document.specs.DocError.{code_of};
+ghost use Rattle.std.specs.Prelude.{◌≡◌, Some};
+ghost use Rattle.tp_document.specs.DocError.{code_of, receiving};
 ghost use Rattle.tp_document.specs.declared.error.DocError.TheVariants.{OutOfMemory};
 
 use std::alloc::{AllocError, AllocFailed};
 use thiserror::Error;
+use tp_receive::ReceiveError;
 
 /// Why a call was refused. A refused call leaves the document as it was, but for `OutOfMemory` and `NotKept` of the
 /// calls that receive changes: see [`Document::apply`](crate::Document::apply).
@@ -88,5 +89,17 @@ impl<T: Drop> From<AllocFailed<T>> for DocError {
 
     fn from(_e: AllocFailed<T>) -> DocError {
         DocError::OutOfMemory
+    }
+}
+
+impl From<ReceiveError> for DocError {
+    ghost from_gives = { λ e d. receiving d ≡ Some e };
+
+    fn from(error: ReceiveError) -> DocError {
+        match error {
+            ReceiveError::PendingFull => DocError::PendingFull,
+            ReceiveError::NotKept => DocError::NotKept,
+            ReceiveError::OutOfMemory => DocError::OutOfMemory,
+        }
     }
 }

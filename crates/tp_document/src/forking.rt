@@ -1,11 +1,9 @@
 //! Copies of documents.
 
 ghost use Rattle.std.specs.Prelude.{◌≡◌, ◌↔◌, ◌⊎◌, ◌<◌, ◌≤◌, ℕ, [], ◌∷◌, ◌++◌, None, false, length, IfOk, IfErr, IsOkUnless, OnOk};
-ghost use Rattle.tp_graph.specs.Fit.{cause, most_changes};
-ghost use Rattle.tp_graph.specs.Named.{has_all};
+ghost use Rattle.tp_document.specs.Common.{cause, most_changes, Sound, In, has_all};
 ghost use Rattle.tp_graph.specs.Past as pasts;
-ghost use Rattle.tp_graph.specs.Sound.{Sound};
-ghost use Rattle.tp_list.specs.Members.{In};
+ghost use Rattle.tp_document.specs.DocState.{HasJust};
 ghost use Rattle.tp_document.specs.History.{changes_at};
 ghost use Rattle.tp_document.specs.declared.error.DocError.TheVariants.{OutOfMemory};
 
@@ -26,7 +24,7 @@ fn enter_copy<S: Sequence>(document: &mut Document<S>, change: &Change) -> Resul
     ensures err { IsOkUnless result OutOfMemory }
 {
     match change.copy() {
-        Ok(copied) => match document.ready(&copied) {
+        Ok(copied) => match document.reserve(&copied) {
             Ok(()) => {
                 document.enter(copied);
                 Ok(())
@@ -45,9 +43,7 @@ fn document_of<S: Sequence>(
 ) -> Result<Document<S>, DocError>
     requires sound { Sound changes.now }
     requires few { length changes.now ≤ most_changes }
-    ensures id { IfOk result (λ d. d.id ≡ id) }
-    ensures applied { IfOk result (λ d. d.applied ≡ changes.now) }
-    ensures waiting { IfOk result (λ d. d.waiting ≡ []) }
+    ensures ok { IfOk result (λ d. HasJust id changes.now d) }
     ensures err { IsOkUnless result OutOfMemory }
 {
     let mut document = Document::new(alloc, id);
@@ -67,9 +63,7 @@ fn document_at<S: Sequence>(
     requires within { (i : ℕ) → In i places.now → i < length changes.now }
     requires sound { Sound (changes_at changes.now places.now) }
     requires few { length (changes_at changes.now places.now) ≤ most_changes }
-    ensures id { IfOk result (λ d. d.id ≡ id) }
-    ensures applied { IfOk result (λ d. d.applied ≡ changes_at changes.now places.now) }
-    ensures waiting { IfOk result (λ d. d.waiting ≡ []) }
+    ensures ok { IfOk result (λ d. HasJust id (changes_at changes.now places.now) d) }
     ensures err { IsOkUnless result OutOfMemory }
 {
     let mut document = Document::new(alloc, id);
@@ -81,11 +75,9 @@ fn document_at<S: Sequence>(
 
 impl<S: Sequence> Document<S> {
     /// A document with the same identifier and copies of the applied changes; nothing waits in it. The only refusal
-    /// is `OutOfMemory`. It enters each change anew, which joins the pasts of its dependencies where they aren't all heads.
+    /// is `OutOfMemory`. It enters each change anew without judging it, which joins the pasts of its dependencies where they aren't all heads.
     pub fn fork(&self) -> Result<Document<S>, DocError>
-        ensures id { IfOk result (λ d. d.id ≡ self.now.id) }
-        ensures applied { IfOk result (λ d. d.applied ≡ self.now.applied) }
-        ensures waiting { IfOk result (λ d. d.waiting ≡ []) }
+        ensures ok { IfOk result (λ d. HasJust self.now.id self.now.applied d) }
         ensures err { IsOkUnless result OutOfMemory }
     {
         document_of(self.alloc, self.id, self.changes())
@@ -96,9 +88,8 @@ impl<S: Sequence> Document<S> {
     /// document with no changes. `UnknownHead` where a hash isn't that of an applied change; the only other refusal is
     /// `OutOfMemory`. It enters each of the changes anew.
     pub fn fork_at(&self, hashes: &[Hash]) -> Result<Document<S>, DocError>
-        ensures id { IfOk result (λ d. d.id ≡ self.now.id) }
-        ensures applied { IfOk result (λ d. d.applied ≡ pasts.past self.now.applied hashes.now) }
-        ensures waiting { IfOk result (λ d. d.waiting ≡ []) }
+        ensures ok { IfOk result
+            (λ d. HasJust self.now.id (pasts.past self.now.applied hashes.now) d) }
         ensures unknown { (result ≡ Err DocError.UnknownHead)
             ↔ (has_all self.now.applied hashes.now ≡ false) }
         ensures err { IfErr result (λ e. (e ≡ DocError.UnknownHead) ⊎ (e ≡ OutOfMemory)) }

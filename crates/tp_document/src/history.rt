@@ -1,15 +1,10 @@
 //! The text as it was: what the past of hashes shows.
 
 ghost use Rattle.std.specs.Prelude.{◌≡◌, ◌↔◌, ◌⊎◌, ◌&&◌, ℕ, not, false, length, Some, None, Err, IfOk, IfErr, encode_utf8_all};
-ghost use Rattle.std.specs.List.{slice_get};
-ghost use Rattle.std.specs.Option.{option_map};
-ghost use Rattle.std.specs.Str.{chars};
-ghost use Rattle.std.specs.String.{string_bytes};
-ghost use Rattle.tp_text.specs.Text.{chars_of, IsTextOf};
+ghost use Rattle.tp_document.specs.Common.{slice_get, chars, IsTextOf, option_map, string_bytes, past, shown_before};
+ghost use Rattle.tp_text.specs.Text.{chars_of};
 ghost use Rattle.tp_graph.specs.Named as named;
-ghost use Rattle.tp_graph.specs.Past.{past};
 ghost use Rattle.tp_graph.specs.Since.{past_places};
-ghost use Rattle.tp_rga.specs.Shown.{shown_before};
 ghost use Rattle.tp_document.specs.History.{has_op, is_one_of, shown_by, deletes_by, inserts_by, AreEnds, AreTargets};
 ghost use Rattle.tp_document.specs.Showing.{HasElementAt, HasLength, HasPosition};
 

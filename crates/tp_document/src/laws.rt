@@ -1,15 +1,9 @@
 //! Laws of documents: public functions whose contract is the law and whose body is empty.
 
 ghost use Rattle.std.specs.Prelude.{◌≡◌, ◌↔◌, ◌++◌, ℕ, true, List};
-ghost use Rattle.tp_change.specs.declared.parts.ChangeParts.{ChangeParts};
-ghost use Rattle.tp_change.specs.ChangeHash.{hash_of};
-ghost use Rattle.tp_list.specs.Members.{In, SameMembers};
-ghost use Rattle.tp_opid.specs.declared.hash.Hash.{Hash};
+ghost use Rattle.tp_document.specs.Common.{ChangeParts, hash_of, In, Hash, Sound, IsTextOf, has_all, past};
+ghost use Rattle.tp_list.specs.Members.{SameMembers};
 ghost use Rattle.tp_graph.specs.Heads.{heads};
-ghost use Rattle.tp_graph.specs.Named.{has_all};
-ghost use Rattle.tp_graph.specs.Past.{past};
-ghost use Rattle.tp_graph.specs.Sound.{Sound};
-ghost use Rattle.tp_text.specs.Text.{IsTextOf};
 ghost use Rattle.tp_document.specs.Editing.{Asked, Edited};
 
 /// Sound changes have one text.

@@ -1,14 +1,7 @@
 //! From an edit to its change.
 
 ghost use Rattle.std.specs.Prelude.{◌≡◌, ◌+◌, ◌<◌, ◌≤◌, ◌^◌, length, encode_utf8_all, IfOk, MatchResult};
-ghost use Rattle.std.specs.Str.{chars};
-ghost use Rattle.tp_change.specs.declared.limits.TheConstants.{MAX_BYTES};
-ghost use Rattle.tp_change.specs.Limits.{IsActor, IsChange};
-ghost use Rattle.tp_change.specs.Spelling.{spelling};
-ghost use Rattle.tp_graph.specs.Fit.{count_by, most_changes};
-ghost use Rattle.tp_rga.specs.Shown.{shown};
-ghost use Rattle.tp_edit.specs.Splices.{AllInRange, total_count};
-ghost use Rattle.tp_edit.specs.EditRecords.{records_of, visible_ids};
+ghost use Rattle.tp_document.specs.Common.{chars, MAX_BYTES, IsChange, spelling, most_changes, shown, AllInRange, total_count, records_of, visible_ids, count_by};
 ghost use Rattle.tp_document.specs.Making.{IsValidated, IsLong};
 
 use crate::error::DocError;
@@ -19,14 +12,6 @@ use tp_graph::Graph;
 use tp_list::{Items, Text};
 use tp_opid::{Actor, Hash};
 use tp_rga::Sequence;
-
-// What the type of an actor says: it has 16 bytes. Answers their number.
-pub(crate) fn actor_len(actor: Actor) -> usize
-    ensures { IsActor actor }
-{
-    let bytes = actor.0;
-    bytes.len()
-}
 
 // How many operations an edit of a text of `len` characters has: none where it asks nothing.
 pub(crate) fn validate_splices(splices: &[Splice], len: usize) -> Result<usize, DocError>

@@ -31,10 +31,6 @@ impl<S: Sequence> Replica for Document<S> {
         Document::contains(self, hash)
     }
 
-    fn check(&self, change: &Change) -> Result<(), GraphError> {
-        Document::check(self, change)
-    }
-
     fn ready(&mut self, change: &Change) -> Result<(), GraphError> {
         Document::ready(self, change)
     }

@@ -4,6 +4,7 @@ use Rattle.std.specs.List.{flat_map}
 use Rattle.std.specs.Prelude.{◌↔◌}
 use Rattle.std.proofs.lemmas.List.{take_at}
 use Rattle.std.proofs.lemmas.List.Concat.{flat_map-cons}
+use Rattle.tp_list.specs.Traces.{Trace}
 use Rattle.tp_codec.proofs.Fields.{AreBytes, AreBytes-rest, AreBytes-take}
 use Rattle.tp_frame.specs.declared.error.FrameError.{FrameError}
 use Rattle.tp_frame.specs.declared.frame.Frame.{Frame}
@@ -11,7 +12,7 @@ use Rattle.tp_frame.specs.declared.reading.NoFrame.{NoFrame}
 use Rattle.tp_frame.specs.declared.reading.NoFrame.TheVariants.{Missing, Fault}
 use Rattle.tp_frame.specs.Frame.{spelling, IsFrame}
 use Rattle.tp_frame.specs.Reading.{frame_at, IsRest, ShowsFault}
-use Rattle.tp_frame.specs.Stream.{BeginsWith, Frames, Step, Fed, Gave, fed_in, given_in, Leads}
+use Rattle.tp_frame.specs.Stream.{BeginsWith, Frames, Step, Fed, Gave, fed_in, given_in, Makes}
 use Rattle.tp_frame.proofs.FrameFields.{frame_field}
 
 AreBytes-begin : (xs ys : List ℕ) → AreBytes (xs ++ ys) → AreBytes xs
@@ -24,21 +25,21 @@ begins_on f bytes rest frames held is e b = record {
   spelled = e ∙ ap (λ (r : List ℕ). spelling f ++ r) b.spelled ∙ sym (append_assoc (spelling f) (flat_map spelling frames) held) ∙ ap (λ (r : List ℕ). r ++ held) (sym (flat_map-cons spelling f frames));
 }
 
-run_begins : (before : List ℕ) (steps : List Step) (held : List ℕ) → AreBytes (before ++ fed_in steps) → Leads before steps held → BeginsWith (before ++ fed_in steps) (given_in steps) held
-run_begins before [] held fits leads = record { each = tt; spelled = append-nil before ∙ leads }
+run_begins : (before : List ℕ) (steps : List Step) (held : List ℕ) → AreBytes (before ++ fed_in steps) → Trace Makes before steps held → BeginsWith (before ++ fed_in steps) (given_in steps) held
+run_begins before [] held fits leads = record { each = tt; spelled = append-nil before ∙ sym leads }
 run_begins before (Fed bytes ∷ steps) held fits leads =
-    let same : (before ++ bytes) ++ fed_in steps ≡ before ++ (bytes ++ fed_in steps) = append_assoc before bytes (fed_in steps) in
-    subst (λ (b : List ℕ). BeginsWith b (given_in steps) held) same (run_begins (before ++ bytes) steps held (rw same fits) leads)
+    let same : leads.0 ++ fed_in steps ≡ before ++ (bytes ++ fed_in steps) = ap (λ (b : List ℕ). b ++ fed_in steps) leads.1 ∙ append_assoc before bytes (fed_in steps) in
+    subst (λ (b : List ℕ). BeginsWith b (given_in steps) held) same (run_begins leads.0 steps held (rw same fits) leads.2)
 run_begins before (Gave f ∷ steps) held fits leads =
     let t = frame_field.takes before f leads.0 (AreBytes-begin before (fed_in steps) fits) leads.1 in
     let whole : before ++ fed_in steps ≡ spelling f ++ (leads.0 ++ fed_in steps) = ap (λ (b : List ℕ). b ++ fed_in steps) t.0 ∙ append_assoc (spelling f) leads.0 (fed_in steps) in
     begins_on f (before ++ fed_in steps) (leads.0 ++ fed_in steps) (given_in steps) held t.1 whole
     (run_begins leads.0 steps held (AreBytes-rest (spelling f) (before ++ fed_in steps) (leads.0 ++ fed_in steps) whole fits) leads.2)
 
-pub begins_of_run : (steps : List Step) (held : List ℕ) → AreBytes (fed_in steps) → Leads [] steps held → BeginsWith (fed_in steps) (given_in steps) held
+pub begins_of_run : (steps : List Step) (held : List ℕ) → AreBytes (fed_in steps) → Trace Makes [] steps held → BeginsWith (fed_in steps) (given_in steps) held
 begins_of_run = run_begins []
 
-pub frames_of_run : (steps : List Step) (held : List ℕ) → AreBytes (fed_in steps) → Leads [] steps held → IsRest held → Frames (fed_in steps) (given_in steps) held
+pub frames_of_run : (steps : List Step) (held : List ℕ) → AreBytes (fed_in steps) → Trace Makes [] steps held → IsRest held → Frames (fed_in steps) (given_in steps) held
 frames_of_run steps held fits leads rest = record { begins = begins_of_run steps held fits leads; ends = rest }
 
 -- What begins with a frame is read as it, with the frames behind it.

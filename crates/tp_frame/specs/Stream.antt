@@ -42,9 +42,7 @@ given_in [] = []
 given_in (Fed bytes ∷ steps) = given_in steps
 given_in (Gave f ∷ steps) = f ∷ given_in steps
 
--- The steps lead from the bytes held before to those held after: what is fed stands behind them, and what is given is
--- the frame at the front.
-abbrev pub Leads : List ℕ → List Step → List ℕ → Type 0
-Leads held [] after = held ≡ after
-Leads held (Fed bytes ∷ steps) after = Leads (held ++ bytes) steps after
-Leads held (Gave f ∷ steps) after = (rest : List ℕ) × (frame_at held ≡ Ok (f, rest)) × Leads rest steps after
+-- What a step makes of the bytes held: what is fed comes after them, and what is given is the frame at the front.
+abbrev pub Makes : List ℕ → Step → List ℕ → Type 0
+Makes held (Fed bytes) after = after ≡ held ++ bytes
+Makes held (Gave f) after = frame_at held ≡ Ok (f, after)

@@ -4,21 +4,22 @@
 //! give: each call of a framer is one step of [`frames_of_any_run`], or changes nothing.
 
 ghost use Rattle.std.specs.Prelude.{◌≡◌, ◌↔◌, ℕ, ◌<◌, List, [], ◌++◌, length, slice_index, Ok};
+ghost use Rattle.tp_list.specs.Traces.{Trace};
 ghost use Rattle.tp_frame.specs.declared.error.FrameError.{FrameError};
 ghost use Rattle.tp_frame.specs.declared.frame.Frame.{Frame};
 ghost use Rattle.tp_frame.specs.Frame.{spelling, IsFrame};
 ghost use Rattle.tp_frame.specs.Reading.{frame_at, IsRest, ShowsFault};
-ghost use Rattle.tp_frame.specs.Stream.{BeginsWith, Frames, Step, fed_in, given_in, Leads};
+ghost use Rattle.tp_frame.specs.Stream.{BeginsWith, Frames, Step, fed_in, given_in, Makes};
 
 /// Whatever the cuts of the stream: where all bytes fed are held or were given, the frames given are those that the
 /// stream begins with, in order. Once the bytes held are no whole frame and show no fault, as where `next` answered
 /// `None`, they are all frames of the stream.
 pub fn frames_of_any_run()
     ensures so_far { (steps : List Step) (held : List ℕ) →
-        ((i : ℕ) → slice_index (fed_in steps) i < 256) → Leads [] steps held
+        ((i : ℕ) → slice_index (fed_in steps) i < 256) → Trace Makes [] steps held
         → BeginsWith (fed_in steps) (given_in steps) held }
     ensures all { (steps : List Step) (held : List ℕ) →
-        ((i : ℕ) → slice_index (fed_in steps) i < 256) → Leads [] steps held → IsRest held
+        ((i : ℕ) → slice_index (fed_in steps) i < 256) → Trace Makes [] steps held → IsRest held
         → Frames (fed_in steps) (given_in steps) held }
 {}
 

@@ -8,16 +8,7 @@ use crate::error::FrameError;
 use crate::frame::Frame;
 use crate::limits::MAX_BODY;
 use std::alloc::{AllocError, Global};
-use tp_opid::DocId;
-
-// What the type of an identifier says: it has 16 bytes. Answers their number.
-fn id_len(id: DocId) -> usize
-    ensures len { (result ≡ length id.0) × (result ≡ 16) }
-    ensures bytes { (i : ℕ) → slice_index id.0 i < 256 }
-{
-    let bytes = id.0;
-    bytes.len()
-}
+use tp_list::array_len;
 
 // How many bytes the body of a frame has, and what its type says of them.
 fn len_of(frame: &Frame) -> usize
@@ -27,7 +18,7 @@ fn len_of(frame: &Frame) -> usize
     match frame {
         Frame::Hello { version, id } => {
             let _version = *version;
-            2 + id_len(*id)
+            2 + array_len(id.0)
         }
         Frame::Sync(bytes) => {
             let bytes = bytes.as_slice();

@@ -28,7 +28,7 @@ use crate::own::Own;
 use crate::part::extent_in;
 use crate::walk::same_hashes;
 use crate::{marked, pasts};
-use std::alloc::Global;
+use std::alloc::{AllocError, Global};
 use std::marker::Model;
 use tp_change::Change;
 use tp_opid::{Actor, Hash};
@@ -194,12 +194,11 @@ impl Applied {
         place_of(self.lists.changes.as_slice(), &self.index, hash)
     }
 
-    // Checks, and makes what is kept of the change's past and of its operations.
-    fn room_for(&self, change: &Change) -> Result<Room, GraphError>
-        ensures answers { Answers result (cause self.now.changes change.now) }
-        ensures made { IfOk result (λ room. IsRoomFor self.now.changes change.now room) }
+    // Makes what is kept of the change's past, where that is known, and of its operations.
+    fn room_for(&self, change: &Change, past: Option<Extent>) -> Result<Room, AllocError>
+        requires { IsKnown self.now.changes change.now.deps past }
+        ensures { IfOk result (λ room. IsRoomFor self.now.changes change.now room) }
     {
-        let past = extent_in(self.judge(change)?);
         let deletes = marked::room_for(self.alloc, change)?;
         let deps = Vec::from_slice(self.alloc, change.deps())?;
         Ok(Room {
@@ -210,19 +209,43 @@ impl Applied {
         })
     }
 
-    /// Checks, and makes every growth that the entry of the change takes.
+    // Makes every growth that the entry of a change takes, behind its past where that is known.
+    fn reserve_behind(&mut self, change: &Change, past: Option<Extent>) -> Result<(), AllocError>
+        requires enters { cause self.old.changes change.now ≡ None }
+        requires past { IsKnown self.old.changes change.now.deps past }
+        ensures changes { self.new.changes ≡ self.old.changes }
+        ensures room { OnOk result (self.new.room ≡ Some (hash_of change.now)) }
+        ensures err { OnErr result (self.new.room ≡ self.old.room) }
+    {
+        let room = self.room_for(change, past)?;
+        self.lists.grow()?;
+        self.by_actor
+            .catch_up(self.alloc, self.lists.changes.as_slice())?;
+        self.index.note(room.hash, self.lists.changes.len() as u32)?;
+        self.room = Some(room);
+        Ok(())
+    }
+
+    /// Makes every growth that the entry of a change takes that can enter, without judging it.
+    pub(crate) fn reserve(&mut self, change: &Change) -> Result<(), AllocError>
+        requires { cause self.old.changes change.now ≡ None }
+        ensures changes { self.new.changes ≡ self.old.changes }
+        ensures room { OnOk result (self.new.room ≡ Some (hash_of change.now)) }
+        ensures err { OnErr result (self.new.room ≡ self.old.room) }
+    {
+        let past = self.known_past(change.deps())?;
+        self.reserve_behind(change, past)
+    }
+
+    /// Checks, and makes every growth that the entry of the change takes, behind the past that was judged.
     pub(crate) fn ready(&mut self, change: &Change) -> Result<(), GraphError>
         ensures answers { Answers result (cause self.old.changes change.now) }
         ensures changes { self.new.changes ≡ self.old.changes }
         ensures room { OnOk result (self.new.room ≡ Some (hash_of change.now)) }
         ensures err { OnErr result (self.new.room ≡ self.old.room) }
     {
-        let room = self.room_for(change)?;
-        self.lists.grow()?;
-        self.by_actor
-            .catch_up(self.alloc, self.lists.changes.as_slice())?;
-        self.index.note(room.hash, self.lists.changes.len() as u32)?;
-        self.room = Some(room);
+        let past = extent_in(self.judge(change)?);
+        self.reserve_behind(change, past)?;
         Ok(())
     }
 

@@ -23,7 +23,7 @@ use crate::applied::Applied;
 use crate::error::GraphError;
 use crate::past::Past;
 use crate::since::has;
-use std::alloc::Global;
+use std::alloc::{AllocError, Global};
 use std::marker::Model;
 use tp_change::Change;
 use tp_opid::{Actor, Hash};
@@ -165,8 +165,21 @@ impl Graph {
         self.applied.check(change)
     }
 
-    /// Checks as [`check`](Graph::check) does, and makes every growth that the entry of the change takes, so that
-    /// [`enter`](Graph::enter) takes no memory. What a caller sees stays as it was.
+    /// Makes every growth that the entry of a change takes that can enter, so that [`enter`](Graph::enter) takes no memory.
+    /// What a caller sees stays as it was. The change isn't judged: it costs as many comparisons as its dependencies, where
+    /// they are the heads, and elsewhere what joining their pasts does.
+    pub fn reserve(&mut self, change: &Change) -> Result<(), AllocError>
+        requires { cause self.old.applied change.now ≡ None }
+        ensures applied { self.new.applied ≡ self.old.applied }
+        ensures waiting { self.new.waiting ≡ self.old.waiting }
+        ensures room { OnOk result (self.new.room ≡ Some (hash_of change.now)) }
+        ensures err { OnErr result (self.new.room ≡ self.old.room) }
+    {
+        self.applied.reserve(change)
+    }
+
+    /// Checks as [`check`](Graph::check) does, and then makes every growth as [`reserve`](Graph::reserve) does, behind the
+    /// past that was found. What a caller sees stays as it was.
     pub fn ready(&mut self, change: &Change) -> Result<(), GraphError>
         ensures answers { Answers result (cause self.old.applied change.now) }
         ensures applied { self.new.applied ≡ self.old.applied }
@@ -192,8 +205,8 @@ impl Graph {
         self.applied.ready(&self.waiting[i])
     }
 
-    /// Enters a change that can enter and that was made [`ready`](Graph::ready) for, as the last applied one. No
-    /// memory.
+    /// Enters a change that can enter, as the last applied one, once its growths were made by [`reserve`](Graph::reserve) or
+    /// [`ready`](Graph::ready). No memory.
     pub fn enter(&mut self, change: Change)
         requires enters { cause self.old.applied change ≡ None }
         requires room { self.old.room ≡ Some (hash_of change) }

@@ -1,6 +1,6 @@
 //! Which of the applied changes a past has.
 
-ghost use Rattle.std.specs.Prelude.{◌≡◌, ◌<◌, ◌≤◌, List, length, IfOk, OnErr};
+ghost use Rattle.std.specs.Prelude.{◌≡◌, ◌<◌, ◌≤◌, List, length, IfOk, IsSome, OnErr};
 ghost use Rattle.tp_opid.specs.declared.hash.Hash.{Hash};
 ghost use Rattle.tp_change.specs.declared.parts.ChangeParts.{ChangeParts};
 ghost use Rattle.tp_graph.specs.Extents.{IsKnown};
@@ -62,10 +62,23 @@ pub(crate) fn extent_in(part: Part) -> Option<Extent>
 }
 
 impl Applied {
-    /// Which of the changes the past of those of the hashes that are known has. All of them where the hashes are the
-    /// heads: that takes no memory. Elsewhere the extents of the changes with the hashes are joined: for each hash as
-    /// many comparisons as the extent and the join have tips. Only where one of the extents isn't known, or there are
-    /// too many tips, are the changes walked back over.
+    /// The extent of the past of those of the hashes that are known. All changes where the hashes are the heads: that
+    /// takes no memory. Elsewhere the extents of the changes with the hashes are joined: for each hash as many comparisons
+    /// as the extent and the join have tips. None where one of them isn't known, or there are too many tips.
+    pub(crate) fn known_past(&self, hashes: &[Hash]) -> Result<Option<Extent>, AllocError>
+        ensures known { IfOk result (IsKnown self.now.changes hashes.now) }
+        ensures heads { hashes.now ≡ head.heads self.now.changes → IfOk result IsSome }
+        ensures memory { OnErr result (hashes.now ≡ head.heads self.now.changes → ⊥) }
+    {
+        let changes = self.changes();
+        if same_hashes(hashes, self.heads()) {
+            return Ok(Some(Extent::whole(self.alloc(), changes.len())));
+        }
+        self.extent_of(hashes)
+    }
+
+    /// Which of the changes the past of those of the hashes that are known has. Only where its extent isn't known are the
+    /// changes walked back over.
     pub(crate) fn part(&self, hashes: &[Hash]) -> Result<Part, AllocError>
         ensures bits { IfOk result
             (λ part. bits part self.now.changes ≡ marked.marks self.now.changes hashes.now) }
@@ -73,11 +86,8 @@ impl Applied {
         ensures of { IfOk result (λ part. IsPartFor part self.now.changes hashes.now) }
         ensures memory { OnErr result (hashes.now ≡ head.heads self.now.changes → ⊥) }
     {
-        let changes = self.changes();
-        if same_hashes(hashes, self.heads()) {
-            return Ok(Part::Within(Extent::whole(self.alloc(), changes.len())));
-        }
-        match self.extent_of(hashes)? {
+        let _changes = self.changes();
+        match self.known_past(hashes)? {
             Some(extent) => Ok(Part::Within(extent)),
             None => Ok(Part::Marked(self.walk_back(hashes)?)),
         }

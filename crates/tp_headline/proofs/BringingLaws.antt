@@ -22,57 +22,49 @@ use Rattle.tp_peer.specs.Laws.{changes_in, changes_of}
 use Rattle.tp_peer.specs.Links.{known_of}
 use Rattle.tp_peer.specs.PeerData.{PeerData}
 use Rattle.tp_peer.specs.PeerStep as peer
-use Rattle.tp_peer.specs.Taking.{Report, TakesAll}
+use Rattle.tp_receive.specs.Outcome.{Report}
 use Rattle.tp_sync.specs.Due.{carried, due_of, is_due, leaves_out}
-use Rattle.tp_sync.specs.Message.{MessageParts}
 use Rattle.tp_sync.specs.Reading.{message_at}
 use Rattle.tp_sync.specs.State.{declared}
 use Rattle.tp_sync.proofs.TakeLaws.{all_carried}
 use Rattle.tp_sync.proofs.UnionLaws.{not_due_held}
 use Rattle.tp_sync.proofs.WholeMessage.{message_again}
-use Rattle.tp_headline.specs.Event.{Event, Deliver, Merge, Send}
-use Rattle.tp_headline.specs.Happening.{Next, with_sent}
-use Rattle.tp_headline.specs.Reply.{Reply, Delivered, Merged, Wire, PassesOn}
-use Rattle.tp_headline.specs.Running.{GoesOn}
-use Rattle.tp_headline.specs.World.{Entry, World, HasEntry, HasPeer, with_peer}
 use Rattle.tp_headline.specs.Arriving.{HoldsAll, HoldsReady}
+use Rattle.tp_headline.specs.Call.{Alone, Deliver, Merge}
+use Rattle.tp_headline.specs.Calling.{Steps, after_call}
 use Rattle.tp_headline.specs.Carried.{Carried}
+use Rattle.tp_headline.specs.Event.{Event, Call}
+use Rattle.tp_headline.specs.Happening.{Next}
+use Rattle.tp_headline.specs.Reply.{Answered, Reply, Wire, reply_to}
+use Rattle.tp_headline.specs.Running.{GoesOn}
+use Rattle.tp_headline.specs.World.{Entry, World, HasEntry, HasPeer}
 use Rattle.tp_headline.proofs.ArrivalLaws.{absent_or_there, all_arrive, takes_ready}
-use Rattle.tp_headline.proofs.EditMoves.{came_was_made, message_was_made}
-use Rattle.tp_headline.proofs.EventLaws.{goes_on_carries, next_carries, runs_of_steps}
-use Rattle.tp_headline.proofs.FollowLaws.{same_peer}
+use Rattle.tp_headline.proofs.CallLaws.{runs_of_steps}
+use Rattle.tp_headline.proofs.EventLaws.{goes_on_carries, next_carries}
+use Rattle.tp_headline.proofs.FollowLaws.{did, same_peer, stands_after}
 use Rattle.tp_headline.proofs.Lasting.{begins-In, lasts_on}
-use Rattle.tp_headline.proofs.MessageMoves.{entry_was_made}
-use Rattle.tp_headline.proofs.PlaceLaws.{slice_get-last, slice_get-set_same}
+use Rattle.tp_headline.proofs.MakingLaws.{all_was_made}
+use Rattle.tp_headline.proofs.PlaceLaws.{slice_get-last}
 
 -- ---- merges
 
-merge_taken : (next : ℕ) (p other : PeerData) (answer : peer.Reply) (report : Report) (p' : PeerData) → peer.Runs p (peer.Merge other) answer p' → PassesOn next answer (Merged report)
-    → (r : Report) × TakesAll p (absent p.applied other.applied) r p'
-merge_taken next p other (peer.Merged r) report p' runs e = (r, runs.1)
-merge_taken next p other (peer.Refused error) report p' runs e = absurd cc
-merge_taken next p other (peer.Made made) report p' runs e = absurd runs
-merge_taken next p other (peer.Received r same) report p' runs e = absurd runs
-merge_taken next p other (peer.Generated made) report p' runs e = absurd runs
-merge_taken next p other peer.Forgotten report p' runs e = absurd runs
-merge_taken next p other (peer.Text t) report p' runs e = absurd runs
-merge_taken next p other (peer.Heads hs) report p' runs e = absurd runs
+same_entry : (w : World) (n : ℕ) (e f : Entry) → HasEntry w n e → HasEntry w n f → e ≡ f
+same_entry w n e f i j = let same : Some e ≡ Some f = sym i ∙ j in cc
 
-pub merge_brings : (w : World) (into from : ℕ) (report : Report) (w' : World) (other : PeerData) → Carried w → HasPeer w from other → Next w (Merge into from) (Merged report) w' → HoldsAll w' into other.applied
-merge_brings w into from report w' other h there (inl refused) = absurd (let replied = refused.replied in cc)
-merge_brings w into from report w' other h there (inr does) =
-    let s = does.happens in
-    let source = s.0 in
-    let c = s.2 in
+pub merge_brings : (w : World) (into from : ℕ) (report : Report) (w' : World) (other : PeerData) → Carried w → HasPeer w from other → Next w (Call into (Merge from)) (Answered (peer.Merged report)) w'
+    → HoldsAll w' into other.applied
+merge_brings w into from report w' other h there next =
+    let d = did w into (Merge from) (peer.Merged report) w' next in
+    let c = d.calls in
+    let source = c.is.0 in
     let p = c.before in
     let p' = c.after in
-    let next = length w.wire in
     let q = h.peers into p c.stands in
-    let o = h.peers from source s.1 in
-    let runs = runs_of_steps next p (peer.Merge source) c.answer p' (Merged report) c.steps c.passed (λ e. cc) in
-    let t = merge_taken next p source c.answer report p' runs c.passed in
+    let o = h.peers from source c.is.1 in
+    let steps = subst (λ m. Steps p m (peer.Merged report) p') c.is.2 d.steps in
+    let t = runs_of_steps p (peer.Merge source) (peer.Merged report) p' steps (λ e. cc) in
     let K = absent p.applied source.applied in
-    let taken = takes_ready w p K t.0 p' h q (came_was_made w p source q o) t.1 in
+    let taken = takes_ready w p K report p' h q (all_was_made w (Merge from) (peer.Merge source) p h q (source, c.is.1, refl) (λ link bytes e. absurd cc)) t.1 in
     let came : (x : ChangeParts) → In x source.applied → In x p'.applied ⊎ In x K = λ x i. elim (absent_or_there p.applied source.applied x i) [
       | inl j ↦ inr j
       | inr known ↦
@@ -81,64 +73,36 @@ merge_brings w into from report w' other h there (inr does) =
     ] in
     let holds : HoldsAll w' into source.applied = record {
       peer = p';
-      stands = subst (λ x. HasPeer x into p') (sym s.3) (slice_get-set_same w.peers into p p' c.stands);
+      stands = stands_after w into (Merge from) (Answered (peer.Merged report)) w' c;
       all = λ few. all_arrive p'.applied K [] source.applied o.history.sound came (λ x i. absurd i) taken.0 few;
     } in
-    subst (λ (x : PeerData). HoldsAll w' into x.applied) (same_peer w from source other s.1 there) holds
+    subst (λ (x : PeerData). HoldsAll w' into x.applied) (same_peer w from source other c.is.1 there) holds
 
 -- ---- deliveries
 
--- a message was received whole
-record WasTaken (p : PeerData) (bytes : List ℕ) (p' : PeerData) : Type 0 where
-  message : MessageParts
-  reads : message_at bytes ≡ Ok message
-  report : Report
-  taken : PeerData
-  takes : TakesAll p message.changes report taken
-  applied : p'.applied ≡ taken.applied
-
-message_taken : (next : ℕ) (p : PeerData) (link : ℕ) (bytes : List ℕ) (answer : peer.Reply) (report : Report) (same : Bool) (p' : PeerData) → peer.Runs p (peer.Receive link bytes) answer p'
-    → PassesOn next answer (Delivered report same) → WasTaken p bytes p'
-message_taken next p link bytes (peer.Received r s) report same p' runs e = record {
-  message = runs.message;
-  reads = runs.decodes.reads;
-  report = r;
-  taken = runs.taken;
-  takes = runs.takes;
-  applied = ap (λ (x : PeerData). x.applied) runs.left;
-}
-message_taken next p link bytes (peer.Refused error) report same p' runs e = absurd cc
-message_taken next p link bytes (peer.Made made) report same p' runs e = absurd runs
-message_taken next p link bytes (peer.Merged r) report same p' runs e = absurd runs
-message_taken next p link bytes (peer.Generated made) report same p' runs e = absurd runs
-message_taken next p link bytes peer.Forgotten report same p' runs e = absurd runs
-message_taken next p link bytes (peer.Text t) report same p' runs e = absurd runs
-message_taken next p link bytes (peer.Heads hs) report same p' runs e = absurd runs
-
-same_entry : (w : World) (n : ℕ) (e f : Entry) → HasEntry w n e → HasEntry w n f → e ≡ f
-same_entry w n e f i j = let same : Some e ≡ Some f = sym i ∙ j in cc
-
-pub delivery_brings : (w : World) (n to : ℕ) (report : Report) (same : Bool) (w' : World) (e : Entry) → Carried w → HasEntry w n e → Next w (Deliver n to) (Delivered report same) w'
+pub delivery_brings : (w : World) (n to : ℕ) (report : Report) (same : Bool) (w' : World) (e : Entry) → Carried w → HasEntry w n e → Next w (Call to (Deliver n)) (Answered (peer.Received report same)) w'
     → HoldsReady w' to (changes_in e.bytes)
-delivery_brings w n to report same w' e h there (inl refused) = absurd (let replied = refused.replied in cc)
-delivery_brings w n to report same w' e h there (inr does) =
-    let s = does.happens in
-    let found = s.0 in
-    let c = s.2.0 in
+delivery_brings w n to report same w' e h there next =
+    let d = did w to (Deliver n) (peer.Received report same) w' next in
+    let c = d.calls in
+    let found = c.is.0 in
     let p = c.before in
     let p' = c.after in
-    let next = length w.wire in
     let q = h.peers to p c.stands in
-    let runs = runs_of_steps next p (peer.Receive found.sender found.bytes) c.answer p' (Delivered report same) c.steps c.passed (λ x. cc) in
-    let t = message_taken next p found.sender found.bytes c.answer report same p' runs c.passed in
+    let made = peer.Receive found.sender found.bytes in
+    let steps = subst (λ m. Steps p m (peer.Received report same) p') c.is.2 d.steps in
+    let t = runs_of_steps p made (peer.Received report same) p' steps (λ x. cc) in
     let K = t.message.changes in
-    let ready = (takes_ready w p K t.report t.taken h q (message_was_made w p K q (entry_was_made w n found h s.1 t.message t.reads)) t.takes).0 in
+    let is : changes_in found.bytes ≡ K = ap changes_of t.decodes.reads in
+    let came = all_was_made w (Deliver n) made p h q (found, c.is.1, refl) (λ link bytes x. absurd cc) in
+    let ready = (takes_ready w p K report t.taken h q (subst (λ (l : List ChangeParts). AllIn (p.waiting ++ l) w.made) is came) t.takes).0 in
+    let applied : p'.applied ≡ t.taken.applied = ap (λ (x : PeerData). x.applied) t.left in
     let holds : HoldsReady w' to K = record {
       peer = p';
-      stands = subst (λ x. HasPeer x to p') (sym s.2.1) (slice_get-set_same w.peers to p p' c.stands);
-      ready = subst (λ l. length l < most_changes → (x : ChangeParts) → In x K → has_all l x.deps ≡ true → In x l) (sym t.applied) ready;
+      stands = stands_after w to (Deliver n) (Answered (peer.Received report same)) w' c;
+      ready = subst (λ l. length l < most_changes → (x : ChangeParts) → In x K → has_all l x.deps ≡ true → In x l) (sym applied) ready;
     } in
-    subst (λ (x : Entry). HoldsReady w' to (changes_in x.bytes)) (same_entry w n found e s.1 there) (subst (λ l. HoldsReady w' to l) (sym (ap changes_of t.reads)) holds)
+    subst (λ (x : Entry). HoldsReady w' to (changes_in x.bytes)) (same_entry w n found e c.is.1 there) (subst (λ l. HoldsReady w' to l) (sym is) holds)
 
 -- ---- messages
 
@@ -148,60 +112,43 @@ record IsSent (m : World) (n : ℕ) (p : PeerData) (link : ℕ) : Type 0 where
   stands : HasEntry m n entry
   changes : changes_in entry.bytes ≡ carried p.applied (known_of p.links link)
 
--- the message that was made
-record WasMade (p : PeerData) (link : ℕ) (answer : peer.Reply) : Type 0 where
-  message : List ℕ × Bool
-  is : answer ≡ peer.Generated (Some message)
-  changes : changes_in message.0 ≡ carried p.applied (known_of p.links link)
+wire_of : (k n : ℕ) (answer : peer.Reply) → Wire n ≡ reply_to k answer → (message : List ℕ × Bool) × (answer ≡ peer.Generated (Some message)) × (n ≡ k)
+wire_of k n (peer.Generated (Some message)) e = (message, refl, cc)
+wire_of k n answer e = absurd cc
 
-made_for : (next n : ℕ) (p : PeerData) (link : ℕ) (answer : peer.Reply) (p' : PeerData) → peer.Runs p (peer.Generate link) answer p' → PassesOn next answer (Wire n) → (n ≡ next) × WasMade p link answer
-made_for next n p link (peer.Generated (Some message)) p' runs e = (
-  cc,
-  record {
-    message = message;
-    is = refl;
-    changes = ap changes_of (ap message_at runs.spelled ∙ message_again runs.message runs.limits) ∙ runs.answers.changes;
-  },
-)
-made_for next n p link (peer.Generated None) p' runs e = absurd cc
-made_for next n p link (peer.Refused error) p' runs e = absurd cc
-made_for next n p link (peer.Received r same) p' runs e = absurd runs
-made_for next n p link (peer.Made made) p' runs e = absurd runs
-made_for next n p link (peer.Merged r) p' runs e = absurd runs
-made_for next n p link peer.Forgotten p' runs e = absurd runs
-made_for next n p link (peer.Text t) p' runs e = absurd runs
-made_for next n p link (peer.Heads hs) p' runs e = absurd runs
-
-message_stands : (w : World) (from to : ℕ) (n : ℕ) (m : World) (p : PeerData) → HasPeer w from p → Next w (Send from to) (Wire n) m → IsSent m n p to
+message_stands : (w : World) (from to : ℕ) (n : ℕ) (m : World) (p : PeerData) → HasPeer w from p → Next w (Call from (Alone (peer.Generate to))) (Wire n) m → IsSent m n p to
 message_stands w from to n m p there (inl refused) = absurd (let replied = refused.replied in cc)
 message_stands w from to n m p there (inr does) =
-    let s = does.happens in
-    let c = s.0 in
-    let next = length w.wire in
-    let x = with_peer w from c.after in
-    let runs = runs_of_steps next c.before (peer.Generate to) c.answer c.after (Wire n) c.steps c.passed (λ e. cc) in
-    let made = made_for next n c.before to c.answer c.after runs c.passed in
-    let message = made.1.message in
+    let c = does.happens in
+    let sent = wire_of (length w.wire) n c.answer c.replied in
+    let message = sent.0 in
+    let answer = peer.Generated (Some message) in
+    let steps = subst (λ a. Steps c.before (peer.Generate to) a c.after) sent.1 (subst (λ x. Steps c.before x c.answer c.after) c.is.0 c.steps) in
+    let runs = runs_of_steps c.before (peer.Generate to) answer c.after steps (λ e. cc) in
     let entry : Entry = record { sender = from; bytes = message.0 } in
-    let wire : m.wire ≡ w.wire ++ entry ∷ [] = ap (λ (y : World). y.wire) (s.1 ∙ ap (λ a. with_sent x from a) made.1.is) in
-    let stands : slice_get m.wire n ≡ Some entry = ap (λ k. slice_get m.wire k) made.0 ∙ ap (λ l. slice_get l next) wire ∙ slice_get-last w.wire entry in
-    subst (λ y. IsSent m n y to) (same_peer w from c.before p c.stands there) (record { entry = entry; stands = stands; changes = made.1.changes })
+    let wire : m.wire ≡ w.wire ++ entry ∷ [] = ap (λ (y : World). y.wire) (c.left ∙ ap (λ a. after_call w from c.before c.made a c.after) sent.1) in
+    let stands : slice_get m.wire n ≡ Some entry = ap (λ k. slice_get m.wire k) sent.2 ∙ ap (λ l. slice_get l (length w.wire)) wire ∙ slice_get-last w.wire entry in
+    subst (λ y. IsSent m n y to) (same_peer w from c.before p c.stands there) (record {
+      entry = entry;
+      stands = stands;
+      changes = ap changes_of (ap message_at runs.spelled ∙ message_again runs.message runs.limits) ∙ runs.answers.changes;
+    })
 
 has_all-append : (D : List ChangeParts) (H K : List Hash) → has_all D H ≡ true → has_all D K ≡ true → has_all D (H ++ K) ≡ true
 has_all-append D H K a b = In-has_all D (H ++ K) (λ h i. elim (In-append h H K i) [ inl j ↦ has_all-In D H a h j | inr j ↦ has_all-In D K b h j ])
 
-pub message_brings : (w : World) (from to n : ℕ) (p q : PeerData) (D : List ChangeParts) (m : World) (events : List Event) (replies : List Reply) (v : World) (report : Report) (same : Bool) (w' : World)
+pub message_brings : (w : World) (from to n : ℕ) (p q : PeerData) (D : List ChangeParts) (m : World) (events : List (Event × Reply)) (v : World) (report : Report) (same : Bool) (w' : World)
     → Carried w → HasPeer w from p → HasPeer w to q → Begins D q.applied → (known_of p.links to).theirs ≡ Some (heads D)
     → has_all D (known_of p.links to).known ≡ true → leaves_out p.applied (known_of p.links to) ≡ false
-    → Next w (Send from to) (Wire n) m → GoesOn m events replies v → Next v (Deliver n to) (Delivered report same) w' → HoldsAll w' to p.applied
-message_brings w from to n p q D m events replies v report same w' h stands_p stands_q b told knows whole send goes deliver =
+    → Next w (Call from (Alone (peer.Generate to))) (Wire n) m → GoesOn m events v → Next v (Call to (Deliver n)) (Answered (peer.Received report same)) w' → HoldsAll w' to p.applied
+message_brings w from to n p q D m events v report same w' h stands_p stands_q b told knows whole send goes deliver =
     let C = p.applied in
     let s = known_of p.links to in
     let hp = h.peers from p stands_p in
     let hq = h.peers to q stands_q in
-    let first = next_carries w (Send from to) (Wire n) m h send in
-    let on = goes_on_carries events replies m v first.carried goes in
-    let last = next_carries v (Deliver n to) (Delivered report same) w' on.carried deliver in
+    let first = next_carries w (Call from (Alone (peer.Generate to))) (Wire n) m h send in
+    let on = goes_on_carries events m v first.carried goes in
+    let last = next_carries v (Call to (Deliver n)) (Answered (peer.Received report same)) w' on.carried deliver in
     let lasts = lasts_on w m w' first.lasts (lasts_on m v w' on.lasts last.lasts) in
     let sent = message_stands w from to n m p stands_p send in
     let e = sent.entry in

@@ -1,25 +1,36 @@
 -- What a crash makes of a peer of a world.
-use Rattle.std.proofs.Common.{◌≡◌, ◌⊎◌, inl, inr, ℕ, ◌+◌, ◌<◌, ◌≤◌, List, [], ◌∷◌, ◌++◌, length, take, drop, true, false, refl, sym, ap, ◌∙◌, subst, append-nil, arith}
+use Rattle.std.proofs.Common.{◌≡◌, ◌⊎◌, inl, inr, ℕ, ◌+◌, ◌<◌, ◌≤◌, nat_le, List, [], ◌∷◌, ◌++◌, length, take, drop, true, false, Option, Some, None, refl, sym, ap, ◌∙◌, subst, append-nil, arith}
+use Rattle.std.proofs.lemmas.Bool.Decides.{nat_tests}
 use Rattle.std.proofs.lemmas.List.{take_all}
 use Rattle.std.proofs.Math.Seq.{drop-append_seam, take-append-add}
 use Rattle.tp_list.specs.Members.{In, AllIn}
-use Rattle.tp_list.proofs.Members.{In-append, In-left}
+use Rattle.tp_list.proofs.Members.{In-append, In-last, In-left}
 use Rattle.tp_list.proofs.Tests.{truth}
 use Rattle.tp_opid.specs.declared.actor.Actor.{Actor}
 use Rattle.tp_opid.specs.declared.doc_id.DocId.{DocId}
 use Rattle.tp_change.specs.declared.parts.ChangeParts.{ChangeParts}
-use Rattle.tp_graph.specs.Sound.{Sound}
 use Rattle.tp_journal.specs.Layout.{IsDocId, record_of, records_of, journal}
 use Rattle.tp_journal.specs.Recovery.{IsHistory, Recovers}
 use Rattle.tp_journal.proofs.CutLaws.{recovers_cut}
 use Rattle.tp_journal.proofs.RecoveryLaws.{recovers_once}
 use Rattle.tp_peer.specs.PeerData.{PeerData, opened}
-use Rattle.tp_headline.specs.Crashing.{ComesBack, kept_bytes, stopped_with}
-use Rattle.tp_headline.specs.Reply.{Reply, Peer, Edited, Merged, Wire, Quiet, Delivered, Reopened, Text, Refused, Inner}
-use Rattle.tp_headline.specs.World.{World, HasPeer, gained}
+use Rattle.tp_peer.specs.PeerStep as peer
+use Rattle.tp_peer.proofs.KeepingLaws.{history_grows}
+use Rattle.tp_headline.specs.declared.error.WorldError.TheVariants as world
+use Rattle.tp_headline.specs.Call.{Call, Alone, Merge, Deliver}
+use Rattle.tp_headline.specs.Calling.{IsCall, made_by}
 use Rattle.tp_headline.specs.Carried.{Carried, IsCarried}
-use Rattle.tp_headline.proofs.Lasting.{Carries, Grows, begins-In}
-use Rattle.tp_headline.proofs.PeerMoves.{AreBy, LivesOn, Moves, moves_grow, peer_changes}
+use Rattle.tp_headline.specs.Crashing.{ComesBack, Crashes, KeepsWhole, MakesWhole, MayBe, MayEnter, kept_bytes, made_during, stopped_with}
+use Rattle.tp_headline.specs.Event.{Crash, bytes_of}
+use Rattle.tp_headline.specs.Happening.{Happens, Next}
+use Rattle.tp_headline.specs.Refusing.{IsEditAt, MayHappen}
+use Rattle.tp_headline.specs.Reply.{Reply}
+use Rattle.tp_headline.specs.World.{World, HasPeer, gained, with_made, with_peer, with_used}
+use Rattle.tp_headline.proofs.CallLaws.{Enters, may_enter, steps_enter}
+use Rattle.tp_headline.proofs.Lasting.{Carries, Grows, becomes, begins-In}
+use Rattle.tp_headline.proofs.MakingLaws.{Makes, all_was_made, makes, makes_none, nothing_left, one_cut, would_edit}
+use Rattle.tp_headline.proofs.PeerMoves.{LivesOn, Moves, moves_grow, peer_changes}
+use Rattle.tp_headline.proofs.PlaceLaws.{slice_get-set_same}
 
 -- ---- what the journal recovers to
 
@@ -34,7 +45,7 @@ pub record Recovered (p at : PeerData) (kept : ℕ) (new : List ChangeParts) : T
   pub recovers : Recovers (kept_bytes p at kept) p.id (p.applied ++ whole) keep
 
 -- the records of `new` were appended
-pub recovered_cut : (p at : PeerData) (kept : ℕ) (new : List ChangeParts) → IsDocId p.id → p.journal ≡ journal p.id p.applied → at.journal ≡ p.journal ++ records_of new
+recovered_cut : (p at : PeerData) (kept : ℕ) (new : List ChangeParts) → IsDocId p.id → p.journal ≡ journal p.id p.applied → at.journal ≡ p.journal ++ records_of new
     → IsHistory (p.applied ++ new) → Recovered p at kept new
 recovered_cut p at kept new is own appended history =
     let cut = recovers_cut p.id p.applied new kept is history in
@@ -53,7 +64,7 @@ recovered_cut p at kept new is own appended history =
     }
 
 -- nothing was appended to a journal that recovers
-pub recovered_as_it_was : (p : PeerData) (kept keep : ℕ) → Recovers p.journal p.id p.applied keep → Recovered p p kept []
+recovered_as_it_was : (p : PeerData) (kept keep : ℕ) → Recovers p.journal p.id p.applied keep → Recovered p p kept []
 recovered_as_it_was p kept keep r =
     let bytes : kept_bytes p p kept ≡ p.journal = take_all (length p.journal + kept) p.journal (omega arith) in
     record {
@@ -66,30 +77,12 @@ recovered_as_it_was p kept keep r =
       recovers = subst (λ b. Recovers b p.id (p.applied ++ []) keep) (sym bytes) (subst (λ C. Recovers p.journal p.id C keep) (sym (append-nil p.applied)) r);
     }
 
--- what was recovered is of what was appended
-pub whole-In : (p at : PeerData) (kept : ℕ) (new : List ChangeParts) (r : Recovered p at kept new) (made : List ChangeParts) → AllIn new made → AllIn r.whole made
-whole-In p at kept new r made all c i = all c (subst (λ l. In c l) (sym r.split) (In-left c r.whole r.others i))
-
--- a journal to which nothing is appended
 pub recovered_between : (w : World) (p : PeerData) (kept : ℕ) → Carried w → IsCarried w p → Recovered p p kept []
 recovered_between w p kept h q = elim (truth p.stopped) [
   | inl stopped ↦ let d = q.dead stopped in recovered_as_it_was p kept d.0 d.1
   | inr runs ↦
       recovered_cut p p kept [] (subst IsDocId (sym q.id) h.is_id) (q.live runs).journal (sym (append-nil p.journal)) (subst IsHistory (sym (append-nil p.applied)) q.history)
 ]
-
--- one change is whole or it isn't
-pub one_cut : (c : ChangeParts) (whole others : List ChangeParts) → c ∷ [] ≡ whole ++ others → (whole ≡ []) ⊎ (whole ≡ c ∷ [])
-one_cut c [] others e = inl refl
-one_cut c (d ∷ []) others e = inr cc
-one_cut c (d ∷ f ∷ ds) others e = absurd cc
-
-pub nothing_left : (whole others : List ChangeParts) → [] ≡ whole ++ others → whole ≡ []
-nothing_left [] others e = refl
-nothing_left (c ∷ whole) others e = absurd cc
-
-pub one_record : (c : ChangeParts) → length (records_of (c ∷ [])) ≡ length (record_of c)
-one_record c = ap length (append-nil (record_of c))
 
 -- ---- the peer afterwards
 
@@ -100,28 +93,21 @@ IsBack p actor bytes C p' = (p' ≡ opened p.id actor C 0) ⊎ (p' ≡ stopped_w
 same_opened : (i j : DocId) (a : Actor) (C D : List ChangeParts) → i ≡ j → C ≡ D → opened i a C 0 ≡ opened j a D 0
 same_opened i j a C D e f = cc
 
-pub is_back : (p p' : PeerData) (bytes : List ℕ) (C : List ChangeParts) (keep : ℕ) (actor : Actor) (reply : Reply) → Recovers bytes p.id C keep → ComesBack p bytes actor reply p' → IsBack p actor bytes C p'
-is_back p p' bytes C keep actor Reopened r b =
+is_back : (p p' : PeerData) (bytes : List ℕ) (C : List ChangeParts) (keep : ℕ) (actor : Actor) (reply : Reply) → Recovers bytes p.id C keep → ComesBack p bytes actor reply p' → IsBack p actor bytes C p'
+is_back p p' bytes C keep actor reply r (inl again) =
+    let b = again.1 in
     let once = recovers_once bytes b.id p.id b.applied C b.keep keep b.recovers r in
     inl (b.is ∙ same_opened b.id p.id actor b.applied C once.0 once.1)
-is_back p p' bytes C keep actor (Inner error) r b =
-    let once = recovers_once bytes p.id p.id b.1 C b.2 keep b.3 r in
-    inr (b.4 ∙ ap (λ D. stopped_with p bytes D) once.1)
-is_back p p' bytes C keep actor (Peer n) r b = absurd b
-is_back p p' bytes C keep actor (Edited made) r b = absurd b
-is_back p p' bytes C keep actor (Merged report) r b = absurd b
-is_back p p' bytes C keep actor (Wire n) r b = absurd b
-is_back p p' bytes C keep actor Quiet r b = absurd b
-is_back p p' bytes C keep actor (Delivered report same) r b = absurd b
-is_back p p' bytes C keep actor (Text text) r b = absurd b
-is_back p p' bytes C keep actor (Refused why) r b = absurd b
+is_back p p' bytes C keep actor reply r (inr down) =
+    let b = down.2 in
+    inr (b.left ∙ ap (λ D. stopped_with p bytes D) (recovers_once bytes p.id p.id b.changes C b.keep keep b.recovers r).1)
 
-pub back_applied : (p p' : PeerData) (bytes : List ℕ) (C : List ChangeParts) (actor : Actor) → IsBack p actor bytes C p' → p'.applied ≡ C
+back_applied : (p p' : PeerData) (bytes : List ℕ) (C : List ChangeParts) (actor : Actor) → IsBack p actor bytes C p' → p'.applied ≡ C
 back_applied p p' bytes C actor (inl is) = ap (λ (x : PeerData). x.applied) is
 back_applied p p' bytes C actor (inr is) = ap (λ (x : PeerData). x.applied) is
 
 -- what was recovered is what the peer that comes back gained
-pub came_back : (p at p' : PeerData) (kept : ℕ) (new : List ChangeParts) (actor : Actor) (reply : Reply) (r : Recovered p at kept new) → ComesBack p (kept_bytes p at kept) actor reply p' → p'.applied ≡ p.applied ++ r.whole
+came_back : (p at p' : PeerData) (kept : ℕ) (new : List ChangeParts) (actor : Actor) (reply : Reply) (r : Recovered p at kept new) → ComesBack p (kept_bytes p at kept) actor reply p' → p'.applied ≡ p.applied ++ r.whole
 came_back p at p' kept new actor reply r comes =
     let C = p.applied ++ r.whole in
     back_applied p p' (kept_bytes p at kept) C actor (is_back p p' (kept_bytes p at kept) C r.keep actor reply r.recovers comes)
@@ -159,30 +145,154 @@ new_life w p p' bytes C actor fresh (inl is) runs = inr (λ i. fresh (subst (λ 
 new_life w p p' bytes C actor fresh (inr is) runs = absurd (let stopped : true ≡ false = ap (λ (x : PeerData). x.stopped) (sym is) ∙ runs in cc)
 
 -- the peer that crashed comes back, and changes of its life were made
-pub crash_returns : (w w' : World) (n : ℕ) (p at p' : PeerData) (kept : ℕ) (new made : List ChangeParts) (actor : Actor) (reply : Reply) → Carried w → HasPeer w n p
-    → (r : Recovered p at kept new) → ComesBack p (kept_bytes p at kept) actor reply p' → (In actor w.used → ⊥) → Moves w w' n p' made → In actor w'.used
-    → Sound (w.made ++ made) → AreBy p made → AllIn r.whole w'.made → Carries w w'
-crash_returns w w' n p at p' kept new made actor reply h stands r comes fresh moves used sound by whole =
+crash_returns : (w : World) (n : ℕ) (p at p' : PeerData) (kept : ℕ) (new made : List ChangeParts) (actor : Actor) (reply : Reply) → Carried w → HasPeer w n p
+    → (r : Recovered p at kept new) → ComesBack p (kept_bytes p at kept) actor reply p' → (In actor w.used → ⊥) → Makes w p r.whole made
+    → Carries w (with_used (with_made (with_peer w n p') made) actor)
+crash_returns w n p at p' kept new made actor reply h stands r comes fresh m =
+    let w' = with_used (with_made (with_peer w n p') made) actor in
     let bytes = kept_bytes p at kept in
     let C = p.applied ++ r.whole in
     let q = h.peers n p stands in
+    let moves : Moves w w' n p' made = record { id = refl; peers = refl; made = refl; used = λ a i. In-left a w.used (actor ∷ []) i; wire = refl; reads = refl } in
     let grows = moves_grow w w' n p' made moves in
     let back = is_back p p' bytes C r.keep actor reply r.recovers comes in
     let all : AllIn C w'.made = λ c i. elim (In-append c p.applied r.whole i) [
       | inl old ↦ begins-In w.made w'.made grows.made c (q.applied c old)
-      | inr new ↦ whole c new
+      | inr whole ↦ m.all c whole
     ] in
-    let none : (c : ChangeParts) → In c w'.made → c.actor ≡ actor → ⊥ = λ c i is. elim (In-append c w.made made (subst (λ l. In c l) moves.made i)) [
+    let none : (c : ChangeParts) → In c w'.made → c.actor ≡ actor → ⊥ = λ c i is. elim (In-append c w.made made i) [
       | inl old ↦ fresh (subst (λ a. In a w.used) is (h.used c old))
-      | inr new ↦ fresh (subst (λ a. In a w.used) (sym (by.actor c new) ∙ is) q.used)
+      | inr fresh_one ↦ fresh (subst (λ a. In a w.used) (sym (m.by.actor c fresh_one) ∙ is) q.used)
     ] in
     peer_changes w w' n p p' made (record {
       old = h;
       stands = stands;
       moves = moves;
       begins = (r.whole, back_applied p p' bytes C actor back);
-      sound = sound;
-      by = by;
-      carried = back_is_carried w w' p p' bytes C r.keep actor q grows r.recovers all used none back;
+      sound = m.sound;
+      by = m.by;
+      carried = back_is_carried w w' p p' bytes C r.keep actor q grows r.recovers all (In-last actor w.used) none back;
       life = new_life w p p' bytes C actor fresh back;
     })
+
+-- ---- a crash during a call
+
+-- What the interrupted call left, what of it was kept, and what that made.
+pub record Interrupted (w : World) (p : PeerData) (made : peer.Call) (answer : peer.Reply) (at : PeerData) (kept : ℕ) : Type 0 where
+  pub runs : p.stopped ≡ false
+  pub enters : Enters p made answer at
+  pub cut : Recovered p at kept enters.new
+  pub makes : Makes w p cut.whole (made_by made cut.whole)
+
+pub interrupted : (w : World) (n : ℕ) (p : PeerData) (named : Call) (at : PeerData) (kept : ℕ) (actor : Actor) → Carried w → MayHappen w (Crash n (Some named) kept actor) → HasPeer w n p
+    → (might : MayBe w p (Some named) at) → Interrupted w p might.0 might.1 at kept
+interrupted w n p named at kept actor h may stands might =
+    let e = Crash n (Some named) kept actor in
+    let made = might.0 in
+    let q = h.peers n p stands in
+    let runs = may world.Stopped n p (inl refl) stands in
+    let enters = steps_enter p made might.1 at might.3 in
+    let cut = recovered_cut p at kept enters.new (subst IsDocId (sym q.id) h.is_id) (q.live runs).journal enters.journal (history_grows enters.new p.applied q.history enters.fits enters.limits) in
+    let came = all_was_made w named made p h q might.2 (λ link bytes is. may world.ForeignChange bytes (ap (λ (x : Call). bytes_of (Crash n (Some x) kept actor)) is)) in
+    record {
+      runs = runs;
+      enters = enters;
+      cut = cut;
+      makes = makes w n p made enters.new cut.whole cut.others h stands runs (may_enter p made might.1 enters.new enters.entered) cut.split came (λ c one edit d i same.
+          may world.HashClash c d (would_edit w e n named made c refl might.2 edit, kept_whole c cut.whole kept one cut.within) i same);
+    } where
+      kept_whole : (c : ChangeParts) (whole : List ChangeParts) (kept : ℕ) → whole ≡ c ∷ [] → length (records_of whole) ≤ kept → nat_le (length (record_of c)) kept ≡ true
+      kept_whole c whole kept one within =
+          let enough : length (record_of c) ≤ kept = subst (λ k. k ≤ kept) (ap (λ l. length (records_of l)) one ∙ ap length (append-nil (record_of c))) within in
+          grind (arith, nat_tests)
+
+-- what the call makes is what counts as made
+pub during_is : (w : World) (named : Call) (made : peer.Call) (new : List ChangeParts) → IsCall w named made → made_during (Some named) new ≡ made_by made new
+during_is w (Alone own) made new is = ap (λ (m : peer.Call). made_by m new) (sym is.0)
+during_is w (Merge from) made new is = ap (λ (m : peer.Call). made_by m new) (sym is.2)
+during_is w (Deliver entry) made new is = ap (λ (m : peer.Call). made_by m new) (sym is.2)
+
+-- ---- every crash
+
+crashed : (w : World) (n : ℕ) (during : Option Call) (kept : ℕ) (actor : Actor) (reply : Reply) → Carried w → MayHappen w (Crash n during kept actor) → (c : Crashes w n during kept actor reply)
+    → Carries w (with_used (with_made (with_peer w n c.after) (made_during during (gained c.before c.after))) actor)
+crashed w n None kept actor reply h may c =
+    let p = c.before in
+    let r = recovered_between w p kept h (h.peers n p c.stands) in
+    crash_returns w n p p c.after kept [] [] actor reply h c.stands r (subst (λ (x : PeerData). ComesBack p (kept_bytes p x kept) actor reply c.after) c.might c.back) (may world.ActorUsed actor refl)
+    (makes_none w p r.whole h (λ d i. absurd (subst (λ l. In d l) (nothing_left r.whole r.others r.split) i)))
+crashed w n (Some named) kept actor reply h may c =
+    let p = c.before in
+    let i = interrupted w n p named c.at kept actor h may c.stands c.might in
+    let made = c.might.0 in
+    let same : made_during (Some named) (gained p c.after) ≡ made_by made i.cut.whole =
+    during_is w named made (gained p c.after) c.might.2 ∙ ap (λ l. made_by made l) (gained_back p c.at c.after kept i.enters.new actor reply i.cut c.back) in
+    subst (λ l. Carries w (with_used (with_made (with_peer w n c.after) l) actor)) (sym same)
+    (crash_returns w n p c.at c.after kept i.enters.new (made_by made i.cut.whole) actor reply h c.stands i.cut c.back (may world.ActorUsed actor refl) i.makes)
+
+pub crash_carries : (w : World) (n : ℕ) (during : Option Call) (kept : ℕ) (actor : Actor) (reply : Reply) (w' : World) → Carried w → MayHappen w (Crash n during kept actor)
+    → Happens w (Crash n during kept actor) reply w' → Carries w w'
+crash_carries w n during kept actor reply w' h may s =
+    becomes w w' (with_used (with_made (with_peer w n s.0.after) (made_during during (gained s.0.before s.0.after))) actor) s.1 (crashed w n during kept actor reply h may s.0)
+
+-- ---- what is kept of a call
+
+-- a crash during a call keeps just what is whole
+pub crash_keeps : (w : World) (n : ℕ) (named : Call) (kept : ℕ) (actor : Actor) (reply : Reply) (w' : World) → Carried w → Next w (Crash n (Some named) kept actor) reply w' → (w' ≡ w) ⊎ KeepsWhole w w' n named kept
+crash_keeps w n named kept actor reply w' h (inl refused) = inl refused.left
+crash_keeps w n named kept actor reply w' h (inr does) =
+    let s = does.happens in
+    let c = s.0 in
+    let p = c.before in
+    let i = interrupted w n p named c.at kept actor h does.may c.stands c.might in
+    let new = i.enters.new in
+    let call = c.might.0 in
+    let made : w'.made ≡ w.made ++ made_during (Some named) (gained p c.after) = ap (λ (x : World). x.made) s.1 in
+    inr (record {
+      before = p;
+      stood = c.stands;
+      runs = i.runs;
+      made = call;
+      is = c.might.2;
+      new = new;
+      entered = may_enter p call c.might.1 new i.enters.entered;
+      fits = i.enters.fits;
+      whole = i.cut.whole;
+      are_whole = record { others = i.cut.others; split = i.cut.split; within = i.cut.within; torn = i.cut.torn };
+      after = c.after;
+      stands = subst (λ x. HasPeer x n c.after) (sym s.1) (slice_get-set_same w.peers n p c.after c.stands);
+      there = came_back p c.at c.after kept new actor reply i.cut c.back;
+      added =
+          made
+          ∙ ap (λ l. w.made ++ l)
+          (during_is w named call (gained p c.after) c.might.2 ∙ ap (λ l. made_by call l) (gained_back p c.at c.after kept new actor reply i.cut c.back));
+    })
+
+-- a crash within an edit makes nothing, or its change
+made_whole : (w w' : World) (n : ℕ) (made : peer.Call) (kept : ℕ) (k : KeepsWhole w w' n (Alone made) kept) → MayEnter k.before made k.new → w'.made ≡ w.made ++ made_by made k.whole
+    → (w'.made ≡ w.made) ⊎ MakesWhole w w' n made kept
+made_whole w w' n (peer.Edit ss time message) kept k (inl none) added =
+    inl (added ∙ ap (λ l. w.made ++ l) (nothing_left k.whole k.are_whole.others (sym none ∙ k.are_whole.split)) ∙ append-nil w.made)
+made_whole w w' n (peer.Edit ss time message) kept k (inr one) added =
+    let c = one.0 in
+    elim (one_cut c k.whole k.are_whole.others (sym one.2 ∙ k.are_whole.split)) [
+      | inl none ↦ inl (added ∙ ap (λ l. w.made ++ l) none ∙ append-nil w.made)
+      | inr is ↦ inr (record {
+        change = c;
+        is = record { peer = k.before; stands = k.stood; runs = k.runs; edited = one.1 };
+        whole = subst (λ m. m ≤ kept) (ap (λ l. length (records_of l)) is ∙ ap length (append-nil (record_of c))) k.are_whole.within;
+        added = added ∙ ap (λ l. w.made ++ l) is;
+        after = k.after;
+        stands = k.stands;
+        there = k.there ∙ ap (λ l. k.before.applied ++ l) is;
+      })
+    ]
+made_whole w w' n made kept k entered added = inl (added ∙ append-nil w.made)
+
+pub crash_makes : (w : World) (n : ℕ) (made : peer.Call) (kept : ℕ) (actor : Actor) (reply : Reply) (w' : World) → Carried w → Next w (Crash n (Some (Alone made)) kept actor) reply w'
+    → (w'.made ≡ w.made) ⊎ MakesWhole w w' n made kept
+crash_makes w n made kept actor reply w' h next = elim (crash_keeps w n (Alone made) kept actor reply w' h next) [
+  | inl same ↦ inl (ap (λ (x : World). x.made) same)
+  | inr k ↦
+      made_whole w w' n made kept k (subst (λ m. MayEnter k.before m k.new) k.is.0 k.entered) (subst (λ (m : peer.Call). w'.made ≡ w.made ++ made_by m k.whole) k.is.0 k.added)
+]

@@ -2,14 +2,11 @@ pub mod PlaceLaws
 pub mod CallLaws
 pub mod Lasting
 pub mod PeerMoves
-pub mod EditMoves
+pub mod MakingLaws
 pub mod CrashMoves
-pub mod MessageMoves
 pub mod EventLaws
 pub mod OneList
 pub mod FollowLaws
-pub mod RunLaws
-pub mod CrashLaws
 pub mod MayLaws
 pub mod ArrivalLaws
 pub mod BringingLaws

@@ -132,10 +132,6 @@ pub record Moves (w w' : World) (n : ℕ) (p' : PeerData) (new : List ChangePart
   pub wire : w'.wire ≡ w.wire
   pub reads : w'.reads ≡ w.reads
 
--- nothing was made
-pub peer_moves : (w : World) (n : ℕ) (p' : PeerData) → Moves w (with_peer w n p') n p' []
-peer_moves w n p' = record { id = refl; peers = refl; made = sym (append-nil w.made); used = λ a i. i; wire = refl; reads = refl }
-
 pub moves_grow : (w w' : World) (n : ℕ) (p' : PeerData) (new : List ChangeParts) → Moves w w' n p' new → Grows w w'
 moves_grow w w' n p' new moves = record {
   id = moves.id;

@@ -1,10 +1,11 @@
--- Calls that a crash may interrupt.
-use Rattle.std.specs.Prelude.{ℕ, List}
-use Rattle.tp_edit.specs.declared.splice.Splice.{Splice}
+-- The calls that events make.
+use Rattle.std.specs.Prelude.{ℕ}
+use Rattle.tp_peer.specs.PeerStep as peer
 
--- A call of a peer during which it crashes: an edit by its splices, time and message; a merge from the peer with the
--- number; the delivery of the entry with the number.
+-- A call as an event names it: one that needs no other peer; a merge from the peer with the number; the receipt of the
+-- entry of the wire with the number, on the link to the peer that sent it. The number of a link is that of the peer at
+-- its other end.
 pub data Call : Type 0 where
-  Edit : List Splice → ℕ → List ℕ → Call
+  Alone : peer.Call → Call
   Merge : ℕ → Call
   Deliver : ℕ → Call

@@ -1,34 +1,28 @@
 -- A peer that crashes, between calls or during one, and is opened again.
-use Rattle.std.specs.Prelude.{◌≡◌, ℕ, ◌+◌, ◌≤◌, List, [], ◌∷◌, ◌++◌, length, take, true, Option, Some, None}
-use Rattle.tp_list.specs.Members.{AllIn}
+use Rattle.std.specs.Prelude.{◌≡◌, ◌⊎◌, ℕ, ◌+◌, ◌≤◌, List, [], ◌∷◌, ◌++◌, length, take, true, false, Option, Some, None}
 use Rattle.tp_opid.specs.declared.actor.Actor.{Actor}
 use Rattle.tp_change.specs.declared.parts.ChangeParts.{ChangeParts}
-use Rattle.tp_edit.specs.declared.splice.Splice.{Splice}
 use Rattle.tp_journal.specs.Laws.{AreWhole}
 use Rattle.tp_journal.specs.Layout.{record_of}
 use Rattle.tp_journal.specs.Recovery.{Recovers}
+use Rattle.tp_list.specs.Members.{AllIn}
 use Rattle.tp_receive.specs.Receiving.{EntersAfter}
+use Rattle.tp_peer.specs.declared.error.PeerError.{PeerError}
+use Rattle.tp_peer.specs.Laws.{came}
 use Rattle.tp_peer.specs.Opening.{Reopens, NotReopened}
 use Rattle.tp_peer.specs.PeerData.{PeerData}
 use Rattle.tp_peer.specs.PeerStep as peer
 use Rattle.tp_headline.specs.Call as call
-use Rattle.tp_headline.specs.Calling.{Steps, in_memory}
-use Rattle.tp_headline.specs.Refusing.{IsEditAt}
-use Rattle.tp_headline.specs.Reply.{Reply, Reopened, Inner}
-use Rattle.tp_headline.specs.World.{Entry, World, HasEntry, HasPeer}
-
--- The interrupted call, as the peer makes it.
-abbrev pub IsCall : World → call.Call → peer.Call → Type 0
-IsCall w (call.Edit splices time message) made = made ≡ peer.Edit splices time message
-IsCall w (call.Merge from) made = (other : PeerData) × HasPeer w from other × (made ≡ peer.Merge other)
-IsCall w (call.Deliver entry) made = (e : Entry) × HasEntry w entry e × (made ≡ peer.Receive e.sender e.bytes)
+use Rattle.tp_headline.specs.Calling.{IsCall, Steps, in_memory, made_by}
+use Rattle.tp_headline.specs.Refusing.{IsEditAt, IsEditOf}
+use Rattle.tp_headline.specs.Reply.{Reply, Answered, Reopened}
+use Rattle.tp_headline.specs.World.{World, HasPeer}
 
 -- What the peer p may be at the moment of a crash: as it was, between calls; and what some outcome of the call leaves,
 -- during one.
 abbrev pub MayBe : World → PeerData → Option call.Call → PeerData → Type 0
 MayBe w p None at = at ≡ p
-MayBe w p (Some interrupted) at =
-    (made : peer.Call) × (answer : peer.Reply) × IsCall w interrupted made × Steps p made answer at
+MayBe w p (Some named) at = (made : peer.Call) × (answer : peer.Reply) × IsCall w named made × Steps p made answer at
 
 -- what the journal keeps of a call that took the peer p to p': what it held before, and the first `kept` bytes of what
 -- was appended
@@ -39,14 +33,19 @@ kept_bytes p p' kept = take (length p.journal + kept) p'.journal
 abbrev pub stopped_with : PeerData → List ℕ → List ChangeParts → PeerData
 stopped_with p bytes C = record p { applied = C; waiting = []; links = []; journal = bytes; stopped = true }
 
--- What becomes of the peer p where its journal kept the bytes and is opened again under the actor. Where that is
--- refused the peer has stopped.
+-- Why the journal of the peer p, which kept the bytes, isn't opened again: the peer has stopped.
+pub record StaysDown (p : PeerData) (bytes : List ℕ) (actor : Actor) (error : PeerError) (p' : PeerData) : Type 0 where
+  pub why : NotReopened (in_memory bytes) actor error (in_memory bytes)
+  pub changes : List ChangeParts
+  pub keep : ℕ
+  pub recovers : Recovers bytes p.id changes keep
+  pub left : p' ≡ stopped_with p bytes changes
+
+-- What becomes of the peer p where its journal kept the bytes and is opened again under the actor.
 abbrev pub ComesBack : PeerData → List ℕ → Actor → Reply → PeerData → Type 0
-ComesBack p bytes actor Reopened p' = Reopens (in_memory bytes) actor p'
-ComesBack p bytes actor (Inner error) p' =
-    NotReopened (in_memory bytes) actor error (in_memory bytes)
-    × (C : List ChangeParts) × (keep : ℕ) × Recovers bytes p.id C keep × (p' ≡ stopped_with p bytes C)
-ComesBack p bytes actor _ p' = ⊥
+ComesBack p bytes actor reply p' =
+    ((reply ≡ Reopened) × Reopens (in_memory bytes) actor p')
+    ⊎ ((error : PeerError) × (reply ≡ Answered (peer.Refused error)) × StaysDown p bytes actor error p')
 
 -- The peer numbered n crashed, and was opened again under the actor.
 pub record Crashes (w : World) (n : ℕ) (during : Option call.Call) (kept : ℕ) (actor : Actor) (reply : Reply) : Type 0 where
@@ -57,37 +56,46 @@ pub record Crashes (w : World) (n : ℕ) (during : Option call.Call) (kept : ℕ
   pub after : PeerData
   pub back : ComesBack before (kept_bytes before at kept) actor reply after
 
--- the changes that count as made where `new` were recovered beyond the peer's list: that of an interrupted edit. A
--- merge or a delivery makes none.
+-- the changes that count as made where `new` were recovered beyond the peer's list: that of an interrupted edit
 abbrev pub made_during : Option call.Call → List ChangeParts → List ChangeParts
-made_during None new = []
-made_during (Some (call.Edit splices time message)) new = new
-made_during (Some (call.Merge from)) new = []
-made_during (Some (call.Deliver entry)) new = []
+made_during (Some (call.Alone own)) new = made_by own new
+made_during during new = []
+
+-- ---- what is kept of a call
+
+-- The changes are some that the call may enter at the peer p: an edit its own, and any other call changes that waited or
+-- came.
+abbrev pub MayEnter : PeerData → peer.Call → List ChangeParts → Type 0
+MayEnter p (peer.Edit splices time message) new =
+    (new ≡ []) ⊎ ((c : ChangeParts) × IsEditOf p (peer.Edit splices time message) c × (new ≡ c ∷ []))
+MayEnter p made new = AllIn new (p.waiting ++ came p made)
 
 -- A crash within an edit, after `kept` bytes of its record, made the edit's change: its record is whole, and the peer
 -- that came back has it behind what it had.
-pub record MakesWhole (w w' : World) (n : ℕ) (splices : List Splice) (time : ℕ) (message : List ℕ) (kept : ℕ) : Type 0 where
+pub record MakesWhole (w w' : World) (n : ℕ) (made : peer.Call) (kept : ℕ) : Type 0 where
   pub change : ChangeParts
-  pub is : IsEditAt w n splices time message change
+  pub is : IsEditAt w n made change
   pub whole : length (record_of change) ≤ kept
-  pub made : w'.made ≡ w.made ++ change ∷ []
+  pub added : w'.made ≡ w.made ++ change ∷ []
   pub after : PeerData
   pub stands : HasPeer w' n after
   pub there : after.applied ≡ is.peer.applied ++ change ∷ []
 
--- A crash while the peer numbered n received the changes K, after `kept` bytes of what it appended: some of those that
--- waited and came entered, and the peer that came back has what it had and, behind it, just those of them whose records
--- are whole. Nothing was made.
-pub record KeepsWhole (w w' : World) (n : ℕ) (K : List ChangeParts) (kept : ℕ) : Type 0 where
+-- A crash within a call of the peer numbered n, after `kept` bytes of what it appended: some of the changes that it may
+-- enter had entered, and the peer that came back has what it had and, behind it, just those of them whose records are
+-- whole. Of these an edit's counts as made.
+pub record KeepsWhole (w w' : World) (n : ℕ) (during : call.Call) (kept : ℕ) : Type 0 where
   pub before : PeerData
   pub stood : HasPeer w n before
+  pub runs : before.stopped ≡ false
+  pub made : peer.Call
+  pub is : IsCall w during made
   pub new : List ChangeParts
-  pub came : AllIn new (before.waiting ++ K)
+  pub entered : MayEnter before made new
   pub fits : EntersAfter before.applied new
   pub whole : List ChangeParts
   pub are_whole : AreWhole new kept whole
   pub after : PeerData
   pub stands : HasPeer w' n after
   pub there : after.applied ≡ before.applied ++ whole
-  pub made : w'.made ≡ w.made
+  pub added : w'.made ≡ w.made ++ made_by made whole

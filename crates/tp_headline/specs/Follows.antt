@@ -4,14 +4,15 @@ use Rattle.tp_list.specs.Members.{In, SameMembers}
 use Rattle.tp_opid.specs.declared.hash.Hash.{Hash}
 use Rattle.tp_change.specs.declared.parts.ChangeParts.{ChangeParts}
 use Rattle.tp_change.specs.ChangeHash.{hash_of}
-use Rattle.tp_edit.specs.declared.splice.Splice.{Splice}
 use Rattle.tp_graph.specs.Named.{has_all}
 use Rattle.tp_graph.specs.Past.{past}
 use Rattle.tp_receive.specs.Receiving.{Begins}
 use Rattle.tp_peer.specs.PeerData.{PeerData}
-use Rattle.tp_headline.specs.Event as event
+use Rattle.tp_peer.specs.PeerStep as peer
+use Rattle.tp_headline.specs.Call.{Alone}
+use Rattle.tp_headline.specs.Event.{Event, Call}
 use Rattle.tp_headline.specs.Happening.{Next}
-use Rattle.tp_headline.specs.Reply.{Reply, Edited, Text}
+use Rattle.tp_headline.specs.Reply.{Reply, Answered}
 use Rattle.tp_headline.specs.Running.{GoesOn}
 use Rattle.tp_headline.specs.World.{Entry, ReadRecord, World, HasEntry, HasPeer, seen}
 
@@ -32,28 +33,27 @@ pub record Saw (w w' : World) (n : ℕ) (text : List ℕ) (C : List ChangeParts)
 -- Whatever happens from w on, each Read of the peer numbered n sees the change c.
 abbrev pub ShowsFromNowOn : World → ℕ → ChangeParts → Type 0
 ShowsFromNowOn w n c =
-    (events : List event.Event) (replies : List Reply) (m w' : World) (text : List ℕ) → GoesOn w events replies m
-    → Next m (event.Read n) (Text text) w' → (C : List ChangeParts) × Saw m w' n text C × In c C
+    (events : List (Event × Reply)) (m w' : World) (text : List ℕ) → GoesOn w events m
+    → Next m (Call n (Alone peer.Read)) (Answered (peer.Text text)) w' → (C : List ChangeParts) × Saw m w' n text C × In c C
 
 -- What follows on a world w, whatever happens from then on, over crashes and restarts too.
 pub record Follows (w : World) : Type 0 where
   -- a Read sees what the peer holds at that moment, and a ReadAt the past of the heads given
-  pub sees : (n : ℕ) (p : PeerData) (text : List ℕ) (w' : World) → HasPeer w n p → Next w (event.Read n) (Text text) w'
+  pub sees : (n : ℕ) (p : PeerData) (text : List ℕ) (w' : World) → HasPeer w n p → Next w (Call n (Alone peer.Read)) (Answered (peer.Text text)) w'
       → Saw w w' n text p.applied
   pub sees_at : (n : ℕ) (p : PeerData) (hashes : List Hash) (text : List ℕ) (w' : World) → HasPeer w n p
-      → Next w (event.ReadAt n hashes) (Text text) w' → Saw w w' n text (past p.applied hashes)
+      → Next w (Call n (Alone (peer.ReadAt hashes))) (Answered (peer.Text text)) w' → Saw w w' n text (past p.applied hashes)
   -- a read is never lost, and what it saw stays the same
-  pub stays : (events : List event.Event) (replies : List Reply) (w' : World) (r : ReadRecord) → GoesOn w events replies w'
+  pub stays : (events : List (Event × Reply)) (w' : World) (r : ReadRecord) → GoesOn w events w'
       → In r w.reads → In r w'.reads × (seen w' r ≡ seen w r)
   -- each peer's list only grows at its end
-  pub lists : (events : List event.Event) (replies : List Reply) (w' : World) (n : ℕ) (p : PeerData)
-      → GoesOn w events replies w' → HasPeer w n p → HoldsFrom w' n p.applied
+  pub lists : (events : List (Event × Reply)) (w' : World) (n : ℕ) (p : PeerData)
+      → GoesOn w events w' → HasPeer w n p → HoldsFrom w' n p.applied
   -- an entry of the wire stays there under its number, so it may be delivered at any time
-  pub wire : (events : List event.Event) (replies : List Reply) (w' : World) (n : ℕ) (e : Entry)
-      → GoesOn w events replies w' → HasEntry w n e → HasEntry w' n e
+  pub wire : (events : List (Event × Reply)) (w' : World) (n : ℕ) (e : Entry)
+      → GoesOn w events w' → HasEntry w n e → HasEntry w' n e
   -- a change whose edit was answered is shown at that peer for ever
-  pub edits : (n : ℕ) (splices : List Splice) (time : ℕ) (message : List ℕ) (h : Hash) (w' : World)
-      → Next w (event.Edit n splices time message) (Edited (Some h)) w'
+  pub edits : (n : ℕ) (made : peer.Call) (h : Hash) (w' : World) → Next w (Call n (Alone made)) (Answered (peer.Made (Some h))) w'
       → (c : ChangeParts) × (hash_of c ≡ h) × ShowsFromNowOn w' n c
   -- and so is each change that was seen at the peer
   pub reads : (r : ReadRecord) → In r w.reads → (c : ChangeParts) → In c (seen w r) → ShowsFromNowOn w r.peer c

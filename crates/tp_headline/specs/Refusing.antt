@@ -1,35 +1,50 @@
 -- When a world refuses an event.
-use Rattle.std.specs.Prelude.{◌≡◌, ℕ, ◌<◌, ◌≤◌, List, length, false, Some, IsSome}
+use Rattle.std.specs.Prelude.{◌≡◌, ℕ, ◌<◌, nat_le, List, length, Bool, true, false, Some, IsSome}
 use Rattle.std.specs.List.{slice_get}
 use Rattle.tp_list.specs.Members.{In, AllIn}
 use Rattle.tp_opid.specs.declared.actor.Actor.{Actor}
 use Rattle.tp_change.specs.declared.parts.ChangeParts.{ChangeParts}
 use Rattle.tp_change.specs.ChangeHash.{hash_of}
-use Rattle.tp_edit.specs.declared.splice.Splice.{Splice}
-use Rattle.tp_document.specs.Editing as editing
+use Rattle.tp_document.specs.Editing.{Edited, asking}
 use Rattle.tp_journal.specs.Layout.{record_of}
 use Rattle.tp_peer.specs.Laws.{changes_in}
 use Rattle.tp_peer.specs.PeerData.{PeerData}
+use Rattle.tp_peer.specs.PeerStep as peer
 use Rattle.tp_headline.specs.declared.error.WorldError.{WorldError}
 use Rattle.tp_headline.specs.declared.error.WorldError.TheVariants.{NoPeer, ActorUsed, ForeignChange, HashClash, Stopped, NoEntry, OutOfMemory}
 use Rattle.tp_headline.specs.WorldError.{code_of}
 use Rattle.tp_headline.specs.Call as call
-use Rattle.tp_headline.specs.Event.{Event, Edit, Crash, peers_of, running_of, actor_of, bytes_of, entries_of}
+use Rattle.tp_headline.specs.Call.{Alone}
+use Rattle.tp_headline.specs.Event.{Event, Crash, called_in, peers_of, running_of, actor_of, bytes_of, entries_of}
 use Rattle.tp_headline.specs.World.{World, HasPeer}
 
--- c is the change that the edit makes at the peer numbered n.
-pub record IsEditAt (w : World) (n : ℕ) (splices : List Splice) (time : ℕ) (message : List ℕ) (c : ChangeParts) : Type 0 where
+-- The call on the peer p is an edit, and c is its change.
+abbrev pub IsEditOf : PeerData → peer.Call → ChangeParts → Type 0
+IsEditOf p (peer.Edit splices time message) c = Edited p.applied (asking p.actor splices time message) c
+IsEditOf p made c = ⊥
+
+-- The call is an edit of the peer numbered n, which runs, and c is its change.
+pub record IsEditAt (w : World) (n : ℕ) (made : peer.Call) (c : ChangeParts) : Type 0 where
   pub peer : PeerData
   pub stands : HasPeer w n peer
   pub runs : peer.stopped ≡ false
-  pub edited : editing.Edited peer.applied (editing.asking peer.actor splices time message) c
+  pub edited : IsEditOf peer made c
+
+-- c is the change of the edit that the event is, or during which a peer crashes in it.
+pub record WouldEdit (w : World) (e : Event) (c : ChangeParts) : Type 0 where
+  pub number : ℕ
+  pub made : peer.Call
+  pub called : called_in e ≡ Some (number, Alone made)
+  pub edit : IsEditAt w number made c
+
+-- the event keeps the whole record of the change
+abbrev pub keeps_whole : Event → ChangeParts → Bool
+keeps_whole (Crash n during kept actor) c = nat_le (length (record_of c)) kept
+keeps_whole e c = true
 
 -- The event would make the change c: by an edit, or by one during which the peer crashes once c's record is whole.
 abbrev pub WouldMake : World → Event → ChangeParts → Type 0
-WouldMake w (Edit n splices time message) c = IsEditAt w n splices time message c
-WouldMake w (Crash n (Some (call.Edit splices time message)) kept actor) c =
-    IsEditAt w n splices time message c × (length (record_of c) ≤ kept)
-WouldMake w _ c = ⊥
+WouldMake w e c = WouldEdit w e c × (keeps_whole e c ≡ true)
 
 -- What each refusal asks of an event.
 -- NoPeer: each peer that it names is there.
@@ -37,7 +52,7 @@ WouldMake w _ c = ⊥
 -- ForeignChange: each change that delivered bytes of any origin carry was made. Bytes that are no message carry none.
 --   Entries of the wire carry changes that were made, in each world that a run reaches (Carried).
 -- HashClash: a change that it would make has the hash of no other change that was made.
--- Stopped: no peer that it acts on or reads has stopped.
+-- Stopped: no peer that it needs has stopped.
 -- NoEntry: the wire has the entry that it names.
 -- OutOfMemory: nothing.
 abbrev pub Passes : World → Event → WorldError → Type 0
@@ -62,3 +77,11 @@ pub record FailsFirst (w : World) (e : Event) (why : WorldError) : Type 0 where
 abbrev pub IsRefusal : World → Event → WorldError → Type 0
 IsRefusal w e OutOfMemory = Unit {0}
 IsRefusal w e why = FailsFirst w e why
+
+-- Nothing is against the call on a running peer: a message to a peer, the receipt of an entry of the wire, or that of bytes
+-- which carry no change that nobody made, so any that are no message.
+abbrev pub IsOpen : World → call.Call → Type 0
+IsOpen w (call.Alone (peer.Generate to)) = IsSome (slice_get w.peers to)
+IsOpen w (call.Alone (peer.Receive from bytes)) = IsSome (slice_get w.peers from) × AllIn (changes_in bytes) w.made
+IsOpen w (call.Deliver entry) = IsSome (slice_get w.wire entry)
+IsOpen w named = ⊥

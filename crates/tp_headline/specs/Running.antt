@@ -1,27 +1,27 @@
 -- Many events, one after another.
-use Rattle.std.specs.Prelude.{◌≡◌, List, [], ◌∷◌, ◌++◌}
+use Rattle.std.specs.Prelude.{◌≡◌, List, map}
+use Rattle.tp_list.specs.Traces.{Trace}
 use Rattle.tp_opid.specs.declared.doc_id.DocId.{DocId}
 use Rattle.tp_headline.specs.Event.{Event}
 use Rattle.tp_headline.specs.Happening.{Next}
 use Rattle.tp_headline.specs.Reply.{Reply}
 use Rattle.tp_headline.specs.World.{World, beginning}
 
--- The world w met the events one after another, gave these replies, and is w' from then on.
-abbrev pub GoesOn : World → List Event → List Reply → World → Type 0
-GoesOn w [] [] w' = w' ≡ w
-GoesOn w [] (reply ∷ replies) w' = ⊥
-GoesOn w (e ∷ events) [] w' = ⊥
-GoesOn w (e ∷ events) (reply ∷ replies) w' = (m : World) × Next w e reply m × GoesOn m events replies w'
+-- The world w met the event, gave the reply, and is w' then.
+abbrev pub Met : World → Event × Reply → World → Type 0
+Met w e w' = Next w e.0 e.1 w'
+
+-- The world w met the events one after another, gave to each its reply, and is w' from then on.
+abbrev pub GoesOn : World → List (Event × Reply) → World → Type 0
+GoesOn w events w' = Trace Met w events w'
 
 -- A whole run: from the beginning.
-abbrev pub Run : DocId → List Event → List Reply → World → Type 0
-Run id events replies w = GoesOn (beginning id) events replies w
+abbrev pub Run : DocId → List (Event × Reply) → World → Type 0
+Run id events w = GoesOn (beginning id) events w
 
--- On its way to w' the run passes a moment, after the first events and before the others.
-pub record PassesThrough (w : World) (events more : List Event) (replies : List Reply) (w' : World) : Type 0 where
-  pub first : List Reply
-  pub rest : List Reply
-  pub joined : replies ≡ first ++ rest
-  pub moment : World
-  pub before : GoesOn w events first moment
-  pub after : GoesOn moment more rest w'
+-- The world w met these events, gave these replies, one to each, and is w' from then on.
+pub record GoesOnWith (w : World) (events : List Event) (replies : List Reply) (w' : World) : Type 0 where
+  pub both : List (Event × Reply)
+  pub first : map (λ (e : Event × Reply). e.0) both ≡ events
+  pub second : map (λ (e : Event × Reply). e.1) both ≡ replies
+  pub run : GoesOn w both w'

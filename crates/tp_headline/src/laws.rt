@@ -1,12 +1,11 @@
 //! The laws of a world, as functions without a body: what each says is its contract.
 
-ghost use Rattle.std.specs.Prelude.{◌≡◌, ◌⊎◌, ℕ, Bool, List, [], ◌∷◌, ◌++◌, length, true, false, Some, Err};
+ghost use Rattle.std.specs.Prelude.{◌≡◌, ◌⊎◌, ℕ, Bool, List, [], ◌∷◌, ◌++◌, length, true, false, Some};
 ghost use Rattle.tp_list.specs.Members.{In};
 ghost use Rattle.tp_opid.specs.declared.actor.Actor.{Actor};
 ghost use Rattle.tp_opid.specs.declared.doc_id.DocId.{DocId};
 ghost use Rattle.tp_change.specs.declared.parts.ChangeParts.{ChangeParts};
 ghost use Rattle.tp_change.specs.ChangeHash.{hash_of};
-ghost use Rattle.tp_edit.specs.declared.splice.Splice.{Splice};
 ghost use Rattle.tp_journal.specs.Layout.{IsDocId};
 ghost use Rattle.tp_graph.specs.Heads.{heads};
 ghost use Rattle.tp_graph.specs.Named.{has, has_all};
@@ -14,37 +13,35 @@ ghost use Rattle.tp_receive.specs.Receiving.{Begins};
 ghost use Rattle.tp_peer.specs.Laws.{changes_in};
 ghost use Rattle.tp_peer.specs.PeerData.{PeerData, opened};
 ghost use Rattle.tp_peer.specs.Links.{known_of};
-ghost use Rattle.tp_peer.specs.PeerStep.{entered};
+ghost use Rattle.tp_peer.specs.PeerStep as peer;
 ghost use Rattle.tp_peer.specs.Taking.{Report};
-ghost use Rattle.tp_sync.specs.declared.error.SyncError.{SyncError};
 ghost use Rattle.tp_sync.specs.Due.{leaves_out};
-ghost use Rattle.tp_sync.specs.Reading.{message_at};
 ghost use Rattle.tp_headline.specs.Arriving.{HoldsAll, HoldsReady};
 ghost use Rattle.tp_headline.specs.Call as call;
 ghost use Rattle.tp_headline.specs.Carried.{Carried, IsMessageOf};
 ghost use Rattle.tp_headline.specs.Crashing.{KeepsWhole, MakesWhole};
-ghost use Rattle.tp_headline.specs.Event.{Event, Crash, Deliver, DeliverBytes, Edit, Merge, Send, Start};
+ghost use Rattle.tp_headline.specs.Event.{Event, Call, Crash, Start};
 ghost use Rattle.tp_headline.specs.Follows.{Follows};
 ghost use Rattle.tp_headline.specs.Happening.{Next};
 ghost use Rattle.tp_headline.specs.Headline.{Headline};
-ghost use Rattle.tp_headline.specs.Reply.{Delivered, Edited, Merged, Peer, Reply, Wire};
-ghost use Rattle.tp_headline.specs.Refusing.{IsEditAt, MayHappen};
-ghost use Rattle.tp_headline.specs.Running.{GoesOn, PassesThrough, Run};
+ghost use Rattle.tp_headline.specs.Reply.{Answered, Peer, Reply, Wire};
+ghost use Rattle.tp_headline.specs.Refusing.{IsEditAt, IsOpen, MayHappen};
+ghost use Rattle.tp_headline.specs.Running.{GoesOn, Run};
 ghost use Rattle.tp_headline.specs.World.{Entry, World, HasEntry, HasPeer, beginning, with_made, with_new_peer, with_peer, with_used};
 
 /// The headline: after every run, one list holds every element ever inserted, each once; every text that any peer ever
 /// read is that list kept to the elements that its seen changes insert and don't delete; and two reads under equal
 /// heads are equal.
 pub fn headline()
-    ensures { (id : DocId) (events : List Event) (replies : List Reply) (w : World) → IsDocId id
-        → Run id events replies w → Headline w }
+    ensures { (id : DocId) (events : List (Event × Reply)) (w : World) → IsDocId id
+        → Run id events w → Headline w }
 {}
 
 /// After every run, and whatever happens from then on, crashes and restarts among it: each peer's list only grows; what
 /// a peer answered or showed it shows for ever; and what a read saw has all that it depends on.
 pub fn what_was_shown_lasts()
-    ensures { (id : DocId) (events : List Event) (replies : List Reply) (w : World) → IsDocId id
-        → Run id events replies w → Follows w }
+    ensures { (id : DocId) (events : List (Event × Reply)) (w : World) → IsDocId id
+        → Run id events w → Follows w }
 {}
 
 /// Every world that a run reaches is carried: what was made is sound, and each peer, each journal, each entry of the
@@ -53,53 +50,48 @@ pub fn a_run_is_carried()
     ensures begins { (id : DocId) → IsDocId id → Carried (beginning id) }
     ensures goes_on { (w : World) (e : Event) (reply : Reply) (w' : World) → Carried w
         → Next w e reply w' → Carried w' }
-    ensures runs { (id : DocId) (events : List Event) (replies : List Reply) (w : World)
-        → IsDocId id → Run id events replies w → Carried w }
+    ensures runs { (id : DocId) (events : List (Event × Reply)) (w : World)
+        → IsDocId id → Run id events w → Carried w }
 {}
 
 /// After every run each entry of the wire is a message, and each change that it carries was made: so no delivery of an
 /// entry brings a change that nobody made, whatever happened to the peer that sent it.
 pub fn the_wire_carries_what_was_made()
-    ensures { (id : DocId) (events : List Event) (replies : List Reply) (w : World) → IsDocId id
-        → Run id events replies w → (e : Entry) → In e w.wire → IsMessageOf w.made e.bytes }
+    ensures { (id : DocId) (events : List (Event × Reply)) (w : World) → IsDocId id
+        → Run id events w → (e : Entry) → In e w.wire → IsMessageOf w.made e.bytes }
 {}
 
 /// Runs one after another are a run, and a run passes a moment after each of its events: what is promised of all runs
 /// is promised of every moment.
 pub fn runs_part_by_part()
-    ensures join { (events more : List Event) (replies others : List Reply) (w m w' : World)
-        → GoesOn w events replies m → GoesOn m more others w'
-        → GoesOn w (events ++ more) (replies ++ others) w' }
-    ensures split { (events more : List Event) (replies : List Reply) (w w' : World)
-        → GoesOn w (events ++ more) replies w' → PassesThrough w events more replies w' }
+    ensures join { (events more : List (Event × Reply)) (w m w' : World) → GoesOn w events m
+        → GoesOn m more w' → GoesOn w (events ++ more) w' }
+    ensures split { (events more : List (Event × Reply)) (w w' : World)
+        → GoesOn w (events ++ more) w' → (m : World) × GoesOn w events m × GoesOn m more w' }
 {}
 
 /// The change of an edit wasn't made before: one that was and has its hash is another.
 pub fn an_edit_is_new()
-    ensures { (w : World) (n : ℕ) (splices : List Splice) (time : ℕ) (message : List ℕ)
-        (c : ChangeParts) → Carried w → IsEditAt w n splices time message c → In c w.made → ⊥ }
+    ensures { (w : World) (n : ℕ) (made : peer.Call) (c : ChangeParts) → Carried w
+        → IsEditAt w n made c → In c w.made → ⊥ }
 {}
 
 /// A crash within an edit makes nothing, or the edit's change, though no reply came: then its record was kept whole, and
-/// the peer that came back has it.
+/// the peer that came back has it. Within another call it makes nothing.
 pub fn a_crash_within_an_edit()
-    ensures { (w : World) (n : ℕ) (splices : List Splice) (time : ℕ) (message : List ℕ) (kept : ℕ)
-        (actor : Actor) (reply : Reply) (w' : World) → Carried w
-        → Next w (Crash n (Some (call.Edit splices time message)) kept actor) reply w'
-        → (w'.made ≡ w.made) ⊎ MakesWhole w w' n splices time message kept }
+    ensures { (w : World) (n : ℕ) (made : peer.Call) (kept : ℕ) (actor : Actor) (reply : Reply)
+        (w' : World) → Carried w
+        → Next w (Crash n (Some (call.Alone made)) kept actor) reply w'
+        → (w'.made ≡ w.made) ⊎ MakesWhole w w' n made kept }
 {}
 
-/// A crash within a merge or a delivery makes nothing. Some of the changes that waited and came had entered by then, and
-/// the peer comes back with what it had before and, behind it, just those of them whose records are whole.
+/// Where a peer crashed within a call, some of the changes that the call may enter had entered by then, as those that
+/// waited and came by a merge, a delivery or bytes of any origin; and the peer comes back with what it had before and,
+/// behind it, just those of them whose records are whole.
 pub fn a_crash_while_receiving()
-    ensures merge { (w : World) (n from kept : ℕ) (actor : Actor) (reply : Reply) (w' : World)
-        (other : PeerData) → Carried w → HasPeer w from other
-        → Next w (Crash n (Some (call.Merge from)) kept actor) reply w'
-        → (w' ≡ w) ⊎ KeepsWhole w w' n other.applied kept }
-    ensures delivery { (w : World) (n entry kept : ℕ) (actor : Actor) (reply : Reply) (w' : World)
-        (e : Entry) → Carried w → HasEntry w entry e
-        → Next w (Crash n (Some (call.Deliver entry)) kept actor) reply w'
-        → (w' ≡ w) ⊎ KeepsWhole w w' n (changes_in e.bytes) kept }
+    ensures { (w : World) (n : ℕ) (during : call.Call) (kept : ℕ) (actor : Actor) (reply : Reply)
+        (w' : World) → Carried w → Next w (Crash n (Some during) kept actor) reply w'
+        → (w' ≡ w) ⊎ KeepsWhole w w' n during kept }
 {}
 
 /// A peer may join under an actor that wasn't named, and an edit may happen whose change has a new hash: it enters and
@@ -109,24 +101,19 @@ pub fn what_may_happen()
     ensures start { (w : World) (actor : Actor) → (In actor w.used → ⊥)
         → Next w (Start actor) (Peer (length w.peers))
         (with_used (with_new_peer w (opened w.id actor [] 0)) actor) }
-    ensures edit { (w : World) (n : ℕ) (splices : List Splice) (time : ℕ) (message : List ℕ)
-        (c : ChangeParts) → Carried w → (e : IsEditAt w n splices time message c)
-        → has w.made (hash_of c) ≡ false
-        → Next w (Edit n splices time message) (Edited (Some (hash_of c)))
-        (with_made (with_peer w n (entered e.peer c)) (c ∷ [])) }
-    ensures send { (w : World) (from to : ℕ) (p q : PeerData) → HasPeer w from p → HasPeer w to q
-        → p.stopped ≡ false → MayHappen w (Send from to) }
-    ensures deliver { (w : World) (n to : ℕ) (e : Entry) (p : PeerData) → HasEntry w n e
-        → HasPeer w to p → p.stopped ≡ false → MayHappen w (Deliver n to) }
-    ensures deliver_bytes { (w : World) (to from : ℕ) (bytes : List ℕ) (error : SyncError)
-        (p q : PeerData) → HasPeer w to p → HasPeer w from q → p.stopped ≡ false
-        → message_at bytes ≡ Err error → MayHappen w (DeliverBytes to from bytes) }
+    ensures edit { (w : World) (n : ℕ) (made : peer.Call) (c : ChangeParts) → Carried w
+        → (e : IsEditAt w n made c) → has w.made (hash_of c) ≡ false
+        → Next w (Call n (call.Alone made)) (Answered (peer.Made (Some (hash_of c))))
+        (with_made (with_peer w n (peer.entered e.peer c)) (c ∷ [])) }
+    ensures messages { (w : World) (n : ℕ) (p : PeerData) (named : call.Call) → HasPeer w n p
+        → p.stopped ≡ false → IsOpen w named → MayHappen w (Call n named) }
 {}
 
 /// Once a merge was answered, the peer that took holds every change that the other one holds, where it has a place left.
 pub fn a_merge_brings_all()
     ensures { (w : World) (into from : ℕ) (report : Report) (w' : World) (other : PeerData)
-        → Carried w → HasPeer w from other → Next w (Merge into from) (Merged report) w'
+        → Carried w → HasPeer w from other
+        → Next w (Call into (call.Merge from)) (Answered (peer.Merged report)) w'
         → HoldsAll w' into other.applied }
 {}
 
@@ -135,7 +122,7 @@ pub fn a_merge_brings_all()
 pub fn a_delivery_brings_what_is_ready()
     ensures { (w : World) (n to : ℕ) (report : Report) (same_heads : Bool) (w' : World)
         (e : Entry) → Carried w → HasEntry w n e
-        → Next w (Deliver n to) (Delivered report same_heads) w'
+        → Next w (Call to (call.Deliver n)) (Answered (peer.Received report same_heads)) w'
         → HoldsReady w' to (changes_in e.bytes) }
 {}
 
@@ -145,11 +132,12 @@ pub fn a_delivery_brings_what_is_ready()
 /// has a place left.
 pub fn a_message_brings_all()
     ensures { (w : World) (from to n : ℕ) (p q : PeerData) (D : List ChangeParts) (m : World)
-        (events : List Event) (replies : List Reply) (v : World) (report : Report)
+        (events : List (Event × Reply)) (v : World) (report : Report)
         (same_heads : Bool) (w' : World) → Carried w → HasPeer w from p → HasPeer w to q
         → Begins D q.applied → (known_of p.links to).theirs ≡ Some (heads D)
         → has_all D (known_of p.links to).known ≡ true
         → leaves_out p.applied (known_of p.links to) ≡ false
-        → Next w (Send from to) (Wire n) m → GoesOn m events replies v
-        → Next v (Deliver n to) (Delivered report same_heads) w' → HoldsAll w' to p.applied }
+        → Next w (Call from (call.Alone (peer.Generate to))) (Wire n) m → GoesOn m events v
+        → Next v (Call to (call.Deliver n)) (Answered (peer.Received report same_heads)) w'
+        → HoldsAll w' to p.applied }
 {}

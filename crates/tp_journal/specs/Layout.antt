@@ -6,7 +6,7 @@ use Rattle.tp_opid.specs.declared.doc_id.DocId.{DocId}
 use Rattle.tp_change.specs.declared.limits.TheConstants.{MAX_BYTES}
 use Rattle.tp_change.specs.declared.parts.ChangeParts.{ChangeParts}
 use Rattle.tp_change.specs.ChangeHash.{hash_of}
-use Rattle.tp_change.specs.Limits.{IsBytes}
+use Rattle.tp_list.specs.Bytes.{IsBytes}
 use Rattle.tp_change.specs.Spelling.{spelling}
 use Rattle.tp_journal.specs.declared.layout.TheConstants.{MAGIC}
 

@@ -1,15 +1,12 @@
 //! A journal in a file, each append of which is on the disk.
 
-ghost use Rattle.std.specs.Prelude.{◌≡◌, ◌⊎◌, IfErr};
-ghost use Rattle.tp_store.specs.declared.error.StoreError.TheVariants.{Io, OutOfMemory};
-
+use crate::error::JournalError;
 use crate::file::FileJournal;
 use crate::journal::Journal;
 use std::alloc::Global;
 use std::fs::OpenFile;
 use std::io::{Read, Write};
 use std::rt::Files;
-use tp_store::StoreError;
 
 /// A journal in a file, each append of which is on the disk once it has answered Ok. Where the disk fails behind the
 /// write, the append is refused as `Io`, and what was written stays in the content.
@@ -25,9 +22,7 @@ impl<F: Read + Write + OpenFile + Drop> DurableJournal<F> {
         alloc: Global,
         path: &str,
         make: bool,
-    ) -> Result<DurableJournal<F>, StoreError>
-        ensures { IfErr result (λ e. (e ≡ Io) ⊎ (e ≡ OutOfMemory)) }
-    {
+    ) -> Result<DurableJournal<F>, JournalError> {
         match FileJournal::at(rt, alloc, path, make) {
             Ok(file) => Ok(DurableJournal { file }),
             Err(error) => Err(error),
@@ -40,18 +35,18 @@ impl<F: Write + OpenFile + Drop> Journal for DurableJournal<F> {
 
     ghost failures = { λ j. j.file.failures };
 
-    fn append(&mut self, bytes: &[u8]) -> Result<(), StoreError> {
+    fn append(&mut self, bytes: &[u8]) -> Result<(), JournalError> {
         match self.file.append(bytes) {
             Ok(()) => self.file.sync(),
             Err(error) => Err(error),
         }
     }
 
-    fn cut(&mut self, len: u64) -> Result<(), StoreError> {
+    fn cut(&mut self, len: u64) -> Result<(), JournalError> {
         self.file.cut(len)
     }
 
-    fn read_all(&mut self) -> Result<Vec<u8>, StoreError> {
+    fn read_all(&mut self) -> Result<Vec<u8>, JournalError> {
         self.file.read_all()
     }
 

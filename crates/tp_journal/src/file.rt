@@ -1,11 +1,12 @@
 //! A journal in a file.
 
-ghost use Rattle.std.specs.Prelude.{◌≡◌, ◌⊎◌, ℕ, ◌+◌, ◌≤◌, ◌++◌, length, take, true, vec_len, OnOk, OnErr, IfOk, IfErr, IfSome, IsOkUnless};
+ghost use Rattle.std.specs.Prelude.{◌≡◌, ℕ, ◌+◌, ◌≤◌, ◌++◌, length, take, true, vec_len, OnOk, OnErr, IfOk, IfSome, IsOkUnless};
 ghost use Rattle.std.specs.Vec.{vec_capacity};
 ghost use Rattle.std.specs.Io.KnownBytes.{Appends};
 ghost use Rattle.tp_journal.specs.Journal.{HasGrown};
-ghost use Rattle.tp_store.specs.declared.error.StoreError.TheVariants.{Io, OutOfMemory};
+ghost use Rattle.tp_journal.specs.declared.error.JournalError.TheVariants.{Io};
 
+use crate::error::JournalError;
 use crate::journal::Journal;
 use std::alloc::Global;
 use std::fs::{OpenFile, OpenOptions};
@@ -13,7 +14,6 @@ use std::io;
 use std::io::{ErrorKind, Read, Write};
 use std::marker::Model;
 use std::rt::Files;
-use tp_store::StoreError;
 
 /// A journal in a file, with a copy in memory of what it read at opening and of what its writes and cuts did. Its
 /// content is that copy: that the file agrees with it is a matter of the device. One process at a time may have the
@@ -49,13 +49,11 @@ impl<F: Write + OpenFile + Drop> Model for FileJournal<F> {
 }
 
 // The refusal that a fault of the system is.
-fn refusal(error: &io::Error) -> StoreError
-    ensures { (result ≡ Io) ⊎ (result ≡ OutOfMemory) }
-{
+fn refusal(error: &io::Error) -> JournalError {
     if error.kind() == ErrorKind::OutOfMemory {
-        StoreError::OutOfMemory
+        JournalError::OutOfMemory
     } else {
-        StoreError::Io
+        JournalError::Io
     }
 }
 
@@ -98,16 +96,14 @@ fn write_once<W: Write>(writer: &mut W, copy: &mut Vec<u8>, bytes: &[u8]) -> boo
 
 impl<F: Read + Write + OpenFile + Drop> FileJournal<F> {
     /// Opens the file at the path as a journal, and reads all of it. An absent one is made where `make` is true, and else
-    /// refused as `Io`, as is a file that can't be opened for reading and writing, or read. The only other refusal is
-    /// `OutOfMemory`.
+    /// refused as `Io`, as is a file that can't be opened for reading and writing, or read.
     pub fn at<R: Files<File = F>>(
         rt: &R,
         alloc: Global,
         path: &str,
         make: bool,
-    ) -> Result<FileJournal<F>, StoreError>
-        ensures new { IfOk result (λ j. j.failures ≡ 0) }
-        ensures err { IfErr result (λ e. (e ≡ Io) ⊎ (e ≡ OutOfMemory)) }
+    ) -> Result<FileJournal<F>, JournalError>
+        ensures { IfOk result (λ j. j.failures ≡ 0) }
     {
         match OpenOptions::new()
             .read(true)
@@ -130,7 +126,7 @@ impl<F: Read + Write + OpenFile + Drop> FileJournal<F> {
 
 impl<F: Write + OpenFile + Drop> FileJournal<F> {
     /// Brings to the disk what was written. A failure is refused as `Io` and counted; the content stays.
-    pub fn sync(&mut self) -> Result<(), StoreError>
+    pub fn sync(&mut self) -> Result<(), JournalError>
         ensures stays { self.new.content ≡ self.old.content }
         ensures ok { OnOk result (self.new.failures ≡ self.old.failures) }
         ensures err { IsOkUnless result Io }
@@ -140,7 +136,7 @@ impl<F: Write + OpenFile + Drop> FileJournal<F> {
             Ok(()) => Ok(()),
             Err(_) => {
                 self.failures = self.failures.saturating_add(1);
-                Err(StoreError::Io)
+                Err(JournalError::Io)
             }
         }
     }
@@ -151,18 +147,18 @@ impl<F: Write + OpenFile + Drop> Journal for FileJournal<F> {
 
     ghost failures = { λ j. j.failures };
 
-    fn append(&mut self, bytes: &[u8]) -> Result<(), StoreError> {
+    fn append(&mut self, bytes: &[u8]) -> Result<(), JournalError> {
         if self.copy.reserve(bytes.len()).is_err() {
-            return Err(StoreError::OutOfMemory);
+            return Err(JournalError::OutOfMemory);
         }
         if !write_once(&mut self.file, &mut self.copy, bytes) {
             self.failures = self.failures.saturating_add(1);
-            return Err(StoreError::Io);
+            return Err(JournalError::Io);
         }
         Ok(())
     }
 
-    fn cut(&mut self, len: u64) -> Result<(), StoreError> {
+    fn cut(&mut self, len: u64) -> Result<(), JournalError> {
         if self.copy.len() as u64 <= len {
             return Ok(());
         }
@@ -173,15 +169,15 @@ impl<F: Write + OpenFile + Drop> Journal for FileJournal<F> {
             }
             Err(_) => {
                 self.failures = self.failures.saturating_add(1);
-                Err(StoreError::Io)
+                Err(JournalError::Io)
             }
         }
     }
 
-    fn read_all(&mut self) -> Result<Vec<u8>, StoreError> {
+    fn read_all(&mut self) -> Result<Vec<u8>, JournalError> {
         match Vec::from_slice(*self.copy.allocator(), self.copy.as_slice()) {
             Ok(bytes) => Ok(bytes),
-            Err(_) => Err(StoreError::OutOfMemory),
+            Err(_) => Err(JournalError::OutOfMemory),
         }
     }
 

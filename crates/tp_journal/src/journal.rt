@@ -3,12 +3,11 @@
 ghost use Rattle.std.specs.Prelude.{◌≡◌, ℕ, List, ◌++◌, take, IfOk, IfErr, OnOk, OnErr};
 ghost use Rattle.tp_journal.specs.Journal.{CountsFailure, LeavesPart};
 
-use tp_store::StoreError;
+use crate::error::JournalError;
 
 /// A place where bytes are kept, one piece behind another.
 ///
-/// Contracts see the bytes that were acknowledged (`content`), and how often the device failed (`failures`). A call is
-/// refused as `Io` only where the device failed in it, which is counted, or as `OutOfMemory`.
+/// Contracts see the bytes that were acknowledged (`content`), and how often the device failed (`failures`).
 pub trait Journal: Drop {
     ghost content: { Self → List ℕ };
 
@@ -16,7 +15,7 @@ pub trait Journal: Drop {
 
     /// Puts the bytes behind the content. Where the device fails, a beginning of them may stand there; where memory is
     /// short, the content stays.
-    fn append(&mut self, bytes: &[u8]) -> Result<(), StoreError>
+    fn append(&mut self, bytes: &[u8]) -> Result<(), JournalError>
         ensures ok { OnOk result (content self.new ≡ content self.old ++ bytes.now) }
         ensures quiet { OnOk result (failures self.new ≡ failures self.old) }
         ensures part { IfErr result
@@ -25,7 +24,7 @@ pub trait Journal: Drop {
             (λ e. CountsFailure e (failures self.old) (failures self.new)) };
 
     /// Cuts the content to so many bytes; one that has no more stays. A refusal leaves it as it was.
-    fn cut(&mut self, len: u64) -> Result<(), StoreError>
+    fn cut(&mut self, len: u64) -> Result<(), JournalError>
         ensures ok { OnOk result (content self.new ≡ take len (content self.old)) }
         ensures quiet { OnOk result (failures self.new ≡ failures self.old) }
         ensures err { OnErr result (content self.new ≡ content self.old) }
@@ -33,7 +32,7 @@ pub trait Journal: Drop {
             (λ e. CountsFailure e (failures self.old) (failures self.new)) };
 
     /// All of the content, which stays.
-    fn read_all(&mut self) -> Result<Vec<u8>, StoreError>
+    fn read_all(&mut self) -> Result<Vec<u8>, JournalError>
         ensures ok { IfOk result (λ bytes. bytes.items ≡ content self.old) }
         ensures quiet { OnOk result (failures self.new ≡ failures self.old) }
         ensures stays { content self.new ≡ content self.old }

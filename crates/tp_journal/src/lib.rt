@@ -6,6 +6,7 @@
 #![tactic(auto)]
 
 mod durable;
+mod error;
 mod file;
 mod journal;
 mod laws;
@@ -16,6 +17,7 @@ mod recovering;
 mod writing;
 
 pub use durable::DurableJournal;
+pub use error::JournalError;
 pub use file::FileJournal;
 pub use journal::Journal;
 pub use laws::{

@@ -1,11 +1,11 @@
 //! A journal in memory.
 
 ghost use Rattle.std.specs.Prelude.{◌≡◌, ◌++◌, take, IsOk, OnOk, OnErr, IfOk, IsOkUnless};
-ghost use Rattle.tp_store.specs.declared.error.StoreError.TheVariants.{OutOfMemory};
+ghost use Rattle.tp_journal.specs.declared.error.JournalError.TheVariants.{OutOfMemory};
 
+use crate::error::JournalError;
 use crate::journal::Journal;
 use std::marker::Model;
-use tp_store::StoreError;
 
 /// A journal in memory. It has no device that could fail: its failures are none for ever, and its calls are refused as
 /// `OutOfMemory` alone.
@@ -45,18 +45,18 @@ impl Journal for MemJournal {
 
     ghost failures = { λ _. 0 };
 
-    fn append(&mut self, bytes: &[u8]) -> Result<(), StoreError>
+    fn append(&mut self, bytes: &[u8]) -> Result<(), JournalError>
         ensures ok { OnOk result (self.new ≡ self.old ++ bytes.now) }
         ensures err { OnErr result (self.new ≡ self.old) }
         ensures only { IsOkUnless result OutOfMemory }
     {
         match self.bytes.extend_from_slice(bytes) {
             Ok(()) => Ok(()),
-            Err(_) => Err(StoreError::OutOfMemory),
+            Err(_) => Err(JournalError::OutOfMemory),
         }
     }
 
-    fn cut(&mut self, len: u64) -> Result<(), StoreError>
+    fn cut(&mut self, len: u64) -> Result<(), JournalError>
         ensures cut { self.new ≡ take len self.old }
         ensures always { IsOk result }
     {
@@ -64,14 +64,14 @@ impl Journal for MemJournal {
         Ok(())
     }
 
-    fn read_all(&mut self) -> Result<Vec<u8>, StoreError>
+    fn read_all(&mut self) -> Result<Vec<u8>, JournalError>
         ensures ok { IfOk result (λ bytes. bytes.items ≡ self.old) }
         ensures stays { self.new ≡ self.old }
         ensures only { IsOkUnless result OutOfMemory }
     {
         match Vec::from_slice(*self.bytes.allocator(), self.bytes.as_slice()) {
             Ok(bytes) => Ok(bytes),
-            Err(_) => Err(StoreError::OutOfMemory),
+            Err(_) => Err(JournalError::OutOfMemory),
         }
     }
 

@@ -1,3 +1,5 @@
+pub mod Bytes
 pub mod Members
 pub mod Rising
+pub mod Traces
 pub mod Utf8

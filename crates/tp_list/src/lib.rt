@@ -2,8 +2,10 @@
 //! members and rising lists that every layer needs.
 #![tactic(auto)]
 
+mod bytes;
 mod items;
 mod text;
 
+pub use bytes::array_len;
 pub use items::Items;
 pub use text::{Text, char_count};

@@ -1,22 +1,21 @@
 -- How a session over a stream ends.
 use Rattle.std.proofs.Common.{◌≡◌, ◌⊎◌, ℕ, List, [], ◌++◌, true, false, Some, None, Err, inl, inr, refl, sym, ap, subst, ◌∙◌, append-nil}
 use Rattle.std.specs.Prelude.{Option, option_to_list}
-use Rattle.tp_opid.specs.declared.doc_id.DocId.{DocId}
 use Rattle.tp_frame.specs.declared.frame.Frame.{Frame}
 use Rattle.tp_frame.specs.Frame.{spelling, IsFrame}
 use Rattle.tp_peer.specs.PeerStep.{Reply}
 use Rattle.tp_session.specs.declared.error.NetError.{NetError}
 use Rattle.tp_session.specs.declared.session.Phase.{Phase}
 use Rattle.tp_session.specs.declared.session.Phase.TheVariants.{AwaitsHello, Exchanges, SaidDone, Over}
-use Rattle.tp_session.specs.declared.session.Role.{Role}
 use Rattle.tp_session.specs.declared.turn.Turn.{Turn}
 use Rattle.tp_session.specs.declared.turn.Ended.{Ended}
+use Rattle.tp_session.specs.HostCalls.{HostCall}
 use Rattle.tp_session.specs.Laws.{is_over}
 use Rattle.tp_session.specs.NetError.{refusal_of}
-use Rattle.tp_session.specs.SessionData.{SessionData, begun, first_of}
+use Rattle.tp_session.specs.SessionData.{SessionData, first_of}
 use Rattle.tp_session.specs.SessionStep.{SessionStep}
 use Rattle.tp_session.proofs.StepFacts.{refusal_due, turn_tells}
-use Rattle.tp_net.specs.Transcript.{Comes}
+use Rattle.tp_net.specs.Transcript.{Comes, Traffic}
 use Rattle.tp_net.specs.Stops.{CantSend, EndsBy, GivesNoFrame, Takes, TakesAndStops}
 use Rattle.tp_net.specs.RunSession.{EndsWell, StopsFor}
 use Rattle.tp_net.proofs.Transcripts.{comes_begin, comes_on}
@@ -27,11 +26,6 @@ over_is Exchanges is = absurd (cc)
 over_is SaidDone is = absurd (cc)
 over_is Over is = refl
 
--- the session has ended just where the turn says so
-pub turn_ends : {H : Type 0} (receives : H → List ℕ → Reply → H → Type 0) (generates : H → Reply → H → Type 0) (s : SessionData) (h : H) (held : List ℕ) (turn : Turn) (rest : List ℕ) (s' : SessionData) (h' : H)
-    → Takes receives generates s h held turn rest s' h' → turn.ended ≡ is_over s'.phase
-turn_ends receives generates s h held turn rest s' h' t = turn_tells receives generates s t.frame h turn s' h' t.step
-
 -- an end from its error, where the refusal is the one that is due
 ended_is : (ended : Ended) (e : NetError) → e ≡ ended.error → ended.send ≡ refusal_of ended.error → ended ≡ record { error = e; send = refusal_of e }
 ended_is ended e is due =
@@ -39,77 +33,55 @@ ended_is ended e is due =
     ap (λ (x : NetError). let r : Ended = record { error = x; send = ended.send } in r) (sym is)
     ∙ ap (λ (o : Option Frame). let r : Ended = record { error = e; send = o } in r) told
 
--- the next frame ends the session for an error
-pub ends_by : {H : Type 0} (receives : H → List ℕ → Reply → H → Type 0) (generates : H → Reply → H → Type 0) (s : SessionData) (h : H) (held : List ℕ) (frame : Frame) (rest : List ℕ) (ended : Ended) (s' : SessionData) (e : NetError) (h' : H)
-    → IsFrame frame → held ≡ spelling frame ++ rest → is_over s.phase ≡ false → e ≡ ended.error → SessionStep receives generates s frame h (Err ended) s' h'
-    → EndsBy receives generates s h held e h'
-ends_by receives generates s h held frame rest ended s' e h' is_frame front going is step = record {
-  frame = frame;
-  rest = rest;
-  session = s';
-  is_frame = is_frame;
-  front = front;
-  step = subst (λ (x : Ended). SessionStep receives generates s frame h (Err x) s' h')
-      (ended_is ended e is (refusal_due receives generates s frame h ended s' h' going step)) step;
-}
+module _ {H : Type 0} (steps : H → HostCall → Reply → H → Type 0) (a : SessionData × H) where
+  -- the session has ended just where the turn says so
+  pub turn_ends : (held : List ℕ) (turn : Turn) (rest : List ℕ) (b : SessionData × H) → Takes steps a held turn rest b → turn.ended ≡ is_over b.0.phase
+  turn_ends held turn rest b t = turn_tells steps a b t.frame turn t.step
 
--- a turn that ends the session ends it well
-pub ends_well : {H : Type 0} (receives : H → List ℕ → Reply → H → Type 0) (generates : H → Reply → H → Type 0) (role : Role) (id : DocId) (h : H) (read held : List ℕ) (sent : List Frame) (s : SessionData) (h' : H) (applied : ℕ)
-    → Comes receives generates role id h read held sent s h' → is_over s.phase ≡ true → applied ≡ s.applied
-    → EndsWell receives generates role id h read sent applied h'
-ends_well receives generates role id h read held sent s h' applied c over count = record {
-  held = held;
-  session = s;
-  comes = c;
-  over = over_is s.phase over;
-  count = count;
-}
+  -- the next frame ends the session for an error
+  pub ends_by : (held : List ℕ) (frame : Frame) (rest : List ℕ) (ended : Ended) (s' : SessionData) (e : NetError) (h' : H)
+      → IsFrame frame → held ≡ spelling frame ++ rest → is_over a.0.phase ≡ false → e ≡ ended.error → SessionStep steps a frame (Err ended) (s', h')
+      → EndsBy steps a held e h'
+  ends_by held frame rest ended s' e h' is_frame front going is step = record {
+    frame = frame;
+    rest = rest;
+    session = s';
+    is_frame = is_frame;
+    front = front;
+    step = subst (λ (x : Ended). SessionStep steps a frame (Err x) (s', h'))
+        (ended_is ended e is (refusal_due steps a (s', h') frame ended going step)) step;
+  }
 
--- with nothing left to be sent
-comes_all : {H : Type 0} (receives : H → List ℕ → Reply → H → Type 0) (generates : H → Reply → H → Type 0) (role : Role) (id : DocId) (h : H) (read held : List ℕ) (sent : List Frame) (s : SessionData) (k : H)
-    → Comes receives generates role id h read held sent s k → Comes receives generates role id h read held (sent ++ []) s k
-comes_all receives generates role id h read held sent s k c =
-    subst (λ (l : List Frame). Comes receives generates role id h read held l s k) (sym (append-nil sent)) c
+  -- a turn that ends the session ends it well
+  pub ends_well : (w : Traffic) (held : List ℕ) (s' : SessionData) (h' : H) (applied : ℕ)
+      → Comes steps a w held (s', h') → is_over s'.phase ≡ true → applied ≡ s'.applied → EndsWell steps a w applied h'
+  ends_well w held s' h' applied c over count = record { held = held; session = s'; comes = c; over = over_is s'.phase over; count = count }
 
--- the first frame can't be sent
-pub stops_at_first : {H : Type 0} (receives : H → List ℕ → Reply → H → Type 0) (generates : H → Reply → H → Type 0) (role : Role) (id : DocId) (h : H) (f : Frame) (e : NetError)
-    → first_of role id ≡ Some f → CantSend e → StopsFor receives generates role id h [] [] e h
-stops_at_first receives generates role id h f e is cant = record {
-  unsent = Some f;
-  held = [];
-  session = begun role id;
-  host = h;
-  comes = subst (λ (o : Option Frame). Comes receives generates role id h [] [] (option_to_list o) (begun role id) h) is (comes_begin receives generates role id h);
-  cause = (cant, refl);
-}
+  -- with nothing left to be sent
+  comes_all : (w : Traffic) (held : List ℕ) (b : SessionData × H) → Comes steps a w held b → Comes steps a (record { read = w.read; sent = w.sent ++ [] }) held b
+  comes_all w held b c =
+      subst (λ (l : List Frame). Comes steps a (record { read = w.read; sent = l }) held b) (sym (append-nil w.sent)) c
 
--- no frame comes, the next one ends it, or its answer can't be sent
-pub stops_at_turn : {H : Type 0} (receives : H → List ℕ → Reply → H → Type 0) (generates : H → Reply → H → Type 0) (role : Role) (id : DocId) (h : H) (read held : List ℕ) (sent : List Frame) (s : SessionData) (k : H) (e : NetError) (h' : H)
-    → Comes receives generates role id h read held sent s k
-    → (GivesNoFrame held e × (h' ≡ k)) ⊎ (EndsBy receives generates s k held e h' ⊎ TakesAndStops receives generates s k held e h')
-    → StopsFor receives generates role id h read sent e h'
-stops_at_turn receives generates role id h read held sent s k e h' c (inl none) = record {
-  unsent = None;
-  held = held;
-  session = s;
-  host = k;
-  comes = comes_all receives generates role id h read held sent s k c;
-  cause = inl none;
-}
-stops_at_turn receives generates role id h read held sent s k e h' c (inr (inl by)) = record {
-  unsent = None;
-  held = held;
-  session = s;
-  host = k;
-  comes = comes_all receives generates role id h read held sent s k c;
-  cause = inr by;
-}
-stops_at_turn receives generates role id h read held sent s k e h' c (inr (inr t)) = record {
-  unsent = Some t.answer;
-  held = t.rest;
-  session = t.session;
-  host = h';
-  comes = subst (λ (o : Option Frame). Comes receives generates role id h read t.rest (sent ++ option_to_list o) t.session h') t.to_send
-      (comes_on receives generates role id h read held sent s k t.turn t.rest t.session h' c t.takes);
-  cause = (t.cant_send, refl);
-}
+  -- the first frame can't be sent
+  pub stops_at_first : (f : Frame) (e : NetError) → first_of a.0.role a.0.id ≡ Some f → CantSend e → StopsFor steps a (record { read = []; sent = [] }) e a.1
+  stops_at_first f e is cant = record {
+    unsent = Some f;
+    held = [];
+    side = a;
+    comes = subst (λ (o : Option Frame). Comes steps a (record { read = []; sent = option_to_list o }) [] a) is (comes_begin steps a);
+    cause = (cant, refl);
+  }
+
+  -- no frame comes, the next one ends it, or its answer can't be sent
+  pub stops_at_turn : (w : Traffic) (held : List ℕ) (b : SessionData × H) (e : NetError) (h' : H) → Comes steps a w held b
+      → (GivesNoFrame held e × (h' ≡ b.1)) ⊎ (EndsBy steps b held e h' ⊎ TakesAndStops steps b held e h') → StopsFor steps a w e h'
+  stops_at_turn w held b e h' c (inl none) = record { unsent = None; held = held; side = b; comes = comes_all w held b c; cause = inl none }
+  stops_at_turn w held b e h' c (inr (inl by)) = record { unsent = None; held = held; side = b; comes = comes_all w held b c; cause = inr by }
+  stops_at_turn w held b e h' c (inr (inr t)) = record {
+    unsent = Some t.answer;
+    held = t.rest;
+    side = (t.session, h');
+    comes = subst (λ (o : Option Frame). Comes steps a (record { read = w.read; sent = w.sent ++ option_to_list o }) t.rest (t.session, h')) t.to_send
+        (comes_on steps a w held b t.turn t.rest (t.session, h') c t.takes);
+    cause = (t.cant_send, refl);
+  }

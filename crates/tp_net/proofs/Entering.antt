@@ -8,7 +8,8 @@ use Rattle.tp_peer.specs.declared.error.PeerError.TheVariants.{Stopped}
 use Rattle.tp_peer.specs.Appending.{AppendsRecord}
 use Rattle.tp_peer.specs.PeerData.{PeerData}
 use Rattle.tp_peer.specs.PeerStep.{Call, Forget, Generate, Hears, PeerStep, Receive, Received, Refused, Reply}
-use Rattle.tp_peer.specs.Taking.{Report, journal_of}
+use Rattle.tp_receive.specs.Outcome.{Report, at_end}
+use Rattle.tp_peer.specs.Taking.{journal_of, receiver_of}
 use Rattle.tp_peer.proofs.StepLaws.{step_keeps}
 use Rattle.tp_served.specs.Seats.{SeatState, Shows, past}
 
@@ -29,10 +30,10 @@ past_length p p' new is =
 hears_counts : (p p' : PeerData) (link : ℕ) (bytes : List ℕ) (r : Report) (same : Bool) → Hears p link bytes r same p' → length (past p p') ≡ length r.applied
 hears_counts p p' link bytes r same h =
     let t = h.takes in
-    let came = progress AppendsRecord (journal_of p) p.applied p.waiting h.message.changes t.at t.received.run in
+    let came = progress AppendsRecord (journal_of p) p.applied p.waiting h.message.changes (at_end (receiver_of h.taken) r) t.receives.run in
     let applied : p'.applied ≡ p.applied ++ came.new =
-    ap (λ (q : PeerData). q.applied) h.left ∙ (ap (λ (q : PeerData). q.applied) t.left ∙ came.grows.begins) in
-    let told : length r.applied ≡ length came.new = ap length (t.applied ∙ came.reported) ∙ length_hashes came.new in
+    ap (λ (q : PeerData). q.applied) h.left ∙ came.grows.begins in
+    let told : length r.applied ≡ length came.new = ap length came.reported ∙ length_hashes came.new in
     past_length p p' came.new applied ∙ sym told
 
 of_running : (b : Bool) (p p' : PeerData) (link : ℕ) (bytes : List ℕ) (r : Report) (same : Bool)

@@ -1,7 +1,6 @@
 pub mod Bytes
 pub mod Transcripts
 pub mod Endings
-pub mod OneTurn
 pub mod SeatLists
 pub mod Entering
 pub mod Counting

@@ -1,40 +1,18 @@
 -- How a transcript begins and goes on.
-use Rattle.std.proofs.Common.{◌≡◌, ℕ, List, [], ◌∷◌, ◌++◌, Ok, refl, sym, ap, subst, ◌∙◌, append_assoc, append-nil}
-use Rattle.std.specs.Prelude.{option_to_list}
+use Rattle.std.proofs.Common.{◌≡◌, ℕ, List, [], ◌∷◌, ◌++◌, refl, sym, ap, subst, ◌∙◌, append_assoc, append-nil}
+use Rattle.std.specs.Prelude.{Option, option_to_list}
 use Rattle.std.specs.List.{flat_map, AllByRecursion}
-use Rattle.std.proofs.lemmas.List.{flat_map_more}
-use Rattle.tp_opid.specs.declared.doc_id.DocId.{DocId}
+use Rattle.std.proofs.lemmas.List.{flat_map_more, map-append}
+use Rattle.tp_list.proofs.TraceLaws.{trace_push}
 use Rattle.tp_frame.specs.declared.frame.Frame.{Frame}
 use Rattle.tp_frame.specs.Frame.{spelling, IsFrame}
 use Rattle.tp_frame.specs.Stream.{BeginsWith}
 use Rattle.tp_peer.specs.PeerStep.{Reply}
-use Rattle.tp_session.specs.declared.session.Role.{Role}
 use Rattle.tp_session.specs.declared.turn.Turn.{Turn}
-use Rattle.tp_session.specs.SessionData.{SessionData, begun, first_of}
-use Rattle.tp_session.specs.SessionStep.{SessionStep}
-use Rattle.tp_net.specs.Transcript.{Entry, frames_of, answers_of, Leads, Comes}
+use Rattle.tp_session.specs.HostCalls.{HostCall}
+use Rattle.tp_session.specs.SessionData.{SessionData, first_of}
+use Rattle.tp_net.specs.Transcript.{Answered, Comes, Entry, Traffic, frames_of}
 use Rattle.tp_net.specs.Stops.{Takes}
-
--- ---- one entry more
-
-frames_on : (transcript : List Entry) (x : Entry) → frames_of (transcript ++ x ∷ []) ≡ frames_of transcript ++ x.frame ∷ []
-frames_on [] x = refl
-frames_on (y ∷ transcript) x = ap (λ (l : List Frame). y.frame ∷ l) (frames_on transcript x)
-
-answers_on : (transcript : List Entry) (x : Entry) → answers_of (transcript ++ x ∷ []) ≡ answers_of transcript ++ option_to_list x.turn.send
-answers_on [] x = append-nil (option_to_list x.turn.send)
-answers_on (y ∷ transcript) x =
-    ap (λ (l : List Frame). option_to_list y.turn.send ++ l) (answers_on transcript x)
-    ∙ sym (append_assoc (option_to_list y.turn.send) (answers_of transcript) (option_to_list x.turn.send))
-
-leads_on : {H : Type 0} (receives : H → List ℕ → Reply → H → Type 0) (generates : H → Reply → H → Type 0) (s : SessionData) (h : H) (transcript : List Entry) (m : SessionData) (k : H) (x : Entry) (s' : SessionData) (h' : H)
-    → Leads receives generates s h transcript m k → SessionStep receives generates m x.frame k (Ok x.turn) s' h' → Leads receives generates s h (transcript ++ x ∷ []) s' h'
-leads_on {H} receives generates s h [] m k x s' h' leads step =
-    let at_session : SessionStep receives generates s x.frame k (Ok x.turn) s' h' = subst (λ (q : SessionData). SessionStep receives generates q x.frame k (Ok x.turn) s' h') leads.0 step in
-    let at_host : SessionStep receives generates s x.frame h (Ok x.turn) s' h' = subst (λ (q : H). SessionStep receives generates s x.frame q (Ok x.turn) s' h') leads.1 at_session in
-    (s', h', at_host, (refl, refl))
-leads_on receives generates s h (y ∷ transcript) m k x s' h' leads step =
-    (leads.0, leads.1, leads.2, leads_on receives generates leads.0 leads.1 transcript m k x s' h' leads.3 step)
 
 -- ---- bytes that begin with frames
 
@@ -61,36 +39,41 @@ begins_on read frames held f rest b is front = record {
 
 -- ---- a side that comes on
 
-pub comes_begin : {H : Type 0} (receives : H → List ℕ → Reply → H → Type 0) (generates : H → Reply → H → Type 0) (role : Role) (id : DocId) (h : H)
-    → Comes receives generates role id h [] [] (option_to_list (first_of role id)) (begun role id) h
-comes_begin receives generates role id h = record {
-  transcript = [];
-  steps = (refl, refl);
-  frames = record { each = tt; spelled = refl };
-  answers = sym (append-nil (option_to_list (first_of role id)));
-}
+module _ {H : Type 0} (steps : H → HostCall → Reply → H → Type 0) (a : SessionData × H) where
+  pub comes_begin : Comes steps a (record { read = []; sent = option_to_list (first_of a.0.role a.0.id) }) [] a
+  comes_begin = record {
+    transcript = [];
+    trace = refl;
+    frames = record { each = tt; spelled = refl };
+    answers = sym (append-nil (option_to_list (first_of a.0.role a.0.id)));
+  }
 
-pub comes_more : {H : Type 0} (receives : H → List ℕ → Reply → H → Type 0) (generates : H → Reply → H → Type 0) (role : Role) (id : DocId) (h : H) (read held more : List ℕ) (sent : List Frame) (s : SessionData) (k : H)
-    → Comes receives generates role id h read held sent s k → Comes receives generates role id h (read ++ more) (held ++ more) sent s k
-comes_more receives generates role id h read held more sent s k c = record {
-  transcript = c.transcript;
-  steps = c.steps;
-  frames = begins_more read more (frames_of c.transcript) held c.frames;
-  answers = c.answers;
-}
+  pub comes_more : (w : Traffic) (held more : List ℕ) (b : SessionData × H) → Comes steps a w held b → Comes steps a (record { read = w.read ++ more; sent = w.sent }) (held ++ more) b
+  comes_more w held more b c = record {
+    transcript = c.transcript;
+    trace = c.trace;
+    frames = begins_more w.read more (frames_of c.transcript) held c.frames;
+    answers = c.answers;
+  }
 
-pub comes_on : {H : Type 0} (receives : H → List ℕ → Reply → H → Type 0) (generates : H → Reply → H → Type 0) (role : Role) (id : DocId) (h : H) (read held : List ℕ) (sent : List Frame) (s : SessionData) (k : H) (turn : Turn) (rest : List ℕ) (s' : SessionData) (h' : H)
-    → Comes receives generates role id h read held sent s k → Takes receives generates s k held turn rest s' h'
-    → Comes receives generates role id h read rest (sent ++ option_to_list turn.send) s' h'
-comes_on receives generates role id h read held sent s k turn rest s' h' c t =
-    let x : Entry = record { frame = t.frame; turn = turn } in
-    let first = option_to_list (first_of role id) in
-    record {
-      transcript = c.transcript ++ x ∷ [];
-      steps = leads_on receives generates (begun role id) h c.transcript s k x s' h' c.steps t.step;
-      frames = subst (λ (l : List Frame). BeginsWith read l rest) (sym (frames_on c.transcript x)) (begins_on read (frames_of c.transcript) held t.frame rest c.frames t.is_frame t.front);
-      answers =
-          ap (λ (l : List Frame). l ++ option_to_list turn.send) c.answers
-          ∙ append_assoc (option_to_list (first_of role id)) (answers_of c.transcript) (option_to_list turn.send)
-          ∙ ap (λ (l : List Frame). option_to_list (first_of role id) ++ l) (sym (answers_on c.transcript x));
-    }
+  pub comes_on : (w : Traffic) (held : List ℕ) (b : SessionData × H) (turn : Turn) (rest : List ℕ) (k : SessionData × H)
+      → Comes steps a w held b → Takes steps b held turn rest k → Comes steps a (record { read = w.read; sent = w.sent ++ option_to_list turn.send }) rest k
+  comes_on w held b turn rest k c t =
+      let x : Entry = record { frame = t.frame; turn = turn } in
+      record {
+        transcript = c.transcript ++ x ∷ [];
+        trace = trace_push (Answered steps) a c.transcript b x k c.trace t.step;
+        frames = subst (λ (l : List Frame). BeginsWith w.read l rest) (sym (map-append (λ (y : Entry). y.frame) c.transcript (x ∷ []))) (begins_on w.read (frames_of c.transcript) held t.frame rest c.frames t.is_frame t.front);
+        answers =
+            ap (λ (l : List Frame). l ++ option_to_list turn.send) c.answers
+            ∙ flat_map_more (λ (y : Entry). option_to_list y.turn.send) (option_to_list (first_of a.0.role a.0.id)) c.transcript x;
+      }
+
+-- as it stands once it was made
+pub comes_first : {H : Type 0} (steps : H → HostCall → Reply → H → Type 0) (a : SessionData) (h : H) (s : SessionData) (held : List ℕ) (first : Option Frame)
+    → s ≡ a → held ≡ [] → first ≡ first_of s.role s.id → Comes steps (a, h) (record { read = []; sent = option_to_list first }) held (s, h)
+comes_first steps a h s held first is empty sends =
+    let sent : first ≡ first_of a.role a.id = sends ∙ ap (λ (q : SessionData). first_of q.role q.id) is in
+    let begun = subst (λ (o : Option Frame). Comes steps (a, h) (record { read = []; sent = option_to_list o }) [] (a, h)) (sym sent) (comes_begin steps (a, h)) in
+    let none = subst (λ (l : List ℕ). Comes steps (a, h) (record { read = []; sent = option_to_list first }) l (a, h)) (sym empty) begun in
+    subst (λ (q : SessionData). Comes steps (a, h) (record { read = []; sent = option_to_list first }) held (q, h)) (sym is) none

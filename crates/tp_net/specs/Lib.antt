@@ -2,4 +2,4 @@ pub mod Transcript
 pub mod Stops
 pub mod RunSession
 pub mod Names
-pub mod Turns
+pub mod Sessions

@@ -1,7 +1,8 @@
 //! The client.
 
-ghost use Rattle.std.specs.Prelude.{◌≡◌, IfOk};
-ghost use Rattle.tp_net.specs.Turns.{Enters, Sits};
+ghost use Rattle.std.specs.Prelude.{◌≡◌};
+ghost use Rattle.tp_session.specs.declared.session.Role.TheVariants.{Client};
+ghost use Rattle.tp_net.specs.Sessions.{Meets};
 
 use crate::holding::hold_on;
 use std::alloc::Global;
@@ -23,8 +24,8 @@ pub fn connect<R: Net + Wait, J: Journal>(
     seat: &mut Seat,
 ) -> Result<u64, NetError>
     requires { seat.old.served ≡ served.now.served }
-    ensures sits { Sits seat.old seat.new }
-    ensures told { IfOk result (λ n. Enters n seat.old seat.new) }
+    ensures served { seat.new.served ≡ seat.old.served }
+    ensures meets { Meets Client served.now.opened.id seat.old.state result seat.new.state }
 {
     let Ok(stream) = TcpStream::connect(rt, addr) else {
         return Err(NetError::Io);

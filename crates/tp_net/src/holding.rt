@@ -1,7 +1,7 @@
 //! One session over a socket, on a seat.
 
-ghost use Rattle.std.specs.Prelude.{◌≡◌, IfOk};
-ghost use Rattle.tp_net.specs.Turns.{Enters, Sits};
+ghost use Rattle.std.specs.Prelude.{◌≡◌};
+ghost use Rattle.tp_net.specs.Sessions.{Meets};
 
 use crate::run::run_session;
 use crate::seated::SeatedHost;
@@ -24,8 +24,8 @@ pub(crate) fn hold_on<R: Wait, S: Read + Write + OpenStream + Drop, J: Journal>(
     seat: &mut Seat,
 ) -> Result<u64, NetError>
     requires { seat.old.served ≡ served.now.served }
-    ensures sits { Sits seat.old seat.new }
-    ensures told { IfOk result (λ n. Enters n seat.old seat.new) }
+    ensures served { seat.new.served ≡ seat.old.served }
+    ensures meets { Meets role served.now.opened.id seat.old.state result seat.new.state }
 {
     let mut reader = stream;
     let Ok(mut writer) = reader.try_clone() else {

@@ -1,15 +1,16 @@
 //! One session over a reader and a writer.
 
-ghost use Rattle.std.specs.Prelude.{◌≡◌, ◌⊎◌, ℕ, List, ◌++◌, false, Ok, IfOk, IfErr, option_to_list};
+ghost use Rattle.std.specs.Prelude.{◌≡◌, ◌⊎◌, ℕ, List, ◌++◌, false, Err, IfOk, IfErr, MatchResult, option_to_list};
 ghost use Rattle.std.specs.List.{flat_map};
 ghost use Rattle.std.specs.Io.KnownBytes.{Appends, Consumes, Keeps};
-ghost use Rattle.tp_frame.specs.declared.frame.Frame.{Frame as FrameOf};
 ghost use Rattle.tp_frame.specs.Frame.{spelling};
 ghost use Rattle.tp_session.specs.declared.error.NetError.TheVariants.{Io};
 ghost use Rattle.tp_session.specs.declared.turn.Turn.{Turn as TurnOf};
 ghost use Rattle.tp_session.specs.Laws.{is_over};
-ghost use Rattle.tp_net.specs.Stops.{GivesNoFrame, EndsBy, Takes, TakesAndStops, Stops};
-ghost use Rattle.tp_net.specs.RunSession.{EndsWell, StopsFor, BreaksOff, Forgetting, NeverBegins};
+ghost use Rattle.tp_session.specs.SessionData.{begun};
+ghost use Rattle.tp_net.specs.Transcript.{Traffic};
+ghost use Rattle.tp_net.specs.Stops.{GivesNoFrame, EndsBy, Takes, TakesAndStops};
+ghost use Rattle.tp_net.specs.RunSession.{EndsWell, StopsFor, Ends, IsHeld};
 
 use crate::reading::next_frame;
 use crate::writing::{send, send_refusal};
@@ -28,13 +29,13 @@ fn hear<R: Read, H: Host>(
 ) -> Result<Turn, NetError>
     ensures ok { IfOk result (λ turn. (more : List ℕ)
         × Consumes (R.remaining reader.old) (R.remaining reader.new) more
-        × Takes H.receives H.generates session.old host.old (framer.old ++ more) turn
-        framer.new session.new host.new) }
+        × Takes H.steps (session.old, H.seen host.old) (framer.old ++ more) turn
+        framer.new (session.new, H.seen host.new)) }
     ensures err { IfErr result (λ e. (more : List ℕ)
         × Consumes (R.remaining reader.old) (R.remaining reader.new) more
         × (is_over session.old.phase ≡ false
-        → (GivesNoFrame (framer.old ++ more) e × (host.new ≡ host.old))
-        ⊎ EndsBy H.receives H.generates session.old host.old (framer.old ++ more) e host.new)) }
+        → (GivesNoFrame (framer.old ++ more) e × (H.seen host.new ≡ H.seen host.old))
+        ⊎ EndsBy H.steps (session.old, H.seen host.old) (framer.old ++ more) e (H.seen host.new))) }
     ensures host { H.goes_on host.old host.new }
 {
     let frame = next_frame(reader, framer)?;
@@ -54,16 +55,16 @@ fn take_turn<R: Read, W: Write, H: Host>(
         × Consumes (R.remaining reader.old) (R.remaining reader.new) more
         × Appends (W.contents writer.old) (W.contents writer.new)
         (flat_map spelling (option_to_list turn.send))
-        × Takes H.receives H.generates session.old host.old (framer.old ++ more) turn
-        framer.new session.new host.new
+        × Takes H.steps (session.old, H.seen host.old) (framer.old ++ more) turn
+        framer.new (session.new, H.seen host.new)
         × (turn.ended ≡ ended)) }
     ensures err { IfErr result (λ e. (more : List ℕ)
         × Consumes (R.remaining reader.old) (R.remaining reader.new) more
         × (is_over session.old.phase ≡ false
-        → (GivesNoFrame (framer.old ++ more) e × (host.new ≡ host.old))
-        ⊎ (EndsBy H.receives H.generates session.old host.old (framer.old ++ more) e host.new
-        ⊎ TakesAndStops H.receives H.generates session.old host.old (framer.old ++ more) e
-        host.new))) }
+        → (GivesNoFrame (framer.old ++ more) e × (H.seen host.new ≡ H.seen host.old))
+        ⊎ (EndsBy H.steps (session.old, H.seen host.old) (framer.old ++ more) e (H.seen host.new)
+        ⊎ TakesAndStops H.steps (session.old, H.seen host.old) (framer.old ++ more) e
+        (H.seen host.new)))) }
     ensures kept { IfErr result
         (λ e. (e ≡ Io) ⊎ Keeps (W.contents writer.old) (W.contents writer.new)) }
     ensures host { H.goes_on host.old host.new }
@@ -85,15 +86,13 @@ fn converse<R: Read, W: Write, H: Host>(
     id: DocId,
     host: &mut H,
 ) -> Result<u64, NetError>
-    ensures ok { IfOk result (λ applied. (read : List ℕ) × (sent : List FrameOf)
-        × Consumes (R.remaining reader.old) (R.remaining reader.new) read
-        × Appends (W.contents writer.old) (W.contents writer.new) (flat_map spelling sent)
-        × EndsWell H.receives H.generates role id host.old read sent applied host.new) }
-    ensures err { IfErr result (λ e. (read : List ℕ) × (sent : List FrameOf)
-        × Consumes (R.remaining reader.old) (R.remaining reader.new) read
-        × ((e ≡ Io)
-        ⊎ Appends (W.contents writer.old) (W.contents writer.new) (flat_map spelling sent))
-        × StopsFor H.receives H.generates role id host.old read sent e host.new) }
+    ensures session { (w : Traffic)
+        × Consumes (R.remaining reader.old) (R.remaining reader.new) w.read
+        × ((result ≡ Err Io)
+        ⊎ Appends (W.contents writer.old) (W.contents writer.new) (flat_map spelling w.sent))
+        × MatchResult result
+        (λ n. EndsWell H.steps (begun role id, H.seen host.old) w n (H.seen host.new))
+        (λ e. StopsFor H.steps (begun role id, H.seen host.old) w e (H.seen host.new)) }
     ensures host { H.goes_on host.old host.new }
 {
     let mut session = Session::new(role, id);
@@ -116,15 +115,11 @@ fn hold<R: Read, W: Write, H: Host>(
     id: DocId,
     host: &mut H,
 ) -> Result<u64, NetError>
-    ensures ok { IfOk result (λ applied. (read : List ℕ) × (sent : List FrameOf)
-        × Consumes (R.remaining reader.old) (R.remaining reader.new) read
-        × Appends (W.contents writer.old) (W.contents writer.new) (flat_map spelling sent)
-        × EndsWell H.receives H.generates role id host.old read sent applied host.new) }
-    ensures err { IfErr result (λ e. (read : List ℕ) × (sent : List FrameOf)
-        × Consumes (R.remaining reader.old) (R.remaining reader.new) read
-        × ((e ≡ Io)
-        ⊎ Appends (W.contents writer.old) (W.contents writer.new) (flat_map spelling sent))
-        × BreaksOff H.receives H.generates role id host.old read sent e host.new) }
+    ensures session { (w : Traffic)
+        × Consumes (R.remaining reader.old) (R.remaining reader.new) w.read
+        × ((result ≡ Err Io)
+        ⊎ Appends (W.contents writer.old) (W.contents writer.new) (flat_map spelling w.sent))
+        × Ends H.steps (begun role id, H.seen host.old) w result (H.seen host.new) }
     ensures host { H.goes_on host.old host.new }
 {
     match converse(alloc, reader, writer, role, id, host) {
@@ -161,22 +156,13 @@ pub fn run_session<R: Read, W: Write, H: Host>(
     id: DocId,
     host: &mut H,
 ) -> Result<u64, NetError>
-    // What was read begins with the frames that came, each was one step of the session, and their answers were sent.
-    ensures ended { IfOk result (λ applied. (read : List ℕ) × (sent : List FrameOf)
-        × Consumes (R.remaining reader.old) (R.remaining reader.new) read
-        × Appends (W.contents writer.old) (W.contents writer.new) (flat_map spelling sent)
-        × Forgetting H.forgets
-        (λ h h'. EndsWell H.receives H.generates role id h read sent applied h')
-        host.old host.new) }
-    // So it was up to an error, and the refusal that is due was sent, unless the stream failed.
-    ensures broken { IfErr result (λ e. (read : List ℕ) × (sent : List FrameOf)
-        × Consumes (R.remaining reader.old) (R.remaining reader.new) read
-        × ((e ≡ Io)
-        ⊎ Appends (W.contents writer.old) (W.contents writer.new) (flat_map spelling sent))
-        × (NeverBegins H.forgets host.old read sent e host.new
-        ⊎ Forgetting H.forgets
-        (λ h h'. BreaksOff H.receives H.generates role id h read sent e h')
-        host.old host.new)) }
+    // What was read begins with the frames that came, each was one step of the session, and their answers were sent. So it
+    // was up to an error, and the refusal that is due was sent, unless the stream failed.
+    ensures session { (w : Traffic)
+        × Consumes (R.remaining reader.old) (R.remaining reader.new) w.read
+        × ((result ≡ Err Io)
+        ⊎ Appends (W.contents writer.old) (W.contents writer.new) (flat_map spelling w.sent))
+        × IsHeld H.steps (begun role id) (H.seen host.old) w result (H.seen host.new) }
     ensures host { H.goes_on host.old host.new }
 {
     host.forget()?;

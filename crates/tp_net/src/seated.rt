@@ -1,10 +1,8 @@
 //! A seat at a served peer, as the host of a session.
 
 ghost use Rattle.std.specs.Prelude.{◌≡◌};
-ghost use Rattle.tp_peer.specs.PeerStep.{Receive, Generate, Forget};
-ghost use Rattle.tp_served.specs.Seats.{Shows};
 ghost use Rattle.tp_net.specs.Names.{TableId-set};
-ghost use Rattle.tp_net.specs.Turns.{Sits};
+ghost use Rattle.tp_net.specs.Sessions.{TakesTurn};
 
 use std::sync::Wait;
 use tp_journal::Journal;
@@ -37,18 +35,16 @@ impl<'a, 's, J: Journal, R: Wait> SeatedHost<'a, 's, J, R> {
 
 impl<'a, 's, J: Journal, R: Wait> Host for SeatedHost<'a, 's, J, R> {
     ghost use Rattle.std.proofs.Common.{refl, ◌∙◌};
-    ghost use Rattle.tp_net.specs.Turns.{stays as stays_at, joins as joins_at};
+    ghost use Rattle.tp_served.specs.Seats.{SeatState};
 
-    ghost goes_on = { λ a b. (b.seat.ghost_name ≡ a.seat.ghost_name) × Sits a.seat.now b.seat.now };
+    ghost Seen = { SeatState };
 
-    ghost receives = { λ a bytes reply b.
-        Shows a.seat.now.state (Receive a.seat.now.state.number bytes) reply b.seat.now.state };
+    ghost seen = { λ h. h.seat.now.state };
 
-    ghost generates = { λ a reply b.
-        Shows a.seat.now.state (Generate a.seat.now.state.number) reply b.seat.now.state };
+    ghost steps = { TakesTurn };
 
-    ghost forgets = { λ a reply b.
-        Shows a.seat.now.state (Forget a.seat.now.state.number) reply b.seat.now.state };
+    ghost goes_on = { λ a b. (b.seat.ghost_name ≡ a.seat.ghost_name)
+        × (b.seat.now.served ≡ a.seat.now.served) };
 
     fn receive(&mut self, bytes: &[u8]) -> Result<Received, PeerError> {
         self.served.receive(self.rt, self.seat, bytes)
@@ -62,10 +58,7 @@ impl<'a, 's, J: Journal, R: Wait> Host for SeatedHost<'a, 's, J, R> {
         self.served.forget(self.rt, self.seat)
     }
 
-    ghost stays = { λ h. (refl, stays_at h.seat.now) };
+    ghost stays = { λ h. (refl, refl) };
 
-    ghost joins = { λ a b c first then. (
-      then.0 ∙ first.0,
-      joins_at a.seat.now b.seat.now c.seat.now first.1 then.1,
-    ) };
+    ghost joins = { λ a b c first then. (then.0 ∙ first.0, then.1 ∙ first.1) };
 }

@@ -4,7 +4,7 @@ ghost use Rattle.std.specs.Prelude.{◌≡◌, ◌⊎◌, ◌<◌, ℕ, length, 
 ghost use Rattle.tp_served.specs.Calls.{AreOf};
 ghost use Rattle.tp_served.specs.Seats.{SeatData};
 ghost use Rattle.tp_session.specs.declared.error.NetError.TheVariants.{Io, OutOfMemory};
-ghost use Rattle.tp_net.specs.Turns.{AllSit, Sits};
+ghost use Rattle.tp_net.specs.Sessions.{AllSit, Sits};
 
 use crate::gate::Gate;
 use crate::holding::hold_on;
@@ -69,7 +69,7 @@ fn attend<R: Wait, S: Read + Write + OpenStream + Drop, J: Journal, G: Gate>(
     seat: &mut Seat,
 )
     requires { seat.old.served ≡ served.now.served }
-    ensures { Sits seat.old seat.new }
+    ensures { Sits served.now.opened.id seat.old seat.new }
 {
     let Accepted { session, stream } = accepted;
     gate.before(session);
@@ -87,7 +87,7 @@ fn work<R: Wait, S: Read + Write + OpenStream + Drop, J: Journal, G: Gate>(
     seat: &mut Seat,
 )
     requires { seat.old.served ≡ served.now.served }
-    ensures { Sits seat.old seat.new }
+    ensures { Sits served.now.opened.id seat.old seat.new }
 {
     for _ in rt.forever() {
         let Ok(accepted) = connections.recv(rt) else {
@@ -114,7 +114,7 @@ fn work_on_all<
     requires { AreOf served.now.served seats.old }
     ensures all { length seats.new ≡ length seats.old }
     ensures each { (i : ℕ) (d : SeatData) → i < length seats.old
-        → Sits (slice_index_or seats.old i d) (slice_index_or seats.new i d) }
+        → Sits served.now.opened.id (slice_index_or seats.old i d) (slice_index_or seats.new i d) }
 {
     let workers = seats.len().max(1);
     thread::for_each_mut(
@@ -123,7 +123,7 @@ fn work_on_all<
         workers,
         &|_, seat: &mut Seat|
             requires { seat.old.served ≡ served.now.served }
-            ensures { Sits seat.old seat.new }
+            ensures { Sits served.entry.now.opened.id seat.old seat.new }
         { work(rt, alloc, connections, served, gate, seat) },
     );
 }
@@ -143,7 +143,7 @@ fn work_with<
     seats: Vec<Seat>,
 ) -> Vec<Seat>
     requires { AreOf served.now.served seats.items }
-    ensures { AllSit seats.items result.items }
+    ensures { AllSit served.now.opened.id seats.items result.items }
 {
     let mut seats = seats;
     work_on_all(rt, alloc, &connections, served, gate, seats.as_mut_slice());
@@ -160,6 +160,9 @@ fn work_with<
 /// It answers once all sessions have ended. `Io` where a connection can't be accepted, `OutOfMemory` where one can't be
 /// queued; the sessions that were accepted before go on to their end first. The seats come back either way. Where no
 /// thread can be made, all connections are accepted first and one worker holds the sessions, one after another.
+///
+/// Contracts see of each seat the sessions that led it on. How many there were altogether they don't say: the connections
+/// go to the workers by a channel.
 ///
 /// Nothing is bounded in time: a client that sends nothing holds its worker for ever, and so a server without a worker
 /// left answers nobody else.
@@ -179,9 +182,9 @@ pub fn serve<
     gate: &G,
 ) -> Result<Vec<Seat>, Interrupted>
     requires { AreOf served.now.served seats.items }
-    ensures seats { IfOk result (λ back. AllSit seats.items back.items) }
+    ensures seats { IfOk result (λ back. AllSit served.now.opened.id seats.items back.items) }
     ensures of { IfOk result (λ back. AreOf served.now.served back.items) }
-    ensures err { IfErr result (λ i. AllSit seats.items i.seats.items
+    ensures err { IfErr result (λ i. AllSit served.now.opened.id seats.items i.seats.items
         × AreOf served.now.served i.seats.items × ((i.error ≡ Io) ⊎ (i.error ≡ OutOfMemory))) }
 {
     if seats.is_empty() {
@@ -197,7 +200,7 @@ pub fn serve<
         rt,
         move ||
             requires { AreOf served.now.served seats.items }
-            ensures { AllSit seats.items result.items }
+            ensures { AllSit served.entry.now.opened.id seats.items result.items }
         { work_with(rt, alloc, connections, served, gate, seats) },
         move || accept_all(rt, listener, sessions, workers),
     );

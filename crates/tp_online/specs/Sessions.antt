@@ -1,7 +1,9 @@
 -- What sessions on the seats of a served peer came to.
-use Rattle.std.specs.Prelude.{◌≡◌, ℕ, List, false}
+use Rattle.std.specs.Prelude.{◌≡◌, ℕ, List, Ok, Option, false}
 use Rattle.tp_peer.specs.PeerData.{PeerData}
-use Rattle.tp_net.specs.Turns.{AllSit, Enters, Sits}
+use Rattle.tp_session.specs.declared.session.Role.TheVariants.{Client}
+use Rattle.tp_shell.specs.Files.{OpensUnder}
+use Rattle.tp_net.specs.Sessions.{AllSit, Meets}
 use Rattle.tp_served.specs.Calls.{Closes}
 use Rattle.tp_served.specs.Seats.{SeatData, ServedData, fresh, fresh_from, seats_of, states_of}
 
@@ -13,23 +15,29 @@ opened_seats d = seats_of d.served (fresh_from d.opened 0 d.count)
 abbrev pub opening_seat : ServedData → SeatData
 opening_seat d = record { served = d.served; state = fresh d.opened 0 }
 
--- The seat is the first one of the served peer, and since the opening calls of its own led it to where it is, by which n
--- changes entered: all that the seat has ever entered, up to 2^64 - 1.
+-- The seat is the first one of the served peer, and since the opening one session led it to where it is, as the client
+-- about that peer's document, by which n changes entered: all that the seat has ever entered, up to 2^64 - 1.
 pub record HasEntered (served : ServedData) (seat : SeatData) (n : ℕ) : Type 0 where
-  pub sits : Sits (opening_seat served) seat
-  pub enters : Enters n (opening_seat served) seat
+  pub same : seat.served ≡ served.served
+  pub meets : Meets Client served.opened.id (fresh served.opened 0) (Ok n) seat.state
 
 -- The peer p is what the closing of the served peer gives back for the seats, and its journal didn't stop it.
 pub record EndsRunning (served : ServedData) (seats : List SeatData) (p : PeerData) : Type 0 where
   pub closes : Closes served.opened served.count (states_of seats) p
   pub runs : p.stopped ≡ false
 
--- The peer p was opened, and served on as many seats as said; with these, as calls of their own led them from the opening
--- on, the closing gives back the peer p'. Its journal didn't stop it.
+-- The peer p was opened, and served on as many seats as said; with these, as sessions about its document led them from
+-- the opening on, each as the server, the closing gives back the peer p'. Its journal didn't stop it.
 pub record WasServed (p : PeerData) (count : ℕ) (p' : PeerData) : Type 0 where
   pub served : ServedData
   pub opened : served.opened ≡ p
   pub number : served.count ≡ count
   pub back : List SeatData
-  pub sat : AllSit (opened_seats served) back
+  pub sat : AllSit served.opened.id (opened_seats served) back
   pub ends : EndsRunning served back p'
+
+-- The peer that was opened on the bytes of a journal, under the actor that is drawn under the key, was served.
+pub record ServesJournal (key : Option (List ℕ)) (bytes : List ℕ) (count : ℕ) (p' : PeerData) : Type 0 where
+  pub peer : PeerData
+  pub opens : OpensUnder key bytes peer
+  pub served : WasServed peer count p'

@@ -1,13 +1,16 @@
 //! What a server and a client begin with: a peer on a journal, and an address.
 
+ghost use Rattle.std.specs.Prelude.{IfOk};
+ghost use Rattle.tp_shell.specs.Files.{OfFile, OpensJournal};
+
 use std::fs::OpenFile;
 use std::io::Write;
 use std::net::{Net, OpenListener, SocketAddr};
-use std::rt::Files;
 use tp_commands::CommandError;
 use tp_journal::DurableJournal;
 use tp_opid::Actor;
 use tp_peer::Peer;
+use tp_shell::Disk;
 
 /// A server that listens, and has accepted nothing yet.
 #[derive(Drop)]
@@ -21,12 +24,15 @@ pub(crate) struct Listening<L: Drop, F: Write + OpenFile + Drop> {
 }
 
 /// The peer on the journal in the file.
-pub(crate) fn opened<R: Files + AllocGlobal>(
+pub(crate) fn opened<R: Disk + AllocGlobal>(
     rt: &R,
     file: &str,
     actor: Actor,
-) -> Result<Peer<DurableJournal<R::File>>, CommandError> {
-    let journal = DurableJournal::at(rt, rt.alloc(), file, false)?;
+) -> Result<Peer<DurableJournal<R::File>>, CommandError>
+    ensures { IfOk result (λ p. OfFile (R.reads rt.now) file.now
+        (λ bytes. OpensJournal bytes actor p)) }
+{
+    let journal = rt.durable_journal(file)?;
     match Peer::reopen(rt.alloc(), journal, actor) {
         Ok(peer) => Ok(peer),
         Err(unopened) => Err(CommandError::from(unopened.error)),
@@ -41,12 +47,15 @@ fn bound<R: Net>(rt: &R, addr: SocketAddr) -> Result<(R::Listener, u16), Command
 }
 
 /// Opens the journal in the file under the actor, and then listens at the address.
-pub(crate) fn listen<R: Files + Net + AllocGlobal>(
+pub(crate) fn listen<R: Disk + Net + AllocGlobal>(
     rt: &R,
     file: &str,
     addr: SocketAddr,
     actor: Actor,
-) -> Result<Listening<R::Listener, R::File>, CommandError> {
+) -> Result<Listening<R::Listener, R::File>, CommandError>
+    ensures { IfOk result (λ l. OfFile (R.reads rt.now) file.now
+        (λ bytes. OpensJournal bytes actor l.peer)) }
+{
     let peer = opened(rt, file, actor)?;
     match bound(rt, addr) {
         Ok((listener, port)) => Ok(Listening {

@@ -13,21 +13,20 @@ use crate::serving::{serve_file, sync_file};
 use std::convert::AsStr;
 use std::io::Write;
 use std::net::Net;
-use std::rt::{Env, Files};
+use std::rt::Env;
 use std::sync::Wait;
 use std::thread::Threads;
 use std::{env, io};
 use tp_command_line::{Command, line};
 use tp_commands::CommandError;
 use tp_shell::{
-    DONE, Errors, Job, JobError, MISUSED, REFUSED, ShellError, carry_out, ended, explain, job_of,
+    DONE, Disk, Errors, Job, JobError, MISUSED, REFUSED, ShellError, carry_out, ended, explain,
+    job_of,
 };
 
 /// Does what the process's own words ask for, and returns the exit status, as [`run_words`] does. Words that can't be
 /// read, as those that are no UTF-8, are refused as `textpeer: Io`.
-pub fn run<R: Env + Files + Net + Threads + Wait + Print + Eprint + AllocGlobal + Sync>(
-    rt: &R,
-) -> u8
+pub fn run<R: Env + Disk + Net + Threads + Wait + Print + Eprint + AllocGlobal + Sync>(rt: &R) -> u8
 where
     R::File: Send,
     R::Stream: Send,
@@ -50,7 +49,7 @@ fn own_words<R: Env + AllocGlobal>(rt: &R) -> io::Result<Vec<String>> {
 /// Does what the words ask for, of which the first is the program's name, and returns the exit status: 0 where it was
 /// done, as for `--help`; 1 where it was refused, with one line on the standard error, as [`ShellError`] prints it; 2
 /// where the words are at fault, with the parser's text on the standard error.
-pub fn run_words<R: Files + Net + Threads + Wait + Print + Eprint + AllocGlobal + Sync, S: AsStr>(
+pub fn run_words<R: Disk + Net + Threads + Wait + Print + Eprint + AllocGlobal + Sync, S: AsStr>(
     rt: &R,
     words: &[S],
 ) -> u8
@@ -67,7 +66,7 @@ where
 
 /// The same as [`run_words`], with writers for the standard output and the standard error.
 pub fn run_words_on<
-    R: Files + Net + Threads + Wait + AllocGlobal + Sync,
+    R: Disk + Net + Threads + Wait + AllocGlobal + Sync,
     S: AsStr,
     W: Write,
     E: Write,
@@ -78,11 +77,13 @@ where
     ensures status { result ≤ MISUSED }
     // What was done prints nothing on the standard error.
     ensures done { result ≡ DONE → Keeps (E.contents err.old) (E.contents err.new)
-        × WasDone (map S.text words.now) (W.contents out.old) (W.contents out.new) }
+        × WasDone (R.reads rt.now) (R.leaves rt.now) (map S.text words.now)
+        (W.contents out.old) (W.contents out.new) }
     // Of what was refused one line stands there, or a beginning of it where writing it failed.
     ensures refused { result ≡ REFUSED → (e : Refusal)
         × GrowsPart (IsLineOf e) (E.contents err.old) (E.contents err.new)
-        × WasRefused (map S.text words.now) e (W.contents out.old) (W.contents out.new) }
+        × WasRefused (R.reads rt.now) (R.leaves rt.now) (map S.text words.now) e
+        (W.contents out.old) (W.contents out.new) }
     // Words at fault print nothing on the standard output.
     ensures misused { result ≡ MISUSED → (fault_of textpeer_app (map S.text words.now) ≢ [])
         × Keeps (W.contents out.old) (W.contents out.new) }
@@ -97,7 +98,7 @@ where
 /// written to `out` and flushed; 1 where it was refused, with one line on `err`. `out` then has what was printed before;
 /// where `err` fails it has taken a beginning of the line. Hashes, the key and the address are read before any file is
 /// touched.
-pub fn run_command<R: Files + Net + Threads + Wait + AllocGlobal + Sync, W: Write, E: Write>(
+pub fn run_command<R: Disk + Net + Threads + Wait + AllocGlobal + Sync, W: Write, E: Write>(
     rt: &R,
     command: Command,
     out: &mut W,
@@ -108,10 +109,12 @@ where
     R::Stream: Send,
     ensures status { result ≤ REFUSED }
     ensures done { result ≡ DONE → Keeps (E.contents err.old) (E.contents err.new)
-        × IsDone command.entry (W.contents out.old) (W.contents out.new) }
+        × IsDone (R.reads rt.now) (R.leaves rt.now) command.entry
+        (W.contents out.old) (W.contents out.new) }
     ensures refused { result ≡ REFUSED → (e : Refusal)
         × GrowsPart (IsLineOf e) (E.contents err.old) (E.contents err.new)
-        × IsRefused command.entry e (W.contents out.old) (W.contents out.new) }
+        × IsRefused (R.reads rt.now) (R.leaves rt.now) command.entry e
+        (W.contents out.old) (W.contents out.new) }
 {
     match carried(rt, command, out) {
         Ok(()) => DONE,
@@ -120,7 +123,7 @@ where
 }
 
 // Reads the values of a command, and does what it asks for.
-fn carried<R: Files + Net + Threads + Wait + AllocGlobal + Sync, W: Write>(
+fn carried<R: Disk + Net + Threads + Wait + AllocGlobal + Sync, W: Write>(
     rt: &R,
     command: Command,
     out: &mut W,
@@ -128,9 +131,11 @@ fn carried<R: Files + Net + Threads + Wait + AllocGlobal + Sync, W: Write>(
 where
     R::File: Send,
     R::Stream: Send,
-    ensures done { OnOk result (IsDone command.entry (W.contents out.old) (W.contents out.new)) }
+    ensures done { OnOk result (IsDone (R.reads rt.now) (R.leaves rt.now) command.entry
+        (W.contents out.old) (W.contents out.new)) }
     ensures refused { IfErr result
-        (λ e. IsRefused command.entry e (W.contents out.old) (W.contents out.new)) }
+        (λ e. IsRefused (R.reads rt.now) (R.leaves rt.now) command.entry e
+        (W.contents out.old) (W.contents out.new)) }
 {
     match job_of(rt.alloc(), command) {
         Ok(job) => match run_job(rt, job, out) {
@@ -142,7 +147,7 @@ where
 }
 
 // Does a job, and writes what is printed of it.
-fn run_job<R: Files + Net + Threads + Wait + AllocGlobal + Sync, W: Write>(
+fn run_job<R: Disk + Net + Threads + Wait + AllocGlobal + Sync, W: Write>(
     rt: &R,
     job: Job,
     out: &mut W,
@@ -151,8 +156,9 @@ where
     R::File: Send,
     R::Stream: Send,
     ensures prints { OnOk result
-        (Grows (IsPrinted job.entry) (W.contents out.old) (W.contents out.new)) }
-    ensures err { IfErr result (λ e. LeavesOf job.entry e
+        (Grows (IsPrinted (R.reads rt.now) (R.leaves rt.now) job.entry)
+        (W.contents out.old) (W.contents out.new)) }
+    ensures err { IfErr result (λ e. LeavesOf (R.reads rt.now) (R.leaves rt.now) job.entry e
         (W.contents out.old) (W.contents out.new)) }
 {
     match job {

@@ -1,7 +1,8 @@
 //! Sessions on the seats of a peer.
 
-ghost use Rattle.std.specs.Prelude.{◌≡◌, length, IfOk, false};
-ghost use Rattle.tp_net.specs.Turns.{AllSit, Enters, Sits};
+ghost use Rattle.std.specs.Prelude.{◌≡◌, length, IfOk, Ok, false};
+ghost use Rattle.tp_session.specs.declared.session.Role.TheVariants.{Client};
+ghost use Rattle.tp_net.specs.Sessions.{AllSit, Meets};
 ghost use Rattle.tp_served.specs.Calls.{AreOf};
 ghost use Rattle.tp_online.specs.Sessions.{EndsRunning, opened_seats, opening_seat};
 
@@ -89,7 +90,7 @@ pub(crate) fn hold<
     sessions: u64,
 ) -> Result<Vec<Seat>, JobError>
     requires { AreOf served.now.served seats.items }
-    ensures sat { IfOk result (λ back. AllSit seats.items back.items) }
+    ensures sat { IfOk result (λ back. AllSit served.now.opened.id seats.items back.items) }
     ensures of { IfOk result (λ back. AreOf served.now.served back.items
         × (length back.items ≡ length seats.items)) }
 {
@@ -108,8 +109,9 @@ pub(crate) fn meet<R: Net + Wait, J: Journal>(
     seat: &mut Seat,
 ) -> Result<u64, JobError>
     requires { seat.old.served ≡ served.now.served }
-    ensures sits { Sits seat.old seat.new }
-    ensures told { IfOk result (λ n. Enters n seat.old seat.new) }
+    ensures served { seat.new.served ≡ seat.old.served }
+    ensures meets { IfOk result (λ n. Meets Client served.now.opened.id seat.old.state (Ok n)
+        seat.new.state) }
 {
     match connect(rt, alloc, addr, served, seat) {
         Ok(applied) => Ok(applied),

@@ -6,8 +6,8 @@ ghost use Rattle.std.specs.String.{string_bytes};
 ghost use Rattle.tp_textpeer.specs.Output.{AppendsPart};
 ghost use Rattle.tp_shell.specs.Network.{IsServed, IsSynced, applied_line as line_of_applied, listening_line as line_of_port, served_line as line_of_sessions};
 ghost use Rattle.tp_shell.specs.Output.{Grows, GrowsPart, Leaves};
-ghost use Rattle.tp_peer.specs.PeerData.{PeerData};
-ghost use Rattle.tp_online.specs.Sessions.{HasEntered, WasServed};
+ghost use Rattle.tp_shell.specs.Files.{OfFile, OpensUnder};
+ghost use Rattle.tp_online.specs.Sessions.{HasEntered, ServesJournal, WasServed};
 
 use crate::listening::{Listening, listen, opened};
 use crate::seating::{ended, hold, meet, seated, seated_alone};
@@ -15,14 +15,13 @@ use std::alloc::Global;
 use std::fs::OpenFile;
 use std::io::Write;
 use std::net::{Net, SocketAddr};
-use std::rt::Files;
 use std::sync::Wait;
 use std::thread::Threads;
 use tp_commands::CommandError;
 use tp_journal::DurableJournal;
 use tp_peer::Peer;
 use tp_served::{Seat, Served};
-use tp_shell::{JobError, draw_actor, put};
+use tp_shell::{Disk, JobError, draw_actor, put};
 
 /// A peer that is served to one thread, once a session was held on its seat.
 #[derive(Drop)]
@@ -91,7 +90,7 @@ fn tell_applied<W: Write>(alloc: Global, applied: u64, out: &mut W) -> Result<()
 
 // Holds the sessions, and ends the serving with the seats that came back: the peer that the closing gives. One whose
 // journal failed meanwhile is refused.
-fn held<R: Files + Net + Threads + Wait + AllocGlobal + Sync>(
+fn held<R: Disk + Net + Threads + Wait + AllocGlobal + Sync>(
     rt: &R,
     listening: Listening<R::Listener, R::File>,
     sessions: u64,
@@ -118,7 +117,7 @@ where
 }
 
 // The same, and prints how many they were.
-fn held_and_told<R: Files + Net + Threads + Wait + AllocGlobal + Sync, W: Write>(
+fn held_and_told<R: Disk + Net + Threads + Wait + AllocGlobal + Sync, W: Write>(
     rt: &R,
     listening: Listening<R::Listener, R::File>,
     sessions: u64,
@@ -146,7 +145,7 @@ where
 }
 
 // Prints the port, holds the sessions, and prints how many they were. The peer that the closing gave back.
-fn serve_on<R: Files + Net + Threads + Wait + AllocGlobal + Sync, W: Write>(
+fn serve_on<R: Disk + Net + Threads + Wait + AllocGlobal + Sync, W: Write>(
     rt: &R,
     listening: Listening<R::Listener, R::File>,
     sessions: u64,
@@ -172,7 +171,7 @@ where
 
 /// Serves the journal at a path. The port on which it listens is printed before the first session, and how many sessions
 /// there were behind the last. The peer that the closing gave back; one whose journal failed meanwhile is refused.
-pub(crate) fn serve_file<R: Files + Net + Threads + Wait + AllocGlobal + Sync, W: Write>(
+pub(crate) fn serve_file<R: Disk + Net + Threads + Wait + AllocGlobal + Sync, W: Write>(
     rt: &R,
     file: &str,
     addr: SocketAddr,
@@ -183,7 +182,8 @@ pub(crate) fn serve_file<R: Files + Net + Threads + Wait + AllocGlobal + Sync, W
 where
     R::File: Send,
     R::Stream: Send,
-    ensures served { IfOk result (λ p. (opened : PeerData) × WasServed opened WORKERS p) }
+    ensures served { IfOk result (λ p. OfFile (R.reads rt.now) file.now
+        (λ bytes. ServesJournal key bytes WORKERS p)) }
     ensures ok { OnOk result
         (Grows (IsServed sessions) (W.contents out.old) (W.contents out.new)) }
     ensures err { IfErr result (λ _. Keeps (W.contents out.old) (W.contents out.new)
@@ -197,13 +197,14 @@ where
 }
 
 // Holds one session with the server at the address, on the one seat of the peer that is opened for it.
-fn applied_by<R: Files + Net + Wait + AllocGlobal>(
+fn applied_by<R: Disk + Net + Wait + AllocGlobal>(
     rt: &R,
     file: &str,
     addr: SocketAddr,
     key: Option<[u8; 32]>,
 ) -> Result<Met<R::File>, JobError>
-    ensures entered { IfOk result (λ met. HasEntered met.served met.seat met.applied) }
+    ensures entered { IfOk result (λ met. HasEntered met.served met.seat met.applied
+        × OfFile (R.reads rt.now) file.now (λ bytes. OpensUnder key bytes met.served.opened)) }
 {
     let actor = draw_actor(rt, key)?;
     let peer = opened(rt, file, actor)?;
@@ -220,14 +221,15 @@ fn applied_by<R: Files + Net + Wait + AllocGlobal>(
 
 /// Holds one session with the server at the address, and prints how many changes entered by it: those that the seat on
 /// which it was held entered. Served peer and seat are given back.
-pub(crate) fn sync_file<R: Files + Net + Wait + AllocGlobal, W: Write>(
+pub(crate) fn sync_file<R: Disk + Net + Wait + AllocGlobal, W: Write>(
     rt: &R,
     file: &str,
     addr: SocketAddr,
     key: Option<[u8; 32]>,
     out: &mut W,
 ) -> Result<Met<R::File>, JobError>
-    ensures entered { IfOk result (λ met. HasEntered met.served met.seat met.applied) }
+    ensures entered { IfOk result (λ met. HasEntered met.served met.seat met.applied
+        × OfFile (R.reads rt.now) file.now (λ bytes. OpensUnder key bytes met.served.opened)) }
     ensures ok { IfOk result (λ met. Appends (W.contents out.old) (W.contents out.new)
         (line_of_applied met.applied)) }
     ensures err { IfErr result

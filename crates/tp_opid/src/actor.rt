@@ -6,7 +6,7 @@ ghost use Rattle.hex.specs.Hex.{encode_lower};
 ghost use Rattle.tp_opid.specs.HexText.{IsHexOf};
 ghost use Rattle.tp_opid.specs.Order.{actor_cmp};
 
-use crate::hex_text::{HexError, read_hex_16, write_hex};
+use crate::hex_text::{HexError, read_hex, write_hex};
 use std::alloc::Global;
 use std::cmp::Ordering;
 
@@ -47,6 +47,6 @@ impl Actor {
         ensures only { (x : Actor) → length x.0 ≡ 16 → IsHexOf text.now x.0 → result ≡ Ok x }
         ensures err { IsOkUnless result HexError.BadHex }
     {
-        Ok(Actor(read_hex_16(text)?))
+        Ok(Actor(read_hex(text)?))
     }
 }

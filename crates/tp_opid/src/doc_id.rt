@@ -5,7 +5,7 @@ ghost use Rattle.std.specs.String.{string_bytes};
 ghost use Rattle.hex.specs.Hex.{encode_lower};
 ghost use Rattle.tp_opid.specs.HexText.{IsHexOf};
 
-use crate::hex_text::{HexError, read_hex_16, write_hex};
+use crate::hex_text::{HexError, read_hex, write_hex};
 use std::alloc::Global;
 use std::cmp::Ordering;
 
@@ -38,6 +38,6 @@ impl DocId {
         ensures only { (x : DocId) → length x.0 ≡ 16 → IsHexOf text.now x.0 → result ≡ Ok x }
         ensures err { IsOkUnless result HexError.BadHex }
     {
-        Ok(DocId(read_hex_16(text)?))
+        Ok(DocId(read_hex(text)?))
     }
 }

@@ -7,7 +7,7 @@ ghost use Rattle.hex.specs.Hex.{encode_lower};
 ghost use Rattle.tp_opid.specs.HexText.{IsHexOf};
 ghost use Rattle.tp_opid.specs.Order.{hash_cmp};
 
-use crate::hex_text::{HexError, read_hex_32, write_hex};
+use crate::hex_text::{HexError, read_hex, write_hex};
 use std::alloc::Global;
 use std::cmp::Ordering;
 
@@ -55,6 +55,6 @@ impl Hash {
         ensures only { (x : Hash) → length x.0 ≡ 32 → IsHexOf text.now x.0 → result ≡ Ok x }
         ensures err { IsOkUnless result HexError.BadHex }
     {
-        Ok(Hash(read_hex_32(text)?))
+        Ok(Hash(read_hex(text)?))
     }
 }

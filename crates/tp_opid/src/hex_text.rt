@@ -50,27 +50,14 @@ pub(crate) fn write_hex(alloc: Global, bytes: &[u8]) -> Result<String, HexError>
     Ok(hex::encode(alloc, bytes)?)
 }
 
-// The 16 bytes that the text has the digits of, in either case.
-pub(crate) fn read_hex_16(text: &str) -> Result<[u8; 16], HexError>
+// The bytes that the text has the digits of, in either case.
+pub(crate) fn read_hex<const N: usize>(text: &str) -> Result<[u8; N], HexError>
     ensures found { IfOk result (IsHexOf text.now) }
-    ensures only { (bytes : List ℕ) → length bytes ≡ 16 → IsHexOf text.now bytes
+    ensures only { (bytes : List ℕ) → length bytes ≡ N → IsHexOf text.now bytes
         → result ≡ Ok bytes }
     ensures err { IsOkUnless result HexError.BadHex }
 {
-    match <[u8; 16] as FromHex>::from_hex(text) {
-        Ok(bytes) => Ok(bytes),
-        Err(_) => Err(HexError::BadHex),
-    }
-}
-
-// The 32 bytes that the text has the digits of, in either case.
-pub(crate) fn read_hex_32(text: &str) -> Result<[u8; 32], HexError>
-    ensures found { IfOk result (IsHexOf text.now) }
-    ensures only { (bytes : List ℕ) → length bytes ≡ 32 → IsHexOf text.now bytes
-        → result ≡ Ok bytes }
-    ensures err { IsOkUnless result HexError.BadHex }
-{
-    match <[u8; 32] as FromHex>::from_hex(text) {
+    match <[u8; N] as FromHex>::from_hex(text) {
         Ok(bytes) => Ok(bytes),
         Err(_) => Err(HexError::BadHex),
     }

@@ -1,23 +1,16 @@
 -- What a journal is once records were appended, and what enters a history.
-use Rattle.std.proofs.Common.{◌≡◌, ℕ, suc, ◌+◌, ◌≤◌, inl, inr, List, [], ◌∷◌, ◌++◌, length, Bool, cond, refl, sym, ap, ◌∙◌, subst, append_assoc, append-nil, length-append, arith}
-use Rattle.tp_change.specs.declared.parts.ChangeParts.{ChangeParts}
-use Rattle.tp_change.specs.Limits.{IsChange}
+use Rattle.tp_peer.proofs.Common.{◌≡◌, ℕ, suc, ◌+◌, ◌≤◌, inl, inr, List, [], ◌∷◌, ◌++◌, length, Bool, cond, refl, sym, ap, ◌∙◌, subst, append_assoc, append-nil, length-append, arith, ChangeParts, IsChange, Intake, Run, Turn, record_of, records_of, IsHistory, history_push, AppendsRecord, JournalState, PeerData, Done, Report, Stopped, at_end, Takes, journal_of, receiver_of}
 use Rattle.tp_document.specs.DocState.{AllChanges}
 use Rattle.tp_graph.specs.GraphState.{most_waiting}
 use Rattle.tp_graph.specs.Named.{has_all}
 use Rattle.tp_receive.specs.Delivery.{delivery, slots, takes_slot, with_slots}
-use Rattle.tp_receive.specs.Intake.{Intake, Run, Turn, begin}
+use Rattle.tp_receive.specs.Intake.{begin}
 use Rattle.tp_receive.specs.Receiving.{EntersAfter, Grows}
 use Rattle.tp_receive.specs.Replies.{KeepsAll}
 use Rattle.tp_receive.proofs.RunLaws.{progress}
 use Rattle.tp_receive.proofs.TurnLaws.{Run-keeps, TakesOut, Turn-cases}
 use Rattle.tp_list.specs.Members.{AllIn}
-use Rattle.tp_journal.specs.Layout.{record_of, records_of}
-use Rattle.tp_journal.specs.Recovery.{IsHistory}
-use Rattle.tp_journal.proofs.HistoryLaws.{history_push}
-use Rattle.tp_peer.specs.Appending.{AppendsRecord, JournalState}
-use Rattle.tp_peer.specs.PeerData.{PeerData}
-use Rattle.tp_peer.specs.Taking.{coming, journal_of}
+use Rattle.tp_receive.specs.declared.error.ReceiveError.TheVariants as receive
 
 -- The records of the changes were appended.
 pub record AreAppended (k : JournalState) (new : List ChangeParts) (k' : JournalState) : Type 0 where
@@ -104,6 +97,39 @@ run_few {S} keeps k C W K new at run is =
     let few : AtMost most at = Run-keeps keeps (AtMost most) (AtMost-turn keeps most) (begin k C W K) at run (omega arith) in
     let len : length at.applied ≡ length C + length new = ap length is ∙ length-append C new in
     omega arith
+
+-- ---- how far receiving came
+
+-- what receiving sees as the changes K come to the peer
+abbrev pub coming : PeerData → List ChangeParts → Intake JournalState
+coming p K = begin (journal_of p) p.applied p.waiting K
+
+-- the peer as it is where receiving came to `at`
+abbrev pub reached : PeerData → Intake JournalState → PeerData
+reached p at = record p { applied = at.applied; waiting = at.waiting; journal = at.keeper.content; failures = at.keeper.failures }
+
+-- Receiving the changes K came so far, and the device didn't fail.
+pub record Reaches (p : PeerData) (K : List ChangeParts) (p' : PeerData) : Type 0 where
+  pub at : Intake JournalState
+  pub run : Run AppendsRecord (coming p K) at
+  pub left : p' ≡ reached p at
+
+pub reaches_all : (p : PeerData) (K : List ChangeParts) (r : Report) (p' : PeerData) → Takes p K (Done r) p' → Reaches p K p'
+reaches_all p K r p' t = record { at = at_end (receiver_of p') r; run = t.receives.run; left = t.left }
+
+pub reaches_part : (p : PeerData) (K : List ChangeParts) (p' : PeerData) → Takes p K (Stopped receive.OutOfMemory) p' → Reaches p K p'
+reaches_part p K p' t =
+    let x = t.receives.1 in
+    let kept : journal_of p' ≡ x.at.keeper = elim x.by [ inl same ↦ same | inr turn ↦ turn.refused ] in
+    record {
+      at = x.at;
+      run = x.run;
+      left =
+          t.left
+          ∙ ap (λ (C : List ChangeParts). record p { applied = C; waiting = p'.waiting; journal = p'.journal; failures = p'.failures }) x.applied
+          ∙ ap (λ (W : List ChangeParts). record p { applied = x.at.applied; waiting = W; journal = p'.journal; failures = p'.failures }) x.waiting
+          ∙ ap (λ (j : JournalState). record p { applied = x.at.applied; waiting = x.at.waiting; journal = j.content; failures = j.failures }) kept;
+    }
 
 -- How far receiving the changes K came, and what was appended until then.
 pub record Advances (p : PeerData) (K : List ChangeParts) (at : Intake JournalState) : Type 0 where

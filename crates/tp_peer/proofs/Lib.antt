@@ -1,9 +1,10 @@
+pub mod Common
 pub mod ReceivingLaws
 pub mod LinkLaws
 pub mod KeepingLaws
 pub mod AppendingLaws
 pub mod TakingLaws
 pub mod StepLaws
-pub mod CallLaws
+pub mod ReplyLaws
 pub mod PeerLaws
 pub mod OpeningLaws

@@ -1,47 +1,36 @@
 -- What receiving comes to, what a peer's journal recovers to, and who made an edit's change.
-use Rattle.std.proofs.Common.{◌≡◌, ℕ, inl, inr, List, [], ◌∷◌, ◌++◌, length, take, true, false, Bool, Some, None, refl, sym, ap, ◌∙◌, subst, append-nil, append_assoc, arith}
+use Rattle.tp_peer.proofs.Common.{◌≡◌, ℕ, inl, inr, List, [], ◌∷◌, ◌++◌, length, take, true, false, Bool, Some, None, refl, sym, ap, ◌∙◌, subst, append-nil, append_assoc, arith, ChangeParts, journal, record_of, records_of, IsHistory, history_push, AppendsRecord, JournalState, journal_state, IsPeer, PeerData, Done, Report, Stopped, at_end, Takes, journal_of, receiver_of, PeerError, IsChange, Intake, Run, Turn, Call, Edit, Forget, Generate, Merge, PeerStep, Read, ReadAt, ReadHeads, Receive, Reply}
 use Rattle.std.proofs.lemmas.List.{append_cancel_left}
 use Rattle.tp_list.specs.Members.{In}
-use Rattle.tp_change.specs.declared.parts.ChangeParts.{ChangeParts}
 use Rattle.tp_graph.specs.Named.{HashesApart}
 use Rattle.tp_graph.specs.Sound.{Sound}
 use Rattle.tp_receive.specs.Receiving.{Between}
 use Rattle.tp_receive.proofs.GrowsLaws.{Between-grown}
 use Rattle.tp_receive.proofs.ResultLaws.{results}
 use Rattle.tp_receive.proofs.RunLaws.{Grew-run, nothing_lost}
-use Rattle.tp_journal.specs.Layout.{IsDocId, journal, record_of, records_of}
-use Rattle.tp_journal.specs.Recovery.{IsHistory, Recovers}
+use Rattle.tp_journal.specs.Layout.{IsDocId}
+use Rattle.tp_journal.specs.Recovery.{Recovers}
 use Rattle.tp_journal.proofs.CutLaws.{recovers_cut}
-use Rattle.tp_journal.proofs.HistoryLaws.{history_push}
-use Rattle.tp_peer.specs.Appending.{AppendsRecord, JournalState, journal_state}
-use Rattle.tp_peer.specs.PeerData.{HasJournal, IsPeer, PeerData}
-use Rattle.tp_peer.specs.Taking.{Report, TakesAll, TakesAndStops, TakesPart, coming, journal_of}
-use Rattle.tp_peer.specs.declared.error.PeerError.{PeerError}
+use Rattle.tp_peer.specs.PeerData.{HasJournal}
+use Rattle.tp_receive.specs.declared.error.ReceiveError.TheVariants as receive
 use Rattle.tp_peer.specs.declared.error.PeerError.TheVariants.{JournalFailed, TooManyLinks, Doc, Sync, OutOfMemory}
 use Rattle.tp_edit.specs.declared.splice.Splice.{Splice}
 use Rattle.tp_document.specs.Editing.{Asked, asking}
 use Rattle.tp_graph.specs.Fit.{cause}
-use Rattle.tp_change.specs.Limits.{IsChange}
-use Rattle.tp_receive.specs.Intake.{Intake, Next, Run, Turn, enter}
+use Rattle.tp_receive.specs.Intake.{Next, enter}
 use Rattle.tp_receive.specs.Replies.{LosesNone}
 use Rattle.tp_receive.proofs.TurnLaws.{Run-one, Run-then}
-use Rattle.tp_peer.specs.PeerStep.{Call, Edit, Forget, Generate, Made, Merge, PeerStep, Read, ReadAt, ReadHeads, Receive, Refused, RefusesEdit, RefusesGenerate, RefusesMerge, RefusesReceive, Reply, Runs}
+use Rattle.tp_peer.specs.PeerStep.{Made, Refused, RefusesEdit, RefusesGenerate, RefusesMerge, RefusesReceive, Runs}
 use Rattle.tp_peer.specs.Laws.{IsComplete, IsPartial, IsTornAt, RecoversTorn}
 use Rattle.tp_peer.proofs.StepLaws.{journal_grows, running_journal, step_cases}
-use Rattle.tp_peer.proofs.KeepingLaws.{run_advances}
+use Rattle.tp_peer.proofs.KeepingLaws.{coming, run_advances}
 
 -- ---- receiving
 
-pub complete : (p : PeerData) (K : List ChangeParts) (r : Report) (p' : PeerData) → Sound p.applied → HashesApart (p.waiting ++ K) → TakesAll p K r p' → IsComplete p K r p'
+pub complete : (p : PeerData) (K : List ChangeParts) (r : Report) (p' : PeerData) → Sound p.applied → HashesApart (p.waiting ++ K) → Takes p K (Done r) p' → IsComplete p K r p'
 complete p K r p' sound apart t =
-    let x = results AppendsRecord (journal_of p) p.applied p.waiting K t.at sound apart t.space t.received.run t.received.ends in
-    let applied : p'.applied ≡ t.at.applied = ap (λ (q : PeerData). q.applied) t.left in
-    let waiting : p'.waiting ≡ t.at.waiting = ap (λ (q : PeerData). q.waiting) t.left in
-    record {
-      receives = rw applied x.receives;
-      causes = rw (applied, t.refused) x.causes;
-      placed = rw (applied, waiting, t.applied, t.refused) x.placed;
-    }
+    let x = results AppendsRecord (journal_of p) p.applied p.waiting K (at_end (receiver_of p') r) sound apart t.receives.space t.receives.run t.receives.ends in
+    record { receives = x.receives; causes = x.causes; placed = x.placed }
 
 partial_at : (p : PeerData) (K : List ChangeParts) (at : Intake JournalState) (C W : List ChangeParts) → Sound p.applied → Run AppendsRecord (coming p K) at → C ≡ at.applied → W ≡ at.waiting
     → Between p.applied (p.waiting ++ K) C × LosesNone p.applied C p.waiting W
@@ -51,9 +40,10 @@ partial_at p K at C W sound run applied waiting =
       rw (applied, waiting) (nothing_lost AppendsRecord (coming p K) at run),
     )
 
-pub partial : (p : PeerData) (K : List ChangeParts) (p' : PeerData) → Sound p.applied → TakesPart p K p' → IsPartial p K p'
+pub partial : (p : PeerData) (K : List ChangeParts) (p' : PeerData) → Sound p.applied → Takes p K (Stopped receive.OutOfMemory) p' → IsPartial p K p'
 partial p K p' sound t =
-    let x = partial_at p K t.at p'.applied p'.waiting sound t.run (ap (λ (q : PeerData). q.applied) t.left) (ap (λ (q : PeerData). q.waiting) t.left) in
+    let stops = t.receives.1 in
+    let x = partial_at p K stops.at p'.applied p'.waiting sound stops.run stops.applied stops.waiting in
     record { between = x.0; lost = x.1 }
 
 -- what a turn leaves as it was until the change is met
@@ -82,29 +72,30 @@ whole_turn at rest c next fits limits =
       ap (λ C. C ++ c ∷ []) is.0,
     )
 
-pub torn : (p : PeerData) (K : List ChangeParts) (p' : PeerData) → Sound p.applied → TakesAndStops p K p' → IsTornAt p K p'
+pub torn : (p : PeerData) (K : List ChangeParts) (p' : PeerData) → Sound p.applied → Takes p K (Stopped receive.NotKept) p' → IsTornAt p K p'
 torn p K p' sound t =
-    let s = t.stops in
-    let applied : p'.applied ≡ t.at.applied = ap (λ (q : PeerData). q.applied) s.left in
-    let x = partial_at p K t.at p'.applied p'.waiting sound t.run applied (ap (λ (q : PeerData). q.waiting) s.left) in
-    let w = whole_turn t.at t.rest t.change t.next t.fits s.tears.limits in
-    let run = Run-then AppendsRecord (coming p K) t.at w.0 t.run (Run-one AppendsRecord t.at w.0 w.1) in
-    let y = partial_at p K w.0 (p'.applied ++ t.change ∷ []) w.0.waiting sound run (ap (λ C. C ++ t.change ∷ []) applied ∙ sym w.2) refl in
-    let a = run_advances p K t.at t.run in
-    let part = s.tears.part in
-    let id : p'.id ≡ p.id = ap (λ (q : PeerData). q.id) s.left in
+    let s = t.receives.1 in
+    let c = s.by.change in
+    let tears = s.by.refused in
+    let x = partial_at p K s.at p'.applied p'.waiting sound s.run s.applied s.waiting in
+    let w = whole_turn s.at s.by.rest c s.by.next s.by.fits tears.limits in
+    let run = Run-then AppendsRecord (coming p K) s.at w.0 s.run (Run-one AppendsRecord s.at w.0 w.1) in
+    let y = partial_at p K w.0 (p'.applied ++ c ∷ []) w.0.waiting sound run (ap (λ C. C ++ c ∷ []) s.applied ∙ sym w.2) refl in
+    let a = run_advances p K s.at s.run in
+    let part = tears.part in
+    let id : p'.id ≡ p.id = ap (λ (q : PeerData). q.id) t.left in
     record {
-      change = t.change;
+      change = c;
       between = y.0;
       lost = x.1;
-      limits = s.tears.limits;
-      fits = subst (λ C. cause C t.change ≡ None) (sym applied) t.fits;
+      limits = tears.limits;
+      fits = subst (λ C. cause C c ≡ None) (sym s.applied) s.by.fits;
       count = part.0;
       journal = λ is.
           part.1
-          ∙ ap (λ l. l ++ take part.0 (record_of t.change)) a.appended.content
-          ∙ append_assoc p.journal (records_of a.new) (take part.0 (record_of t.change))
-          ∙ journal_grows p p' a.new (take part.0 (record_of t.change)) id (applied ∙ a.grows.begins) is;
+          ∙ ap (λ l. l ++ take part.0 (record_of c)) a.appended.content
+          ∙ append_assoc p.journal (records_of a.new) (take part.0 (record_of c))
+          ∙ journal_grows p p' a.new (take part.0 (record_of c)) id (s.applied ∙ a.grows.begins) is;
     }
 
 -- ---- journals

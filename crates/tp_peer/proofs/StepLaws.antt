@@ -22,13 +22,16 @@ use Rattle.tp_peer.specs.declared.error.PeerError.TheVariants as error
 use Rattle.tp_peer.specs.Appending.{JournalState}
 use Rattle.tp_peer.specs.PeerData.{HasJournal, IsPeer, IsTornRecord, PeerData}
 use Rattle.tp_peer.specs.PeerStep.{Call, Decodes, Edit, Forget, Forgotten, Generate, Generated, Heads, Hears, Made, Merge, Merged, PeerStep, Read, ReadAt, ReadHeads, Receive, Received, Refused, RefusesEdit, RefusesGenerate, RefusesMerge, RefusesReceive, RefusesText, Reply, Runs, Speaks, Text, entered, knowing, needs_stopped}
-use Rattle.tp_peer.specs.Taking.{Report, StopsAt, TakesAndStops, reached}
+use Rattle.tp_receive.specs.declared.error.ReceiveError.TheVariants as receive
+use Rattle.tp_receive.specs.Outcome.{Report}
+use Rattle.tp_receive.specs.Outcome as outcome
+use Rattle.tp_peer.specs.Taking.{StopsAt, Takes}
 use Rattle.tp_peer.specs.Laws.{Appends, AreFew, Keeps, MovesLinks, TouchesLink, came, changes_of, is_on}
 use Rattle.tp_peer.specs.Links.{known_of, with_link, without_link}
 use Rattle.tp_sync.specs.Message.{MessageParts}
 use Rattle.tp_sync.specs.State.{SyncParts, heard}
 use Rattle.tp_peer.proofs.LinkLaws.{moves_leave, other_with, other_without, stays}
-use Rattle.tp_peer.proofs.KeepingLaws.{Advances, history_grows, run_advances}
+use Rattle.tp_peer.proofs.KeepingLaws.{Advances, Reaches, history_grows, reached, reaches_all, reaches_part, run_advances}
 
 -- ---- the kinds of steps
 
@@ -126,58 +129,60 @@ record LeavesLinks (call : Call) (L L' : List (ℕ × SyncParts)) : Type 0 where
 all_stay : (call : Call) (L : List (ℕ × SyncParts)) → LeavesLinks call L L
 all_stay call L = record { moves = stays call L; others = λ n h. refl }
 
+-- its links are those of another
+links_left : (p q : PeerData) → q.links ≡ p.links → q ≡ record q { links = p.links }
+links_left p q e = ap (λ (L : List (ℕ × SyncParts)). record q { links = L }) e
+
 -- changes were received
-received_keeps : (p p' : PeerData) (call : Call) (K : List ChangeParts) (L : List (ℕ × SyncParts)) (reply : Reply) (at : Intake JournalState) → came p call ≡ K → reply ≢ Refused JournalFailed → p.stopped ≡ false
-    → (a : Advances p K at) → AreFew p call a.new → LeavesLinks call p.links L → p' ≡ record (reached p at) { links = L } → Keeps p call reply p'
-received_keeps p p' call K L reply at is kept running a few links e = subst (λ (q : PeerData). Keeps p call reply q) (sym e) (record {
-  id = refl;
-  actor = refl;
-  new = a.new;
-  applied = a.grows.begins;
-  few = few;
-  fits = a.grows.fits;
-  limits = a.appended.limits;
-  still = λ s. never running s;
-  waits = subst (λ (D : List ChangeParts). AllIn at.waiting (p.waiting ++ D)) (sym is) a.waits;
-  few_wait = a.few_wait;
-  links = links.moves;
-  others = links.others;
-  journal = inl (record { journal = a.appended.content; failures = a.appended.failures; goes_on = refl; answered = kept });
-})
+received_keeps : (p p' : PeerData) (call : Call) (K : List ChangeParts) (L : List (ℕ × SyncParts)) (reply : Reply) (q : PeerData) → came p call ≡ K → reply ≢ Refused JournalFailed → p.stopped ≡ false
+    → (t : Reaches p K q) → ((at : Intake JournalState) (a : Advances p K at) → AreFew p call a.new) → LeavesLinks call p.links L → p' ≡ record q { links = L } → Keeps p call reply p'
+received_keeps p p' call K L reply q is kept running t few links e =
+    let a = run_advances p K t.at t.run in
+    subst (λ (q : PeerData). Keeps p call reply q) (sym (e ∙ ap (λ (x : PeerData). record x { links = L }) t.left)) (record {
+      id = refl;
+      actor = refl;
+      new = a.new;
+      applied = a.grows.begins;
+      few = few t.at a;
+      fits = a.grows.fits;
+      limits = a.appended.limits;
+      still = λ s. never running s;
+      waits = subst (λ (D : List ChangeParts). AllIn t.at.waiting (p.waiting ++ D)) (sym is) a.waits;
+      few_wait = a.few_wait;
+      links = links.moves;
+      others = links.others;
+      journal = inl (record { journal = a.appended.content; failures = a.appended.failures; goes_on = refl; answered = kept });
+    })
 
 -- changes were received until the device failed
-received_tears : (p p' : PeerData) (call : Call) (K : List ChangeParts) → came p call ≡ K → p.stopped ≡ false → (t : TakesAndStops p K p') → ((a : Advances p K t.at) → AreFew p call a.new)
+received_tears : (p p' : PeerData) (call : Call) (K : List ChangeParts) → came p call ≡ K → p.stopped ≡ false → Takes p K (outcome.Stopped receive.NotKept) p' → ((at : Intake JournalState) (a : Advances p K at) → AreFew p call a.new)
     → Keeps p call (Refused JournalFailed) p'
 received_tears p p' call K is running t few =
-    let a = run_advances p K t.at t.run in
-    let s = t.stops in
-    let part = s.tears.part in
+    let x = t.receives.1 in
+    let a = run_advances p K x.at x.run in
+    let c = x.by.change in
+    let tears = x.by.refused in
+    let part = tears.part in
     record {
-      id = ap (λ (q : PeerData). q.id) s.left;
-      actor = ap (λ (q : PeerData). q.actor) s.left;
+      id = ap (λ (q : PeerData). q.id) t.left;
+      actor = ap (λ (q : PeerData). q.actor) t.left;
       new = a.new;
-      applied = ap (λ (q : PeerData). q.applied) s.left ∙ a.grows.begins;
-      few = few a;
+      applied = x.applied ∙ a.grows.begins;
+      few = few x.at a;
       fits = a.grows.fits;
       limits = a.appended.limits;
       still = λ z. never running z;
-      waits = λ d i. subst (λ (D : List ChangeParts). AllIn t.at.waiting (p.waiting ++ D)) (sym is) a.waits d (subst (In d) (ap (λ (q : PeerData). q.waiting) s.left) i);
-      few_wait = λ h. subst (λ (W : List ChangeParts). length W ≤ most_waiting) (sym (ap (λ (q : PeerData). q.waiting) s.left)) (a.few_wait h);
-      links = subst (MovesLinks call p.links) (sym (ap (λ (q : PeerData). q.links) s.left)) (stays call p.links);
-      others = λ n h. ap (λ (q : PeerData). known_of q.links n) s.left;
+      waits = λ d i. subst (λ (D : List ChangeParts). AllIn x.at.waiting (p.waiting ++ D)) (sym is) a.waits d (subst (In d) x.waiting i);
+      few_wait = λ h. subst (λ (W : List ChangeParts). length W ≤ most_waiting) (sym x.waiting) (a.few_wait h);
+      links = subst (MovesLinks call p.links) (sym (ap (λ (q : PeerData). q.links) t.left)) (stays call p.links);
+      others = λ n h. ap (λ (q : PeerData). known_of q.links n) t.left;
       journal = inr (record {
-        bytes = take part.0 (record_of t.change);
-        torn = record {
-          change = t.change;
-          limits = s.tears.limits;
-          fits = subst (λ C. cause C t.change ≡ None) (sym (ap (λ (q : PeerData). q.applied) s.left)) t.fits;
-          count = part.0;
-          torn = refl;
-        };
-        journal = part.1 ∙ ap (λ l. l ++ take part.0 (record_of t.change)) a.appended.content ∙ append_assoc p.journal (records_of a.new) (take part.0 (record_of t.change));
-        failures = subst (λ n. HasGrown n p'.failures) a.appended.failures s.tears.failures;
+        bytes = take part.0 (record_of c);
+        torn = record { change = c; limits = tears.limits; fits = subst (λ C. cause C c ≡ None) (sym x.applied) x.by.fits; count = part.0; torn = refl };
+        journal = part.1 ∙ ap (λ l. l ++ take part.0 (record_of c)) a.appended.content ∙ append_assoc p.journal (records_of a.new) (take part.0 (record_of c));
+        failures = subst (λ n. HasGrown n p'.failures) a.appended.failures tears.failures;
         running = running;
-        stopped = ap (λ (q : PeerData). q.stopped) s.left;
+        stopped = ap (λ (q : PeerData). q.stopped) t.left;
         answered = refl;
       });
     }
@@ -189,8 +194,8 @@ carries : (p : PeerData) (link : ℕ) (bytes : List ℕ) (m : MessageParts) → 
 carries p link bytes m d = ap changes_of d.reads
 
 -- and enters with what waited at most
-few_enter : (p : PeerData) (link : ℕ) (bytes : List ℕ) (m : MessageParts) (at : Intake JournalState) → Decodes bytes m → (a : Advances p m.changes at) → AreFew p (Receive link bytes) a.new
-few_enter p link bytes m at d a = let few = a.few in let most = d.limits.few in omega arith
+few_enter : (p : PeerData) (link : ℕ) (bytes : List ℕ) (m : MessageParts) → Decodes bytes m → (at : Intake JournalState) (a : Advances p m.changes at) → AreFew p (Receive link bytes) a.new
+few_enter p link bytes m d at a = let few = a.few in let most = d.limits.few in omega arith
 
 -- the link alone is changed
 one_changes : (p : PeerData) (call : Call) (link : ℕ) (s : SyncParts) → TouchesLink p.links link (with_link p.links link s) → MovesLinks call p.links (with_link p.links link s) → ((n : ℕ) → is_on call n ≡ (link == n))
@@ -201,24 +206,26 @@ hears_keeps : (p p' : PeerData) (link : ℕ) (bytes : List ℕ) (r : Report) (sa
 hears_keeps p p' link bytes r same running h =
     let m = h.message in
     let s = heard (known_of p.links link) m in
-    let at = h.takes.at in
-    let a = run_advances p m.changes at h.takes.received.run in
     let touches : TouchesLink p.links link (with_link p.links link s) = inr (s, h.place, refl) in
-    received_keeps p p' (Receive link bytes) m.changes (with_link p.links link s) (Received r same) at (carries p link bytes m h.decodes) (λ x. cc) running
-    a (few_enter p link bytes m at h.decodes a) (one_changes p (Receive link bytes) link s touches touches (λ n. refl))
-    (h.left ∙ ap (λ (q : PeerData). knowing q link s) h.takes.left)
+    received_keeps p p' (Receive link bytes) m.changes (with_link p.links link s) (Received r same) h.taken (carries p link bytes m h.decodes) (λ x. cc) running
+    (reaches_all p m.changes r h.taken h.takes) (few_enter p link bytes m h.decodes) (one_changes p (Receive link bytes) link s touches touches (λ n. refl))
+    (h.left ∙ relinked h.taken h.takes.left) where
+      -- receiving left the links as they were
+      relinked : (q : PeerData) → q ≡ record p { applied = q.applied; waiting = q.waiting; journal = q.journal; failures = q.failures }
+          → knowing q link (heard (known_of p.links link) h.message) ≡ record q { links = with_link p.links link (heard (known_of p.links link) h.message) }
+      relinked q e = ap (λ (L : List (ℕ × SyncParts)). record q { links = with_link L link (heard (known_of p.links link) h.message) }) (ap (λ (x : PeerData). x.links) e)
 
 receive_refused : (p p' : PeerData) (link : ℕ) (bytes : List ℕ) (e : PeerError) → p.stopped ≡ false → RefusesReceive p link bytes e p' → Keeps p (Receive link bytes) (Refused e) p'
 receive_refused p p' link bytes TooManyLinks running s = same_keeps p p' (Receive link bytes) (Refused TooManyLinks) (λ x. cc) s.1
 receive_refused p p' link bytes (Sync e) running s = same_keeps p p' (Receive link bytes) (Refused (Sync e)) (λ x. cc) s.2
 receive_refused p p' link bytes JournalFailed running s =
-    received_tears p p' (Receive link bytes) s.1.message.changes (carries p link bytes s.1.message s.1.decodes) running s.1.takes (few_enter p link bytes s.1.message s.1.takes.at s.1.decodes)
+    let h = s.1 in
+    received_tears p p' (Receive link bytes) h.message.changes (carries p link bytes h.message h.decodes) running h.takes (few_enter p link bytes h.message h.decodes)
 receive_refused p p' link bytes OutOfMemory running s = elim s.1 [
   | inl same ↦ same_keeps p p' (Receive link bytes) (Refused OutOfMemory) (λ x. cc) same
   | inr h ↦
-      let a = run_advances p h.message.changes h.takes.at h.takes.run in
-      received_keeps p p' (Receive link bytes) h.message.changes p.links (Refused OutOfMemory) h.takes.at (carries p link bytes h.message h.decodes) (λ x. cc) running
-      a (few_enter p link bytes h.message h.takes.at h.decodes a) (all_stay (Receive link bytes) p.links) h.takes.left
+      received_keeps p p' (Receive link bytes) h.message.changes p.links (Refused OutOfMemory) p' (carries p link bytes h.message h.decodes) (λ x. cc) running
+      (reaches_part p h.message.changes p' h.takes) (few_enter p link bytes h.message h.decodes) (all_stay (Receive link bytes) p.links) (links_left p p' (ap (λ (x : PeerData). x.links) h.takes.left))
 ]
 receive_refused p p' link bytes _ running s = absurd s
 
@@ -270,8 +277,8 @@ merge_refused : (p p' other : PeerData) (e : PeerError) → p.stopped ≡ false 
 merge_refused p p' other (Doc e) running s = same_keeps p p' (Merge other) (Refused (Doc e)) (λ x. cc) s.1
 merge_refused p p' other OutOfMemory running s =
     let K = absent p.applied other.applied in
-    received_keeps p p' (Merge other) K p.links (Refused OutOfMemory) s.1.at refl (λ x. cc) running (run_advances p K s.1.at s.1.run) tt (all_stay (Merge other) p.links) s.1.left
-merge_refused p p' other JournalFailed running s = received_tears p p' (Merge other) (absent p.applied other.applied) refl running s.1 (λ a. tt)
+    received_keeps p p' (Merge other) K p.links (Refused OutOfMemory) p' refl (λ x. cc) running (reaches_part p K p' s.1) (λ at a. tt) (all_stay (Merge other) p.links) (links_left p p' (ap (λ (x : PeerData). x.links) s.1.left))
+merge_refused p p' other JournalFailed running s = received_tears p p' (Merge other) (absent p.applied other.applied) refl running s.1 (λ at a. tt)
 merge_refused p p' other _ running s = absurd s
 
 text_refused : (p p' : PeerData) (call : Call) (H : List Hash) (e : PeerError) → RefusesText p H e → p' ≡ p → Keeps p call (Refused e) p'
@@ -286,7 +293,7 @@ runs_keep p (Edit ss t m) (Made (Some h)) p' running s =
 runs_keep p (Edit ss t m) (Refused e) p' running s = edit_refused p p' (Edit ss t m) (asking p.actor ss t m) e running s
 runs_keep p (Merge other) (Merged r) p' running s =
     let K = absent p.applied other.applied in
-    received_keeps p p' (Merge other) K p.links (Merged r) s.1.at refl (λ x. cc) running (run_advances p K s.1.at s.1.received.run) tt (all_stay (Merge other) p.links) s.1.left
+    received_keeps p p' (Merge other) K p.links (Merged r) p' refl (λ x. cc) running (reaches_all p K r p' s.1) (λ at a. tt) (all_stay (Merge other) p.links) (links_left p p' (ap (λ (x : PeerData). x.links) s.1.left))
 runs_keep p (Merge other) (Refused e) p' running s = merge_refused p p' other e running s
 runs_keep p Read (Text t) p' running s = same_keeps p p' Read (Text t) (λ x. cc) s.1
 runs_keep p Read (Refused e) p' running s = same_keeps p p' Read (Refused e) (λ x. let e_is = s.0 in cc) s.1

@@ -2,9 +2,8 @@
 use Rattle.std.specs.Prelude.{ℕ, List, [], ◌∷◌, ◌++◌, Bool, false, ◌||◌}
 use Rattle.std.specs.Int.{w32, to_be_bytes}
 use Rattle.rand_chacha.specs.ChaCha.{ChaCha, next_word}
-use Rattle.tp_opid.specs.declared.actor.Actor.{Actor}
+use Rattle.tp_peer.specs.Common.{Actor, ChangeParts}
 use Rattle.tp_opid.specs.Same.{same_actor}
-use Rattle.tp_change.specs.declared.parts.ChangeParts.{ChangeParts}
 
 -- one of the changes is the actor's
 abbrev pub has_actor : List ChangeParts → Actor → Bool

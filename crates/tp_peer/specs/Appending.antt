@@ -1,13 +1,9 @@
 -- What an append of a change's record does to a journal.
 use Rattle.std.specs.Prelude.{◌≡◌, ℕ, List, ◌++◌}
-use Rattle.tp_change.specs.declared.parts.ChangeParts.{ChangeParts}
-use Rattle.tp_change.specs.Limits.{IsChange}
+use Rattle.tp_peer.specs.Common.{ChangeParts, IsChange, JournalError, GrowsInPart, HasGrown, record_of}
 use Rattle.tp_receive.specs.declared.keeper.KeepError.{KeepError}
 use Rattle.tp_receive.specs.declared.keeper.KeepError.TheVariants.{NotKept, OutOfMemory}
-use Rattle.tp_store.specs.declared.error.StoreError.{StoreError}
-use Rattle.tp_store.specs.declared.error.StoreError.TheVariants as store
-use Rattle.tp_journal.specs.Journal.{GrowsInPart, HasGrown}
-use Rattle.tp_journal.specs.Layout.{record_of}
+use Rattle.tp_journal.specs.declared.error.JournalError.TheVariants as journal
 
 -- what is seen of a journal: its content, and how often its device failed
 pub record JournalState : Type 0 where
@@ -36,12 +32,6 @@ RefusesRecord k c NotKept k' = TearsRecord k c k'
 RefusesRecord k c OutOfMemory k' = k' ≡ k
 
 -- why a change wasn't kept, where its append was refused
-abbrev pub reason_of : StoreError → KeepError
-reason_of store.OutOfMemory = OutOfMemory
-reason_of store.Io = NotKept
-reason_of store.BadMagic = NotKept
-reason_of store.Truncated = NotKept
-reason_of store.BadDigest = NotKept
-reason_of (store.Damaged at) = NotKept
-reason_of (store.Refused e) = NotKept
-reason_of store.NoHeader = NotKept
+abbrev pub reason_of : JournalError → KeepError
+reason_of journal.Io = NotKept
+reason_of journal.OutOfMemory = OutOfMemory

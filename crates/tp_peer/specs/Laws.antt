@@ -21,7 +21,7 @@ use Rattle.tp_peer.specs.declared.error.PeerError.TheVariants.{JournalFailed}
 use Rattle.tp_peer.specs.Links.{is_one_too_many, known_of, with_link, without_link}
 use Rattle.tp_peer.specs.PeerData.{IsTornRecord, PeerData}
 use Rattle.tp_peer.specs.PeerStep.{Call, Edit, Merge, Receive, Generate, Forget, Reply, Refused}
-use Rattle.tp_peer.specs.Taking.{Report}
+use Rattle.tp_receive.specs.Outcome.{Report}
 
 -- the changes of a message
 abbrev pub changes_of : Result MessageParts SyncError → List ChangeParts

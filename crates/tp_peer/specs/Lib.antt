@@ -1,3 +1,4 @@
+pub mod Common
 pub mod PeerError
 pub mod Appending
 pub mod Links
@@ -6,5 +7,6 @@ pub mod Actors
 pub mod Taking
 pub mod Sent
 pub mod PeerStep
+pub mod Calls
 pub mod Opening
 pub mod Laws

@@ -1,12 +1,7 @@
 -- Opening a peer on a journal: anew, again, or as a fork.
 use Rattle.std.specs.Prelude.{◌≡◌, ◌⊎◌, ℕ, List, [], true, false}
-use Rattle.tp_opid.specs.declared.actor.Actor.{Actor}
-use Rattle.tp_opid.specs.declared.doc_id.DocId.{DocId}
-use Rattle.tp_change.specs.declared.parts.ChangeParts.{ChangeParts}
+use Rattle.tp_peer.specs.Common.{Actor, DocId, ChangeParts, GrowsInPart, HasGrown, journal, Recovers}
 use Rattle.tp_store.specs.declared.error.StoreError.TheVariants as store
-use Rattle.tp_journal.specs.Journal.{GrowsInPart, HasGrown}
-use Rattle.tp_journal.specs.Layout.{journal}
-use Rattle.tp_journal.specs.Recovery.{Recovers}
 use Rattle.tp_journal.specs.Refusals.{IsRefusal}
 use Rattle.tp_peer.specs.declared.error.PeerError.{PeerError}
 use Rattle.tp_peer.specs.declared.error.PeerError.TheVariants.{ActorInUse, JournalFailed, Stopped, JournalNotEmpty, Store, OutOfMemory}

@@ -1,15 +1,10 @@
 -- What contracts see of a peer, and what every peer keeps.
 use Rattle.std.specs.Prelude.{◌≡◌, ℕ, ◌≤◌, List, [], ◌++◌, length, take, Bool, true, false, None}
-use Rattle.tp_opid.specs.declared.actor.Actor.{Actor}
-use Rattle.tp_opid.specs.declared.doc_id.DocId.{DocId}
-use Rattle.tp_change.specs.declared.parts.ChangeParts.{ChangeParts}
-use Rattle.tp_change.specs.Limits.{IsChange}
-use Rattle.tp_graph.specs.Fit.{cause}
+use Rattle.tp_peer.specs.Common.{Actor, DocId, ChangeParts, IsChange, cause, record_of, journal, SyncParts}
 use Rattle.tp_document.specs.DocState.{DocState}
 use Rattle.tp_graph.specs.GraphState.{most_waiting}
-use Rattle.tp_journal.specs.Layout.{IsDocId, record_of, journal}
+use Rattle.tp_journal.specs.Layout.{IsDocId}
 use Rattle.tp_journal.specs.Recovery.{IsHistory}
-use Rattle.tp_sync.specs.State.{SyncParts}
 use Rattle.tp_peer.specs.Appending.{JournalState}
 use Rattle.tp_peer.specs.Links.{AreLinks}
 

@@ -1,10 +1,10 @@
 -- The numbers of the refusals, and what stands for the refusals of a document, of an exchange and of a journal.
 use Rattle.std.specs.Prelude.{ℕ, Bool, true, false}
-use Rattle.tp_document.specs.declared.error.DocError.{DocError}
+use Rattle.tp_peer.specs.Common.{DocError, JournalError, SyncError}
 use Rattle.tp_document.specs.declared.error.DocError.TheVariants as doc
+use Rattle.tp_journal.specs.declared.error.JournalError.TheVariants as journal
 use Rattle.tp_store.specs.declared.error.StoreError.{StoreError}
 use Rattle.tp_store.specs.declared.error.StoreError.TheVariants as store
-use Rattle.tp_sync.specs.declared.error.SyncError.{SyncError}
 use Rattle.tp_sync.specs.declared.error.SyncError.TheVariants as sync
 use Rattle.tp_peer.specs.declared.error.PeerError.{PeerError}
 use Rattle.tp_peer.specs.declared.error.PeerError.TheVariants.{ActorInUse, JournalFailed, Stopped, TooManyLinks, JournalNotEmpty, Doc, Sync, Store, OutOfMemory}
@@ -46,16 +46,21 @@ refusal_of_sync sync.OutOfMemory = OutOfMemory
 refusal_of_sync sync.OtherDocument = Sync sync.OtherDocument
 refusal_of_sync sync.NotKept = JournalFailed
 
--- the refusal for one of the journal, or of what it recovers to
-abbrev pub refusal_of_journal : StoreError → PeerError
-refusal_of_journal store.BadMagic = Store store.BadMagic
-refusal_of_journal store.Truncated = Store store.Truncated
-refusal_of_journal store.BadDigest = Store store.BadDigest
-refusal_of_journal (store.Damaged at) = Store (store.Damaged at)
-refusal_of_journal (store.Refused e) = Store (store.Refused e)
-refusal_of_journal store.Io = JournalFailed
-refusal_of_journal store.OutOfMemory = OutOfMemory
-refusal_of_journal store.NoHeader = Store store.NoHeader
+-- the refusal for one of the journal
+abbrev pub refusal_of_journal : JournalError → PeerError
+refusal_of_journal journal.Io = JournalFailed
+refusal_of_journal journal.OutOfMemory = OutOfMemory
+
+-- the refusal for one of the bytes of a journal, which don't recover
+abbrev pub refusal_of_bytes : StoreError → PeerError
+refusal_of_bytes store.BadMagic = Store store.BadMagic
+refusal_of_bytes store.Truncated = Store store.Truncated
+refusal_of_bytes store.BadDigest = Store store.BadDigest
+refusal_of_bytes (store.Damaged at) = Store (store.Damaged at)
+refusal_of_bytes (store.Refused e) = Store (store.Refused e)
+refusal_of_bytes store.Io = JournalFailed
+refusal_of_bytes store.OutOfMemory = OutOfMemory
+refusal_of_bytes store.NoHeader = Store store.NoHeader
 
 -- the refusal says that the device of the journal failed
 abbrev pub is_failed : PeerError → Bool

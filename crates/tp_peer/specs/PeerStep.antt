@@ -1,32 +1,30 @@
 -- The peer as a machine: what a call may answer, and what it leaves.
 use Rattle.std.specs.Prelude.{◌≡◌, ◌≢◌, ◌⊎◌, ◌↔◌, ℕ, ◌<◌, ◌≤◌, List, [], ◌∷◌, ◌++◌, Bool, true, false, ◌||◌, Option, Some, None, Result, Ok, Err, length, IsTrue, MatchBool}
 use Rattle.tp_opid.specs.declared.hash.Hash.{Hash}
-use Rattle.tp_change.specs.declared.parts.ChangeParts.{ChangeParts}
-use Rattle.tp_change.specs.ChangeHash.{hash_of}
-use Rattle.tp_edit.specs.declared.splice.Splice.{Splice}
+use Rattle.tp_peer.specs.Common.{ChangeParts, hash_of, Splice, DocError, Done, Report, record_of, SyncError, SyncParts}
 use Rattle.tp_text.specs.Text.{IsTextOf}
 use Rattle.tp_graph.specs.Heads.{heads}
 use Rattle.tp_graph.specs.Named.{has_all}
 use Rattle.tp_graph.specs.Past.{past}
-use Rattle.tp_document.specs.declared.error.DocError.{DocError}
 use Rattle.tp_document.specs.declared.error.DocError.TheVariants as doc
 use Rattle.tp_document.specs.Editing.{Asked, AsksNothing, Edited, IsRefused, asking}
 use Rattle.tp_document.specs.Merging.{absent}
+use Rattle.tp_receive.specs.declared.error.ReceiveError.{ReceiveError}
+use Rattle.tp_receive.specs.declared.error.ReceiveError.TheVariants as receive
 use Rattle.tp_receive.specs.Delivery.{is_full}
-use Rattle.tp_journal.specs.Layout.{record_of}
-use Rattle.tp_sync.specs.declared.error.SyncError.{SyncError}
+use Rattle.tp_receive.specs.Outcome as outcome
 use Rattle.tp_sync.specs.declared.error.SyncError.TheVariants as sync
 use Rattle.tp_sync.specs.declared.limits.TheConstants.{MAX_HASHES}
 use Rattle.tp_sync.specs.Answer.{Answer, IsQuiet}
 use Rattle.tp_sync.specs.Message.{IsMessage, MessageParts}
 use Rattle.tp_sync.specs.Reading.{message_at}
 use Rattle.tp_sync.specs.Spelling.{message_spelling}
-use Rattle.tp_sync.specs.State.{SyncParts, heard}
+use Rattle.tp_sync.specs.State.{heard}
 use Rattle.tp_peer.specs.declared.error.PeerError.{PeerError}
 use Rattle.tp_peer.specs.declared.error.PeerError.TheVariants.{JournalFailed, Stopped, TooManyLinks, Doc, Sync, OutOfMemory}
 use Rattle.tp_peer.specs.Links.{is_one_too_many, known_of, with_link, without_link}
 use Rattle.tp_peer.specs.PeerData.{PeerData}
-use Rattle.tp_peer.specs.Taking.{Report, StopsAt, TakesAll, TakesAndStops, TakesPart}
+use Rattle.tp_peer.specs.Taking.{StopsAt, Takes}
 
 -- The calls on a peer: an edit by its splices, time and message; a merge from another peer; on the link with a number,
 -- bytes that come, the next message, and its end; the text now, and at the hashes; the heads.
@@ -91,13 +89,13 @@ IsOther p other e = (e ≡ doc.OtherDocument) × (p.id ≡ other.id → ⊥)
 
 -- What a merge did: it received those changes of the other that were absent.
 abbrev pub Merges : PeerData → PeerData → Report → PeerData → Type 0
-Merges p other r p' = (p.id ≡ other.id) × TakesAll p (absent p.applied other.applied) r p'
+Merges p other r p' = (p.id ≡ other.id) × Takes p (absent p.applied other.applied) (Done r) p'
 
 -- What a refused merge leaves: the peer as it was, or a part of the changes received.
 abbrev pub RefusesMerge : PeerData → PeerData → PeerError → PeerData → Type 0
 RefusesMerge p other (Doc e) p' = IsOther p other e × (p' ≡ p)
-RefusesMerge p other JournalFailed p' = (p.id ≡ other.id) × TakesAndStops p (absent p.applied other.applied) p'
-RefusesMerge p other OutOfMemory p' = (p.id ≡ other.id) × TakesPart p (absent p.applied other.applied) p'
+RefusesMerge p other JournalFailed p' = (p.id ≡ other.id) × Takes p (absent p.applied other.applied) (outcome.Stopped receive.NotKept) p'
+RefusesMerge p other OutOfMemory p' = (p.id ≡ other.id) × Takes p (absent p.applied other.applied) (outcome.Stopped receive.OutOfMemory) p'
 RefusesMerge p other _ p' = ⊥
 
 -- ---- messages that come
@@ -124,7 +122,7 @@ pub record Hears (p : PeerData) (link : ℕ) (bytes : List ℕ) (r : Report) (sa
   pub message : MessageParts
   pub decodes : Decodes bytes message
   pub taken : PeerData
-  pub takes : TakesAll p message.changes r taken
+  pub takes : Takes p message.changes (Done r) taken
   pub same : IsTrue same_heads ↔ ((known_of p.links link).theirs ≡ Some message.heads)
   pub left : p' ≡ knowing taken link (heard (known_of p.links link) message)
 
@@ -135,25 +133,18 @@ RefusesBytes p bytes sync.BadChange = message_at bytes ≡ Err sync.BadChange
 RefusesBytes p bytes sync.PendingFull = (m : MessageParts) × Decodes bytes m × (is_full p.applied p.waiting m.changes ≡ true)
 RefusesBytes p bytes _ = ⊥
 
--- The device failed while a change of the message was appended: those before it entered.
-pub record HearsAndStops (p : PeerData) (bytes : List ℕ) (p' : PeerData) : Type 0 where
+-- Receiving the changes of the message stopped for the refusal: those before it entered.
+pub record HearsPart (p : PeerData) (bytes : List ℕ) (why : ReceiveError) (p' : PeerData) : Type 0 where
   pub message : MessageParts
   pub decodes : Decodes bytes message
-  pub space : is_full p.applied p.waiting message.changes ≡ false
-  pub takes : TakesAndStops p message.changes p'
-
--- Memory was refused once a part of the changes of the message was received.
-pub record HearsPart (p : PeerData) (bytes : List ℕ) (p' : PeerData) : Type 0 where
-  pub message : MessageParts
-  pub decodes : Decodes bytes message
-  pub takes : TakesPart p message.changes p'
+  pub takes : Takes p message.changes (outcome.Stopped why) p'
 
 -- What a refused receive leaves: the peer as it was, or a part of the changes received. The links are as they were.
 abbrev pub RefusesReceive : PeerData → ℕ → List ℕ → PeerError → PeerData → Type 0
 RefusesReceive p link bytes TooManyLinks p' = (is_one_too_many p.links link ≡ true) × (p' ≡ p)
 RefusesReceive p link bytes (Sync e) p' = (is_one_too_many p.links link ≡ false) × RefusesBytes p bytes e × (p' ≡ p)
-RefusesReceive p link bytes JournalFailed p' = (is_one_too_many p.links link ≡ false) × HearsAndStops p bytes p'
-RefusesReceive p link bytes OutOfMemory p' = (is_one_too_many p.links link ≡ false) × ((p' ≡ p) ⊎ HearsPart p bytes p')
+RefusesReceive p link bytes JournalFailed p' = (is_one_too_many p.links link ≡ false) × HearsPart p bytes receive.NotKept p'
+RefusesReceive p link bytes OutOfMemory p' = (is_one_too_many p.links link ≡ false) × ((p' ≡ p) ⊎ HearsPart p bytes receive.OutOfMemory p')
 RefusesReceive p link bytes _ p' = ⊥
 
 -- ---- messages that are made

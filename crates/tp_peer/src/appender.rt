@@ -8,8 +8,7 @@ use std::marker::Model;
 use std::mem;
 use tp_change::Change;
 use tp_document::{KeepError, Keeper};
-use tp_journal::{Journal, MemJournal, put_record};
-use tp_store::StoreError;
+use tp_journal::{Journal, JournalError, MemJournal, put_record};
 
 /// A journal to which the record of each change is appended, from a buffer that is used again: it stays as large as the
 /// largest record was.
@@ -30,12 +29,12 @@ impl<J: Journal> Model for Appender<J> {
 }
 
 // Why a change wasn't kept, where its append was refused.
-fn reason(error: StoreError) -> KeepError
+fn reason(error: JournalError) -> KeepError
     ensures { result ≡ reason_of error }
 {
     match error {
-        StoreError::OutOfMemory => KeepError::OutOfMemory,
-        _ => KeepError::NotKept,
+        JournalError::Io => KeepError::NotKept,
+        JournalError::OutOfMemory => KeepError::OutOfMemory,
     }
 }
 

@@ -1,14 +1,15 @@
 //! Edits of a peer.
 
-ghost use Rattle.std.specs.Prelude.{◌≡◌, ◌++◌, ◌∷◌, [], false, None, OnOk, OnErr, IfOk, IfErr};
-ghost use Rattle.std.specs.Str.{chars};
-ghost use Rattle.tp_change.specs.ChangeHash.{hash_of};
-ghost use Rattle.tp_graph.specs.Fit.{cause};
+ghost use Rattle.std.specs.Prelude.{◌≡◌, ℕ, List, ◌++◌, ◌∷◌, [], false, None, OnOk, OnErr, IfOk, IfErr};
+ghost use Rattle.tp_peer.specs.Common.{chars, hash_of, cause, SyncParts};
 ghost use Rattle.tp_document.specs.Editing.{DoesSplices};
 ghost use Rattle.tp_peer.specs.Appending.{AppendsRecord, RefusesRecord};
-ghost use Rattle.tp_peer.specs.PeerStep.{PeerStep, Edit, Made, RefusesEntry, entered, replied};
+ghost use Rattle.tp_peer.specs.Calls.{fails, reply_of};
+ghost use Rattle.tp_peer.specs.PeerData.{peer_data};
+ghost use Rattle.tp_peer.specs.PeerStep.{PeerStep, Runs, Edit, Made, replied};
 
 use crate::appender::Appender;
+use crate::call::{Call, Reply};
 use crate::error::PeerError;
 use crate::peer::Peer;
 use crate::sequence::PeerSequence;
@@ -16,7 +17,7 @@ use tp_change::Change;
 use tp_document::{Document, KeepError, Keeper};
 use tp_edit::Splice;
 use tp_journal::Journal;
-use tp_opid::Hash;
+use tp_opid::{Actor, Hash};
 
 // Appends the record of a change that can enter, and enters it. All that can fail comes before the append, and nothing
 // after it.
@@ -34,7 +35,7 @@ fn append_and_enter<J: Journal>(
     ensures err { IfErr result (λ e. RefusesRecord appender.old change e appender.new) }
     ensures stays { OnErr result (document.new.applied ≡ document.old.applied) }
 {
-    match document.ready(&change) {
+    match document.reserve(&change) {
         Ok(()) => match appender.keep(&change) {
             Ok(()) => {
                 let hash = change.hash();
@@ -47,25 +48,32 @@ fn append_and_enter<J: Journal>(
     }
 }
 
-impl<J: Journal> Peer<J> {
-    // Appends the record of a change that can enter, and enters it. Where the device fails the peer stops.
-    fn enter(&mut self, change: Change) -> Result<Hash, PeerError>
-        requires running { self.old.stopped ≡ false }
-        requires enters { cause self.old.applied change ≡ None }
-        ensures ok { IfOk result
-            (λ h. (h ≡ hash_of change) × (self.new ≡ entered self.old change)) }
-        ensures err { IfErr result (λ e. RefusesEntry self.old change e self.new) }
-    {
-        match append_and_enter(&mut self.document, &mut self.appender, change) {
-            Ok(hash) => Ok(hash),
-            Err(KeepError::OutOfMemory) => Err(PeerError::OutOfMemory),
-            Err(KeepError::NotKept) => {
-                self.stopped = true;
-                Err(PeerError::JournalFailed)
-            }
-        }
+// Edits on the parts of a running peer, once the change was appended to the journal.
+pub(crate) fn edit_on<J: Journal>(
+    actor: Actor,
+    document: &mut Document<PeerSequence>,
+    appender: &mut Appender<J>,
+    splices: &[Splice],
+    time: u64,
+    message: &str,
+) -> Reply
+    ensures { (links : List (ℕ × SyncParts))
+        → Runs (peer_data actor document.old links appender.old false)
+        (Edit splices.now time (chars message.now)) (reply_of result)
+        (peer_data actor document.new links appender.new (fails (reply_of result))) }
+{
+    match document.make_edit(actor, splices, time, message) {
+        Ok(Some(change)) => match append_and_enter(document, appender, change) {
+            Ok(hash) => Reply::Made(Some(hash)),
+            Err(KeepError::OutOfMemory) => Reply::Refused(PeerError::OutOfMemory),
+            Err(KeepError::NotKept) => Reply::Refused(PeerError::JournalFailed),
+        },
+        Ok(None) => Reply::Made(None),
+        Err(error) => Reply::Refused(PeerError::from(error)),
     }
+}
 
+impl<J: Journal> Peer<J> {
     /// Edits the text under the peer's actor, as [`Document::edit`] does, once the change was appended to the journal.
     /// Answers the change's hash; `None` where the splices are in range and change nothing.
     ///
@@ -85,16 +93,12 @@ impl<J: Journal> Peer<J> {
         ensures text { IfOk result
             (λ _. DoesSplices self.old.applied self.new.applied splices.now) }
     {
-        if self.stopped {
-            return Err(PeerError::Stopped);
-        }
-        match self.document.make_edit(self.actor, splices, time, message) {
-            Ok(Some(change)) => match self.enter(change) {
-                Ok(hash) => Ok(Some(hash)),
-                Err(error) => Err(error),
-            },
-            Ok(None) => Ok(None),
-            Err(error) => Err(PeerError::from(error)),
-        }
+        let _ = &self.alloc;
+        let reply = self.call(Call::Edit {
+            splices,
+            time,
+            message,
+        });
+        reply.into_made()
     }
 }

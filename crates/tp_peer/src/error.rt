@@ -1,11 +1,12 @@
 //! Why a call on a peer was refused.
 
 ghost use Rattle.std.specs.Prelude.{◌≡◌};
-ghost use Rattle.tp_peer.specs.PeerError.{code_of, refusal_of_document, refusal_of_journal, refusal_of_sync};
+ghost use Rattle.tp_peer.specs.PeerError.{code_of, refusal_of_bytes, refusal_of_document, refusal_of_journal, refusal_of_sync};
 ghost use Rattle.tp_peer.specs.PeerError as refusal;
 
 use thiserror::Error;
 use tp_document::DocError;
+use tp_journal::JournalError;
 use tp_store::StoreError;
 use tp_sync::SyncError;
 
@@ -93,8 +94,19 @@ impl From<SyncError> for PeerError {
     }
 }
 
-impl From<StoreError> for PeerError {
+impl From<JournalError> for PeerError {
     ghost from_gives = { λ e r. r ≡ refusal_of_journal e };
+
+    fn from(error: JournalError) -> PeerError {
+        match error {
+            JournalError::Io => PeerError::JournalFailed,
+            JournalError::OutOfMemory => PeerError::OutOfMemory,
+        }
+    }
+}
+
+impl From<StoreError> for PeerError {
+    ghost from_gives = { λ e r. r ≡ refusal_of_bytes e };
 
     fn from(error: StoreError) -> PeerError {
         match error {

@@ -2,16 +2,15 @@
 
 ghost use Rattle.std.specs.Prelude.{◌≡◌, ℕ, List, ◌++◌, true, false, length};
 ghost use Rattle.tp_list.specs.Members.{In};
-ghost use Rattle.tp_change.specs.declared.parts.ChangeParts.{ChangeParts};
-ghost use Rattle.tp_edit.specs.declared.splice.Splice.{Splice};
+ghost use Rattle.tp_peer.specs.Common.{ChangeParts, Splice, Recovers, Done, Report, Stopped};
 ghost use Rattle.tp_graph.specs.Named.{HashesApart};
 ghost use Rattle.tp_graph.specs.Sound.{Sound};
-ghost use Rattle.tp_journal.specs.Recovery.{Recovers};
 ghost use Rattle.tp_peer.specs.declared.error.PeerError.{PeerError as Refusal};
 ghost use Rattle.tp_peer.specs.declared.error.PeerError.TheVariants.{JournalFailed, OutOfMemory};
 ghost use Rattle.tp_peer.specs.PeerData.{PeerData, IsPeer};
 ghost use Rattle.tp_peer.specs.PeerStep.{Call, Edit, PeerStep, Refused, Reply};
-ghost use Rattle.tp_peer.specs.Taking.{Report, TakesAll, TakesPart, TakesAndStops};
+ghost use Rattle.tp_receive.specs.declared.error.ReceiveError.TheVariants as receive;
+ghost use Rattle.tp_peer.specs.Taking.{Takes};
 ghost use Rattle.tp_peer.specs.Laws.{Keeps, IsComplete, IsPartial, IsTornAt, RecoversTorn};
 
 use crate::peer::Peer;
@@ -52,20 +51,20 @@ pub fn an_edit_bears_the_actor()
 /// Where no two different changes of what waited and came have one hash, what received all of them is a result.
 pub fn all_is_complete()
     ensures { (p : PeerData) (K : List ChangeParts) (r : Report) (p' : PeerData) → Sound p.applied
-        → HashesApart (p.waiting ++ K) → TakesAll p K r p' → IsComplete p K r p' }
+        → HashesApart (p.waiting ++ K) → Takes p K (Done r) p' → IsComplete p K r p' }
 {}
 
 /// Where memory was refused, what is applied stands between what was there and a result.
 pub fn a_part_is_between()
     ensures { (p : PeerData) (K : List ChangeParts) (p' : PeerData) → Sound p.applied
-        → TakesPart p K p' → IsPartial p K p' }
+        → Takes p K (Stopped receive.OutOfMemory) p' → IsPartial p K p' }
 {}
 
 /// Where the device failed, what is applied, with the change that was being appended, stands between, and the journal
 /// has a beginning of just that change's record behind those of what is applied.
 pub fn a_stop_is_between()
     ensures { (p : PeerData) (K : List ChangeParts) (p' : PeerData) → Sound p.applied
-        → TakesAndStops p K p' → IsTornAt p K p' }
+        → Takes p K (Stopped receive.NotKept) p' → IsTornAt p K p' }
 {}
 
 /// The journal of a peer in memory has no device that could fail, so no call on it answers `JournalFailed`: by

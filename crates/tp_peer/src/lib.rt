@@ -6,6 +6,8 @@
 
 mod actors;
 mod appender;
+mod call;
+mod calling;
 mod editing;
 mod error;
 mod exchanged;
@@ -18,6 +20,7 @@ mod sequence;
 mod syncing;
 
 pub use actors::fresh_actor;
+pub use call::{Call, Reply};
 pub use error::PeerError;
 pub use exchanged::{Outgoing, Received};
 pub use links::{Link, MAX_LINKS};

@@ -5,7 +5,7 @@ ghost use Rattle.tp_peer.specs.Taking.{report_of};
 
 use crate::error::PeerError;
 use crate::peer::Peer;
-use tp_document::{Applied, DocError};
+use tp_document::Applied;
 use tp_journal::Journal;
 
 impl<J: Journal> Peer<J> {
@@ -30,13 +30,11 @@ impl<J: Journal> Peer<J> {
             .merge_with(&other.document, &mut self.appender)
         {
             Ok(applied) => Ok(applied),
-            Err(error) => match error {
-                DocError::NotKept => {
-                    self.stopped = true;
-                    Err(PeerError::JournalFailed)
-                }
-                error => Err(PeerError::from(error)),
-            },
+            Err(error) => {
+                let error = PeerError::from(error);
+                self.stopped = error.is_failed();
+                Err(error)
+            }
         }
     }
 }

@@ -5,9 +5,10 @@ ghost use Rattle.std.specs.Str.{chars};
 ghost use Rattle.std.specs.String.{string_bytes};
 ghost use Rattle.tp_peer.specs.PeerData.{IsPeer, HasJournal, opened};
 ghost use Rattle.tp_peer.specs.PeerStep.{PeerStep, Heads, Read, ReadAt, ReadHeads, Text, replied};
-ghost use Rattle.tp_journal.specs.Layout.{IsDocId, journal as journal_bytes};
+ghost use Rattle.tp_journal.specs.Layout.{journal as journal_bytes};
 
 use crate::appender::Appender;
+use crate::calling::{read_at_on, read_on};
 use crate::error::PeerError;
 use crate::links::Links;
 use crate::sequence::PeerSequence;
@@ -15,6 +16,7 @@ use std::alloc::Global;
 use std::marker::Model;
 use tp_document::Document;
 use tp_journal::Journal;
+use tp_list::array_len;
 use tp_opid::{Actor, DocId, Hash};
 
 /// A document with the journal that keeps its changes, the actor under which it is edited, and links to other peers.
@@ -57,14 +59,6 @@ impl<J: Journal> Model for Peer<J> {
     ghost invariant = { λ p. IsPeer (peer_data p.actor p.document p.links.known p.appender p.stopped) };
 }
 
-// What the type of an identifier says: it has 16 bytes. Answers their number.
-fn id_len(id: DocId) -> usize
-    ensures { IsDocId id }
-{
-    let bytes = id.0;
-    bytes.len()
-}
-
 impl<J: Journal> Peer<J> {
     /// A peer that runs, with no links, on a journal that is the document's.
     pub(crate) fn new(
@@ -77,7 +71,7 @@ impl<J: Journal> Peer<J> {
         requires waiting { document.waiting ≡ [] }
         ensures { result ≡ opened document.id actor document.applied (J.failures journal) }
     {
-        let _len = id_len(document.id());
+        let _len = array_len(document.id().0);
         let _changes = document.changes();
         Peer {
             alloc,
@@ -99,10 +93,7 @@ impl<J: Journal> Peer<J> {
         if self.stopped {
             return Err(PeerError::Stopped);
         }
-        match self.document.text() {
-            Ok(text) => Ok(text),
-            Err(_) => Err(PeerError::OutOfMemory),
-        }
+        read_on(&self.document).into_text()
     }
 
     /// The text of the past of the hashes, which may come in any order and more than once; no hash gives the empty
@@ -117,10 +108,7 @@ impl<J: Journal> Peer<J> {
         if self.stopped {
             return Err(PeerError::Stopped);
         }
-        match self.document.text_at(hashes) {
-            Ok(text) => Ok(text),
-            Err(error) => Err(PeerError::from(error)),
-        }
+        read_at_on(&self.document, hashes).into_text()
     }
 
     /// The hashes of the applied changes on which no applied change depends, rising. The only refusal is `Stopped`.

@@ -10,6 +10,7 @@ ghost use Rattle.tp_peer.specs.Sent.{sent_of};
 ghost use Rattle.tp_peer.specs.Taking.{report_of};
 
 use crate::appender::Appender;
+use crate::call::Call;
 use crate::error::PeerError;
 use crate::exchanged::{Outgoing, Received};
 use crate::links::{Link, Links};
@@ -32,7 +33,7 @@ fn message_of(alloc: Global, bytes: &[u8]) -> Result<Message, PeerError>
 }
 
 // Receives the message of a link. All that can fail comes before its changes, and nothing after them.
-fn receive_on<J: Journal>(
+pub(crate) fn receive_on<J: Journal>(
     alloc: Global,
     document: &mut Document<PeerSequence>,
     links: &mut Links,
@@ -69,7 +70,7 @@ fn receive_on<J: Journal>(
 }
 
 // Makes the next message of a link. What is known there changes only once the bytes are written.
-fn generate_on(
+pub(crate) fn generate_on(
     alloc: Global,
     document: &Document<PeerSequence>,
     links: &mut Links,
@@ -119,24 +120,7 @@ impl<J: Journal> Peer<J> {
         ensures { PeerStep self.old (Receive link.0 bytes.now)
             (replied (λ r. Reported (report_of r.applied) r.same_heads) result) self.new }
     {
-        if self.stopped {
-            return Err(PeerError::Stopped);
-        }
-        let alloc = self.alloc;
-        match receive_on(
-            alloc,
-            &mut self.document,
-            &mut self.links,
-            &mut self.appender,
-            link,
-            bytes,
-        ) {
-            Ok(received) => Ok(received),
-            Err(error) => {
-                self.stopped = error.is_failed();
-                Err(error)
-            }
-        }
+        self.call(Call::Receive { link, bytes }).into_received()
     }
 
     /// The next message on a link, as Automerge's call `generate_sync_message`, or `None` where there is nothing to say:
@@ -151,20 +135,13 @@ impl<J: Journal> Peer<J> {
         ensures { PeerStep self.old (Generate link.0)
             (replied (λ sent. Generated (sent_of sent)) result) self.new }
     {
-        if self.stopped {
-            return Err(PeerError::Stopped);
-        }
-        generate_on(self.alloc, &self.document, &mut self.links, link)
+        self.call(Call::Generate { link }).into_generated()
     }
 
     /// Forgets all that is known on a link, which may be absent. The only refusal is `Stopped`. No memory.
     pub fn forget_link(&mut self, link: Link) -> Result<(), PeerError>
         ensures { PeerStep self.old (Forget link.0) (replied (λ _. Forgotten) result) self.new }
     {
-        if self.stopped {
-            return Err(PeerError::Stopped);
-        }
-        self.links.forget(link);
-        Ok(())
+        self.call(Call::Forget { link }).into_forgotten()
     }
 }

@@ -1,18 +1,5 @@
 -- Where each change is while a run goes on, and what was reported of it, where two changes with one hash are one.
-use Rattle.tp_list.proofs.Members.{In-left, In-last}
-use Rattle.std.proofs.Common.{◌≡◌, ◌⊎◌, inl, inr, List, [], ◌∷◌, ◌++◌, true, Some, None, refl, sym, ap, ◌∙◌, subst}
-use Rattle.tp_list.specs.Members.{In, AllIn}
-use Rattle.tp_opid.specs.declared.hash.Hash.{Hash}
-use Rattle.tp_change.specs.declared.parts.ChangeParts.{ChangeParts}
-use Rattle.tp_change.specs.ChangeHash.{hash_of}
-use Rattle.tp_graph.specs.declared.error.GraphError.{GraphError}
-use Rattle.tp_graph.specs.declared.error.GraphError.TheVariants.{MissingDeps}
-use Rattle.tp_graph.specs.Named.{has, HashesApart}
-use Rattle.tp_graph.specs.Fit.{cause}
-use Rattle.tp_graph.specs.Sound.{Sound}
-use Rattle.tp_graph.proofs.NamedLaws.{In-has, has-In}
-use Rattle.tp_receive.specs.Receiving.{is_refusal}
-use Rattle.tp_receive.specs.Intake.{Intake, Turn, refuse}
+use Rattle.tp_receive.proofs.Common.{◌≡◌, ◌⊎◌, inl, inr, List, [], ◌∷◌, ◌++◌, true, Some, None, refl, sym, ap, ◌∙◌, subst, In-left, In, AllIn, Hash, ChangeParts, hash_of, GraphError, MissingDeps, has, HashesApart, cause, Sound, In-has, has-In, is_refusal, Intake, Turn, refuse, In-last}
 use Rattle.tp_receive.proofs.RefusalLaws.{refused-known, refused-push}
 use Rattle.tp_receive.proofs.CausesLaws.{same-stays}
 use Rattle.tp_receive.proofs.TurnLaws.{Turn-cases, IsHere, changes_of, with_rest}

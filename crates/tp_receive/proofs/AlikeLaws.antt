@@ -1,19 +1,5 @@
 -- Two whole runs from one beginning end alike, whatever keeps.
-use Rattle.tp_list.proofs.Members.{In-right}
-use Rattle.tp_list.proofs.Tests.{never}
-use Rattle.std.proofs.Common.{◌≡◌, ℕ, zero, suc, ◌+◌, inl, inr, List, [], ◌∷◌, ◌++◌, length, Bool, true, false, cond, Option, Some, None, refl, sym, ap, ◌∙◌, subst, nat_lt}
-use Rattle.tp_list.specs.Members.{In}
-use Rattle.tp_opid.specs.declared.hash.Hash.{Hash}
-use Rattle.tp_change.specs.declared.parts.ChangeParts.{ChangeParts}
-use Rattle.tp_change.specs.ChangeHash.{hash_of}
-use Rattle.tp_graph.specs.declared.error.GraphError.{GraphError}
-use Rattle.tp_graph.specs.declared.error.GraphError.TheVariants.{MissingDeps}
-use Rattle.tp_graph.specs.Named.{has}
-use Rattle.tp_graph.specs.Fit.{cause}
-use Rattle.tp_graph.specs.GraphState.{most_waiting}
-use Rattle.tp_receive.specs.Receiving.{AllWait, lacks_deps, is_refusal}
-use Rattle.tp_receive.specs.Delivery.{slots}
-use Rattle.tp_receive.specs.Intake.{Intake, Ends, Meets, Next, NextWaits, Run, Turn, Turns, hold, intake, refuse}
+use Rattle.tp_receive.proofs.Common.{◌≡◌, ℕ, zero, suc, ◌+◌, inl, inr, List, [], ◌∷◌, ◌++◌, length, Bool, true, false, cond, Option, Some, None, refl, sym, ap, ◌∙◌, subst, nat_lt, In-right, never, In, Hash, ChangeParts, hash_of, GraphError, MissingDeps, has, cause, most_waiting, AllWait, lacks_deps, is_refusal, slots, Intake, Meets, Next, Run, Turn, hold, intake, refuse, Ends, NextWaits, Turns}
 use Rattle.tp_receive.specs.Replies.{Alike}
 
 -- ---- one next

@@ -1,21 +1,9 @@
 -- What a change that was judged meets against the final list.
-use Rattle.std.proofs.Common.{◌≡◌, ◌==◌, ◌||◌, ◌⊎◌, inl, inr, List, [], ◌∷◌, ◌++◌, length, Bool, true, false, Option, Some, None, refl, sym, ap, ◌∙◌, subst, append_assoc, append-nil}
-use Rattle.tp_list.specs.Members.{In, AllIn}
-use Rattle.tp_opid.specs.declared.hash.Hash.{Hash}
-use Rattle.tp_change.specs.declared.parts.ChangeParts.{ChangeParts}
-use Rattle.tp_change.specs.ChangeHash.{hash_of}
-use Rattle.tp_graph.specs.declared.error.GraphError.{GraphError}
-use Rattle.tp_graph.specs.declared.error.GraphError.TheVariants.{Known, MissingDeps, BadSeq, BadStart, BadReference, SeqClash, UnknownHead, Full, OutOfMemory}
-use Rattle.tp_graph.specs.Named.{has, has_all, HashesApart}
-use Rattle.tp_graph.specs.Fit.{defect, or_full, cause, most_changes}
-use Rattle.tp_graph.specs.Sound.{Sound}
-use Rattle.tp_list.proofs.Tests.{truth, never, not_true}
-use Rattle.tp_graph.proofs.NamedLaws.{has-In, has-append, has-left, has_all-In}
-use Rattle.tp_graph.proofs.SoundLaws.{Sound-push}
+use Rattle.tp_receive.proofs.Common.{◌≡◌, ◌==◌, ◌||◌, ◌⊎◌, inl, inr, List, [], ◌∷◌, ◌++◌, length, Bool, true, false, Option, Some, None, refl, sym, ap, ◌∙◌, subst, append_assoc, append-nil, In, AllIn, Hash, ChangeParts, hash_of, GraphError, MissingDeps, has, has_all, HashesApart, most_changes, Sound, truth, never, not_true, has-In, has-append, has-left, Sound-push, Fits-from_cause, EntersAfter, lacks_deps, is_refusal, Known, or_full, has_all-In, enters}
+use Rattle.tp_graph.specs.declared.error.GraphError.TheVariants.{BadSeq, BadStart, BadReference, SeqClash, UnknownHead, Full, OutOfMemory}
+use Rattle.tp_graph.specs.Fit.{defect, cause}
 use Rattle.tp_graph.proofs.SetLaws.{defect-later}
 use Rattle.tp_graph.proofs.CauseLaws.{missing_deps_is}
-use Rattle.tp_graph.proofs.KeptLaws.{enters, Fits-from_cause}
-use Rattle.tp_receive.specs.Receiving.{EntersAfter, lacks_deps, is_refusal}
 use Rattle.tp_receive.proofs.RefusalLaws.{cause-known, refused-stays, EntersAfter-append}
 
 -- ---- a cause other than a missing dependency stays the same

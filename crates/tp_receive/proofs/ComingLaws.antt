@@ -1,15 +1,5 @@
 -- The loop that reserves slots.
-use Rattle.std.proofs.Common.{◌≡◌, ℕ, ◌+◌, ◌-◌, ◌⊎◌, inl, inr, List, [], ◌∷◌, ◌++◌, Bool, true, false, ◌||◌, cond, refl, sym, ap, ◌∙◌, arith, subst, get_or, take, length, ◌<◌, append_assoc, append-nil}
-use Rattle.std.proofs.lemmas.List.{take_more}
-use Rattle.tp_opid.specs.declared.hash.Hash.{Hash}
-use Rattle.tp_change.specs.declared.parts.ChangeParts.{ChangeParts}
-use Rattle.tp_change.specs.ChangeHash.{hash_of}
-use Rattle.tp_opid.specs.Same.{same_hash}
-use Rattle.tp_graph.specs.Named.{among, has, has_all}
-use Rattle.tp_graph.proofs.NamedLaws.{has-append}
-use Rattle.tp_receive.specs.Delivery.{delivery, with_slots, slots, takes_slot}
-use Rattle.tp_receive.specs.Receiving.{hashes, held_of}
-use Rattle.tp_receive.specs.HashSets.{has_hash, IsHashSetOf}
+use Rattle.tp_receive.proofs.Common.{◌≡◌, ℕ, ◌+◌, ◌-◌, ◌⊎◌, inl, inr, List, [], ◌∷◌, ◌++◌, Bool, true, false, not, ◌||◌, cond, refl, sym, ap, ◌∙◌, arith, subst, get_or, take, length, ◌<◌, append_assoc, append-nil, take_more, Hash, ChangeParts, hash_of, same_hash, has, has_all, has-append, delivery, with_slots, slots, takes_slot, hashes, has_hash, IsHashSetOf, among, held_of}
 use Rattle.tp_receive.proofs.HashLaws.{among-hashes}
 use Rattle.tp_receive.specs.Trying.{IsNoted}
 
@@ -59,7 +49,7 @@ with_one C D c true = sym (append_assoc C D (c ∷ []))
 with_one C D c false = refl
 
 pub AreNoted-next : (C W K xs zs : List ChangeParts) (c : ChangeParts) (H G H' G' : List Hash) (P Q : List (ChangeParts × Bool)) (slot : Bool) → (n : AreNoted C W K xs H G P) → xs ≡ c ∷ zs
-    → IsNoted C n.D n.V c H' G' slot → Q ≡ P ++ (c, slot) ∷ [] → AreNoted C W K zs H' G' Q
+    → IsNoted n.D n.V (c, has_all (C ++ n.D) c.deps) H' G' slot → Q ≡ P ++ (c, slot) ∷ [] → AreNoted C W K zs H' G' Q
 AreNoted-next C W K xs zs c H G H' G' P Q slot n is noted pushed =
     let deliverable_now : List ChangeParts = cond (has_all (C ++ n.D) c.deps) (n.D ++ c ∷ []) n.D in
     let slotted_now : List ChangeParts = cond (takes_slot n.V (c, has_all (C ++ n.D) c.deps)) (n.V ++ c ∷ []) n.V in
@@ -88,34 +78,20 @@ IsHashSetOf-push C c H H' h e is added x =
       turned false true = refl
       turned false false = refl
 
-pub noted_delivers : (C D V : List ChangeParts) (c : ChangeParts) (H G H' : List Hash) (h : Hash) → IsHashSetOf H D → IsHashSetOf G V → h ≡ hash_of c → has_all (C ++ D) c.deps ≡ true
-    → ((x : Hash) → has_hash H' x ≡ (same_hash h x || has_hash H x)) → IsNoted C D V c H' G false
-noted_delivers C D V c H G H' h e f is all added = record {
-  delivers = subst (λ b. IsHashSetOf H' (cond b (D ++ c ∷ []) D)) (sym all) (IsHashSetOf-push D c H H' h e is added);
-  takes = rw all refl;
-  slots = subst (λ b. IsHashSetOf G (cond (takes_slot V (c, b)) (V ++ c ∷ []) V)) (sym all) f;
-}
+pub noted_delivers : (D V : List ChangeParts) (c : ChangeParts) (H G H' : List Hash) (h : Hash) → IsHashSetOf H D → IsHashSetOf G V → h ≡ hash_of c
+    → ((x : Hash) → has_hash H' x ≡ (same_hash h x || has_hash H x)) → IsNoted D V (c, true) H' G false
+noted_delivers D V c H G H' h e f is added = record { delivers = IsHashSetOf-push D c H H' h e is added; takes = refl; slots = f }
 
-pub noted_again : (C D V : List ChangeParts) (c : ChangeParts) (H G : List Hash) → IsHashSetOf H D → IsHashSetOf G V → has_all (C ++ D) c.deps ≡ false → has_hash G (hash_of c) ≡ true → IsNoted C D V c H G false
-noted_again C D V c H G e f lacks there =
-    let held : has V (hash_of c) ≡ true = sym (f (hash_of c)) ∙ there in
-    let takes : takes_slot V (c, has_all (C ++ D) c.deps) ≡ false = rw (lacks, held) refl in
-    record {
-      delivers = subst (λ b. IsHashSetOf H (cond b (D ++ c ∷ []) D)) (sym lacks) e;
-      takes = sym takes;
-      slots = subst (λ b. IsHashSetOf G (cond b (V ++ c ∷ []) V)) (sym takes) f;
-    }
+pub noted_again : (D V : List ChangeParts) (c : ChangeParts) (H G : List Hash) → IsHashSetOf H D → IsHashSetOf G V → has_hash G (hash_of c) ≡ true → IsNoted D V (c, false) H G false
+noted_again D V c H G e f there =
+    let takes : takes_slot V (c, false) ≡ false = ap not (sym (f (hash_of c)) ∙ there) in
+    record { delivers = e; takes = sym takes; slots = subst (λ b. IsHashSetOf G (cond b (V ++ c ∷ []) V)) (sym takes) f }
 
-pub noted_slots : (C D V : List ChangeParts) (c : ChangeParts) (H G G' : List Hash) (h : Hash) → IsHashSetOf H D → IsHashSetOf G V → h ≡ hash_of c → has_all (C ++ D) c.deps ≡ false → has_hash G (hash_of c) ≡ false
-    → ((x : Hash) → has_hash G' x ≡ (same_hash h x || has_hash G x)) → IsNoted C D V c H G' true
-noted_slots C D V c H G G' h e f is lacks new added =
-    let held : has V (hash_of c) ≡ false = sym (f (hash_of c)) ∙ new in
-    let takes : takes_slot V (c, has_all (C ++ D) c.deps) ≡ true = rw (lacks, held) refl in
-    record {
-      delivers = subst (λ b. IsHashSetOf H (cond b (D ++ c ∷ []) D)) (sym lacks) e;
-      takes = sym takes;
-      slots = subst (λ b. IsHashSetOf G' (cond b (V ++ c ∷ []) V)) (sym takes) (IsHashSetOf-push V c G G' h f is added);
-    }
+pub noted_slots : (D V : List ChangeParts) (c : ChangeParts) (H G G' : List Hash) (h : Hash) → IsHashSetOf H D → IsHashSetOf G V → h ≡ hash_of c → has_hash G (hash_of c) ≡ false
+    → ((x : Hash) → has_hash G' x ≡ (same_hash h x || has_hash G x)) → IsNoted D V (c, false) H G' true
+noted_slots D V c H G G' h e f is new added =
+    let takes : takes_slot V (c, false) ≡ true = ap not (sym (f (hash_of c)) ∙ new) in
+    record { delivers = e; takes = sym takes; slots = subst (λ b. IsHashSetOf G' (cond b (V ++ c ∷ []) V)) (sym takes) (IsHashSetOf-push V c G G' h f is added) }
 
 -- ---- the hashes of a list, one after another
 

@@ -1,23 +1,8 @@
 -- What was dropped for want of space, where two changes with one hash are one: it can never enter, and it is none of
 -- the undeliverable ones.
-use Rattle.tp_list.proofs.Members.{In-left, In-last}
-use Rattle.tp_list.proofs.Tests.{truth, never, not_true, or_cases, neither}
-use Rattle.std.proofs.Common.{◌≡◌, ◌+◌, ◌≤◌, ◌⊎◌, inl, inr, List, [], ◌∷◌, ◌++◌, length, Bool, true, false, cond, Some, refl, sym, ap, ◌∙◌, subst, append_assoc, arith}
-use Rattle.tp_list.specs.Members.{In, AllIn}
-use Rattle.tp_opid.specs.declared.hash.Hash.{Hash}
-use Rattle.tp_opid.specs.Same.{same_hash}
-use Rattle.tp_opid.proofs.Orders.{same_hash-same}
-use Rattle.tp_change.specs.declared.parts.ChangeParts.{ChangeParts}
-use Rattle.tp_change.specs.ChangeHash.{hash_of}
-use Rattle.tp_graph.specs.declared.error.GraphError.{GraphError}
-use Rattle.tp_graph.specs.declared.error.GraphError.TheVariants.{MissingDeps}
-use Rattle.tp_graph.specs.Named.{has, has_all, HashesApart}
-use Rattle.tp_graph.specs.Fit.{cause}
-use Rattle.tp_graph.specs.GraphState.{most_waiting}
-use Rattle.tp_graph.proofs.NamedLaws.{has-In, In-has, has-left, has-append, has_all-In, has_all-more}
-use Rattle.tp_receive.specs.Receiving.{is_refusal}
-use Rattle.tp_receive.specs.Delivery.{delivery, undeliverable, with_slots, slots, takes_slot}
-use Rattle.tp_receive.specs.Intake.{Intake, Turn, enter, refuse}
+use Rattle.tp_receive.proofs.Common.{◌≡◌, ◌+◌, ◌≤◌, ◌⊎◌, inl, inr, List, [], ◌∷◌, ◌++◌, length, Bool, true, false, cond, Some, refl, sym, ap, ◌∙◌, subst, append_assoc, arith, In-left, truth, never, not_true, In, AllIn, Hash, same_hash, same_hash-same, ChangeParts, hash_of, GraphError, MissingDeps, has, has_all, HashesApart, cause, most_waiting, has-In, In-has, has-left, has-append, is_refusal, delivery, with_slots, slots, takes_slot, Intake, Turn, refuse, In-last, or_cases, has_all-In, has_all-more, enter}
+use Rattle.tp_list.proofs.Tests.{neither}
+use Rattle.tp_receive.specs.Delivery.{undeliverable}
 use Rattle.tp_receive.proofs.CausesLaws.{Never, Barred, Never-later, Never-out, Barred-later, NeverEnters, out_of_dep, out_of_refusal, waits_for, lacking}
 use Rattle.tp_receive.proofs.TurnLaws.{Turn-cases, IsHere, changes_of, with_rest}
 use Rattle.tp_receive.proofs.RunLaws.{In-pushed, HasRoom, refusal_drops, placing_of}

@@ -1,16 +1,5 @@
 -- Lists that grow by receiving: they add up, and a result of receiving exists.
-use Rattle.std.proofs.Common.{◌≡◌, ℕ, suc, zero, ◌⊎◌, inl, inr, List, [], ◌∷◌, ◌++◌, length, true, Option, Some, None, IsSome, refl, sym, ap, ◌∙◌, subst, append_assoc, append-nil, arith, length-append}
-use Rattle.tp_list.specs.Members.{In, AllIn}
-use Rattle.tp_change.specs.declared.parts.ChangeParts.{ChangeParts}
-use Rattle.tp_change.specs.ChangeHash.{hash_of}
-use Rattle.tp_graph.specs.declared.error.GraphError.{GraphError}
-use Rattle.tp_graph.specs.Fit.{cause}
-use Rattle.tp_graph.specs.Sound.{Sound}
-use Rattle.tp_graph.proofs.NamedLaws.{In-has}
-use Rattle.tp_list.proofs.Members.{In-left, In-right, In-append}
-use Rattle.tp_graph.proofs.SoundLaws.{Sound-push}
-use Rattle.tp_graph.proofs.KeptLaws.{Fits-from_cause}
-use Rattle.tp_receive.specs.Receiving.{EntersAfter, Grows, Receives, Between, is_refusal}
+use Rattle.tp_receive.proofs.Common.{◌≡◌, ℕ, suc, zero, ◌⊎◌, inl, inr, List, [], ◌∷◌, ◌++◌, length, true, Option, Some, None, IsSome, refl, sym, ap, ◌∙◌, subst, append_assoc, append-nil, arith, length-append, In, AllIn, ChangeParts, hash_of, GraphError, cause, Sound, In-has, In-left, In-right, In-append, Sound-push, Fits-from_cause, EntersAfter, is_refusal, Grows, Receives, Between}
 use Rattle.tp_receive.proofs.RefusalLaws.{refused-known, refused-stays, EntersAfter-append, Sound-entered, IsSome-refusal}
 
 pub Grows-none : (C K : List ChangeParts) → Grows C K C []

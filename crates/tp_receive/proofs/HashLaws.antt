@@ -1,14 +1,7 @@
 -- Lists of hashes: those of changes, and those that are held.
-use Rattle.tp_list.proofs.Tests.{truth, never, not_true, or_cases, or_left, or_right}
-use Rattle.std.proofs.Common.{◌≡◌, ℕ, ◌+◌, ◌<◌, List, [], ◌∷◌, ◌++◌, length, ◌||◌, take, get_or, true, false, cond, inl, inr, refl, sym, ap, ◌∙◌, subst}
-use Rattle.std.proofs.lemmas.List.{take_more}
-use Rattle.tp_opid.specs.Same.{same_hash}
-use Rattle.tp_opid.specs.declared.hash.Hash.{Hash}
-use Rattle.tp_change.specs.declared.parts.ChangeParts.{ChangeParts}
-use Rattle.tp_change.specs.ChangeHash.{hash_of}
-use Rattle.tp_graph.specs.Named.{among, has}
-use Rattle.tp_graph.specs.GraphState.{HashesOnce}
-use Rattle.tp_receive.specs.Receiving.{EachOnce, hashes, held_of}
+use Rattle.tp_receive.proofs.Common.{◌≡◌, ℕ, ◌+◌, ◌<◌, List, [], ◌∷◌, ◌++◌, length, ◌||◌, take, get_or, true, false, cond, inl, inr, refl, sym, ap, ◌∙◌, subst, truth, never, not_true, take_more, same_hash, Hash, ChangeParts, hash_of, has, hashes, or_cases, among, HashesOnce, held_of}
+use Rattle.tp_list.proofs.Tests.{or_left, or_right}
+use Rattle.tp_receive.specs.Receiving.{EachOnce}
 
 pub hashes-append : (C D : List ChangeParts) → hashes (C ++ D) ≡ hashes C ++ hashes D
 hashes-append [] D = refl

@@ -1,24 +1,13 @@
 -- What the changes that wait are known to lack: what follows, and what stays known.
-use Rattle.std.proofs.Common.{◌≡◌, ◌⊎◌, inl, inr, ℕ, suc, zero, ◌+◌, ◌<◌, ◌≤◌, List, [], ◌∷◌, ◌++◌, length, Bool, true, false, Option, Some, None, take, drop, set, replicate, refl, sym, ap, ◌∙◌, subst, arith, get_or}
-use Rattle.std.specs.List.{AllZip, slice_get, remove}
-use Rattle.std.proofs.lemmas.List.{take_all, take_more, take_more_set, drop_more, drop-set-lt, set-get_or, get_or-set_other}
-use Rattle.std.proofs.lemmas.Option.{get_or_from_slice_get, slice_get_within, slice_get-get_or}
+use Rattle.tp_receive.proofs.Common.{◌≡◌, ◌⊎◌, inl, inr, ℕ, suc, zero, ◌+◌, ◌<◌, ◌≤◌, List, [], ◌∷◌, ◌++◌, length, Bool, true, false, Option, Some, None, take, drop, set, replicate, refl, sym, ap, ◌∙◌, subst, arith, get_or, slice_get, remove, take_more, In, never, not_true, Hash, same_hash, same_hash-same, ChangeParts, hash_of, has, has_all, cause, has-append, In-has, AllWait, lacks_deps, GainsOnly, KnowsApart, KnowsLack, Lacks, LacksApart, get_or_from_slice_get, slice_get-get_or, AllZip-long, In-slice_get, HashesOnce}
+use Rattle.std.specs.List.{AllZip}
+use Rattle.std.proofs.lemmas.List.{take_all, take_more_set, drop_more, drop-set-lt, set-get_or, get_or-set_other}
+use Rattle.std.proofs.lemmas.Option.{slice_get_within}
 use Rattle.std.specs.Option.{MatchOption, is_some}
-use Rattle.std.proofs.lemmas.Slice.Zip.{AllZip-long, all_zipped_more}
-use Rattle.tp_list.specs.Members.{In}
-use Rattle.tp_list.proofs.Members.{In-slice_get}
-use Rattle.tp_list.proofs.Tests.{never, not_true, neither_left, neither_right}
-use Rattle.tp_opid.specs.declared.hash.Hash.{Hash}
-use Rattle.tp_opid.specs.Same.{same_hash}
-use Rattle.tp_opid.proofs.Orders.{same_hash-same, same_hash-itself}
-use Rattle.tp_change.specs.declared.parts.ChangeParts.{ChangeParts}
-use Rattle.tp_change.specs.ChangeHash.{hash_of}
-use Rattle.tp_graph.specs.Named.{has, has_all}
-use Rattle.tp_graph.specs.Fit.{cause}
-use Rattle.tp_graph.specs.GraphState.{HashesOnce}
-use Rattle.tp_graph.proofs.NamedLaws.{has-append, In-has}
-use Rattle.tp_receive.specs.Receiving.{AllWait, lacks_deps}
-use Rattle.tp_receive.specs.Lacking.{GainsOnly, KnowsApart, KnowsLack, Lacks, LacksApart, lacks_it}
+use Rattle.std.proofs.lemmas.Slice.Zip.{all_zipped_more}
+use Rattle.tp_list.proofs.Tests.{neither_left, neither_right}
+use Rattle.tp_opid.proofs.Orders.{same_hash-itself}
+use Rattle.tp_receive.specs.Lacking.{lacks_it}
 use Rattle.tp_receive.proofs.CausesLaws.{lacks_cause, lacks_one, waits_again, waits_for}
 use Rattle.tp_receive.proofs.WaitLaws.{slice_get_there}
 
@@ -83,9 +72,12 @@ halfway_end Q R xs ys i past same h = rw (take_all i xs past, take_all i ys (ome
 pub known_waits : (C : List ChangeParts) (c : ChangeParts) (h : Hash) → Lacks C c (Some h) → lacks_deps (cause C c) ≡ true
 known_waits C c h k = ap lacks_deps (waits_again C c k.0 (lacks_one C c.deps h k.1 k.2))
 
--- What is noted of one that must wait is known.
-pub noted_lacks : (C : List ChangeParts) (c : ChangeParts) (h : Hash) → lacks_deps (cause C c) ≡ true → In h c.deps → has C h ≡ false → Lacks C c (Some h)
-noted_lacks C c h waits i f = ((waits_for C c (lacks_cause (cause C c) waits)).0, i, f)
+-- One that lacks none, or that is known, needn't wait.
+pub whole_enters : (C : List ChangeParts) (c : ChangeParts) → has_all C c.deps ≡ true → false ≡ lacks_deps (cause C c)
+whole_enters C c there = sym (not_true (lacks_deps (cause C c)) (λ t. never there (waits_for C c (lacks_cause (cause C c) t)).1))
+
+pub known_enters : (C : List ChangeParts) (c : ChangeParts) → has C (hash_of c) ≡ true → false ≡ lacks_deps (cause C c)
+known_enters C c known = sym (not_true (lacks_deps (cause C c)) (λ t. never known (waits_for C c (lacks_cause (cause C c) t)).0))
 
 -- What enters as the last is all that comes to be there.
 pub gains_last : (C : List ChangeParts) (x : ChangeParts) → GainsOnly C (C ++ x ∷ []) (hash_of x)
@@ -111,11 +103,6 @@ known_at C W L i b c knows is t get = by (slice_get_there L i (entry_within C W 
   by : (l : Option Hash) × (slice_get L i ≡ Some l) → true ≡ lacks_deps (cause C c)
   by (None, e) = let w : true ≡ false = sym t ∙ is None e in cc
   by (Some h, e) = sym (known_waits C c h (zipped_at (Lacks C) W L i c (Some h) knows get e))
-
--- what is noted of one that must wait
-pub noted_some : (C : List ChangeParts) (c : ChangeParts) (o : Option Hash) → lacks_deps (cause C c) ≡ true → MatchOption o (has_all C c.deps ≡ true) (λ h. In h c.deps × (has C h ≡ false)) → Lacks C c o
-noted_some C c None waits f = tt
-noted_some C c (Some h) waits f = noted_lacks C c h waits f.0 f.1
 
 -- one that waits no longer
 pub KnowsLack-removed : (C W V : List ChangeParts) (L M : List (Option Hash)) (i : ℕ) → KnowsLack C W L → V ≡ remove W i → M ≡ remove L i → KnowsLack C V M

@@ -1,3 +1,4 @@
+pub mod Common
 pub mod RefusalLaws
 pub mod GrowsLaws
 pub mod CausesLaws

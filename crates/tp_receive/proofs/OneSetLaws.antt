@@ -1,21 +1,11 @@
 -- Any two results of receiving one list have the same members.
-use Rattle.std.proofs.Common.{◌≡◌, ◌<◌, inl, inr, List, [], ◌∷◌, ◌++◌, length, false, None, IsSome, refl, sym, ap, subst, append_assoc, append-nil}
-use Rattle.tp_list.specs.Members.{In, AllIn, SameMembers}
+use Rattle.tp_receive.proofs.Common.{◌≡◌, ◌<◌, inl, inr, List, [], ◌∷◌, ◌++◌, length, false, None, IsSome, refl, sym, ap, subst, append_assoc, append-nil, In, AllIn, ChangeParts, hash_of, GraphError, has, HashesApart, cause, most_changes, Sound, truth, never, not_true, has-In, In-has, In-left, In-right, In-append, Sound-push, Fits-from_cause, EntersAfter, clashes, Receives}
+use Rattle.tp_list.specs.Members.{SameMembers}
 use Rattle.tp_opid.proofs.Orders.{same_actor-same}
-use Rattle.tp_change.specs.declared.parts.ChangeParts.{ChangeParts}
-use Rattle.tp_change.specs.ChangeHash.{hash_of}
-use Rattle.tp_graph.specs.declared.error.GraphError.{GraphError}
-use Rattle.tp_graph.specs.Named.{has, HashesApart}
-use Rattle.tp_graph.specs.Fit.{cause, clashes, most_changes}
-use Rattle.tp_graph.specs.Sound.{Sound}
-use Rattle.tp_list.proofs.Tests.{truth, never, not_true}
-use Rattle.tp_graph.proofs.NamedLaws.{has-In, In-has}
-use Rattle.tp_list.proofs.Members.{In-left, In-right, In-append}
 use Rattle.tp_graph.proofs.ClashLaws.{clash_of}
-use Rattle.tp_graph.proofs.SoundLaws.{Sound-push}
 use Rattle.tp_graph.proofs.SetLaws.{Fits-part}
-use Rattle.tp_graph.proofs.KeptLaws.{Fits-from_cause, cause-from_Fits}
-use Rattle.tp_receive.specs.Receiving.{EntersAfter, SeqsApart, Receives}
+use Rattle.tp_graph.proofs.KeptLaws.{cause-from_Fits}
+use Rattle.tp_receive.specs.Receiving.{SeqsApart}
 
 -- The changes of a result are of what was there and came.
 pub of_both : (C K long : List ChangeParts) → Receives C K long → AllIn long (C ++ K)

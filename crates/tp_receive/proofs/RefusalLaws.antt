@@ -1,21 +1,10 @@
 -- A cause other than a missing dependency stays whatever enters.
-use Rattle.std.proofs.Common.{◌≡◌, ◌==◌, inl, inr, List, [], ◌∷◌, ◌++◌, length, Bool, true, false, ◌||◌, Option, Some, None, IsSome, refl, sym, ap, subst, append_assoc, append-nil}
-use Rattle.tp_list.specs.Members.{AllIn}
-use Rattle.tp_change.specs.declared.parts.ChangeParts.{ChangeParts}
-use Rattle.tp_change.specs.ChangeHash.{hash_of}
-use Rattle.tp_graph.specs.declared.error.GraphError.{GraphError}
-use Rattle.tp_graph.specs.declared.error.GraphError.TheVariants.{Known}
-use Rattle.tp_graph.specs.Named.{has, has_all}
+use Rattle.tp_receive.proofs.Common.{◌≡◌, ◌==◌, inl, inr, List, [], ◌∷◌, ◌++◌, length, Bool, true, false, ◌||◌, Option, Some, None, IsSome, refl, sym, ap, subst, append_assoc, append-nil, AllIn, ChangeParts, hash_of, GraphError, has, has_all, most_changes, Sound, truth, has-left, In-left, Sound-push, Fits-from_cause, EntersAfter, lacks_deps, is_refusal, Known, or_full, clashes, has_all-more, enters}
 use Rattle.tp_graph.specs.Past.{past}
-use Rattle.tp_graph.specs.Fit.{defect, defect_behind, or_clash, or_full, cause, most_changes, clashes}
-use Rattle.tp_graph.specs.Sound.{Sound, Fits}
-use Rattle.tp_list.proofs.Tests.{truth}
-use Rattle.tp_graph.proofs.NamedLaws.{has-left, has_all-more}
-use Rattle.tp_list.proofs.Members.{In-left}
+use Rattle.tp_graph.specs.Fit.{defect, defect_behind, or_clash, cause}
+use Rattle.tp_graph.specs.Sound.{Fits}
 use Rattle.tp_graph.proofs.PastLaws.{past-push_other}
-use Rattle.tp_graph.proofs.SoundLaws.{not_among, Sound-push}
-use Rattle.tp_graph.proofs.KeptLaws.{enters, Fits-from_cause}
-use Rattle.tp_receive.specs.Receiving.{EntersAfter, lacks_deps, is_refusal}
+use Rattle.tp_graph.proofs.SoundLaws.{not_among}
 
 -- a refusal is a cause
 pub IsSome-refusal : (o : Option GraphError) → is_refusal o ≡ true → IsSome o

@@ -1,22 +1,5 @@
 -- What a whole run came to.
-use Rattle.tp_list.proofs.Members.{In-append}
-use Rattle.std.proofs.Common.{◌≡◌, ℕ, ◌+◌, ◌≤◌, ◌⊎◌, inl, inr, List, ◌++◌, length, Bool, true, false, Some, refl, sym, ap, ◌∙◌, subst, arith, nat_lt}
-use Rattle.std.proofs.lemmas.Bool.Decides.{nat_tests}
-use Rattle.tp_list.specs.Members.{In}
-use Rattle.tp_opid.specs.declared.hash.Hash.{Hash}
-use Rattle.tp_change.specs.declared.parts.ChangeParts.{ChangeParts}
-use Rattle.tp_change.specs.ChangeHash.{hash_of}
-use Rattle.tp_graph.specs.declared.error.GraphError.{GraphError}
-use Rattle.tp_graph.specs.declared.error.GraphError.TheVariants.{MissingDeps}
-use Rattle.tp_graph.specs.Fit.{cause}
-use Rattle.tp_graph.specs.GraphState.{most_waiting}
-use Rattle.tp_graph.specs.Sound.{Sound}
-use Rattle.tp_receive.specs.declared.error.ReceiveError.{ReceiveError}
-use Rattle.tp_receive.specs.declared.keeper.KeepError.{KeepError}
-use Rattle.tp_graph.specs.Named.{HashesApart}
-use Rattle.tp_receive.specs.Receiving.{Between, is_refusal}
-use Rattle.tp_receive.specs.Delivery.{delivery, with_slots, slots, is_full}
-use Rattle.tp_receive.specs.Intake.{Intake, Turn, Run, Ends, Stopped, begin}
+use Rattle.tp_receive.proofs.Common.{◌≡◌, ℕ, ◌+◌, ◌≤◌, ◌⊎◌, inl, inr, List, ◌++◌, length, Bool, true, false, Some, refl, sym, ap, ◌∙◌, subst, arith, nat_lt, In-append, nat_tests, In, Hash, ChangeParts, hash_of, GraphError, MissingDeps, cause, most_waiting, Sound, ReceiveError, KeepError, HashesApart, is_refusal, delivery, with_slots, slots, Intake, Turn, Receiver, Run, Stops, begin, Between, is_full, Ends}
 use Rattle.tp_receive.specs.Replies.{Results}
 use Rattle.tp_receive.proofs.RefusalLaws.{IsSome-refusal, IsSome-lacks}
 use Rattle.tp_receive.proofs.CausesLaws.{Barred-cause, lacks_cause}
@@ -117,8 +100,8 @@ pub few_wait : {S : Type 0} (keeps : S → ChangeParts → S → Type 0) (k : S)
 few_wait keeps k C W K t space r = few_at_end keeps (begin k C W K) t r (not_full (length W + slots (with_slots W (delivery C K))) space)
 
 -- Where a run stopped, the list is between.
-pub between : {S : Type 0} (keeps : S → ChangeParts → S → Type 0) (refuses : S → ChangeParts → KeepError → S → Type 0) (k : S) (C W K : List ChangeParts) (e : ReceiveError) (k' : S) (C' W' : List ChangeParts)
-    → Sound C → Stopped keeps refuses (begin k C W K) e k' C' W' → Between C (W ++ K) C'
-between keeps refuses k C W K e k' C' W' sound x =
+pub between : {S : Type 0} (keeps : S → ChangeParts → S → Type 0) (refuses : S → ChangeParts → KeepError → S → Type 0) (k : S) (C W K : List ChangeParts) (why : ReceiveError) (t : Receiver S)
+    → Sound C → Stops keeps refuses (begin k C W K) why t → Between C (W ++ K) t.applied
+between keeps refuses k C W K why t sound x =
     let g = Grew-run keeps k C W K x.at x.run in
     rw x.applied (Between-grown C (W ++ K) x.at.applied g.new sound g.grows)

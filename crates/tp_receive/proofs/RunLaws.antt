@@ -1,19 +1,6 @@
 -- What holds wherever a run stops: what entered and was kept, that nothing is lost, and how many wait.
-use Rattle.tp_list.proofs.Members.{In-left, In-right, In-append}
-use Rattle.std.proofs.Common.{◌≡◌, ℕ, suc, ◌+◌, ◌≤◌, ◌⊎◌, inl, inr, List, [], ◌∷◌, ◌++◌, length, Bool, true, false, cond, Option, Some, refl, sym, ap, ◌∙◌, subst, arith, length-append, append_assoc, append-nil}
-use Rattle.tp_list.specs.Members.{In, AllIn}
-use Rattle.tp_opid.specs.declared.hash.Hash.{Hash}
-use Rattle.tp_change.specs.declared.parts.ChangeParts.{ChangeParts}
-use Rattle.tp_change.specs.ChangeHash.{hash_of}
-use Rattle.tp_graph.specs.Named.{has_all}
-use Rattle.tp_graph.specs.declared.error.GraphError.{GraphError}
-use Rattle.tp_graph.specs.declared.error.GraphError.TheVariants.{MissingDeps}
-use Rattle.tp_graph.specs.Fit.{cause}
-use Rattle.tp_graph.specs.GraphState.{most_waiting}
-use Rattle.tp_receive.specs.Receiving.{Grows, is_refusal, hashes}
-use Rattle.tp_receive.specs.Delivery.{delivery, with_slots, takes_slot, slots}
-use Rattle.tp_receive.specs.Intake.{Intake, Turn, Run, begin, refuse}
-use Rattle.tp_receive.specs.Replies.{KeepsAll, KeepsNew, Progress, WasRefused, LosesNone, NoneDropped}
+use Rattle.tp_receive.proofs.Common.{◌≡◌, ℕ, suc, ◌+◌, ◌≤◌, ◌⊎◌, inl, inr, List, [], ◌∷◌, ◌++◌, length, Bool, true, false, cond, Option, Some, refl, sym, ap, ◌∙◌, subst, arith, length-append, append_assoc, append-nil, In-left, In-right, In-append, In, AllIn, Hash, ChangeParts, hash_of, has_all, GraphError, MissingDeps, cause, most_waiting, is_refusal, hashes, delivery, with_slots, takes_slot, slots, Intake, Turn, Run, begin, refuse, Grows}
+use Rattle.tp_receive.specs.Replies.{KeepsAll, Progress, WasRefused, LosesNone, NoneDropped}
 use Rattle.tp_receive.proofs.RefusalLaws.{refused-push}
 use Rattle.tp_receive.proofs.GrowsLaws.{Grows-none, Grows-one, Grows-then}
 use Rattle.tp_receive.proofs.HashLaws.{hashes-append}
@@ -126,9 +113,6 @@ pub progress : {S : Type 0} (keeps : S → ChangeParts → S → Type 0) (k : S)
 progress keeps k C W K t r =
     let g = Grew-run keeps k C W K t r in
     record { new = g.new; grows = g.grows; kept = g.kept; reported = g.reported; refused = g.refused; waits = λ d i. g.here d (inl i) }
-
-pub kept_new : {S : Type 0} (keeps : S → ChangeParts → S → Type 0) (k : S) (C W K : List ChangeParts) (t : Intake S) → Run keeps (begin k C W K) t → KeepsNew keeps k t.keeper C t.applied
-kept_new keeps k C W K t r = let g = Grew-run keeps k C W K t r in record { new = g.new; entered = g.grows.begins; kept = g.kept }
 
 -- ---- nothing is lost
 

@@ -1,24 +1,13 @@
 -- What a tried change adds to a run.
-use Rattle.std.proofs.Common.{◌≡◌, ℕ, ◌+◌, ◌<◌, ◌≤◌, inl, inr, List, [], ◌∷◌, ◌++◌, length, Bool, true, false, Some, Result, Ok, Err, IfErr, OnOk, OnErr, refl, sym, ap, subst, arith, nat_lt}
-use Rattle.std.proofs.lemmas.Bool.Decides.{nat_tests}
+use Rattle.tp_receive.proofs.Common.{◌≡◌, ℕ, ◌+◌, ◌-◌, ◌<◌, ◌≤◌, inl, inr, List, [], ◌∷◌, ◌++◌, length, Bool, true, false, Some, Result, Ok, Err, IfErr, OnOk, OnErr, refl, sym, ap, subst, arith, nat_lt, never, nat_tests, slice_get, remove, Hash, ChangeParts, hash_of, GraphError, MissingDeps, cause, most_waiting, ReceiveError, KeepError, delivery, with_slots, slots, AllWait, lacks_deps, is_refusal, Intake, Meets, Next, Receiver, Run, Stops, Turn, begin, hold, intake, receiver, OutOfMemory, is_full, IsEarliest}
 use Rattle.std.specs.Result.{IsErrAnd}
-use Rattle.std.specs.List.{slice_get, remove}
-use Rattle.tp_opid.specs.declared.hash.Hash.{Hash}
-use Rattle.tp_change.specs.declared.parts.ChangeParts.{ChangeParts}
-use Rattle.tp_change.specs.ChangeHash.{hash_of}
-use Rattle.tp_graph.specs.declared.error.GraphError.{GraphError}
-use Rattle.tp_graph.specs.declared.error.GraphError.TheVariants.{MissingDeps}
-use Rattle.tp_graph.specs.Fit.{cause}
-use Rattle.tp_graph.specs.GraphState.{most_waiting}
-use Rattle.tp_receive.specs.declared.error.ReceiveError.{ReceiveError}
-use Rattle.tp_receive.specs.declared.error.ReceiveError.TheVariants.{PendingFull, NotKept, OutOfMemory}
-use Rattle.tp_receive.specs.declared.keeper.KeepError.{KeepError}
-use Rattle.tp_receive.specs.declared.admit.Outcome.TheVariants as outcome
-use Rattle.tp_receive.specs.Delivery.{delivery, with_slots, slots}
-use Rattle.tp_receive.specs.Receiving.{AllWait, lacks_deps, is_refusal}
-use Rattle.tp_receive.specs.Intake.{Fails, Intake, Meets, Next, NextComes, Run, Stopped, Turn, begin, hold, intake}
-use Rattle.tp_receive.specs.Trying.{Tried, TryFails, IsEarliest, IsHeld}
-use Rattle.tp_receive.proofs.TurnLaws.{Run-none, Stopped-then}
+use Rattle.tp_receive.specs.declared.error.ReceiveError.TheVariants.{PendingFull, NotKept}
+use Rattle.tp_receive.specs.declared.admit.Admission.TheVariants as admission
+use Rattle.tp_receive.specs.Intake.{NextComes}
+use Rattle.tp_receive.specs.declared.intake.Applied.{Applied}
+use Rattle.tp_receive.specs.Outcome.{HasOutcome, ReceivesWith, Stopped}
+use Rattle.tp_receive.specs.Trying.{Tried, TryFails, IsHeld}
+use Rattle.tp_receive.proofs.TurnLaws.{Run-none, Stops-then}
 use Rattle.tp_receive.proofs.WaitLaws.{AllWait-push, slice_get_there, next_waits}
 
 -- what holds of the error that `?` hands on holds of the result
@@ -37,11 +26,11 @@ OnOk-both (Err x) f p q = p
 -- ---- what the change met
 
 pub meets_entered : {S : Type 0} (keeps : S → ChangeParts → S → Type 0) (k k' : S) (c : ChangeParts) (C C' V W : List ChangeParts) (P : List (ChangeParts × Bool)) (t t' : List Hash) (r r' : List (Hash × GraphError))
-    → W ≡ V → Tried keeps k k' c C C' t t' r r' outcome.Entered → Meets keeps (intake k C V P t r) c (intake k' C' W P t' r')
+    → W ≡ V → Tried keeps (intake k C [] [] t r) c (intake k' C' [] [] t' r') admission.Entered → Meets keeps (intake k C V P t r) c (intake k' C' W P t' r')
 meets_entered keeps k k' c C C' V W P t t' r r' w a = inl (a.0, k', a.1, rw (w, a.2, a.3, a.4) refl)
 
 pub meets_refused : {S : Type 0} (keeps : S → ChangeParts → S → Type 0) (k k' : S) (c : ChangeParts) (C C' V W : List ChangeParts) (P : List (ChangeParts × Bool)) (t t' : List Hash) (r r' : List (Hash × GraphError))
-    → W ≡ V → Tried keeps k k' c C C' t t' r r' outcome.Refused → Meets keeps (intake k C V P t r) c (intake k' C' W P t' r')
+    → W ≡ V → Tried keeps (intake k C [] [] t r) c (intake k' C' [] [] t' r') admission.Refused → Meets keeps (intake k C V P t r) c (intake k' C' W P t' r')
 meets_refused keeps k k' c C C' V W P t t' r r' w a = inr (inr (a.0, a.1, a.2, rw (w, a.3, a.4, a.5, a.6) refl))
 
 within : (n : ℕ) → n < most_waiting → nat_lt n most_waiting ≡ true
@@ -57,7 +46,7 @@ held_is k C V P t r c W r' (inr (inl h)) = rw (h.0, within (length V + slots P) 
 held_is k C V P t r c W r' (inr (inr h)) = rw (h.0, past (length V + slots P) h.1, h.2, h.3) refl
 
 pub meets_held : {S : Type 0} (keeps : S → ChangeParts → S → Type 0) (k k1 : S) (c d : ChangeParts) (n : ℕ) (C C1 C2 V V1 W : List ChangeParts) (P : List (ChangeParts × Bool)) (t t1 t2 : List Hash) (r r1 r2 : List (Hash × GraphError))
-    → V1 ≡ V → Tried keeps k k1 c C C1 t t1 r r1 (outcome.Waits d) → C2 ≡ C1 → t2 ≡ t1 → n ≡ slots P → IsHeld V1 d n W r1 r2
+    → V1 ≡ V → Tried keeps (intake k C [] [] t r) c (intake k1 C1 [] [] t1 r1) (admission.Waits d) → C2 ≡ C1 → t2 ≡ t1 → n ≡ slots P → IsHeld V1 d n W r1 r2
     → Meets keeps (intake k C V P t r) c (intake k1 C2 W P t2 r2)
 meets_held {S} keeps k k1 c d n C C1 C2 V V1 W P t t1 t2 r r1 r2 v a cs ts few h =
     let h2 : IsHeld V c (slots P) W r r2 = subst (λ (x : List (Hash × GraphError)). IsHeld V c (slots P) W x r2) a.2
@@ -67,41 +56,41 @@ meets_held {S} keeps k k1 c d n C C1 C2 V V1 W P t t1 t2 r r1 r2 v a cs ts few h
 -- ---- where a run stopped
 
 -- Memory was refused while the keeper stood still.
-pub Stopped-still : {S : Type 0} (keeps : S → ChangeParts → S → Type 0) (refuses : S → ChangeParts → KeepError → S → Type 0) (s : Intake S) (k : S) (C W : List ChangeParts)
-    → k ≡ s.keeper → C ≡ s.applied → W ≡ s.waiting → Stopped keeps refuses s OutOfMemory k C W
-Stopped-still keeps refuses s k C W still applied waiting = record { at = s; run = Run-none keeps s; applied = applied; waiting = waiting; by = inl still }
+pub Stops-still : {S : Type 0} (keeps : S → ChangeParts → S → Type 0) (refuses : S → ChangeParts → KeepError → S → Type 0) (s : Intake S) (k : S) (C W : List ChangeParts)
+    → k ≡ s.keeper → C ≡ s.applied → W ≡ s.waiting → Stops keeps refuses s OutOfMemory (receiver k C W)
+Stops-still keeps refuses s k C W still applied waiting = record { at = s; run = Run-none keeps s; applied = applied; waiting = waiting; by = inl still }
 
 -- Trying the change whose turn it was failed.
-pub Stopped-trying : {S : Type 0} (keeps : S → ChangeParts → S → Type 0) (refuses : S → ChangeParts → KeepError → S → Type 0) (s : Intake S) (c : ChangeParts) (rest : Intake S) (e : ReceiveError) (k : S) (C W : List ChangeParts)
-    → Next s c rest → C ≡ s.applied → W ≡ s.waiting → TryFails refuses s.applied e c s.keeper k → Stopped keeps refuses s e k C W
-Stopped-trying keeps refuses s c rest PendingFull k C W next applied waiting f = absurd f
-Stopped-trying keeps refuses s c rest NotKept k C W next applied waiting f =
+pub Stops-trying : {S : Type 0} (keeps : S → ChangeParts → S → Type 0) (refuses : S → ChangeParts → KeepError → S → Type 0) (s : Intake S) (c : ChangeParts) (rest : Intake S) (e : ReceiveError) (k : S) (C W : List ChangeParts)
+    → Next s c rest → C ≡ s.applied → W ≡ s.waiting → TryFails refuses s.applied e c s.keeper k → Stops keeps refuses s e (receiver k C W)
+Stops-trying keeps refuses s c rest PendingFull k C W next applied waiting f = absurd f
+Stops-trying keeps refuses s c rest NotKept k C W next applied waiting f =
     record { at = s; run = Run-none keeps s; applied = applied; waiting = waiting; by = record { change = c; rest = rest; next = next; fits = f.0; refused = f.1 } }
-Stopped-trying keeps refuses s c rest OutOfMemory k C W next applied waiting (inl f) = Stopped-still keeps refuses s k C W f applied waiting
-Stopped-trying keeps refuses s c rest OutOfMemory k C W next applied waiting (inr f) =
+Stops-trying keeps refuses s c rest OutOfMemory k C W next applied waiting (inl f) = Stops-still keeps refuses s k C W f applied waiting
+Stops-trying keeps refuses s c rest OutOfMemory k C W next applied waiting (inr f) =
     record { at = s; run = Run-none keeps s; applied = applied; waiting = waiting; by = inr (record { change = c; rest = rest; next = next; fits = f.0; refused = f.1 }) }
 
 -- Memory was refused before anything happened.
 pub stops_for_memory : {S T : Type 0} (keeps : S → ChangeParts → S → Type 0) (refuses : S → ChangeParts → KeepError → S → Type 0) (s : Intake S) (k : S) (C W : List ChangeParts) (r : Result T ReceiveError) (e : ReceiveError)
-    → e ≡ OutOfMemory → k ≡ s.keeper → C ≡ s.applied → W ≡ s.waiting → IsErrAnd r (λ x. x ≡ e) → IfErr r (λ e. Stopped keeps refuses s e k C W)
+    → e ≡ OutOfMemory → k ≡ s.keeper → C ≡ s.applied → W ≡ s.waiting → IsErrAnd r (λ x. x ≡ e) → IfErr r (λ e. Stops keeps refuses s e (receiver k C W))
 stops_for_memory keeps refuses s k C W r e memory still applied waiting is =
-    IfErr-residual (λ (x : ReceiveError). Stopped keeps refuses s x k C W) r e
-    (subst (λ (x : ReceiveError). Stopped keeps refuses s x k C W) (sym memory) (Stopped-still keeps refuses s k C W still applied waiting)) is
+    IfErr-residual (λ (x : ReceiveError). Stops keeps refuses s x (receiver k C W)) r e
+    (subst (λ (x : ReceiveError). Stops keeps refuses s x (receiver k C W)) (sym memory) (Stops-still keeps refuses s k C W still applied waiting)) is
 
 -- A run stopped later.
 pub stops_on : {S T : Type 0} (keeps : S → ChangeParts → S → Type 0) (refuses : S → ChangeParts → KeepError → S → Type 0) (s m : Intake S) (k : S) (C W : List ChangeParts) (r : Result T ReceiveError) (e : ReceiveError)
-    → Run keeps s m → Stopped keeps refuses m e k C W → IsErrAnd r (λ x. x ≡ e) → IfErr r (λ e. Stopped keeps refuses s e k C W)
-stops_on keeps refuses s m k C W r e run x is = IfErr-residual (λ (x : ReceiveError). Stopped keeps refuses s x k C W) r e (Stopped-then keeps refuses s m e k C W run x) is
+    → Run keeps s m → Stops keeps refuses m e (receiver k C W) → IsErrAnd r (λ x. x ≡ e) → IfErr r (λ e. Stops keeps refuses s e (receiver k C W))
+stops_on keeps refuses s m k C W r e run x is = IfErr-residual (λ (x : ReceiveError). Stops keeps refuses s x (receiver k C W)) r e (Stops-then keeps refuses s m e (receiver k C W) run x) is
 
 pub stops_later : {S T : Type 0} (keeps : S → ChangeParts → S → Type 0) (refuses : S → ChangeParts → KeepError → S → Type 0) (s m : Intake S) (k : S) (C W : List ChangeParts) (r : Result T ReceiveError)
-    → Run keeps s m → IfErr r (λ e. Stopped keeps refuses m e k C W) → IfErr r (λ e. Stopped keeps refuses s e k C W)
+    → Run keeps s m → IfErr r (λ e. Stops keeps refuses m e (receiver k C W)) → IfErr r (λ e. Stops keeps refuses s e (receiver k C W))
 stops_later keeps refuses s m k C W (Ok x) run h = h
-stops_later keeps refuses s m k C W (Err e) run h = Stopped-then keeps refuses s m e k C W run h
+stops_later keeps refuses s m k C W (Err e) run h = Stops-then keeps refuses s m e (receiver k C W) run h
 
 -- ---- a waiting change that had its turn
 
 pub turn_entered : {S T : Type 0} (keeps : S → ChangeParts → S → Type 0) (k k' : S) (C C' W W' : List ChangeParts) (i : ℕ) (P : List (ChangeParts × Bool)) (t t' : List Hash) (r r' : List (Hash × GraphError)) (res : Result T ReceiveError)
-    → IsEarliest C W i → ((c : ChangeParts) → slice_get W i ≡ Some c → OnOk res (Tried keeps k k' c C C' t t' r r' outcome.Entered)) → OnOk res (W' ≡ remove W i)
+    → IsEarliest C W i → ((c : ChangeParts) → slice_get W i ≡ Some c → OnOk res (Tried keeps (intake k C [] [] t r) c (intake k' C' [] [] t' r') admission.Entered)) → OnOk res (W' ≡ remove W i)
     → OnOk res (Turn keeps (intake k C W P t r) (intake k' C' W' P t' r'))
 turn_entered keeps k k' C C' W W' i P t t' r r' res first ok out =
     let there = slice_get_there W i first.within in
@@ -132,19 +121,19 @@ turn_refused keeps k C C' W W' i f P t t' r r' res first judged ok reported same
 
 pub turn_stopped : {S T : Type 0} (keeps : S → ChangeParts → S → Type 0) (refuses : S → ChangeParts → KeepError → S → Type 0) (k k' : S) (C C' W W' : List ChangeParts) (i : ℕ) (P : List (ChangeParts × Bool)) (t : List Hash) (r : List (Hash × GraphError)) (res : Result T ReceiveError)
     → IsEarliest C W i → ((c : ChangeParts) → slice_get W i ≡ Some c → IfErr res (λ e. TryFails refuses C e c k k')) → OnErr res (C' ≡ C) → OnErr res (W' ≡ W)
-    → IfErr res (λ e. Stopped keeps refuses (intake k C W P t r) e k' C' W')
+    → IfErr res (λ e. Stops keeps refuses (intake k C W P t r) e (receiver k' C' W'))
 turn_stopped keeps refuses k k' C C' W W' i P t r (Ok x) first err applied waiting = tt
 turn_stopped keeps refuses k k' C C' W W' i P t r (Err e) first err applied waiting =
     let there = slice_get_there W i first.within in
-    Stopped-trying keeps refuses (intake k C W P t r) there.0 (intake k C (remove W i) P t r) e k' C' W'
+    Stops-trying keeps refuses (intake k C W P t r) there.0 (intake k C (remove W i) P t r) e k' C' W'
     (inl (next_waits k C W P t r i there.0 first there.1)) applied waiting (err there.0 there.1)
 
 -- Memory was refused before the change was reported.
 pub turn_unreported : {S T : Type 0} (keeps : S → ChangeParts → S → Type 0) (refuses : S → ChangeParts → KeepError → S → Type 0) (s : Intake S) (k : S) (C W : List ChangeParts) (res : Result T ReceiveError)
-    → IfErr res (λ e. e ≡ OutOfMemory) → k ≡ s.keeper → C ≡ s.applied → OnErr res (W ≡ s.waiting) → IfErr res (λ e. Stopped keeps refuses s e k C W)
+    → IfErr res (λ e. e ≡ OutOfMemory) → k ≡ s.keeper → C ≡ s.applied → OnErr res (W ≡ s.waiting) → IfErr res (λ e. Stops keeps refuses s e (receiver k C W))
 turn_unreported keeps refuses s k C W (Ok x) err still applied waiting = tt
 turn_unreported keeps refuses s k C W (Err e) err still applied waiting =
-    subst (λ (x : ReceiveError). Stopped keeps refuses s x k C W) (sym err) (Stopped-still keeps refuses s k C W still applied waiting)
+    subst (λ (x : ReceiveError). Stops keeps refuses s x (receiver k C W)) (sym err) (Stops-still keeps refuses s k C W still applied waiting)
 
 -- ---- a change that came and had its turn
 
@@ -171,14 +160,30 @@ Run-begun {S} keeps k C W K P a r t p entered refused run = subst (λ (s : Intak
   same : P ≡ with_slots W (delivery C K) → a ≡ [] → r ≡ [] → intake k C W P a r ≡ begin k C W K
   same p entered refused = rw (p, entered, refused) refl
 
--- Memory was refused where a run had come.
-pub fails_at : {S T : Type 0} (keeps : S → ChangeParts → S → Type 0) (refuses : S → ChangeParts → KeepError → S → Type 0) (s t : Intake S) (r : Result T ReceiveError)
-    → Run keeps s t → IsErrAnd r (λ x. x ≡ OutOfMemory) → IfErr r (λ e. Fails keeps refuses s e t.keeper t.applied t.waiting)
-fails_at keeps refuses s t r run is =
-    IfErr-residual (λ (x : ReceiveError). Fails keeps refuses s x t.keeper t.applied t.waiting) r OutOfMemory
-    (Stopped-then keeps refuses s t OutOfMemory t.keeper t.applied t.waiting run (Stopped-still keeps refuses t t.keeper t.applied t.waiting refl refl refl)) is
+-- Memory was refused before anything was done.
+pub nothing_done : {S : Type 0} (keeps : S → ChangeParts → S → Type 0) (refuses : S → ChangeParts → KeepError → S → Type 0) (s : Receiver S) (K : List ChangeParts) (r : Result Applied ReceiveError)
+    → IsErrAnd r (λ x. x ≡ OutOfMemory) → HasOutcome Some r (ReceivesWith keeps refuses s K s)
+nothing_done keeps refuses s K (Ok x) is = absurd is
+nothing_done keeps refuses s K (Err x) is =
+    let b = begin s.keeper s.applied s.waiting K in
+    subst (λ (x : ReceiveError). HasOutcome Some (Err x) (ReceivesWith keeps refuses s K s)) (sym is) (λ full. refl, Stops-still keeps refuses b s.keeper s.applied s.waiting refl refl refl)
 
-pub fails_for_memory : {S T : Type 0} (keeps : S → ChangeParts → S → Type 0) (refuses : S → ChangeParts → KeepError → S → Type 0) (s : Intake S) (k : S) (C W : List ChangeParts) (r : Result T ReceiveError)
-    → k ≡ s.keeper → C ≡ s.applied → W ≡ s.waiting → IsErrAnd r (λ x. x ≡ OutOfMemory) → IfErr r (λ e. Fails keeps refuses s e k C W)
-fails_for_memory keeps refuses s k C W r still applied waiting is =
-    IfErr-residual (λ (x : ReceiveError). Fails keeps refuses s x k C W) r OutOfMemory (Stopped-still keeps refuses s k C W still applied waiting) is
+-- A run stopped, where there was space for all that had to wait.
+pub stopped_for : {S : Type 0} (keeps : S → ChangeParts → S → Type 0) (refuses : S → ChangeParts → KeepError → S → Type 0) (s : Receiver S) (K : List ChangeParts) (t : Receiver S) (e : ReceiveError)
+    → is_full s.applied s.waiting K ≡ false → Stops keeps refuses (begin s.keeper s.applied s.waiting K) e t → ReceivesWith keeps refuses s K t (Stopped e)
+stopped_for keeps refuses s K t PendingFull space x = absurd x.by
+stopped_for keeps refuses s K t NotKept space x = (space, x)
+stopped_for keeps refuses s K t OutOfMemory space x = (λ full. never full space, x)
+
+pub has_stopped : {S : Type 0} (keeps : S → ChangeParts → S → Type 0) (refuses : S → ChangeParts → KeepError → S → Type 0) (s : Receiver S) (K : List ChangeParts) (t : Receiver S) (r : Result Applied ReceiveError) (e : ReceiveError)
+    → is_full s.applied s.waiting K ≡ false → Stops keeps refuses (begin s.keeper s.applied s.waiting K) e t → IsErrAnd r (λ x. x ≡ e) → HasOutcome Some r (ReceivesWith keeps refuses s K t)
+has_stopped keeps refuses s K t (Ok x) e space stops is = absurd is
+has_stopped keeps refuses s K t (Err x) e space stops is = stopped_for keeps refuses s K t x space (subst (λ (x : ReceiveError). Stops keeps refuses (begin s.keeper s.applied s.waiting K) x t) (sym is) stops)
+
+-- There is space where the slots that are reserved are no more than are free.
+pub is_space : (C W V K : List ChangeParts) (P : List (ChangeParts × Bool)) (reserved : ℕ) → V ≡ W → length W ≤ most_waiting → P ≡ with_slots W (delivery C K) → reserved ≡ slots P
+    → reserved ≤ most_waiting - length V → is_full C W K ≡ false
+is_space C W V K P reserved same few slotted count room =
+    by (slots (with_slots W (delivery C K))) (ap slots (sym slotted)) where
+      by : (n : ℕ) → n ≡ slots P → nat_lt most_waiting (length W + n) ≡ false
+      by n e = grind (arith, nat_tests, room, few, ap length same, e, count)

@@ -1,21 +1,5 @@
 -- Turns: what each takes out and leaves, and how runs add up.
-use Rattle.tp_list.proofs.Members.{In-left, In-right, In-append}
-use Rattle.tp_list.proofs.Tests.{truth}
-use Rattle.std.proofs.Common.{◌≡◌, ℕ, zero, suc, ◌+◌, ◌<◌, ◌≤◌, ◌⊎◌, inl, inr, List, [], ◌∷◌, ◌++◌, length, Bool, true, false, cond, Some, None, refl, sym, ap, ◌∙◌, subst, arith, length-append, nat_lt}
-use Rattle.std.proofs.lemmas.Bool.Decides.{nat_tests}
-use Rattle.tp_list.specs.Members.{In}
-use Rattle.tp_change.specs.declared.parts.ChangeParts.{ChangeParts}
-use Rattle.tp_change.specs.ChangeHash.{hash_of}
-use Rattle.tp_graph.specs.declared.error.GraphError.{GraphError}
-use Rattle.tp_graph.specs.declared.error.GraphError.TheVariants.{MissingDeps}
-use Rattle.tp_graph.specs.Named.{has}
-use Rattle.tp_graph.specs.Fit.{cause}
-use Rattle.tp_graph.specs.GraphState.{most_waiting}
-use Rattle.tp_receive.specs.declared.error.ReceiveError.{ReceiveError}
-use Rattle.tp_receive.specs.declared.keeper.KeepError.{KeepError}
-use Rattle.tp_receive.specs.Receiving.{lacks_deps, is_refusal}
-use Rattle.tp_receive.specs.Delivery.{slots}
-use Rattle.tp_receive.specs.Intake.{Intake, enter, refuse, hold, Meets, Next, Turn, Turns, Run, Stopped}
+use Rattle.tp_receive.proofs.Common.{◌≡◌, ℕ, zero, suc, ◌+◌, ◌<◌, ◌≤◌, ◌⊎◌, inl, inr, List, [], ◌∷◌, ◌++◌, length, Bool, true, false, cond, Some, None, refl, sym, ap, ◌∙◌, subst, arith, length-append, nat_lt, In-left, In-right, In-append, truth, nat_tests, In, ChangeParts, hash_of, GraphError, MissingDeps, has, cause, most_waiting, ReceiveError, KeepError, lacks_deps, is_refusal, slots, Intake, refuse, hold, Meets, Next, Receiver, Turn, Run, Stops, enter, Turns}
 
 -- ---- runs add up
 
@@ -35,9 +19,9 @@ Run-turn keeps s m t a b = record { count = suc b.count; turns = (m, a, b.turns)
 pub Run-one : {S : Type 0} (keeps : S → ChangeParts → S → Type 0) (s t : Intake S) → Turn keeps s t → Run keeps s t
 Run-one keeps s t a = record { count = 1; turns = (t, a, refl) }
 
-pub Stopped-then : {S : Type 0} (keeps : S → ChangeParts → S → Type 0) (refuses : S → ChangeParts → KeepError → S → Type 0) (s m : Intake S) (e : ReceiveError) (k : S) (C W : List ChangeParts)
-    → Run keeps s m → Stopped keeps refuses m e k C W → Stopped keeps refuses s e k C W
-Stopped-then keeps refuses s m e k C W a b = record { at = b.at; run = Run-then keeps s m b.at a b.run; applied = b.applied; waiting = b.waiting; by = b.by }
+pub Stops-then : {S : Type 0} (keeps : S → ChangeParts → S → Type 0) (refuses : S → ChangeParts → KeepError → S → Type 0) (s m : Intake S) (e : ReceiveError) (t : Receiver S)
+    → Run keeps s m → Stops keeps refuses m e t → Stops keeps refuses s e t
+Stops-then keeps refuses s m e t a b = record { at = b.at; run = Run-then keeps s m b.at a b.run; applied = b.applied; waiting = b.waiting; by = b.by }
 
 turns_keep : {S : Type 0} (keeps : S → ChangeParts → S → Type 0) (P : Intake S → Type 0) → ((s t : Intake S) → Turn keeps s t → P s → P t)
     → (n : ℕ) (s t : Intake S) → Turns keeps n s t → P s → P t

@@ -1,15 +1,5 @@
 -- The list of what waits: going over it, and taking one out.
-use Rattle.tp_list.proofs.Members.{In-append}
-use Rattle.std.proofs.Common.{◌≡◌, ℕ, suc, zero, ◌+◌, ◌<◌, inl, inr, List, [], ◌∷◌, ◌++◌, length, Bool, true, Some, take, refl, sym, ap, ◌∙◌, subst, arith, get_or}
-use Rattle.std.proofs.lemmas.List.{take_more}
-use Rattle.std.specs.List.{slice_get, remove}
-use Rattle.tp_opid.specs.declared.hash.Hash.{Hash}
-use Rattle.tp_change.specs.declared.parts.ChangeParts.{ChangeParts}
-use Rattle.tp_graph.specs.declared.error.GraphError.{GraphError}
-use Rattle.tp_graph.specs.Fit.{cause}
-use Rattle.tp_receive.specs.Receiving.{AllWait, lacks_deps}
-use Rattle.tp_receive.specs.Intake.{NextWaits, intake}
-use Rattle.tp_receive.specs.Trying.{IsEarliest}
+use Rattle.tp_receive.proofs.Common.{◌≡◌, ℕ, suc, zero, ◌+◌, ◌<◌, inl, inr, List, [], ◌∷◌, ◌++◌, length, Bool, true, Some, take, refl, sym, ap, ◌∙◌, subst, arith, get_or, In-append, take_more, slice_get, remove, Hash, ChangeParts, GraphError, cause, AllWait, lacks_deps, intake, NextWaits, IsEarliest}
 
 -- There is an element within a list.
 pub slice_get_there : {X : Type 0} (xs : List X) (i : ℕ) → i < length xs → (x : X) × (slice_get xs i ≡ Some x)

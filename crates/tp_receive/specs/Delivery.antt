@@ -1,11 +1,6 @@
 -- Which changes of a list are deliverable, and how many slots the others take.
-use Rattle.std.specs.Prelude.{◌≡◌, ℕ, ◌+◌, List, [], ◌∷◌, ◌++◌, length, Bool, true, false, ◌||◌, not, cond, Result, Ok, Err, nat_lt}
-use Rattle.tp_change.specs.declared.parts.ChangeParts.{ChangeParts}
-use Rattle.tp_change.specs.ChangeHash.{hash_of}
-use Rattle.tp_graph.specs.Named.{has, has_all}
-use Rattle.tp_graph.specs.GraphState.{most_waiting}
-use Rattle.tp_receive.specs.declared.error.ReceiveError.{ReceiveError}
-use Rattle.tp_receive.specs.declared.error.ReceiveError.TheVariants.{PendingFull, NotKept, OutOfMemory}
+use Rattle.std.specs.Prelude.{◌≡◌, ℕ, ◌+◌, List, [], ◌∷◌, ◌++◌, length, Bool, true, false, ◌||◌, not, cond, nat_lt}
+use Rattle.tp_receive.specs.Common.{ChangeParts, hash_of, has, most_waiting, has_all}
 
 -- The changes of K, each with whether it is deliverable behind C: each of its dependencies is one of C, or an earlier
 -- deliverable change of K.
@@ -35,10 +30,3 @@ slots (p ∷ P) = cond p.1 (slots P + 1) (slots P)
 -- what waits behind C and the slots that the changes K take are more than may wait
 abbrev pub is_full : List ChangeParts → List ChangeParts → List ChangeParts → Bool
 is_full C W K = nat_lt most_waiting (length W + slots (with_slots W (delivery C K)))
-
--- PendingFull is answered exactly where the test holds, memory aside.
-abbrev pub IsFullOnly : {T : Type 0} → Result T ReceiveError → Bool → Type 0
-IsFullOnly (Ok x) full = full ≡ false
-IsFullOnly (Err PendingFull) full = full ≡ true
-IsFullOnly (Err NotKept) full = full ≡ false
-IsFullOnly (Err OutOfMemory) full = Unit {0}

@@ -1,7 +1,6 @@
 -- What a verdict says, where a cause says whether a change can enter.
 use Rattle.std.specs.Prelude.{◌≡◌, true, Option, Some, None, Result, IsOk}
-use Rattle.tp_graph.specs.declared.error.GraphError.{GraphError}
-use Rattle.tp_graph.specs.declared.error.GraphError.TheVariants.{MissingDeps}
+use Rattle.tp_receive.specs.Common.{GraphError, MissingDeps}
 use Rattle.tp_receive.specs.declared.verdict.Verdict.{Verdict}
 use Rattle.tp_receive.specs.declared.verdict.Verdict.TheVariants.{Enters, Waits, Refused}
 use Rattle.tp_receive.specs.Receiving.{is_refusal}

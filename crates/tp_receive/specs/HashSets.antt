@@ -1,10 +1,7 @@
 -- Sets of hashes, against the changes whose hashes they have.
 use Rattle.std.specs.Prelude.{◌≡◌, List, Bool}
 use Rattle.std.specs.List.{list_any}
-use Rattle.tp_opid.specs.declared.hash.Hash.{Hash}
-use Rattle.tp_opid.specs.Same.{same_hash}
-use Rattle.tp_change.specs.declared.parts.ChangeParts.{ChangeParts}
-use Rattle.tp_graph.specs.Named.{has}
+use Rattle.tp_receive.specs.Common.{Hash, ChangeParts, has, same_hash}
 
 -- whether the hash is one of the set
 abbrev pub has_hash : List Hash → Hash → Bool

@@ -1,18 +1,11 @@
 -- Receiving, by three rules over what it sees and has reported.
 use Rattle.std.specs.Prelude.{◌≡◌, ◌⊎◌, ℕ, zero, suc, ◌+◌, List, [], ◌∷◌, ◌++◌, length, Bool, true, false, cond, Some, None, nat_lt}
-use Rattle.tp_opid.specs.declared.hash.Hash.{Hash}
-use Rattle.tp_change.specs.declared.parts.ChangeParts.{ChangeParts}
-use Rattle.tp_change.specs.ChangeHash.{hash_of}
-use Rattle.tp_graph.specs.declared.error.GraphError.{GraphError}
-use Rattle.tp_graph.specs.declared.error.GraphError.TheVariants.{MissingDeps}
-use Rattle.tp_graph.specs.Named.{has}
-use Rattle.tp_graph.specs.Fit.{cause}
-use Rattle.tp_graph.specs.GraphState.{most_waiting}
+use Rattle.tp_receive.specs.Common.{Hash, ChangeParts, hash_of, GraphError, MissingDeps, has, cause, most_waiting}
 use Rattle.tp_receive.specs.declared.error.ReceiveError.{ReceiveError}
 use Rattle.tp_receive.specs.declared.error.ReceiveError.TheVariants.{PendingFull, NotKept, OutOfMemory}
 use Rattle.tp_receive.specs.declared.keeper.KeepError.{KeepError}
 use Rattle.tp_receive.specs.declared.keeper.KeepError.TheVariants as keep
-use Rattle.tp_receive.specs.Receiving.{AllWait, EachOnce, lacks_deps, is_refusal, hashes, held_of}
+use Rattle.tp_receive.specs.Receiving.{AllWait, lacks_deps, is_refusal}
 use Rattle.tp_receive.specs.Delivery.{delivery, with_slots, slots}
 
 -- What receiving sees: the keeper, the applied changes, those that wait, and those of the list that are still to
@@ -102,17 +95,19 @@ pub record Run {S : Type 0} (keeps : S → ChangeParts → S → Type 0) (s t : 
 
 -- ---- a call
 
+-- What receives: who keeps its changes, those that are applied, in the order in which they entered, and those that wait.
+pub record Receiver (S : Type 0) : Type 0 where
+  pub keeper : S
+  pub applied : List ChangeParts
+  pub waiting : List ChangeParts
+
+-- the same, from its parts
+abbrev pub receiver : {S : Type 0} → S → List ChangeParts → List ChangeParts → Receiver S
+receiver k C W = record { keeper = k; applied = C; waiting = W }
+
 -- The changes K come where C is applied and W waits.
 abbrev pub begin : {S : Type 0} → S → List ChangeParts → List ChangeParts → List ChangeParts → Intake S
 begin k C W K = intake k C W (with_slots W (delivery C K)) [] []
-
--- What is answered where the changes K were received from s on, and what is left: a run to its end. Held are those
--- of K that wait now, each hash once.
-pub record Received {S : Type 0} (keeps : S → ChangeParts → S → Type 0) (s : Intake S) (K : List ChangeParts) (t : Intake S) (held : List Hash) : Type 0 where
-  pub run : Run keeps s t
-  pub ends : Ends t
-  pub held_are : held ≡ held_of (hashes K) t.waiting
-  pub once : EachOnce held
 
 -- The keeper refused the change whose turn it was.
 pub record RefusesTurn {S : Type 0} (refuses : S → ChangeParts → KeepError → S → Type 0) (why : KeepError) (at : Intake S) (k : S) : Type 0 where
@@ -128,17 +123,10 @@ StoppedBy refuses PendingFull at k = ⊥
 StoppedBy refuses NotKept at k = RefusesTurn refuses keep.NotKept at k
 StoppedBy refuses OutOfMemory at k = (k ≡ at.keeper) ⊎ RefusesTurn refuses keep.OutOfMemory at k
 
--- A run from s stopped with the error, and left the keeper as k, C applied and W waiting.
-pub record Stopped {S : Type 0} (keeps : S → ChangeParts → S → Type 0) (refuses : S → ChangeParts → KeepError → S → Type 0)
-    (s : Intake S) (error : ReceiveError) (k : S) (C W : List ChangeParts) : Type 0 where
+-- A run from s stopped for the refusal, and left t.
+pub record Stops {S : Type 0} (keeps : S → ChangeParts → S → Type 0) (refuses : S → ChangeParts → KeepError → S → Type 0) (s : Intake S) (why : ReceiveError) (t : Receiver S) : Type 0 where
   pub at : Intake S
   pub run : Run keeps s at
-  pub applied : C ≡ at.applied
-  pub waiting : W ≡ at.waiting
-  pub by : StoppedBy refuses error at k
-
--- How an error leaves the keeper, what is applied and what waits: PendingFull as they were, the others at some turn.
-abbrev pub Fails : {S : Type 0} → (S → ChangeParts → S → Type 0) → (S → ChangeParts → KeepError → S → Type 0) → Intake S → ReceiveError
-    → S → List ChangeParts → List ChangeParts → Type 0
-Fails keeps refuses s PendingFull k C W = (k ≡ s.keeper) × (C ≡ s.applied) × (W ≡ s.waiting)
-Fails keeps refuses s error k C W = Stopped keeps refuses s error k C W
+  pub applied : t.applied ≡ at.applied
+  pub waiting : t.waiting ≡ at.waiting
+  pub by : StoppedBy refuses why at t.keeper

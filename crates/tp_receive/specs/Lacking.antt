@@ -1,12 +1,7 @@
 -- Of each change that waits, a dependency that it is known to lack.
 use Rattle.std.specs.Prelude.{◌≡◌, List, Bool, false, Option, Some, None}
 use Rattle.std.specs.List.{AllZip}
-use Rattle.tp_list.specs.Members.{In}
-use Rattle.tp_opid.specs.declared.hash.Hash.{Hash}
-use Rattle.tp_opid.specs.Same.{same_hash}
-use Rattle.tp_change.specs.declared.parts.ChangeParts.{ChangeParts}
-use Rattle.tp_change.specs.ChangeHash.{hash_of}
-use Rattle.tp_graph.specs.Named.{has}
+use Rattle.tp_receive.specs.Common.{In, Hash, ChangeParts, hash_of, has, same_hash}
 
 -- What is known of a change c: nothing, or that it isn't in C and neither is that dependency of it.
 abbrev pub Lacks : List ChangeParts → ChangeParts → Option Hash → Type 0

@@ -1,8 +1,10 @@
+pub mod Common
 pub mod Receiving
 pub mod Delivery
 pub mod HashSets
 pub mod Lacking
 pub mod Intake
+pub mod Outcome
 pub mod Replies
 pub mod GivesVerdict
 pub mod Trying

@@ -1,14 +1,8 @@
 -- Receiving changes in any order, as a relation between applied lists.
-use Rattle.std.specs.Prelude.{◌≡◌, List, [], ◌∷◌, ◌++◌, Bool, true, false, Option, Some, None, IsSome, cond}
-use Rattle.tp_list.specs.Members.{In, AllIn}
-use Rattle.tp_opid.specs.declared.hash.Hash.{Hash}
-use Rattle.tp_change.specs.declared.parts.ChangeParts.{ChangeParts}
-use Rattle.tp_change.specs.ChangeHash.{hash_of}
-use Rattle.tp_graph.specs.declared.error.GraphError.{GraphError}
-use Rattle.tp_graph.specs.declared.error.GraphError.TheVariants.{Known, MissingDeps, BadSeq, BadStart, BadReference, SeqClash, UnknownHead, Full, OutOfMemory}
+use Rattle.std.specs.Prelude.{◌≡◌, ℕ, List, [], ◌∷◌, ◌++◌, Bool, true, false, Option, Some, None, IsSome, cond}
+use Rattle.tp_receive.specs.Common.{slice_get, remove, In, AllIn, Hash, ChangeParts, hash_of, GraphError, MissingDeps, cause, Sound, DocId}
+use Rattle.tp_graph.specs.declared.error.GraphError.TheVariants.{Known, BadSeq, BadStart, BadReference, SeqClash, UnknownHead, Full, OutOfMemory}
 use Rattle.tp_graph.specs.Named.{among}
-use Rattle.tp_graph.specs.Fit.{cause}
-use Rattle.tp_graph.specs.Sound.{Sound}
 
 -- The changes enter behind `before` one after another: none has a cause at its turn.
 abbrev pub EntersAfter : List ChangeParts → List ChangeParts → Type 0
@@ -88,3 +82,14 @@ held_of H (c ∷ W) = cond (among H (hash_of c)) (hash_of c ∷ held_of H W) (he
 abbrev pub EachOnce : List Hash → Type 0
 EachOnce [] = Unit {0}
 EachOnce (h ∷ H) = (among H h ≡ false) × EachOnce H
+
+-- Of t the same is seen as of s: its identifier, what is applied and what waits.
+pub record IsSeenAs {S : Type 0} (id : S → Option DocId) (applied waiting : S → List ChangeParts) (s t : S) : Type 0 where
+  pub named : id t ≡ id s
+  pub entered : applied t ≡ applied s
+  pub waits : waiting t ≡ waiting s
+
+-- The change c with the number i was taken out of W, and W' are the others.
+pub record IsTakenOut (W : List ChangeParts) (i : ℕ) (c : ChangeParts) (W' : List ChangeParts) : Type 0 where
+  pub at : slice_get W i ≡ Some c
+  pub others : W' ≡ remove W i

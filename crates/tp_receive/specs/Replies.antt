@@ -1,13 +1,6 @@
 -- What receiving promises of where the changes are in the end, and of what it tells.
 use Rattle.std.specs.Prelude.{◌≡◌, ◌⊎◌, List, [], ◌∷◌, ◌++◌, Some, true, false}
-use Rattle.tp_list.specs.Members.{In, AllIn}
-use Rattle.tp_opid.specs.declared.hash.Hash.{Hash}
-use Rattle.tp_change.specs.declared.parts.ChangeParts.{ChangeParts}
-use Rattle.tp_change.specs.ChangeHash.{hash_of}
-use Rattle.tp_graph.specs.Named.{has}
-use Rattle.tp_graph.specs.Fit.{cause}
-use Rattle.tp_graph.specs.declared.error.GraphError.{GraphError}
-use Rattle.tp_graph.specs.declared.error.GraphError.TheVariants.{MissingDeps}
+use Rattle.tp_receive.specs.Common.{In, AllIn, Hash, ChangeParts, hash_of, has, cause, GraphError, MissingDeps}
 use Rattle.tp_receive.specs.Receiving.{Begins, Grows, Receives, is_refusal, hashes}
 use Rattle.tp_receive.specs.Delivery.{delivery, undeliverable}
 use Rattle.tp_receive.specs.Intake.{Intake}
@@ -16,12 +9,6 @@ use Rattle.tp_receive.specs.Intake.{Intake}
 abbrev pub KeepsAll : {S : Type 0} → (S → ChangeParts → S → Type 0) → S → List ChangeParts → S → Type 0
 KeepsAll keeps k [] k' = k ≡ k'
 KeepsAll {S} keeps k (c ∷ cs) k' = (m : S) × keeps k c m × KeepsAll keeps m cs k'
-
--- The keeper kept just what entered behind C, in that order.
-pub record KeepsNew {S : Type 0} (keeps : S → ChangeParts → S → Type 0) (k k' : S) (C C' : List ChangeParts) : Type 0 where
-  pub new : List ChangeParts
-  pub entered : C' ≡ C ++ new
-  pub kept : KeepsAll keeps k new k'
 
 -- A change of F with the hash was refused with the cause e, which it had at its turn, behind some list between C and
 -- `long`.

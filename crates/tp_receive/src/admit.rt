@@ -1,21 +1,19 @@
 //! Trying one change: it enters, is refused, or must wait.
 
 ghost use Rattle.std.specs.Prelude.{◌≡◌, ◌++◌, ◌∷◌, [], List, None, OnOk, OnErr, IfOk, IfErr};
-ghost use Rattle.tp_change.specs.ChangeHash.{hash_of};
-ghost use Rattle.tp_graph.specs.Fit.{cause};
-ghost use Rattle.tp_change.specs.declared.parts.ChangeParts.{ChangeParts};
-ghost use Rattle.tp_receive.specs.Trying.{Tried, TryFails};
+ghost use Rattle.tp_receive.specs.Common.{hash_of, cause, ChangeParts};
+ghost use Rattle.tp_receive.specs.Trying.{Tried, TryFails, so_far};
 
 use crate::error::ReceiveError;
 use crate::keeper::{KeepError, Keeper};
+use crate::log::Log;
 use crate::replica::Replica;
-use crate::report::Report;
 use crate::verdict::{Verdict, judge};
 use tp_change::Change;
 
 /// What became of a change that was tried.
 #[derive(Drop)]
-pub(crate) enum Outcome {
+pub(crate) enum Admission {
     /// It entered.
     Entered,
     /// It was refused and reported.
@@ -42,7 +40,7 @@ fn enter_kept<R: Replica, K: Keeper>(
     replica: &mut R,
     keeper: &mut K,
     change: Change,
-    reported: &mut Report,
+    reported: &mut Log,
 ) -> Result<(), ReceiveError>
     requires enters { cause (R.applied replica.old) change ≡ None }
     requires room { R.has_room replica.old change }
@@ -69,14 +67,13 @@ pub(crate) fn admit<R: Replica, K: Keeper>(
     replica: &mut R,
     keeper: &mut K,
     change: Change,
-    reported: &mut Report,
-) -> Result<Outcome, ReceiveError>
+    reported: &mut Log,
+) -> Result<Admission, ReceiveError>
     ensures id { R.id replica.new ≡ R.id replica.old }
     ensures waiting { R.waiting replica.new ≡ R.waiting replica.old }
     ensures ok { IfOk result
-        (λ o. Tried K.keeps keeper.old keeper.new change
-        (R.applied replica.old) (R.applied replica.new) reported.old.applied.items
-        reported.new.applied.items reported.old.refused.items reported.new.refused.items o) }
+        (λ o. Tried K.keeps (so_far keeper.old (R.applied replica.old) [] [] reported.old) change
+        (so_far keeper.new (R.applied replica.new) [] [] reported.new) o) }
     ensures err { IfErr result
         (λ e. TryFails K.refuses (R.applied replica.old) e change keeper.old keeper.new) }
     ensures stays { OnErr result (R.applied replica.new ≡ R.applied replica.old) }
@@ -84,12 +81,12 @@ pub(crate) fn admit<R: Replica, K: Keeper>(
     match judge(replica.ready(&change))? {
         Verdict::Enters => {
             enter_kept(replica, keeper, change, reported)?;
-            Ok(Outcome::Entered)
+            Ok(Admission::Entered)
         }
-        Verdict::Waits => Ok(Outcome::Waits(change)),
+        Verdict::Waits => Ok(Admission::Waits(change)),
         Verdict::Refused(error) => {
             reported.refused.push((change.hash(), error))?;
-            Ok(Outcome::Refused)
+            Ok(Admission::Refused)
         }
     }
 }

@@ -46,7 +46,8 @@ fn note<R: Replica>(
     change: &Change,
 ) -> Result<bool, AllocError>
     ensures { (D V : List ChangeParts) → IsHashSetOf delivered.old D → IsHashSetOf slotted.old V
-        → IfOk result (λ slot. IsNoted (R.applied replica.now) D V change.now
+        → IfOk result (λ slot. IsNoted D V
+        (change.now, named.has_all (R.applied replica.now ++ D) change.now.deps)
         delivered.new slotted.new slot) }
 {
     let hash = change.hash();

@@ -1,12 +1,12 @@
 //! Receiving changes in any order.
 
-ghost use Rattle.std.specs.Prelude.{◌≡◌, [], OnOk, IfOk, IfErr};
+ghost use Rattle.std.specs.Prelude.{◌≡◌, [], Some, OnOk, IfErr};
 ghost use Rattle.tp_graph.specs.Sound.{Sound};
 ghost use Rattle.tp_receive.specs.Receiving.{AllWait};
 ghost use Rattle.tp_receive.specs.Delivery as delivery;
-ghost use Rattle.tp_receive.specs.Intake.{Fails, Received, Run, Stopped, begin, intake};
+ghost use Rattle.tp_receive.specs.Intake.{Run, Stops, receiver};
 ghost use Rattle.tp_receive.specs.Lacking.{KnowsLack};
-ghost use Rattle.tp_receive.specs.Replies.{KeepsNew};
+ghost use Rattle.tp_receive.specs.Outcome.{HasOutcome, ReceivesWith};
 ghost use Rattle.tp_receive.specs.Trying.{so_far};
 
 use crate::coming::{Coming, reserve};
@@ -14,8 +14,8 @@ use crate::error::ReceiveError;
 use crate::hashes::{hashes_of, held_of};
 use crate::keeper::Keeper;
 use crate::lacking::Lacking;
+use crate::log::Log;
 use crate::replica::Replica;
-use crate::report::Report;
 use crate::settle::settle;
 use crate::take::take;
 use std::alloc::Global;
@@ -30,7 +30,7 @@ fn take_all<R: Replica, K: Keeper>(
     keeper: &mut K,
     lacking: &mut Lacking,
     coming: Coming,
-    reported: &mut Report,
+    reported: &mut Log,
 ) -> Result<(), ReceiveError>
     requires count { coming.reserved ≡ delivery.slots coming.changes.items }
     requires knows { KnowsLack (R.applied replica.old) (R.waiting replica.old) lacking.old }
@@ -40,10 +40,10 @@ fn take_all<R: Replica, K: Keeper>(
         coming.changes.items reported.old)
         (so_far keeper.new (R.applied replica.new) (R.waiting replica.new) [] reported.new)) }
     ensures settled { OnOk result (AllWait (R.applied replica.new) (R.waiting replica.new)) }
-    ensures err { IfErr result (λ e. Stopped K.keeps K.refuses
+    ensures err { IfErr result (λ e. Stops K.keeps K.refuses
         (so_far keeper.old (R.applied replica.old) (R.waiting replica.old)
         coming.changes.items reported.old)
-        e keeper.new (R.applied replica.new) (R.waiting replica.new)) }
+        e (receiver keeper.new (R.applied replica.new) (R.waiting replica.new))) }
 {
     settle(replica, keeper, lacking, 0, reported)?;
     let mut reserved = coming.reserved;
@@ -92,8 +92,8 @@ pub struct Applied {
 /// call began, nothing is lost. Only the change of the list whose turn it was and those behind it are let go: they have
 /// to come again.
 ///
-/// A pending change is checked once, and again where the dependency that it was found to lack entered, or a change with
-/// its own hash. Any other entry costs one comparison of hashes for each pending change, of which there are 1,024 at
+/// The dependencies of a pending change are looked up once, and again where the one that it was found to lack entered, or
+/// a change with its own hash; it is judged once, at its turn. Any other entry costs one comparison of hashes for each pending change, of which there are 1,024 at
 /// most, and one more where the change that entered came with this call.
 pub fn receive<R: Replica, K: Keeper>(
     alloc: Global,
@@ -103,19 +103,9 @@ pub fn receive<R: Replica, K: Keeper>(
 ) -> Result<Applied, ReceiveError>
     ensures id { R.id replica.new ≡ R.id replica.old }
     ensures sound { Sound (R.applied replica.old) }
-    ensures ok { IfOk result (λ r. Received K.keeps
-        (begin keeper.old (R.applied replica.old) (R.waiting replica.old) changes.items)
-        changes.items
-        (intake keeper.new (R.applied replica.new) (R.waiting replica.new)
-        [] r.applied.items r.refused.items)
-        r.held.items) }
-    ensures kept { OnOk result
-        (KeepsNew K.keeps keeper.old keeper.new (R.applied replica.old) (R.applied replica.new)) }
-    ensures full { delivery.IsFullOnly result
-        (delivery.is_full (R.applied replica.old) (R.waiting replica.old) changes.items) }
-    ensures err { IfErr result (λ e. Fails K.keeps K.refuses
-        (begin keeper.old (R.applied replica.old) (R.waiting replica.old) changes.items)
-        e keeper.new (R.applied replica.new) (R.waiting replica.new)) }
+    ensures outcome { HasOutcome Some result (ReceivesWith K.keeps K.refuses
+        (receiver keeper.old (R.applied replica.old) (R.waiting replica.old)) changes.items
+        (receiver keeper.new (R.applied replica.new) (R.waiting replica.new))) }
 {
     let _applied = replica.changes();
     let came = hashes_of(alloc, &changes)?;
@@ -124,7 +114,7 @@ pub fn receive<R: Replica, K: Keeper>(
         return Err(ReceiveError::PendingFull);
     }
     let mut lacking = Lacking::new(alloc, replica.pending())?;
-    let mut reported = Report::new(alloc);
+    let mut reported = Log::new(alloc);
     take_all(replica, keeper, &mut lacking, coming, &mut reported)?;
     let held = held_of(alloc, &came, replica.pending())?;
     Ok(Applied {

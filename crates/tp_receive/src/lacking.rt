@@ -1,11 +1,9 @@
-//! What the pending changes are known to lack: one of them isn't checked again before that came.
+//! What the pending changes are known to lack: one of them isn't looked at again before that came.
 
 ghost use Rattle.std.specs.Prelude.{◌≡◌, ◌<◌, ◌++◌, ◌∷◌, [], List, Option, Some, None, true, false, length, set, take, IfOk, MatchOption};
-ghost use Rattle.std.specs.List.{slice_get, remove};
+ghost use Rattle.tp_receive.specs.Common.{slice_get, remove, In, ChangeParts};
 ghost use Rattle.std.specs.Option.{is_some};
-ghost use Rattle.tp_list.specs.Members.{In};
 ghost use Rattle.tp_opid.specs.declared.hash.Hash.{Hash as HashOf};
-ghost use Rattle.tp_change.specs.declared.parts.ChangeParts.{ChangeParts};
 ghost use Rattle.tp_graph.specs.Named as named;
 ghost use Rattle.tp_receive.specs.Receiving.{AllWait};
 ghost use Rattle.tp_receive.specs.Lacking.{GainsOnly, KnowsApart, KnowsLack, lacks_it};

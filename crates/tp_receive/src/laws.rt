@@ -1,16 +1,13 @@
 //! Laws of receiving, each the contract of a function that does nothing.
 
 ghost use Rattle.std.specs.Prelude.{List, ◌≡◌, ◌+◌, ◌++◌, ◌<◌, ◌≤◌, true, false, Some, length};
-ghost use Rattle.tp_change.specs.declared.parts.ChangeParts.{ChangeParts};
-ghost use Rattle.tp_list.specs.Members.{In, AllIn, SameMembers};
-ghost use Rattle.tp_graph.specs.declared.error.GraphError.{GraphError};
-ghost use Rattle.tp_graph.specs.Fit.{cause, most_changes};
-ghost use Rattle.tp_graph.specs.Sound.{Sound};
-ghost use Rattle.tp_graph.specs.GraphState.{most_waiting};
+ghost use Rattle.tp_receive.specs.Common.{ChangeParts, In, AllIn, GraphError, cause, Sound, most_waiting};
+ghost use Rattle.tp_list.specs.Members.{SameMembers};
+ghost use Rattle.tp_graph.specs.Fit.{most_changes};
 ghost use Rattle.tp_graph.specs.Named.{HashesApart};
 ghost use Rattle.tp_receive.specs.Receiving.{Receives, Between, Grows, EntersAfter, SeqsApart, is_refusal};
 ghost use Rattle.tp_receive.specs.Delivery.{is_full};
-ghost use Rattle.tp_receive.specs.Intake.{Ends, Intake, Run, Stopped, begin};
+ghost use Rattle.tp_receive.specs.Intake.{Ends, Intake, Receiver, Run, Stops, begin};
 ghost use Rattle.tp_receive.specs.Replies.{Alike, LosesNone, NoneDropped, Progress, Results};
 ghost use Rattle.tp_receive.specs.declared.error.ReceiveError.{ReceiveError};
 
@@ -85,8 +82,8 @@ pub fn a_whole_run_is_a_result<K: Keeper>()
 
 /// Where a run stopped, what is applied stands between.
 pub fn a_stop_is_between<K: Keeper>()
-    ensures { (k k' : K) (C C' W W' L : List ChangeParts) (e : ReceiveError) → Sound C
-        → Stopped K.keeps K.refuses (begin k C W L) e k' C' W' → Between C (W ++ L) C' }
+    ensures { (k : K) (C W L : List ChangeParts) (why : ReceiveError) (t : Receiver K) → Sound C
+        → Stops K.keeps K.refuses (begin k C W L) why t → Between C (W ++ L) t.applied }
 {}
 
 /// Two whole runs from one beginning end alike, whatever keeps: in what is applied, in what waits and in what is reported.

@@ -1,15 +1,10 @@
 //! What receives changes: applied changes, and changes that wait.
 
 ghost use Rattle.std.specs.Prelude.{◌≡◌, ◌<◌, ◌≤◌, ◌++◌, ◌∷◌, [], ℕ, List, Option, Some, None, false, length, is_ok, if◌then◌else◌, IfErr, OnOk, OnErr};
-ghost use Rattle.std.specs.List.{slice_get, remove};
-ghost use Rattle.tp_opid.specs.declared.doc_id.DocId.{DocId};
-ghost use Rattle.tp_change.specs.declared.parts.ChangeParts.{ChangeParts};
-ghost use Rattle.tp_change.specs.ChangeHash.{hash_of};
+ghost use Rattle.tp_receive.specs.Common.{slice_get, ChangeParts, hash_of, cause, Sound, most_waiting, DocId, Answers};
 ghost use Rattle.tp_graph.specs.Named as named;
-ghost use Rattle.tp_graph.specs.Fit.{cause};
-ghost use Rattle.tp_graph.specs.Sound.{Sound};
-ghost use Rattle.tp_graph.specs.Answers.{Answers};
-ghost use Rattle.tp_graph.specs.GraphState.{most_waiting, HashesOnce};
+ghost use Rattle.tp_graph.specs.GraphState.{HashesOnce};
+ghost use Rattle.tp_receive.specs.Receiving.{IsSeenAs, IsTakenOut};
 
 use tp_change::Change;
 use tp_graph::{Graph, GraphError, Rejected};
@@ -45,16 +40,11 @@ pub trait Replica: Drop {
     fn contains(&self, hash: &Hash) -> bool
         ensures { result ≡ named.has (applied self.now) hash.now };
 
-    /// Whether the change can enter, or why not. It may be refused as `OutOfMemory` whatever the change.
-    fn check(&self, change: &Change) -> Result<(), GraphError>
-        ensures { Answers result (cause (applied self.now) change.now) };
-
-    /// Checks, and makes every growth that the entry of the change takes.
+    /// Whether the change can enter, or why not, with every growth that its entry takes made. It may be refused as
+    /// `OutOfMemory` whatever the change.
     fn ready(&mut self, change: &Change) -> Result<(), GraphError>
         ensures answers { Answers result (cause (applied self.old) change.now) }
-        ensures id { id self.new ≡ id self.old }
-        ensures applied { applied self.new ≡ applied self.old }
-        ensures waiting { waiting self.new ≡ waiting self.old }
+        ensures stays { IsSeenAs id applied waiting self.old self.new }
         ensures room { OnOk result (has_room self.new change.now) };
 
     /// Checks the waiting change with the number `i`, from 0, and makes every growth that its entry takes. It goes
@@ -63,9 +53,7 @@ pub trait Replica: Drop {
         requires { i < length (waiting self.old) }
         ensures answers { (c : ChangeParts) → slice_get (waiting self.old) i ≡ Some c
             → Answers result (cause (applied self.old) c) }
-        ensures id { id self.new ≡ id self.old }
-        ensures applied { applied self.new ≡ applied self.old }
-        ensures waiting { waiting self.new ≡ waiting self.old }
+        ensures stays { IsSeenAs id applied waiting self.old self.new }
         ensures room { (c : ChangeParts) → slice_get (waiting self.old) i ≡ Some c
             → OnOk result (has_room self.new c) };
 
@@ -93,8 +81,7 @@ pub trait Replica: Drop {
     /// made stay. No memory.
     fn release(&mut self, i: usize) -> Change
         requires { i < length (waiting self.old) }
-        ensures change { slice_get (waiting self.old) i ≡ Some result }
-        ensures waiting { waiting self.new ≡ remove (waiting self.old) i }
+        ensures taken { IsTakenOut (waiting self.old) i result (waiting self.new) }
         ensures id { id self.new ≡ id self.old }
         ensures applied { applied self.new ≡ applied self.old }
         ensures room { (c : ChangeParts) → has_room self.old c → has_room self.new c };
@@ -119,10 +106,6 @@ impl Replica for Graph {
 
     fn contains(&self, hash: &Hash) -> bool {
         Graph::contains(self, hash)
-    }
-
-    fn check(&self, change: &Change) -> Result<(), GraphError> {
-        Graph::check(self, change)
     }
 
     fn ready(&mut self, change: &Change) -> Result<(), GraphError> {

@@ -1,80 +1,63 @@
 //! Trying the changes that wait.
 
 ghost use Rattle.std.specs.Prelude.{◌≡◌, ◌+◌, ◌<◌, ◌++◌, ◌∷◌, [], Bool, List, None, Some, length, take, OnOk, OnErr, IfOk, IfErr, MatchOption};
-ghost use Rattle.std.specs.List.{slice_get, remove};
-ghost use Rattle.tp_change.specs.declared.parts.ChangeParts.{ChangeParts};
-ghost use Rattle.tp_change.specs.ChangeHash.{hash_of};
-ghost use Rattle.tp_graph.specs.Fit.{cause};
+ghost use Rattle.tp_receive.specs.Common.{slice_get, remove, ChangeParts, hash_of, cause};
 ghost use Rattle.tp_receive.specs.Trying.{IsEarliest, Tried, TryFails, so_far};
 ghost use Rattle.tp_receive.specs.Receiving.{AllWait, lacks_deps};
-ghost use Rattle.tp_receive.specs.Intake.{Run, Stopped, Turn};
+ghost use Rattle.tp_receive.specs.Intake.{Run, Stops, Turn, receiver};
 ghost use Rattle.tp_receive.specs.Lacking.{GainsOnly, KnowsLack};
 
-use crate::admit::{Outcome, keep};
+use crate::admit::{Admission, keep};
 use crate::error::ReceiveError;
 use crate::keeper::Keeper;
 use crate::lacking::{Lacking, lack_of};
+use crate::log::Log;
 use crate::replica::Replica;
-use crate::report::Report;
 use crate::verdict::{Verdict, judge};
 use tp_change::Change;
 use tp_graph::GraphError;
 
-// Whether the change must wait.
-fn must_wait<R: Replica>(replica: &R, change: &Change) -> Result<bool, ReceiveError>
-    ensures ok { IfOk result (λ b. b ≡ lacks_deps (cause (R.applied replica.now) change.now)) }
-    ensures err { IfErr result (λ e. e ≡ ReceiveError.OutOfMemory) }
-{
-    match judge(replica.check(change))? {
-        Verdict::Enters => Ok(false),
-        Verdict::Waits => Ok(true),
-        Verdict::Refused(_) => Ok(false),
-    }
-}
-
-// Whether the pending change with the number `i` must wait. One that is known to lack a dependency isn't checked, and of
-// one that was checked a dependency that it lacks is noted.
-fn waits_at<R: Replica>(replica: &R, lacking: &mut Lacking, i: usize) -> Result<bool, ReceiveError>
+// Whether the pending change with the number `i` must wait. One that is known to lack a dependency isn't looked at, and of
+// any other that must wait a dependency that it lacks is noted.
+fn waits_at<R: Replica>(replica: &R, lacking: &mut Lacking, i: usize) -> bool
     requires within { i < length (R.waiting replica.now) }
     requires knows { KnowsLack (R.applied replica.now) (R.waiting replica.now) lacking.old }
     ensures knows { KnowsLack (R.applied replica.now) (R.waiting replica.now) lacking.new }
-    ensures ok { (c : ChangeParts) → slice_get (R.waiting replica.now) i ≡ Some c
-        → IfOk result (λ b. b ≡ lacks_deps (cause (R.applied replica.now) c)) }
-    ensures err { IfErr result (λ e. e ≡ ReceiveError.OutOfMemory) }
+    ensures waits { (c : ChangeParts) → slice_get (R.waiting replica.now) i ≡ Some c
+        → result ≡ lacks_deps (cause (R.applied replica.now) c) }
 {
     if lacking.is_known(i) {
-        return Ok(true);
+        return true;
     }
     let waiting = &replica.pending()[i];
-    if !must_wait(replica, waiting)? {
-        return Ok(false);
+    if replica.contains(&waiting.hash()) {
+        return false;
     }
-    lacking.note(i, lack_of(replica, waiting));
-    Ok(true)
+    match lack_of(replica, waiting) {
+        Some(hash) => {
+            lacking.note(i, Some(hash));
+            true
+        }
+        None => false,
+    }
 }
 
-// The number of the earliest pending change that needn't wait, where those before the number `from` must. Each of the
-// others that isn't known to lack a dependency is checked.
-fn first_ready<R: Replica>(
-    replica: &R,
-    lacking: &mut Lacking,
-    from: usize,
-) -> Result<Option<usize>, ReceiveError>
+// The number of the earliest pending change that needn't wait, where those before the number `from` must. Of each of the
+// others that isn't known to lack a dependency the dependencies are looked up.
+fn first_ready<R: Replica>(replica: &R, lacking: &mut Lacking, from: usize) -> Option<usize>
     requires knows { KnowsLack (R.applied replica.now) (R.waiting replica.now) lacking.old }
     requires waits { AllWait (R.applied replica.now) (take from (R.waiting replica.now)) }
     ensures knows { KnowsLack (R.applied replica.now) (R.waiting replica.now) lacking.new }
-    ensures ok { IfOk result
-        (λ found. MatchOption found (AllWait (R.applied replica.now) (R.waiting replica.now))
-        (λ i. IsEarliest (R.applied replica.now) (R.waiting replica.now) i)) }
-    ensures err { IfErr result (λ e. e ≡ ReceiveError.OutOfMemory) }
+    ensures found { MatchOption result (AllWait (R.applied replica.now) (R.waiting replica.now))
+        (λ i. IsEarliest (R.applied replica.now) (R.waiting replica.now) i) }
 {
     let count = replica.pending().len();
     for i in from..count {
-        if !waits_at(replica, lacking, i)? {
-            return Ok(Some(i));
+        if !waits_at(replica, lacking, i) {
+            return Some(i);
         }
     }
-    Ok(None)
+    None
 }
 
 // Keeps a pending change that was made ready for, takes it out and enters it. An error leaves it waiting.
@@ -82,7 +65,7 @@ fn enter_waiting<R: Replica, K: Keeper>(
     replica: &mut R,
     keeper: &mut K,
     i: usize,
-    reported: &mut Report,
+    reported: &mut Log,
 ) -> Result<(), ReceiveError>
     requires within { i < length (R.waiting replica.old) }
     requires enters { (c : ChangeParts) → slice_get (R.waiting replica.old) i ≡ Some c
@@ -91,9 +74,9 @@ fn enter_waiting<R: Replica, K: Keeper>(
         → R.has_room replica.old c }
     ensures id { R.id replica.new ≡ R.id replica.old }
     ensures ok { (c : ChangeParts) → slice_get (R.waiting replica.old) i ≡ Some c
-        → OnOk result (Tried K.keeps keeper.old keeper.new c
-        (R.applied replica.old) (R.applied replica.new) reported.old.applied.items
-        reported.new.applied.items reported.old.refused.items reported.new.refused.items Outcome.Entered) }
+        → OnOk result (Tried K.keeps
+        (so_far keeper.old (R.applied replica.old) [] [] reported.old) c
+        (so_far keeper.new (R.applied replica.new) [] [] reported.new) Admission.Entered) }
     ensures out { OnOk result (R.waiting replica.new ≡ remove (R.waiting replica.old) i) }
     ensures err { (c : ChangeParts) → slice_get (R.waiting replica.old) i ≡ Some c
         → IfErr result (λ e. TryFails K.refuses (R.applied replica.old) e c keeper.old keeper.new) }
@@ -113,7 +96,7 @@ fn refuse_waiting<R: Replica>(
     replica: &mut R,
     i: usize,
     error: GraphError,
-    reported: &mut Report,
+    reported: &mut Log,
 ) -> Result<(), ReceiveError>
     requires within { i < length (R.waiting replica.old) }
     ensures id { R.id replica.new ≡ R.id replica.old }
@@ -138,16 +121,16 @@ fn settle_one<R: Replica, K: Keeper>(
     replica: &mut R,
     keeper: &mut K,
     i: usize,
-    reported: &mut Report,
+    reported: &mut Log,
 ) -> Result<(), ReceiveError>
     requires { IsEarliest (R.applied replica.old) (R.waiting replica.old) i }
     ensures id { R.id replica.new ≡ R.id replica.old }
     ensures ok { (P : List (ChangeParts × Bool)) → OnOk result (Turn K.keeps
         (so_far keeper.old (R.applied replica.old) (R.waiting replica.old) P reported.old)
         (so_far keeper.new (R.applied replica.new) (R.waiting replica.new) P reported.new)) }
-    ensures err { (P : List (ChangeParts × Bool)) → IfErr result (λ e. Stopped K.keeps K.refuses
+    ensures err { (P : List (ChangeParts × Bool)) → IfErr result (λ e. Stops K.keeps K.refuses
         (so_far keeper.old (R.applied replica.old) (R.waiting replica.old) P reported.old)
-        e keeper.new (R.applied replica.new) (R.waiting replica.new)) }
+        e (receiver keeper.new (R.applied replica.new) (R.waiting replica.new))) }
     ensures fewer { OnOk result
         (length (R.waiting replica.new) + 1 ≡ length (R.waiting replica.old)) }
     ensures out { OnOk result (R.waiting replica.new ≡ remove (R.waiting replica.old) i) }
@@ -168,7 +151,7 @@ fn settle_next<R: Replica, K: Keeper>(
     keeper: &mut K,
     lacking: &mut Lacking,
     i: usize,
-    reported: &mut Report,
+    reported: &mut Log,
 ) -> Result<usize, ReceiveError>
     requires earliest { IsEarliest (R.applied replica.old) (R.waiting replica.old) i }
     requires knows { KnowsLack (R.applied replica.old) (R.waiting replica.old) lacking.old }
@@ -176,9 +159,9 @@ fn settle_next<R: Replica, K: Keeper>(
     ensures ok { (P : List (ChangeParts × Bool)) → OnOk result (Turn K.keeps
         (so_far keeper.old (R.applied replica.old) (R.waiting replica.old) P reported.old)
         (so_far keeper.new (R.applied replica.new) (R.waiting replica.new) P reported.new)) }
-    ensures err { (P : List (ChangeParts × Bool)) → IfErr result (λ e. Stopped K.keeps K.refuses
+    ensures err { (P : List (ChangeParts × Bool)) → IfErr result (λ e. Stops K.keeps K.refuses
         (so_far keeper.old (R.applied replica.old) (R.waiting replica.old) P reported.old)
-        e keeper.new (R.applied replica.new) (R.waiting replica.new)) }
+        e (receiver keeper.new (R.applied replica.new) (R.waiting replica.new))) }
     ensures fewer { OnOk result
         (length (R.waiting replica.new) + 1 ≡ length (R.waiting replica.old)) }
     ensures knows { OnOk result
@@ -200,7 +183,7 @@ pub(crate) fn settle<R: Replica, K: Keeper>(
     keeper: &mut K,
     lacking: &mut Lacking,
     from: usize,
-    reported: &mut Report,
+    reported: &mut Log,
 ) -> Result<(), ReceiveError>
     requires knows { KnowsLack (R.applied replica.old) (R.waiting replica.old) lacking.old }
     requires waits { AllWait (R.applied replica.old) (take from (R.waiting replica.old)) }
@@ -209,14 +192,14 @@ pub(crate) fn settle<R: Replica, K: Keeper>(
         (so_far keeper.old (R.applied replica.old) (R.waiting replica.old) P reported.old)
         (so_far keeper.new (R.applied replica.new) (R.waiting replica.new) P reported.new)) }
     ensures settled { OnOk result (AllWait (R.applied replica.new) (R.waiting replica.new)) }
-    ensures err { (P : List (ChangeParts × Bool)) → IfErr result (λ e. Stopped K.keeps K.refuses
+    ensures err { (P : List (ChangeParts × Bool)) → IfErr result (λ e. Stops K.keeps K.refuses
         (so_far keeper.old (R.applied replica.old) (R.waiting replica.old) P reported.old)
-        e keeper.new (R.applied replica.new) (R.waiting replica.new)) }
+        e (receiver keeper.new (R.applied replica.new) (R.waiting replica.new))) }
     ensures knows { OnOk result
         (KnowsLack (R.applied replica.new) (R.waiting replica.new) lacking.new) }
 {
     let mut known = from;
-    while let Some(i) = first_ready(replica, lacking, known)? {
+    while let Some(i) = first_ready(replica, lacking, known) {
         known = settle_next(replica, keeper, lacking, i, reported)?;
     }
     Ok(())

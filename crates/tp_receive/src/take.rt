@@ -5,17 +5,17 @@ ghost use Rattle.tp_change.specs.declared.parts.ChangeParts.{ChangeParts};
 ghost use Rattle.tp_graph.specs.Named as named;
 ghost use Rattle.tp_receive.specs.Receiving.{AllWait};
 ghost use Rattle.tp_receive.specs.Delivery.{slots};
-ghost use Rattle.tp_receive.specs.Intake.{Run, Stopped};
+ghost use Rattle.tp_receive.specs.Intake.{Run, Stops, receiver};
 ghost use Rattle.tp_receive.specs.Lacking.{KnowsLack};
 ghost use Rattle.tp_receive.specs.Trying.{IsHeld, so_far};
 
-use crate::admit::{Outcome, admit};
+use crate::admit::{Admission, admit};
 use crate::error::ReceiveError;
 use crate::hashes::is_one;
 use crate::keeper::Keeper;
 use crate::lacking::Lacking;
+use crate::log::Log;
 use crate::replica::Replica;
-use crate::report::Report;
 use crate::settle::settle;
 use tp_change::Change;
 use tp_graph::{GraphError, MOST_WAITING};
@@ -40,7 +40,7 @@ fn let_wait<R: Replica>(
     lacking: &mut Lacking,
     change: Change,
     reserved: usize,
-    reported: &mut Report,
+    reported: &mut Log,
 ) -> Result<(), ReceiveError>
     requires { KnowsLack (R.applied replica.old) (R.waiting replica.old) lacking.old }
     ensures id { R.id replica.new ≡ R.id replica.old }
@@ -80,7 +80,7 @@ pub(crate) fn take<R: Replica, K: Keeper>(
     lacking: &mut Lacking,
     change: Change,
     reserved: usize,
-    reported: &mut Report,
+    reported: &mut Log,
 ) -> Result<(), ReceiveError>
     requires settled { AllWait (R.applied replica.old) (R.waiting replica.old) }
     requires knows { KnowsLack (R.applied replica.old) (R.waiting replica.old) lacking.old }
@@ -92,21 +92,21 @@ pub(crate) fn take<R: Replica, K: Keeper>(
         (so_far keeper.new (R.applied replica.new) (R.waiting replica.new) P reported.new)) }
     ensures settled { OnOk result (AllWait (R.applied replica.new) (R.waiting replica.new)) }
     ensures err { (slot : Bool) (P : List (ChangeParts × Bool)) → reserved ≡ slots P
-        → IfErr result (λ e. Stopped K.keeps K.refuses
+        → IfErr result (λ e. Stops K.keeps K.refuses
         (so_far keeper.old (R.applied replica.old) (R.waiting replica.old)
         ((change, slot) ∷ P) reported.old)
-        e keeper.new (R.applied replica.new) (R.waiting replica.new)) }
+        e (receiver keeper.new (R.applied replica.new) (R.waiting replica.new))) }
     ensures knows { OnOk result
         (KnowsLack (R.applied replica.new) (R.waiting replica.new) lacking.new) }
 {
     let hash = change.hash();
     match admit(replica, keeper, change, reported)? {
-        Outcome::Entered => {
+        Admission::Entered => {
             lacking.forget_alike(replica.pending(), &hash);
             let known = lacking.forget_lacked(&hash);
             settle(replica, keeper, lacking, known, reported)
         }
-        Outcome::Refused => Ok(()),
-        Outcome::Waits(change) => let_wait(replica, lacking, change, reserved, reported),
+        Admission::Refused => Ok(()),
+        Admission::Waits(change) => let_wait(replica, lacking, change, reserved, reported),
     }
 }

@@ -1,8 +1,7 @@
 //! What an answer on a change says of it.
 
 ghost use Rattle.std.specs.Prelude.{◌≡◌, Option, IfOk, IfErr};
-ghost use Rattle.tp_graph.specs.declared.error.GraphError.{GraphError};
-ghost use Rattle.tp_graph.specs.Answers.{Answers};
+ghost use Rattle.tp_receive.specs.Common.{GraphError, Answers};
 ghost use Rattle.tp_receive.specs.GivesVerdict.{GivesVerdict, IsEntry};
 
 use crate::error::ReceiveError;

@@ -14,7 +14,7 @@ use Rattle.tp_opid.proofs.Orders.{Below-asym, id_eq-same, id_eq-apart}
 use Rattle.tp_opid.proofs.Trees.{IsThere-member, CanInsert-same, IsTree-push}
 use Rattle.tp_rga.specs.Order.{Before, IsSortedIn, IsInOrder, EndsAt, insert_after, IsInserted}
 use Rattle.tp_rga.specs.Shown.{is_removed, shown}
-use Rattle.tp_rga.proofs.Trees.{Leads-grow, Before-irreflexive, Before-trans, Before-cases, Before-chains, chain_exists}
+use Rattle.tp_rga.proofs.Trees.{Descends-grow, Before-irreflexive, Before-trans, Before-cases, Before-chains, chain_exists}
 use Rattle.tp_rga.proofs.Orderings.{IsSortedIn-grow, sorted_once}
 use Rattle.tp_rga.proofs.Places.{StopsAt, put_in_order}
 
@@ -129,7 +129,7 @@ pub Before-part : (S T : List Insert) → IsTree S → IsTree T → AllIn T S �
 Before-part S T tree part of x y i j h =
     let c = chain_exists T part x i in
     let d = chain_exists T part y j in
-    (c.0, d.0, c.1, d.1, Before-chains S tree x y h c.0 d.0 (Leads-grow T S of Start c.0 (After x) c.1) (Leads-grow T S of Start d.0 (After y) d.1))
+    (c.0, d.0, c.1, d.1, Before-chains S tree x y h c.0 d.0 (Descends-grow T S of Start c.0 (After x) c.1) (Descends-grow T S of Start d.0 (After y) d.1))
 
 -- a part of a sorted list is sorted in the part of the tree
 sorted_part : (S T : List Insert) (keep : Insert → Bool) → IsTree S → IsTree T → AllIn T S → (L : List Insert) → ((e : Insert) → In e L → keep e ≡ true → In e T) → IsSortedIn S L → IsSortedIn T (filter keep L)

@@ -2,6 +2,7 @@
 -- order.
 use Rattle.std.proofs.Common.{◌≡◌, ◌⊎◌, inl, inr, List, [], ◌∷◌, ◌++◌, refl, sym, ◌∙◌, subst, append_assoc}
 use Rattle.tp_list.specs.Members.{In, AllIn, SameMembers}
+use Rattle.tp_list.specs.Traces.{Trace}
 use Rattle.tp_list.proofs.Members.{In-left, In-right, In-append, In-push, In-last}
 use Rattle.tp_opid.specs.declared.op_id.OpId.{OpId}
 use Rattle.tp_opid.specs.declared.op_id.Place.{Place}
@@ -11,9 +12,9 @@ use Rattle.tp_opid.specs.Order.{Below}
 use Rattle.tp_opid.specs.Tree.{IsThere, IsNew, IsReferenceBelow, IsTree, CanInsert}
 use Rattle.tp_opid.proofs.Orders.{Below-cases, id_eq-apart}
 use Rattle.tp_opid.proofs.Trees.{IsThere-member, IsTree-push}
-use Rattle.tp_rga.specs.Order.{Leads, IsChain, Precedes, Before, IsSortedIn, IsInOrder, EndsAt}
+use Rattle.tp_rga.specs.Order.{Descends, IsChain, Precedes, Before, IsSortedIn, IsInOrder, EndsAt}
 use Rattle.tp_rga.proofs.Chains.{AllBelow, Precedes-irreflexive, Precedes-asym, Precedes-longer, Precedes-prefix, Precedes-beginning, stop_last, passed_first}
-use Rattle.tp_rga.proofs.Trees.{Leads-grow, Before-grow, Leads-push, Leads-prefix, Leads-same, chain_exists, chain_below, Before-trans, Before-chains}
+use Rattle.tp_rga.proofs.Trees.{Descends-grow, Before-grow, Descends-push, chain_prefix, chain_same, chain_exists, chain_below, Before-trans, Before-chains}
 use Rattle.tp_rga.proofs.Orderings.{IsSortedIn-grow, IsSortedIn-prefix, IsSortedIn-back, IsSortedIn-across, IsSortedIn-join}
 
 -- x is below each element
@@ -26,31 +27,31 @@ StopsAt x [] = Unit {0}
 StopsAt x (h ∷ B) = Below x h.id → ⊥
 
 -- a chain to the place of an insert, all of it below the insert
-place_chain : (S : List Insert) → IsTree S → (x : OpId) (p : Place) → IsReferenceBelow S x p → (c : List OpId) × Leads S Start c p × AllBelow x c
+place_chain : (S : List Insert) → IsTree S → (x : OpId) (p : Place) → IsReferenceBelow S x p → (c : List OpId) × Trace (Descends S) Start c p × AllBelow x c
 place_chain S tree x Start h = ([], refl, tt)
 place_chain S tree x (After r) h =
     let c = chain_exists S tree r h.0 in (c.0, c.1, chain_below S tree Start c.0 r x c.1 h.1)
 
 -- the chain of an element is no beginning of the empty chain
 not_empty : (S : List Insert) (x : OpId) (d : List OpId) → IsChain S x d → Precedes [] d
-not_empty S x [] l = let e : Start ≡ After x = l in cc
+not_empty S x [] l = let e : After x ≡ Start = l in cc
 not_empty S x (y ∷ d) l = tt
 
 -- up to the reference, each chain is the reference's or precedes it
-prefix_chains : (S F : List Insert) → IsTree S → IsSortedIn S F → (p : Place) → EndsAt F p → (c : List OpId) → Leads S Start c p → (e : Insert) → In e F → (d : List OpId) → IsChain S e.id d → (d ≡ c) ⊎ Precedes d c
+prefix_chains : (S F : List Insert) → IsTree S → IsSortedIn S F → (p : Place) → EndsAt F p → (c : List OpId) → Trace (Descends S) Start c p → (e : Insert) → In e F → (d : List OpId) → IsChain S e.id d → (d ≡ c) ⊎ Precedes d c
 prefix_chains S F tree sorted Start ends c l e i d k = absurd (subst (λ w. In e w) ends i)
 prefix_chains S F tree sorted (After r) (A, f, is, names) c l e i d k =
     let at_f : IsChain S f.id c = subst (λ w. IsChain S w c) (sym names) l in
     elim (In-push e A f (subst (λ w. In e w) is i)) as (λ _. (d ≡ c) ⊎ Precedes d c) [
       | inl j ↦
           inr (Before-chains S tree e.id f.id (IsSortedIn-across S A (f ∷ []) (subst (IsSortedIn S) is sorted) e f j (inl refl)) d c k at_f)
-      | inr j ↦ inl (Leads-same S tree (After f.id) d c (subst (λ (w : Insert). IsChain S w.id d) j k) at_f)
+      | inr j ↦ inl (chain_same S tree (After f.id) d c (subst (λ (w : Insert). IsChain S w.id d) j k) at_f)
     ]
 
 -- after the reference, its chain precedes each
-back_chains : (S F B : List Insert) → IsTree S → IsSortedIn S (F ++ B) → (p : Place) → EndsAt F p → (c : List OpId) → Leads S Start c p → (e : Insert) → In e B → (d : List OpId) → IsChain S e.id d → Precedes c d
+back_chains : (S F B : List Insert) → IsTree S → IsSortedIn S (F ++ B) → (p : Place) → EndsAt F p → (c : List OpId) → Trace (Descends S) Start c p → (e : Insert) → In e B → (d : List OpId) → IsChain S e.id d → Precedes c d
 back_chains S F B tree sorted Start ends c l e i d k =
-    let none : c ≡ [] = Leads-same S tree Start c [] l refl in
+    let none : c ≡ [] = chain_same S tree Start c [] l refl in
     subst (λ w. Precedes w d) (sym none) (not_empty S e.id d k)
 back_chains S F B tree sorted (After r) (A, f, is, names) c l e i d k =
     let at_f : IsChain S f.id c = subst (λ w. IsChain S w c) (sym names) l in
@@ -58,11 +59,11 @@ back_chains S F B tree sorted (After r) (A, f, is, names) c l e i d k =
     Before-chains S tree f.id e.id (IsSortedIn-across S F B sorted f e f_in i) c d at_f k
 
 -- what is passed over stands before the new element
-passed_before : (S F G B : List Insert) (x : Insert) → IsTree S → IsInOrder S (F ++ (G ++ B)) → EndsAt F x.after → AllAbove x.id G → (c : List OpId) → Leads S Start c x.after → AllBelow x.id c → (e : Insert) → In e G → (d : List OpId) → IsChain S e.id d → Precedes d (c ++ x.id ∷ [])
+passed_before : (S F G B : List Insert) (x : Insert) → IsTree S → IsInOrder S (F ++ (G ++ B)) → EndsAt F x.after → AllAbove x.id G → (c : List OpId) → Trace (Descends S) Start c x.after → AllBelow x.id c → (e : Insert) → In e G → (d : List OpId) → IsChain S e.id d → Precedes d (c ++ x.id ∷ [])
 passed_before S F G B x tree order ends above c l small e i d k =
     let after_reference : Precedes c d = back_chains S F (G ++ B) tree order.sorted x.after ends c l e (In-left e G B i) d k in
     passed_first c d x.id small after_reference (λ q b t is p.
-    let prefix = Leads-prefix S Start q b t (After e.id) (subst (λ w. Leads S Start w (After e.id)) is k) in
+    let prefix = chain_prefix S q b t e.id (subst (λ w. IsChain S e.id w) is k) in
     let o : Insert = record { id = b; after = prefix.1.0; ch = prefix.1.1.0 } in
     elim (In-append o F (G ++ B) (order.same.there o prefix.1.1.1)) as (λ _. Below x.id b) [
       | inl j ↦ absurd (
@@ -80,7 +81,7 @@ passed_before S F G B x tree order ends above c l small e i d k =
     ])
 
 -- the new element stands before the one at which the search stopped
-stopped_before : (S F G : List Insert) (h : Insert) (B : List Insert) (x : Insert) → IsTree S → IsInOrder S (F ++ (G ++ h ∷ B)) → IsNew S x.id → EndsAt F x.after → StopsAt x.id (h ∷ B) → (c : List OpId) → Leads S Start c x.after → (d : List OpId) → IsChain S h.id d → Precedes (c ++ x.id ∷ []) d
+stopped_before : (S F G : List Insert) (h : Insert) (B : List Insert) (x : Insert) → IsTree S → IsInOrder S (F ++ (G ++ h ∷ B)) → IsNew S x.id → EndsAt F x.after → StopsAt x.id (h ∷ B) → (c : List OpId) → Trace (Descends S) Start c x.after → (d : List OpId) → IsChain S h.id d → Precedes (c ++ x.id ∷ []) d
 stopped_before S F G h B x tree order new ends stops c l d k =
     let h_in : In h (G ++ h ∷ B) = In-right h G (h ∷ B) (inl refl) in
     let smaller : Below h.id x.id =
@@ -132,15 +133,15 @@ put_members S F G B x same = record {
 -- ---- the theorem
 
 -- the new element stands before all that is behind it
-new_before : (S F G B : List Insert) (x : Insert) → IsTree S → IsInOrder S (F ++ (G ++ B)) → IsNew S x.id → EndsAt F x.after → StopsAt x.id B → (c : List OpId) → Leads S Start c x.after → IsTree (S ++ x ∷ []) → (b : Insert) → In b B → Before (S ++ x ∷ []) x.id b.id
+new_before : (S F G B : List Insert) (x : Insert) → IsTree S → IsInOrder S (F ++ (G ++ B)) → IsNew S x.id → EndsAt F x.after → StopsAt x.id B → (c : List OpId) → Trace (Descends S) Start c x.after → IsTree (S ++ x ∷ []) → (b : Insert) → In b B → Before (S ++ x ∷ []) x.id b.id
 new_before S F G [] x tree order new ends stops c l tree' b i = absurd i
 new_before S F G (h ∷ B) x tree order new ends stops c l tree' b i =
     let T = S ++ x ∷ [] in
     let more : AllIn S T = (λ e j. In-left e S (x ∷ []) j) in
     let h_in : In h (F ++ (G ++ h ∷ B)) = In-right h F (G ++ h ∷ B) (In-right h G (h ∷ B) (inl refl)) in
     let d = chain_exists S tree h.id (IsThere-member S h (order.same.back h h_in)) in
-    let x_chain : IsChain T x.id (c ++ x.id ∷ []) = Leads-push T x.after c x.id (Leads-grow S T more Start c x.after l) (x.ch, In-last x S) in
-    let head : Before T x.id h.id = (c ++ x.id ∷ [], d.0, x_chain, Leads-grow S T more Start d.0 (After h.id) d.1, stopped_before S F G h B x tree order new ends stops c l d.0 d.1) in
+    let x_chain : IsChain T x.id (c ++ x.id ∷ []) = Descends-push T x.after c x.id (Descends-grow S T more Start c x.after l) (x.ch, In-last x S) in
+    let head : Before T x.id h.id = (c ++ x.id ∷ [], d.0, x_chain, Descends-grow S T more Start d.0 (After h.id) d.1, stopped_before S F G h B x tree order new ends stops c l d.0 d.1) in
     elim i as (λ _. Before T x.id b.id) [
       | inl e ↦ subst (λ (w : Insert). Before T x.id w.id) (sym e) head
       | inr j ↦ Before-trans T tree' x.id h.id b.id head (Before-grow S T more h.id b.id ((IsSortedIn-back S G (h ∷ B) (IsSortedIn-back S F (G ++ h ∷ B) order.sorted)).0 b j))
@@ -154,7 +155,7 @@ put_in_order S F G B x tree order can ends above stops =
     let tree' : IsTree T = IsTree-push S x tree can in
     let more : AllIn S T = (λ e j. In-left e S (x ∷ []) j) in
     let up = place_chain S tree x.id x.after can.place in
-    let x_chain : IsChain T x.id (up.0 ++ x.id ∷ []) = Leads-push T x.after up.0 x.id (Leads-grow S T more Start up.0 x.after up.1) (x.ch, In-last x S) in
+    let x_chain : IsChain T x.id (up.0 ++ x.id ∷ []) = Descends-push T x.after up.0 x.id (Descends-grow S T more Start up.0 x.after up.1) (x.ch, In-last x S) in
     let sorted_f = IsSortedIn-prefix S F (G ++ B) order.sorted in
     let sorted_gb = IsSortedIn-back S F (G ++ B) order.sorted in
     let is_there : (e : Insert) → In e (F ++ (G ++ B)) → IsThere S e.id = (λ e i. IsThere-member S e (order.same.back e i)) in
@@ -163,7 +164,7 @@ put_in_order S F G B x tree order can ends above stops =
     let at_prefix = prefix_chains S F tree sorted_f x.after ends up.0 up.1 e i d.0 d.1 in (
       d.0,
       up.0 ++ x.id ∷ [],
-      Leads-grow S T more Start d.0 (After e.id) d.1,
+      Descends-grow S T more Start d.0 (After e.id) d.1,
       x_chain,
       elim at_prefix as (λ _. Precedes d.0 (up.0 ++ x.id ∷ [])) [
         | inl same ↦ subst (λ w. Precedes w (up.0 ++ x.id ∷ [])) (sym same) (Precedes-prefix up.0 x.id [])
@@ -172,7 +173,7 @@ put_in_order S F G B x tree order can ends above stops =
     )) in
     let g_before : (e : Insert) → In e G → Before T e.id x.id = (λ e i.
     let d = chain_exists S tree e.id (is_there e (In-right e F (G ++ B) (In-left e G B i))) in
-    (d.0, up.0 ++ x.id ∷ [], Leads-grow S T more Start d.0 (After e.id) d.1, x_chain, passed_before S F G B x tree order ends above up.0 up.1 up.2 e i d.0 d.1)) in
+    (d.0, up.0 ++ x.id ∷ [], Descends-grow S T more Start d.0 (After e.id) d.1, x_chain, passed_before S F G B x tree order ends above up.0 up.1 up.2 e i d.0 d.1)) in
     let b_after = new_before S F G B x tree order can.new ends stops up.0 up.1 tree' in
     let sorted_xb : IsSortedIn T (x ∷ B) = (b_after, IsSortedIn-grow S T more B (IsSortedIn-back S G B sorted_gb)) in
     let sorted_gxb : IsSortedIn T (G ++ x ∷ B) =

@@ -3,6 +3,7 @@
 -- and the same in each larger set, as the strong list specification asks (Attiya and others, PODC 2016).
 use Rattle.std.specs.Prelude.{◌≡◌, ℕ, ◌≤◌, ◌⊎◌, List, [], ◌∷◌, ◌++◌, length, insert, if◌then◌else◌}
 use Rattle.tp_list.specs.Members.{In, SameMembers}
+use Rattle.tp_list.specs.Traces.{Trace}
 use Rattle.tp_opid.specs.declared.op_id.OpId.{OpId}
 use Rattle.tp_opid.specs.declared.op_id.Place.{Place}
 use Rattle.tp_opid.specs.declared.op_id.Place.TheVariants.{Start, After}
@@ -11,14 +12,13 @@ use Rattle.tp_opid.specs.Order.{Below}
 use Rattle.tp_opid.specs.Same.{id_eq}
 use Rattle.tp_opid.specs.Tree.{Inserts, IsTree}
 
--- The identifiers lead from the reference p to the reference q: S inserts each after the one before it, and the first after p.
-abbrev pub Leads : List Insert → Place → List OpId → Place → Type 0
-Leads S p [] q = p ≡ q
-Leads S p (x ∷ xs) q = Inserts S x p × Leads S (After x) xs q
+-- S inserts x after the reference p, and q is the reference that names x.
+abbrev pub Descends : List Insert → Place → OpId → Place → Type 0
+Descends S p x q = Inserts S x p × (q ≡ After x)
 
 -- The identifiers from the one that stands after the start, along references, to x.
 abbrev pub IsChain : List Insert → OpId → List OpId → Type 0
-IsChain S x c = Leads S Start c (After x)
+IsChain S x c = Trace (Descends S) Start c (After x)
 
 -- c is a proper beginning of d, or at the first difference c has the greater identifier.
 abbrev pub Precedes : List OpId → List OpId → Type 0

@@ -2,5 +2,4 @@ pub mod ListLaws
 pub mod ViewLaws
 pub mod RuleLaws
 pub mod TokenLaws
-pub mod HeldLaws
 pub mod SeatLaws

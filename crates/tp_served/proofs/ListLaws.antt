@@ -1,9 +1,9 @@
 -- Laws on lists: beginnings, and the changes of one seat.
-use Rattle.std.proofs.Common.{◌≡◌, ◌≢◌, ◌⊎◌, inl, inr, ⊎_elim, ℕ, zero, suc, eqb, eq-eqb, ne_eqb, cond, List, [], ◌∷◌, ◌++◌, length, replicate, drop, get_or, Bool, true, false, refl, sym, ap, ◌∙◌, arith, append_assoc, append-nil}
+use Rattle.std.proofs.Common.{◌≡◌, ◌≢◌, ◌⊎◌, inl, inr, ⊎_elim, ℕ, eqb, eq-eqb, ne_eqb, cond, List, [], ◌∷◌, ◌++◌, length, drop, get_or, Bool, true, false, refl, sym, ap, ◌∙◌, append_assoc, append-nil}
 use Rattle.tp_list.specs.Members.{In}
 use Rattle.tp_change.specs.declared.parts.ChangeParts.{ChangeParts}
 use Rattle.tp_receive.specs.Receiving.{Begins}
-use Rattle.tp_served.specs.Rule.{entered_by}
+use Rattle.tp_served.specs.Rule.{changes_of, entered_by, numbered}
 
 -- ---- beginnings
 
@@ -31,30 +31,34 @@ drop_begin (x ∷ C) new = drop_begin C new
 
 -- ---- the changes of one seat
 
-pub in_replicate : (n m k : ℕ) → In m (replicate k n) → m ≡ n
-in_replicate n m zero i = absurd i
-in_replicate n m (suc k) (inl e) = e
-in_replicate n m (suc k) (inr i) = in_replicate n m k i
+pub in_numbered : (x : ℕ × ChangeParts) (n : ℕ) (C : List ChangeParts) → In x (numbered n C) → x.0 ≡ n
+in_numbered x n [] i = absurd i
+in_numbered x n (c ∷ C) (inl e) = ap (λ (y : ℕ × ChangeParts). y.0) e
+in_numbered x n (c ∷ C) (inr i) = in_numbered x n C i
+
+numbered_are : (n : ℕ) (C : List ChangeParts) → changes_of (numbered n C) ≡ C
+numbered_are n [] = refl
+numbered_are n (c ∷ C) = ap (λ l. c ∷ l) (numbered_are n C)
+
+-- what a list is of which the seat n entered the last changes
+pub changes_more : (E : List (ℕ × ChangeParts)) (n : ℕ) (C : List ChangeParts) → changes_of (E ++ numbered n C) ≡ changes_of E ++ C
+changes_more [] n C = numbered_are n C
+changes_more (x ∷ E) n C = ap (λ l. x.1 ∷ l) (changes_more E n C)
 
 by_test : (b : Bool) (c : ChangeParts) (xs ys zs : List ChangeParts) → zs ≡ xs ++ ys → cond b (c ∷ zs) zs ≡ cond b (c ∷ xs) xs ++ ys
 by_test true c xs ys zs e = ap (λ l. c ∷ l) e
 by_test false c xs ys zs e = e
 
-pub entered-append : (n : ℕ) (who : List ℕ) (C : List ChangeParts) (more : List ℕ) (new : List ChangeParts) → length who ≡ length C
-    → entered_by n (who ++ more) (C ++ new) ≡ entered_by n who C ++ entered_by n more new
-entered-append n [] [] more new e = refl
-entered-append n [] (c ∷ C) more new e = absurd (omega arith)
-entered-append n (k ∷ who) [] more new e = absurd (omega arith)
-entered-append n (k ∷ who) (c ∷ C) more new e =
-    let rest = entered-append n who C more new (omega arith) in
-    by_test (eqb k n) c (entered_by n who C) (entered_by n more new) (entered_by n (who ++ more) (C ++ new)) rest
+pub entered-append : (n : ℕ) (E F : List (ℕ × ChangeParts)) → entered_by n (E ++ F) ≡ entered_by n E ++ entered_by n F
+entered-append n [] F = refl
+entered-append n (x ∷ E) F = by_test (eqb x.0 n) x.1 (entered_by n E) (entered_by n F) (entered_by n (E ++ F)) (entered-append n E F)
 
 -- all changes of the seat itself
-pub entered_all : (n : ℕ) (C : List ChangeParts) → entered_by n (replicate (length C) n) C ≡ C
+pub entered_all : (n : ℕ) (C : List ChangeParts) → entered_by n (numbered n C) ≡ C
 entered_all n [] = refl
-entered_all n (c ∷ C) = ap (λ b. cond b (c ∷ entered_by n (replicate (length C) n) C) (entered_by n (replicate (length C) n) C)) (eq-eqb n n refl) ∙ ap (λ l. c ∷ l) (entered_all n C)
+entered_all n (c ∷ C) = ap (λ b. cond b (c ∷ entered_by n (numbered n C)) (entered_by n (numbered n C))) (eq-eqb n n refl) ∙ ap (λ l. c ∷ l) (entered_all n C)
 
 -- none of another seat's
-pub entered_none : (n k : ℕ) (C : List ChangeParts) → k ≢ n → entered_by n (replicate (length C) k) C ≡ []
+pub entered_none : (n k : ℕ) (C : List ChangeParts) → k ≢ n → entered_by n (numbered k C) ≡ []
 entered_none n k [] other = refl
-entered_none n k (c ∷ C) other = ap (λ b. cond b (c ∷ entered_by n (replicate (length C) k) C) (entered_by n (replicate (length C) k) C)) (ne_eqb k n other) ∙ entered_none n k C other
+entered_none n k (c ∷ C) other = ap (λ b. cond b (c ∷ entered_by n (numbered k C)) (entered_by n (numbered k C))) (ne_eqb k n other) ∙ entered_none n k C other

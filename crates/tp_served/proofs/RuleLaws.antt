@@ -1,5 +1,5 @@
 -- Each step on the shared state keeps its rule.
-use Rattle.std.proofs.Common.{◌≡◌, ◌≢◌, ◌⊎◌, inl, inr, ⊎_elim, ℕ, zero, suc, ◌+◌, ◌<◌, eqb, cond, List, [], ◌∷◌, ◌++◌, length, set, get_or, take, drop, replicate, Option, Some, None, refl, sym, ap, ◌∙◌, subst, arith, length-append, append-nil, append_assoc, take-append-drop}
+use Rattle.std.proofs.Common.{◌≡◌, ◌≢◌, ◌⊎◌, inl, inr, ⊎_elim, ℕ, zero, suc, ◌+◌, ◌<◌, eqb, cond, List, [], ◌∷◌, ◌++◌, length, set, get_or, take, drop, Option, Some, None, refl, sym, ap, ◌∙◌, subst, arith, length-append, append-nil, append_assoc, take-append-drop}
 use Rattle.std.specs.Prelude.{MatchBool}
 use mathlib.Core.Logic.{dite}
 use native.Mathlib.Decide.{ℕ_discrete}
@@ -8,7 +8,6 @@ use lib.ListN.{get_elem?}
 use lib.Seq.{set-get_or}
 use prog.Atomic.{either}
 use Rattle.atomic_table.specs.Table.{Allows, Final, Joins, Seen, Splits, Step, gives, keeps, opening, takes}
-use Rattle.std.proofs.lemmas.List.{length-replicate}
 use Rattle.atomic_table.proofs.Lists.{at_last, at_longer, at_set, at_snoc, set_again, set_else, set_here}
 use Rattle.tp_list.specs.Members.{In}
 use Rattle.tp_list.proofs.Members.{In-append, In-left, In-right}
@@ -16,26 +15,26 @@ use Rattle.tp_change.specs.declared.parts.ChangeParts.{ChangeParts}
 use Rattle.tp_receive.specs.Receiving.{Begins}
 use Rattle.tp_peer.specs.Links.{known_of}
 use Rattle.tp_peer.specs.PeerData.{PeerData}
-use Rattle.tp_served.specs.Seats.{HaveMet, HeldPeer, SeatState, fresh_from, gave, missed_by, past, took}
-use Rattle.tp_served.specs.Rule.{AllFit, Fits, IsCurrent, IsHome, IsLeft, IsOut, IsServed, Shared, ViewState, alone, entered_by, holds, idle, times}
+use Rattle.tp_served.specs.Seats.{HaveMet, SeatState, fresh_from, gave, missed_by, past, took}
+use Rattle.tp_served.specs.Rule.{AllFit, Fits, IsCurrent, IsHome, IsLeft, IsOut, IsServed, Shared, ViewState, alone, changes_of, entered_by, holds, idle, numbered, times}
 use Rattle.tp_served.specs.Sitting.{first_seat}
 use Rattle.tp_served.specs.Steps.{Serves, Takes, Token, first_of, given, joined, looked, others_of, spent, tried}
 use Rattle.tp_served.specs.Calls.{Closes}
-use Rattle.tp_served.proofs.ListLaws.{begins_more, begins_same, both_begin, drop_begin, entered-append, entered_all, entered_none, in_replicate}
+use Rattle.tp_served.proofs.ListLaws.{begins_more, begins_same, both_begin, changes_more, drop_begin, entered-append, entered_all, entered_none, in_numbered}
 use Rattle.tp_served.proofs.ViewLaws.{AllFit-append, AllFit-in, AllFit-map, AllFit-split, at_below, at_one, fresh_fit, fresh_once, length_fresh, length_parted, times-append, times_in, times_le, times_parted, total-push, total-set, total_le, two_le}
 
 abbrev Slot : Type 0
-Slot = maybe.Option (Option HeldPeer)
+Slot = maybe.Option (Option PeerData)
 
 abbrev seats_in : ViewState → ℕ
 seats_in v = length v.seats
 
 -- no view both holds a peer and is idle
-pub not_idle : {A : Type 0} (h : HeldPeer) → Some h ≡ None → A
+pub not_idle : {A : Type 0} (h : PeerData) → Some h ≡ None → A
 not_idle h e = cc
 
 -- the peer in the slot taken last
-abbrev last_held : HeldPeer → List (ℕ × Option HeldPeer) → HeldPeer
+abbrev last_held : PeerData → List (ℕ × Option PeerData) → PeerData
 last_held h [] = h
 last_held h ((k, None) ∷ xs) = h
 last_held h ((k, Some g) ∷ xs) = g
@@ -56,7 +55,7 @@ module _ (opened : PeerData) (count : ℕ) where
       let there' = times_in t.number u.seats x i e in
       absurd (omega arith)
 
-  reset : (s : Shared) (k : IsServed opened count s) (id : ℕ) (v w : ViewState) (t t' : SeatState) (h : HeldPeer) (entered : List ChangeParts) (words : List ℕ) (homes : List Slot)
+  reset : (s : Shared) (k : IsServed opened count s) (id : ℕ) (v w : ViewState) (t t' : SeatState) (h : PeerData) (entered : List (ℕ × ChangeParts)) (words : List ℕ) (homes : List Slot)
       → get_elem? s.views id ≡ maybe.some v → v.seats ≡ t ∷ [] → w.seats ≡ t' ∷ [] → t'.number ≡ t.number
       → IsCurrent opened count entered h
       → IsHome h (record { words = words; homes = homes; views = set s.views id w }) ⊎ IsOut h (record { words = words; homes = homes; views = set s.views id w })
@@ -82,7 +81,7 @@ module _ (opened : PeerData) (count : ℕ) where
       }
 
   -- the same peer was left by a seat that notes something else
-  left_still : (views : List ViewState) (id : ℕ) (v w : ViewState) (t t' : SeatState) (h : HeldPeer) → get_elem? views id ≡ maybe.some v → v.seats ≡ t ∷ [] → w.seats ≡ t' ∷ [] → t'.after ≡ t.after
+  left_still : (views : List ViewState) (id : ℕ) (v w : ViewState) (t t' : SeatState) (h : PeerData) → get_elem? views id ≡ maybe.some v → v.seats ≡ t ∷ [] → w.seats ≡ t' ∷ [] → t'.after ≡ t.after
       → IsLeft h views → IsLeft h (set views id w)
   left_still views id v w t t' h at one one' same l = dite (ℕ_discrete l.view id)
       (λ e. let here : v ≡ l.state = maybe.some-injective v l.state (sym at ∙ (ap (get_elem? views) (sym e) ∙ l.there)) in
@@ -99,18 +98,18 @@ module _ (opened : PeerData) (count : ℕ) where
       (λ ne. record { view = l.view; state = l.state; there = set_else views id l.view w ne ∙ l.there; seat = l.seat; member = l.member; left = l.left })
 
   -- what a seat notes of tries changes nothing else
-  fits_noting : (C : List ChangeParts) (h : HeldPeer) (t t' : SeatState) → t'.number ≡ t.number → t'.after ≡ t.after → t'.mine ≡ t.mine → Fits count C h t → Fits count C h t'
+  fits_noting : (C : List (ℕ × ChangeParts)) (h : PeerData) (t t' : SeatState) → t'.number ≡ t.number → t'.after ≡ t.after → t'.mine ≡ t.mine → Fits count C h t → Fits count C h t'
   fits_noting C h t t' number after mine f = record {
     number = subst (λ n. n < count) (sym number) f.number;
-    goes_on = record {
-      seen = subst (λ (p : PeerData). Begins p.applied h.peer.applied) (sym after) f.goes_on.seen;
-      link = ap (known_of h.peer.links) number ∙ (f.goes_on.link ∙ λ i. known_of (sym after i).links (sym number i));
+    kept = record {
+      seen = subst (λ (p : PeerData). Begins p.applied h.applied) (sym after) f.kept.seen;
+      link = ap (known_of h.links) number ∙ (f.kept.link ∙ λ i. known_of (sym after i).links (sym number i));
     };
-    mine = ap (λ n. entered_by n h.who C) number ∙ (f.mine ∙ sym mine);
+    mine = ap (λ n. entered_by n C) number ∙ (f.mine ∙ sym mine);
   }
 
   -- the one who holds the peer is none that is idle
-  holder_apart : (s : Shared) (h : HeldPeer) (out : IsOut h s) (j : ℕ) (v : ViewState) → get_elem? s.views j ≡ maybe.some v → v.holding ≡ None → out.holder ≢ j
+  holder_apart : (s : Shared) (h : PeerData) (out : IsOut h s) (j : ℕ) (v : ViewState) → get_elem? s.views j ≡ maybe.some v → v.holding ≡ None → out.holder ≢ j
   holder_apart s h out j v at none e =
       let here : holds h out.seat ≡ v = maybe.some-injective (holds h out.seat) v (sym out.held ∙ (ap (get_elem? s.views) e ∙ at)) in
       not_idle h (ap (λ (y : ViewState). y.holding) here ∙ none)
@@ -153,10 +152,10 @@ module _ (opened : PeerData) (count : ℕ) where
       (λ u other f. f)
       (left_still s.views id (alone t) (alone (missed_by 1 t)) t (missed_by 1 t) k.current at refl refl refl k.left)
 
-  same_seat : (t u : SeatState) (xs ys : List (ℕ × Option HeldPeer)) → (let m : Token = (alone t, xs) in m) ≡ (alone u, ys) → t ≡ u
+  same_seat : (t u : SeatState) (xs ys : List (ℕ × Option PeerData)) → (let m : Token = (alone t, xs) in m) ≡ (alone u, ys) → t ≡ u
   same_seat t u xs ys e = ap (λ (m : Token). first_seat m.0.seats) e
 
-  pub tries : (slots id : ℕ) (st : Step (Option HeldPeer)) (m : Token) (t : SeatState) → m ≡ (alone t, []) → Allows (IsServed opened count) slots id m 0 (λ n. either (eqb n 0) 1 n) (tried st m)
+  pub tries : (slots id : ℕ) (st : Step (Option PeerData)) (m : Token) (t : SeatState) → m ≡ (alone t, []) → Allows (IsServed opened count) slots id m 0 (λ n. either (eqb n 0) 1 n) (tried st m)
   tries slots id st m t e = subst (λ (x : Token). Allows (IsServed opened count) slots id x 0 (λ n. either (eqb n 0) 1 n) (tried st x)) (sym e) (λ s k _ at _.
       ⊎_elim
       (λ (home : IsHome k.current s). (
@@ -168,7 +167,7 @@ module _ (opened : PeerData) (count : ℕ) where
             (same_seat t u [] [] same)
             (subst (λ (n : ℕ). MatchBool (eqb n 0) (Takes t (holds k.current (took t), (0, Some k.current) ∷ [])) ((let m' : Token = (holds k.current (took t), (0, Some k.current) ∷ []) in m') ≡ (alone (missed_by 1 t), [])))
             (sym (ap (λ (ws : List ℕ). get_or ws 0 0) home.word))
-            (record { found = k.current; goes_on = (AllFit-in count k.entered k.current (t ∷ []) t (k.fits id (alone t) at) (inl refl)).goes_on; out = refl })),
+            (record { found = k.current; kept = (AllFit-in count k.entered k.current (t ∷ []) t (k.fits id (alone t) at) (inl refl)).kept; out = refl })),
       ))
       (λ (out : IsOut k.current s). (
         alone (missed_by 1 t),
@@ -184,58 +183,51 @@ module _ (opened : PeerData) (count : ℕ) where
 
   -- ---- give back
 
-  serves_current : (C : List ChangeParts) (n : ℕ) (h h' : HeldPeer) → n < count → IsCurrent opened count C h → (sv : Serves n h h') → IsCurrent opened count (C ++ sv.new) h'
+  serves_current : (C : List (ℕ × ChangeParts)) (n : ℕ) (h h' : PeerData) → n < count → IsCurrent opened count C h → (sv : Serves n h h') → IsCurrent opened count (C ++ numbered n sv.new) h'
   serves_current C n h h' below is sv = record {
     id = sv.id ∙ is.id;
     actor = sv.actor ∙ is.actor;
-    applied = sv.applied ∙ (ap (λ l. l ++ sv.new) is.applied ∙ append_assoc opened.applied C sv.new);
-    numbered = ap length sv.who ∙ (length-append h.who (replicate (length sv.new) n) ∙ (let a = length-replicate (length sv.new) n in let b = is.numbered in let c = length-append C sv.new in omega arith));
-    seats = λ m i. ⊎_elim (is.seats m) (λ j. subst (λ x. x < count) (sym (in_replicate n m (length sv.new) j)) below) (In-append m h.who (replicate (length sv.new) n) (subst (In m) sv.who i));
+    applied = sv.applied ∙ (ap (λ l. l ++ sv.new) is.applied ∙ (append_assoc opened.applied (changes_of C) sv.new ∙ ap (λ l. opened.applied ++ l) (sym (changes_more C n sv.new))));
+    seats = λ x i. ⊎_elim (is.seats x) (λ j. subst (λ m. m < count) (sym (in_numbered x n sv.new j)) below) (In-append x C (numbered n sv.new) i);
   }
 
-  -- the changes of the seat m among those of h', by those of h
-  entered_serving : (C : List ChangeParts) (m n : ℕ) (h h' : HeldPeer) (xs : List ChangeParts) → length h.who ≡ length C → (sv : Serves n h h') → entered_by m (replicate (length sv.new) n) sv.new ≡ xs
-      → entered_by m h'.who (C ++ sv.new) ≡ entered_by m h.who C ++ xs
-  entered_serving C m n h h' xs numbered sv e =
-      ap (λ w. entered_by m w (C ++ sv.new)) sv.who ∙ (entered-append m h.who C (replicate (length sv.new) n) sv.new numbered ∙ ap (λ l. entered_by m h.who C ++ l) e)
-
-  serves_other : (C : List ChangeParts) (n : ℕ) (h h' : HeldPeer) (u : SeatState) → length h.who ≡ length C → (sv : Serves n h h') → u.number ≢ n → Fits count C h u → Fits count (C ++ sv.new) h' u
-  serves_other C n h h' u numbered sv other f = record {
+  serves_other : (C : List (ℕ × ChangeParts)) (n : ℕ) (h h' : PeerData) (u : SeatState) → (sv : Serves n h h') → u.number ≢ n → Fits count C h u → Fits count (C ++ numbered n sv.new) h' u
+  serves_other C n h h' u sv other f = record {
     number = f.number;
-    goes_on = record { seen = subst (Begins u.after.applied) (sym sv.applied) (begins_more u.after.applied h.peer.applied sv.new f.goes_on.seen); link = sv.links u.number other ∙ f.goes_on.link };
-    mine = entered_serving C u.number n h h' [] numbered sv (entered_none u.number n sv.new (λ e. other (sym e))) ∙ (append-nil (entered_by u.number h.who C) ∙ f.mine);
+    kept = record { seen = subst (Begins u.after.applied) (sym sv.applied) (begins_more u.after.applied h.applied sv.new f.kept.seen); link = sv.links u.number other ∙ f.kept.link };
+    mine = entered-append u.number C (numbered n sv.new) ∙ (ap (λ l. entered_by u.number C ++ l) (entered_none u.number n sv.new (λ e. other (sym e))) ∙ (append-nil (entered_by u.number C) ∙ f.mine));
   }
 
-  serves_own : (C : List ChangeParts) (h h' : HeldPeer) (t : SeatState) → length h.who ≡ length C → (sv : Serves t.number h h') → Fits count C h t → Fits count (C ++ sv.new) h' (gave h.peer h'.peer t)
-  serves_own C h h' t numbered sv f =
-      let past_is : past h.peer h'.peer ≡ sv.new = ap (drop (length h.peer.applied)) sv.applied ∙ drop_begin h.peer.applied sv.new in record {
+  serves_own : (C : List (ℕ × ChangeParts)) (h h' : PeerData) (t : SeatState) → (sv : Serves t.number h h') → Fits count C h t → Fits count (C ++ numbered t.number sv.new) h' (gave h h' t)
+  serves_own C h h' t sv f =
+      let past_is : past h h' ≡ sv.new = ap (drop (length h.applied)) sv.applied ∙ drop_begin h.applied sv.new in record {
         number = f.number;
-        goes_on = record { seen = begins_same h'.peer.applied; link = refl };
-        mine = entered_serving C t.number t.number h h' (past h.peer h'.peer) numbered sv (entered_all t.number sv.new ∙ sym past_is) ∙ ap (λ l. l ++ past h.peer h'.peer) f.mine;
+        kept = record { seen = begins_same h'.applied; link = refl };
+        mine = entered-append t.number C (numbered t.number sv.new) ∙ λ i. f.mine i ++ (entered_all t.number sv.new ∙ sym past_is) i;
       }
 
-  gives_home : (s : Shared) (k : IsServed opened count s) (id : ℕ) (t : SeatState) (h h' : HeldPeer) → get_elem? s.views id ≡ maybe.some (holds h t) → h ≡ k.current → (out : IsOut k.current s) → id ≡ out.holder
-      → Serves t.number h h' → IsServed opened count (record { words = set s.words 0 0; homes = set s.homes 0 (maybe.some (Some h')); views = set s.views id (alone (gave h.peer h'.peer t)) })
+  gives_home : (s : Shared) (k : IsServed opened count s) (id : ℕ) (t : SeatState) (h h' : PeerData) → get_elem? s.views id ≡ maybe.some (holds h t) → h ≡ k.current → (out : IsOut k.current s) → id ≡ out.holder
+      → Serves t.number h h' → IsServed opened count (record { words = set s.words 0 0; homes = set s.homes 0 (maybe.some (Some h')); views = set s.views id (alone (gave h h' t)) })
   gives_home s k id t h h' at current out e sv =
       let is : IsCurrent opened count k.entered h = subst (IsCurrent opened count k.entered) (sym current) k.is in
       let all : AllFit count k.entered h (t ∷ []) = subst (λ x. AllFit count k.entered x (t ∷ [])) (sym current) (k.fits id (holds h t) at) in
-      reset s k id (holds h t) (alone (gave h.peer h'.peer t)) t (gave h.peer h'.peer t) h' (k.entered ++ sv.new) (set s.words 0 0) (set s.homes 0 (maybe.some (Some h')))
+      reset s k id (holds h t) (alone (gave h h' t)) t (gave h h' t) h' (k.entered ++ numbered t.number sv.new) (set s.words 0 0) (set s.homes 0 (maybe.some (Some h')))
       at refl refl refl (serves_current k.entered t.number h h' all.0.number is sv)
       (inl (record {
         word = ap (λ (ws : List ℕ). set ws 0 0) out.word;
         slot = ap (λ (hs : List Slot). set hs 0 (maybe.some (Some h'))) out.slot;
-        idle = λ j v there. ⊎_elim (λ (x : (j ≡ id) × (alone (gave h.peer h'.peer t) ≡ v)). sym (ap (λ (y : ViewState). y.holding) x.1))
-            (λ (x : (j ≢ id) × (get_elem? s.views j ≡ maybe.some v)). out.idle j v x.1 (λ f. x.0 (f ∙ sym e))) (at_set s.views id j (alone (gave h.peer h'.peer t)) v there);
+        idle = λ j v there. ⊎_elim (λ (x : (j ≡ id) × (alone (gave h h' t) ≡ v)). sym (ap (λ (y : ViewState). y.holding) x.1))
+            (λ (x : (j ≢ id) × (get_elem? s.views j ≡ maybe.some v)). out.idle j v x.1 (λ f. x.0 (f ∙ sym e))) (at_set s.views id j (alone (gave h h' t)) v there);
       }))
-      (serves_own k.entered h h' t is.numbered sv all.0)
-      (λ u other f. serves_other k.entered t.number h h' u is.numbered sv other (subst (λ x. Fits count k.entered x u) (sym current) f))
-      (record { view = id; state = alone (gave h.peer h'.peer t); there = set_here s.views id (alone (gave h.peer h'.peer t)) (at_below s.views id (holds h t) at); seat = gave h.peer h'.peer t; member = inl refl; left = refl })
+      (serves_own k.entered h h' t sv all.0)
+      (λ u other f. serves_other k.entered t.number h h' u sv other (subst (λ x. Fits count k.entered x u) (sym current) f))
+      (record { view = id; state = alone (gave h h' t); there = set_here s.views id (alone (gave h h' t)) (at_below s.views id (holds h t) at); seat = gave h h' t; member = inl refl; left = refl })
 
-  abbrev held_or : HeldPeer → Option HeldPeer → HeldPeer
+  abbrev held_or : PeerData → Option PeerData → PeerData
   held_or h None = h
   held_or h (Some g) = g
 
-  pub gives_back : (slots id n : ℕ) (st : Step (Option HeldPeer)) (m : Token) (t : SeatState) (h h' : HeldPeer) → m ≡ (holds h t, (0, Some h') ∷ []) → Serves t.number h h'
+  pub gives_back : (slots id n : ℕ) (st : Step (Option PeerData)) (m : Token) (t : SeatState) (h h' : PeerData) → m ≡ (holds h t, (0, Some h') ∷ []) → Serves t.number h h'
       → Allows (IsServed opened count) slots id m 0 (λ _. 0) (λ _. given st m n)
   gives_back slots id n st m t h h' e sv = subst (λ (x : Token). Allows (IsServed opened count) slots id x 0 (λ _. 0) (λ _. given st x n)) (sym e) (λ s k _ at _.
       ⊎_elim
@@ -243,7 +235,7 @@ module _ (opened : PeerData) (count : ℕ) where
       (λ (out : IsOut k.current s). dite (ℕ_discrete id out.holder)
       (λ same.
       let here : holds h t ≡ holds k.current out.seat = maybe.some-injective (holds h t) (holds k.current out.seat) (sym at ∙ (ap (get_elem? s.views) same ∙ out.held)) in (
-        alone (gave h.peer h'.peer t),
+        alone (gave h h' t),
         gives,
         tt,
         gives_home s k id t h h' at (ap (λ (y : ViewState). held_or h y.holding) here) out same sv,
@@ -251,7 +243,7 @@ module _ (opened : PeerData) (count : ℕ) where
             let seat : t ≡ u = ap (λ (x : Token). first_seat x.0.seats) eq in
             let found : h ≡ g = ap (λ (x : Token). held_or h x.0.holding) eq in
             let left : h' ≡ g' = ap (λ (x : Token). last_held h x.1) eq in
-            λ i. (alone (gave (found i).peer (left i).peer (seat i)), []),
+            λ i. (alone (gave (found i) (left i) (seat i)), []),
       ))
       (λ other. not_idle h (out.idle id (holds h t) at other)))
       k.place)
@@ -261,10 +253,10 @@ module _ (opened : PeerData) (count : ℕ) where
   still : (s : Shared) (id : ℕ) (v : ViewState) → get_elem? s.views id ≡ maybe.some v → IsServed opened count s → IsServed opened count (record { words = set s.words 0 (get_or s.words 0 0); homes = s.homes; views = set s.views id v })
   still s id v at k = subst (IsServed opened count) (λ i. record { words = sym (set-get_or s.words 0 0) i; homes = s.homes; views = sym (set_again s.views id v at) i }) k
 
-  pub looks : (slots id : ℕ) (st : Step (Option HeldPeer)) (m : Token) (t u : SeatState) → m ≡ (idle (t ∷ u ∷ []), []) → Allows (IsServed opened count) slots id m 0 (λ n. n) (looked st m)
+  pub looks : (slots id : ℕ) (st : Step (Option PeerData)) (m : Token) (t u : SeatState) → m ≡ (idle (t ∷ u ∷ []), []) → Allows (IsServed opened count) slots id m 0 (λ n. n) (looked st m)
   looks slots id st m t u e = subst (λ (x : Token). Allows (IsServed opened count) slots id x 0 (λ n. n) (looked st x)) (sym e) (λ s k _ at _.
       let all = k.fits id (idle (t ∷ u ∷ [])) at in
-      let met : HaveMet t u = both_begin t.after.applied u.after.applied k.current.peer.applied all.0.goes_on.seen all.1.0.goes_on.seen in (
+      let met : HaveMet t u = both_begin t.after.applied u.after.applied k.current.applied all.0.kept.seen all.1.0.kept.seen in (
         idle (t ∷ u ∷ []),
         keeps,
         tt,
@@ -380,17 +372,17 @@ module _ (opened : PeerData) (count : ℕ) where
 
   -- ---- the beginning and the end
 
-  first_left : (k : ℕ) → 0 < k → IsLeft (record { peer = opened; who = [] }) (idle (fresh_from opened 0 k) ∷ [])
+  first_left : (k : ℕ) → 0 < k → IsLeft opened (idle (fresh_from opened 0 k) ∷ [])
   first_left zero some = absurd (omega arith)
   first_left (suc k) some = record { view = 0; state = idle (fresh_from opened 0 (suc k)); there = refl; seat = record { number = 0; before = opened; after = opened; mine = []; taken = 0; missed = 0 }; member = inl refl; left = refl }
 
-  pub opens : 0 < count → IsServed opened count (opening (0 ∷ []) (Some (record { peer = opened; who = [] }) ∷ []) (idle (fresh_from opened 0 count)))
+  pub opens : 0 < count → IsServed opened count (opening (0 ∷ []) (Some opened ∷ []) (idle (fresh_from opened 0 count)))
   opens some = record {
-    current = record { peer = opened; who = [] };
+    current = opened;
     entered = [];
-    is = record { id = refl; actor = refl; applied = sym (append-nil opened.applied); numbered = refl; seats = λ n i. absurd i };
+    is = record { id = refl; actor = refl; applied = sym (append-nil opened.applied); seats = λ x i. absurd i };
     place = inl (record { word = refl; slot = refl; idle = λ j v at. sym (ap (λ (y : ViewState). y.holding) (at_one (idle (fresh_from opened 0 count)) v j at)) });
-    fits = λ j v at. subst (λ (y : ViewState). AllFit count [] (record { peer = opened; who = [] }) y.seats) (at_one (idle (fresh_from opened 0 count)) v j at) (fresh_fit opened count 0 count (omega arith));
+    fits = λ j v at. subst (λ (y : ViewState). AllFit count [] opened y.seats) (at_one (idle (fresh_from opened 0 count)) v j at) (fresh_fit opened count 0 count (omega arith));
     once = λ n below. let a = fresh_once opened n 0 count (omega arith) (omega arith) in omega arith;
     all = let a = length_fresh opened 0 count in omega arith;
     left = first_left count some;
@@ -420,26 +412,24 @@ module _ (opened : PeerData) (count : ℕ) where
       (λ e. subst (λ (y : ViewState). In l.seat y.seats) (sym (maybe.some-injective v l.state (sym at ∙ (ap (get_elem? s.views) (sym e) ∙ l.there)))) l.member)
       (λ ne. absurd (none_in l.seat l.state.seats (others_none s k id l.view v l.state at all ne l.there) l.member))
 
-  closed : (s : Shared) (k : IsServed opened count s) (id : ℕ) (states : List SeatState) → get_elem? s.views id ≡ maybe.some (idle states) → length states ≡ count → Closes opened count states k.current.peer
+  closed : (s : Shared) (k : IsServed opened count s) (id : ℕ) (states : List SeatState) → get_elem? s.views id ≡ maybe.some (idle states) → length states ≡ count → Closes opened count states k.current
   closed s k id states at all = record {
     id = k.is.id;
     actor = k.is.actor;
     seat = k.left.seat;
     member = all_left s k id (idle states) at all;
     left = k.left.left;
-    goes_on = λ t i. (AllFit-in count k.entered k.current states t (k.fits id (idle states) at) i).goes_on;
+    kept = λ t i. (AllFit-in count k.entered k.current states t (k.fits id (idle states) at) i).kept;
     entered = k.entered;
     applied = k.is.applied;
-    who = k.current.who;
-    numbered = k.is.numbered;
     seats = k.is.seats;
     once = all_once s k id (idle states) at all;
     mine = λ t i. (AllFit-in count k.entered k.current states t (k.fits id (idle states) at) i).mine;
   }
 
   -- with all seats in one view that holds nothing, the peer is in the slot
-  pub closes : (id : ℕ) (states : List SeatState) (ws : List ℕ) (xs : List (Option HeldPeer)) → length states ≡ count → Final (Seen (IsServed opened count) id (idle states)) ws xs
-      → (h : HeldPeer) × (get_elem? xs 0 ≡ maybe.some (Some h)) × Closes opened count states h.peer
+  pub closes : (id : ℕ) (states : List SeatState) (ws : List ℕ) (xs : List (Option PeerData)) → length states ≡ count → Final (Seen (IsServed opened count) id (idle states)) ws xs
+      → (h : PeerData) × (get_elem? xs 0 ≡ maybe.some (Some h)) × Closes opened count states h
   closes id states ws xs all final =
       let s = final.0 in
       let k = final.1.0 in
@@ -459,6 +449,6 @@ module _ (opened : PeerData) (count : ℕ) where
   pub splits_at : (id : ℕ) (v : ViewState) (ts : List SeatState) → v ≡ idle ts → Splits (IsServed opened count) id v (first_of v) (others_of v)
   splits_at id v ts e = subst (λ (x : ViewState). Splits (IsServed opened count) id x (first_of x) (others_of x)) (sym e) (splits id ts)
 
-  pub closes_at : (id : ℕ) (v : ViewState) (states : List SeatState) (ws : List ℕ) (xs : List (Option HeldPeer)) → v ≡ idle states → length states ≡ count → Final (Seen (IsServed opened count) id v) ws xs
-      → (h : HeldPeer) × (get_elem? xs 0 ≡ maybe.some (Some h)) × Closes opened count states h.peer
+  pub closes_at : (id : ℕ) (v : ViewState) (states : List SeatState) (ws : List ℕ) (xs : List (Option PeerData)) → v ≡ idle states → length states ≡ count → Final (Seen (IsServed opened count) id v) ws xs
+      → (h : PeerData) × (get_elem? xs 0 ≡ maybe.some (Some h)) × Closes opened count states h
   closes_at id v states ws xs e all final = closes id states ws xs all (subst (λ (x : ViewState). Final (Seen (IsServed opened count) id x) ws xs) e final)

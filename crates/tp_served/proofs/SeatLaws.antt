@@ -3,7 +3,7 @@ use Rattle.std.proofs.Common.{◌≡◌, ℕ, zero, suc, ◌+◌, ◌-◌, ◌<�
 use Rattle.atomic_table.specs.Seated.{TableId}
 use Rattle.atomic_table.specs.Table.{opening}
 use Rattle.tp_peer.specs.PeerData.{PeerData}
-use Rattle.tp_served.specs.Seats.{HeldPeer, SeatData, SeatState, fresh, fresh_from, seats_of, states_of}
+use Rattle.tp_served.specs.Seats.{SeatData, SeatState, fresh, fresh_from, seats_of, states_of}
 use Rattle.tp_served.specs.Rule.{IsServed, alone, idle}
 use Rattle.tp_served.specs.Steps.{first_of, others_of}
 use Rattle.tp_served.specs.Calls.{AreOf}
@@ -33,10 +33,10 @@ seats_push served p n =
     sym (map_push served (fresh_from p 0 n) (fresh p n))
     ∙ ap (seats_of served) (ap (λ k. fresh_from p 0 n ++ fresh p k ∷ []) (let e : n ≡ 0 + n = omega arith in e) ∙ (sym (fresh_push p 0 n) ∙ ap (fresh_from p 0) (let e : suc n ≡ n + 1 = omega arith in e)))
 
-pub opens_at : (opened value : PeerData) (count : ℕ) (xs : List (Option HeldPeer)) → value ≡ opened → xs ≡ Some (record { peer = opened; who = [] }) ∷ [] → 0 < count → IsServed value count (opening (0 ∷ []) xs (idle (fresh_from value 0 count)))
+pub opens_at : (opened value : PeerData) (count : ℕ) (xs : List (Option PeerData)) → value ≡ opened → xs ≡ Some opened ∷ [] → 0 < count → IsServed value count (opening (0 ∷ []) xs (idle (fresh_from value 0 count)))
 opens_at opened value count xs same slots some =
     subst (λ (p : PeerData). IsServed p count (opening (0 ∷ []) xs (idle (fresh_from p 0 count)))) (sym same)
-    (subst (λ (l : List (Option HeldPeer)). IsServed opened count (opening (0 ∷ []) l (idle (fresh_from opened 0 count)))) (sym slots) (opens opened count some))
+    (subst (λ (l : List (Option PeerData)). IsServed opened count (opening (0 ∷ []) l (idle (fresh_from opened 0 count)))) (sym slots) (opens opened count some))
 
 -- ---- joined
 

@@ -4,16 +4,18 @@ use Rattle.std.specs.Prelude.{MatchBool}
 use Rattle.atomic_table.specs.Table.{Step, rest, step}
 use mathlib.Core.Option as maybe
 use Rattle.atomic_table.specs.Seated.{TableId}
+use Rattle.tp_peer.specs.PeerData.{PeerData}
 use Rattle.tp_peer.specs.PeerStep.{Call, PeerStep, Reply}
-use Rattle.tp_served.specs.Seats.{HeldPeer, SeatState, Shows, gave, missed_by, took}
+use Rattle.tp_peer.proofs.StepLaws.{step_keeps}
+use Rattle.tp_served.specs.Seats.{SeatState, Shows, gave, missed_by, took}
 use Rattle.tp_served.specs.Rule.{ViewState, alone, holds, idle}
 use Rattle.tp_served.specs.Sitting.{IsSeat, seat_of}
 use Rattle.tp_served.specs.Steps.{Serves, Takes, Token, given, joined, tried}
 use Rattle.tp_served.specs.ServedError.{Answer, Replied}
-use Rattle.tp_served.specs.Calls.{EndsTurn, IsTurn, Tries}
+use Rattle.tp_served.specs.Calls.{EndsTurn, IsOnlyOn, IsTurn, Tries}
 
 -- a step, where what it tells doesn't hang on it
-abbrev pub any_step : Step (Option HeldPeer)
+abbrev pub any_step : Step (Option PeerData)
 any_step = step 0 0 0 0 maybe.none
 
 -- the first of the views
@@ -22,7 +24,7 @@ first_view [] = idle []
 first_view (v ∷ vs) = v
 
 -- what the slot taken last has
-top : List (ℕ × Option HeldPeer) → Option HeldPeer
+top : List (ℕ × Option PeerData) → Option PeerData
 top [] = None
 top (x ∷ xs) = x.1
 
@@ -31,44 +33,44 @@ pub token_is : (v : ViewState) (m : Token) (views : List ViewState) → views �
 unfolding first_view
 token_is v m views e d none = λ i. (ap first_view (sym e ∙ d) i, none i)
 
-pub tried_miss : (st : Step (Option HeldPeer)) (m : Token) (r : ℕ) (m' : Token) (t : SeatState) → tried st m r m' → r ≢ 0 → m ≡ (alone t, []) → m' ≡ (alone (missed_by 1 t), [])
+pub tried_miss : (st : Step (Option PeerData)) (m : Token) (r : ℕ) (m' : Token) (t : SeatState) → tried st m r m' → r ≢ 0 → m ≡ (alone t, []) → m' ≡ (alone (missed_by 1 t), [])
 tried_miss st m r m' t tells other e =
     let now : MatchBool (eqb r 0) (Takes t m') (m' ≡ (alone (missed_by 1 t), [])) = tells t e in
     subst (λ b. MatchBool b (Takes t m') (m' ≡ (alone (missed_by 1 t), []))) (ne_eqb r 0 other) now
 
-pub tried_take : (st : Step (Option HeldPeer)) (m : Token) (r : ℕ) (m' : Token) (t : SeatState) → tried st m r m' → r ≡ 0 → m ≡ (alone t, []) → Takes t m'
+pub tried_take : (st : Step (Option PeerData)) (m : Token) (r : ℕ) (m' : Token) (t : SeatState) → tried st m r m' → r ≡ 0 → m ≡ (alone t, []) → Takes t m'
 tried_take st m r m' t tells zero e =
     let now : MatchBool (eqb r 0) (Takes t m') (m' ≡ (alone (missed_by 1 t), [])) = tells t e in
     subst (λ b. MatchBool b (Takes t m') (m' ≡ (alone (missed_by 1 t), []))) (eq-eqb r 0 zero) now
 
 -- a seat that took the peer may read and write the slot
-pub slot_out : (t : SeatState) (m : Token) → Takes t m → (old : Option HeldPeer) × (m.1 ≡ (0, old) ∷ rest m.1)
+pub slot_out : (t : SeatState) (m : Token) → Takes t m → (old : Option PeerData) × (m.1 ≡ (0, old) ∷ rest m.1)
 slot_out t m takes =
     let e : m.1 ≡ (0, Some takes.found) ∷ [] = ap (λ (x : Token). x.1) takes.out in
-    (Some takes.found, e ∙ ap (λ (l : List (ℕ × Option HeldPeer)). (0, Some takes.found) ∷ rest l) (sym e))
+    (Some takes.found, e ∙ ap (λ (l : List (ℕ × Option PeerData)). (0, Some takes.found) ∷ rest l) (sym e))
 
 -- what the slot has is the peer
-pub slot_has : (t : SeatState) (m : Token) (r : Option HeldPeer) → (takes : Takes t m) → m.1 ≡ (0, r) ∷ rest m.1 → r ≡ Some takes.found
+pub slot_has : (t : SeatState) (m : Token) (r : Option PeerData) → (takes : Takes t m) → m.1 ≡ (0, r) ∷ rest m.1 → r ≡ Some takes.found
 unfolding top
 slot_has t m r takes e = ap top (sym e ∙ ap (λ (x : Token). x.1) takes.out)
 
-some_or : HeldPeer → Option HeldPeer → HeldPeer
+some_or : PeerData → Option PeerData → PeerData
 some_or h None = h
 some_or h (Some g) = g
 
-pub some_same : (h g : HeldPeer) → Some h ≡ Some g → h ≡ g
+pub some_same : (h g : PeerData) → Some h ≡ Some g → h ≡ g
 unfolding some_or
 some_same h g e = ap (some_or h) e
 
 -- the peer was taken out of the slot
-pub turn_is : (t : SeatState) (m m' : Token) (r : Option HeldPeer) (h : HeldPeer) → Takes t m → m.1 ≡ (0, r) ∷ rest m.1 → m' ≡ (m.0, (0, None) ∷ rest m.1) → r ≡ Some h → IsTurn t m' h
+pub turn_is : (t : SeatState) (m m' : Token) (r : Option PeerData) (h : PeerData) → Takes t m → m.1 ≡ (0, r) ∷ rest m.1 → m' ≡ (m.0, (0, None) ∷ rest m.1) → r ≡ Some h → IsTurn t m' h
 unfolding some_or
 turn_is t m m' r h takes e out some =
     let is : takes.found ≡ h = ap (some_or h) (sym (slot_has t m r takes e) ∙ some) in
-    subst (λ x. IsTurn t m' x) is (record { goes_on = takes.goes_on; out = out ∙ ap (λ (x : Token). (let y : Token = (x.0, (0, None) ∷ rest x.1) in y)) takes.out })
+    subst (λ x. IsTurn t m' x) is (record { kept = takes.kept; out = out ∙ ap (λ (x : Token). (let y : Token = (x.0, (0, None) ∷ rest x.1) in y)) takes.out })
 
 -- another was put into the slot
-pub put_is : (t : SeatState) (h h' : HeldPeer) (m m' : Token) → m ≡ (holds h t, (0, None) ∷ []) → m' ≡ (m.0, (0, Some h') ∷ rest m.1) → m' ≡ (holds h t, (0, Some h') ∷ [])
+pub put_is : (t : SeatState) (h h' : PeerData) (m m' : Token) → m ≡ (holds h t, (0, None) ∷ []) → m' ≡ (m.0, (0, Some h') ∷ rest m.1) → m' ≡ (holds h t, (0, Some h') ∷ [])
 put_is t h h' m m' e put = put ∙ ap (λ (x : Token). (let y : Token = (x.0, (0, Some h') ∷ rest x.1) in y)) e
 
 -- the token of a seat, by its views
@@ -88,22 +90,26 @@ missed_more k t = let e : (t.missed + k) + 1 ≡ t.missed + (k + 1) = omega arit
 
 -- ---- a call on a turn
 
-pub ends_turn : (t : SeatState) (m : Token) (h h' : HeldPeer) (call : Call) (reply : Reply) (views : List ViewState) → IsTurn t m h → PeerStep h.peer call reply h'.peer
-    → ((u : SeatState) (g : HeldPeer) → m ≡ (holds g u, (0, None) ∷ []) → views ≡ alone (gave g.peer h'.peer u) ∷ []) → EndsTurn t call reply views
+pub ends_turn : (t : SeatState) (m : Token) (h h' : PeerData) (call : Call) (reply : Reply) (views : List ViewState) → IsTurn t m h → PeerStep h call reply h'
+    → ((u : SeatState) (g : PeerData) → m ≡ (holds g u, (0, None) ∷ []) → views ≡ alone (gave g h' u) ∷ []) → EndsTurn t call reply views
 ends_turn t m h h' call reply views turn step given = record {
-  state = gave h.peer h'.peer (took t);
-  shows = record { number = refl; taken = refl; step = step; goes_on = record { seen = turn.goes_on.seen; link = turn.goes_on.link }; mine = refl };
+  state = gave h h' (took t);
+  shows = record { number = refl; taken = refl; step = step; kept = record { seen = turn.kept.seen; link = turn.kept.link }; mine = refl };
   missed = refl;
   alone = given (took t) h turn.out;
 }
 
+-- what a call on no link but the seat's does to the peer
+serves : (n : ℕ) (p : PeerData) (call : Call) (reply : Reply) (p' : PeerData) → IsOnlyOn n call → PeerStep p call reply p' → Serves n p p'
+serves n p call reply p' on step = let k = step_keeps p call reply p' step in record { id = k.id; actor = k.actor; new = k.new; applied = k.applied; links = λ m other. k.others m (on m other) }
+
 -- a turn that a peer may end
-pub may_give : (t : SeatState) (m : Token) (h h' : HeldPeer) (n : ℕ) → IsTurn t m h → t.number ≡ n → Serves n h h' → (u : SeatState) × (g : HeldPeer) × (m ≡ (holds g u, (0, None) ∷ [])) × Serves u.number g h'
-may_give t m h h' n turn number serves = (took t, h, turn.out, subst (λ k. Serves k h h') (sym number) serves)
+pub may_give : (m : Token) (h h' : PeerData) (call : Call) (reply : Reply) → (t : SeatState) × IsTurn t m h × IsOnlyOn t.number call → PeerStep h call reply h' → (u : SeatState) × (g : PeerData) × (m ≡ (holds g u, (0, None) ∷ [])) × Serves u.number g h'
+may_give m h h' call reply turn step = (took turn.0, h, turn.1.out, serves turn.0.number h call reply h' turn.2 step)
 
 -- misses before a turn show nothing else
 pub shows_missed : (t t' : SeatState) (k : ℕ) (call : Call) (reply : Reply) → Shows (missed_by k t) call reply t' → Shows t call reply t'
-shows_missed t t' k call reply s = record { number = s.number; taken = s.taken; step = s.step; goes_on = record { seen = s.goes_on.seen; link = s.goes_on.link }; mine = s.mine }
+shows_missed t t' k call reply s = record { number = s.number; taken = s.taken; step = s.step; kept = record { seen = s.kept.seen; link = s.kept.link }; mine = s.mine }
 
 -- a seat is that of its views
 pub state_is : (views : List ViewState) (t : SeatState) → views ≡ alone t ∷ [] → t ≡ seat_of views

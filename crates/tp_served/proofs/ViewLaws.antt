@@ -7,7 +7,7 @@ use lib.ListN.{get_elem?}
 use Rattle.tp_list.specs.Members.{In}
 use Rattle.tp_change.specs.declared.parts.ChangeParts.{ChangeParts}
 use Rattle.tp_peer.specs.PeerData.{PeerData}
-use Rattle.tp_served.specs.Seats.{HeldPeer, SeatState, fresh_from}
+use Rattle.tp_served.specs.Seats.{SeatState, fresh_from}
 use Rattle.tp_served.proofs.ListLaws.{begins_same}
 use Rattle.tp_served.specs.Rule.{AllFit, Fits, ViewState, times, total}
 
@@ -100,26 +100,26 @@ fresh_once p m n (suc k) above below = let x : ℕ = cond (eqb n m) 1 0 in dite 
     (λ ne. let s = fresh_once p m (n + 1) k (omega arith) (omega arith) in let h : x ≡ 0 = ap (λ b. cond b 1 0) (ne_eqb n m ne) in
     let goal : x + times m (fresh_from p (n + 1) k) ≡ 1 = omega arith in goal)
 
-pub fresh_fit : (p : PeerData) (count n k : ℕ) → n + k ≤ count → AllFit count [] (record { peer = p; who = [] }) (fresh_from p n k)
+pub fresh_fit : (p : PeerData) (count n k : ℕ) → n + k ≤ count → AllFit count [] p (fresh_from p n k)
 fresh_fit p count n zero most = tt
-fresh_fit p count n (suc k) most = (record { number = omega arith; goes_on = record { seen = begins_same p.applied; link = refl }; mine = refl }, fresh_fit p count (n + 1) k (omega arith))
+fresh_fit p count n (suc k) most = (record { number = omega arith; kept = record { seen = begins_same p.applied; link = refl }; mine = refl }, fresh_fit p count (n + 1) k (omega arith))
 
 -- ---- seats that fit
 
-pub AllFit-in : (count : ℕ) (C : List ChangeParts) (h : HeldPeer) (ts : List SeatState) (t : SeatState) → AllFit count C h ts → In t ts → Fits count C h t
+pub AllFit-in : (count : ℕ) (C : List (ℕ × ChangeParts)) (h : PeerData) (ts : List SeatState) (t : SeatState) → AllFit count C h ts → In t ts → Fits count C h t
 AllFit-in count C h [] t all i = absurd i
 AllFit-in count C h (u ∷ ts) t all (inl e) = subst (Fits count C h) (sym e) all.0
 AllFit-in count C h (u ∷ ts) t all (inr i) = AllFit-in count C h ts t all.1 i
 
-pub AllFit-map : (count : ℕ) (C D : List ChangeParts) (h g : HeldPeer) (ts : List SeatState) → ((t : SeatState) → In t ts → Fits count C h t → Fits count D g t) → AllFit count C h ts → AllFit count D g ts
+pub AllFit-map : (count : ℕ) (C D : List (ℕ × ChangeParts)) (h g : PeerData) (ts : List SeatState) → ((t : SeatState) → In t ts → Fits count C h t → Fits count D g t) → AllFit count C h ts → AllFit count D g ts
 AllFit-map count C D h g [] f all = tt
 AllFit-map count C D h g (t ∷ ts) f all = (f t (inl refl) all.0, AllFit-map count C D h g ts (λ u i. f u (inr i)) all.1)
 
-pub AllFit-append : (count : ℕ) (C : List ChangeParts) (h : HeldPeer) (ts us : List SeatState) → AllFit count C h ts → AllFit count C h us → AllFit count C h (ts ++ us)
+pub AllFit-append : (count : ℕ) (C : List (ℕ × ChangeParts)) (h : PeerData) (ts us : List SeatState) → AllFit count C h ts → AllFit count C h us → AllFit count C h (ts ++ us)
 AllFit-append count C h [] us a b = b
 AllFit-append count C h (t ∷ ts) us a b = (a.0, AllFit-append count C h ts us a.1 b)
 
-pub AllFit-split : (count : ℕ) (C : List ChangeParts) (h : HeldPeer) (ts us : List SeatState) → AllFit count C h (ts ++ us) → AllFit count C h ts × AllFit count C h us
+pub AllFit-split : (count : ℕ) (C : List (ℕ × ChangeParts)) (h : PeerData) (ts us : List SeatState) → AllFit count C h (ts ++ us) → AllFit count C h ts × AllFit count C h us
 AllFit-split count C h [] us all = (tt, all)
 AllFit-split count C h (t ∷ ts) us all = let r = AllFit-split count C h ts us all.1 in ((all.0, r.0), r.1)
 

@@ -1,15 +1,16 @@
 -- What the calls on a served peer ensure.
-use Rattle.std.specs.Prelude.{◌≡◌, ℕ, ◌<◌, ◌≤◌, List, [], ◌∷◌, ◌++◌, length, Option, Some, None}
+use Rattle.std.specs.Prelude.{◌≡◌, ◌≢◌, ℕ, ◌<◌, ◌≤◌, false, List, [], ◌∷◌, ◌++◌, Option, Some, None}
 use Rattle.atomic_table.specs.Seated.{TableId}
 use Rattle.tp_list.specs.Members.{In}
 use Rattle.tp_change.specs.declared.parts.ChangeParts.{ChangeParts}
+use Rattle.tp_peer.specs.Laws.{is_on}
 use Rattle.tp_peer.specs.PeerData.{PeerData}
 use Rattle.tp_peer.specs.PeerStep.{Call, Reply}
 use Rattle.tp_served.specs.declared.error.ServedError.{ServedError}
 use Rattle.tp_served.specs.declared.error.ServedError.TheVariants.{Busy, Peer, BadSeats, OutOfMemory}
 use Rattle.tp_served.specs.ServedError.{Answer, Missed, Replied, Never}
-use Rattle.tp_served.specs.Seats.{GoesOn, HeldPeer, SeatData, SeatState, Shows, missed_by, took}
-use Rattle.tp_served.specs.Rule.{ViewState, alone, entered_by, holds, times}
+use Rattle.tp_served.specs.Seats.{IsKeptIn, SeatData, SeatState, Shows, missed_by, took}
+use Rattle.tp_served.specs.Rule.{ViewState, alone, changes_of, entered_by, holds, times}
 use Rattle.tp_served.specs.Steps.{Token}
 
 -- What one try of a call does to its seat: where the word was found taken, it notes that and nothing else changes; else
@@ -40,19 +41,21 @@ pub record Closes (opened : PeerData) (count : ℕ) (states : List SeatState) (p
   pub seat : SeatState
   pub member : In seat states
   pub left : p ≡ seat.after
-  pub goes_on : (t : SeatState) → In t states → GoesOn t p
-  pub entered : List ChangeParts
-  pub applied : p.applied ≡ opened.applied ++ entered
-  pub who : List ℕ
-  pub numbered : length who ≡ length entered
-  pub seats : (n : ℕ) → In n who → n < count
+  pub kept : (t : SeatState) → In t states → IsKeptIn t p
+  pub entered : List (ℕ × ChangeParts)
+  pub applied : p.applied ≡ opened.applied ++ changes_of entered
+  pub seats : (x : ℕ × ChangeParts) → In x entered → x.0 < count
   pub once : (n : ℕ) → n < count → times n states ≡ 1
-  pub mine : (t : SeatState) → In t states → entered_by t.number who entered ≡ t.mine
+  pub mine : (t : SeatState) → In t states → entered_by t.number entered ≡ t.mine
 
--- The seat is on its turn: it took the peer h out of the slot, which is empty. The peer goes on from what the seat left.
-pub record IsTurn (t : SeatState) (m : Token) (h : HeldPeer) : Type 0 where
-  pub goes_on : GoesOn t h.peer
-  pub out : m ≡ (holds h (took t), (0, None) ∷ [])
+-- The call is on no other link than the one with the number n.
+abbrev pub IsOnlyOn : ℕ → Call → Type 0
+IsOnlyOn n call = (m : ℕ) → m ≢ n → is_on call m ≡ false
+
+-- The seat is on its turn: it took the peer p out of the slot, which is empty. The peer goes on from what the seat left.
+pub record IsTurn (t : SeatState) (m : Token) (p : PeerData) : Type 0 where
+  pub kept : IsKeptIn t p
+  pub out : m ≡ (holds p (took t), (0, None) ∷ [])
 
 -- The seat's turn ended: its token, which has these views, is that of a seat that shows the call, and noted no miss.
 pub record EndsTurn (t : SeatState) (call : Call) (reply : Reply) (views : List ViewState) : Type 0 where

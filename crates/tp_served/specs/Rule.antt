@@ -6,16 +6,16 @@ use Rattle.atomic_table.specs.Table.{State}
 use Rattle.tp_list.specs.Members.{In}
 use Rattle.tp_change.specs.declared.parts.ChangeParts.{ChangeParts}
 use Rattle.tp_peer.specs.PeerData.{PeerData}
-use Rattle.tp_served.specs.Seats.{GoesOn, HeldPeer, SeatState}
+use Rattle.tp_served.specs.Seats.{IsKeptIn, SeatState}
 
 -- One view: the seats that are joined in it, and the peer that it holds, where it holds one.
 pub record ViewState : Type 0 where
-  pub holding : Option HeldPeer
+  pub holding : Option PeerData
   pub seats : List SeatState
 
 -- the shared state: the word, the slot, and all views
 abbrev pub Shared : Type 0
-Shared = State (Option HeldPeer) ViewState
+Shared = State (Option PeerData) ViewState
 
 -- the view of seats that hold nothing
 abbrev pub idle : List SeatState → ViewState
@@ -26,8 +26,8 @@ abbrev pub alone : SeatState → ViewState
 alone t = idle (t ∷ [])
 
 -- the view of one seat that holds the peer
-abbrev pub holds : HeldPeer → SeatState → ViewState
-holds h t = record { holding = Some h; seats = t ∷ [] }
+abbrev pub holds : PeerData → SeatState → ViewState
+holds p t = record { holding = Some p; seats = t ∷ [] }
 
 -- how many of the seats have the number n
 abbrev pub times : ℕ → List SeatState → ℕ
@@ -39,59 +39,67 @@ abbrev pub total : (ViewState → ℕ) → List ViewState → ℕ
 total f [] = 0
 total f (v ∷ vs) = f v + total f vs
 
+-- the changes, each with the number n
+abbrev pub numbered : ℕ → List ChangeParts → List (ℕ × ChangeParts)
+numbered n [] = []
+numbered n (c ∷ cs) = (n, c) ∷ numbered n cs
+
+-- the changes without their numbers
+abbrev pub changes_of : List (ℕ × ChangeParts) → List ChangeParts
+changes_of [] = []
+changes_of (x ∷ xs) = x.1 ∷ changes_of xs
+
 -- the changes whose number is n
-abbrev pub entered_by : ℕ → List ℕ → List ChangeParts → List ChangeParts
-entered_by n [] C = []
-entered_by n (k ∷ who) [] = []
-entered_by n (k ∷ who) (c ∷ C) = cond (k == n) (c ∷ entered_by n who C) (entered_by n who C)
+abbrev pub entered_by : ℕ → List (ℕ × ChangeParts) → List ChangeParts
+entered_by n [] = []
+entered_by n (x ∷ xs) = cond (x.0 == n) (x.1 ∷ entered_by n xs) (entered_by n xs)
 
 -- The peer is the opened one, its list grown by the changes `entered`, each of which has the number of a seat.
-pub record IsCurrent (opened : PeerData) (count : ℕ) (entered : List ChangeParts) (h : HeldPeer) : Type 0 where
-  pub id : h.peer.id ≡ opened.id
-  pub actor : h.peer.actor ≡ opened.actor
-  pub applied : h.peer.applied ≡ opened.applied ++ entered
-  pub numbered : length h.who ≡ length entered
-  pub seats : (n : ℕ) → In n h.who → n < count
+pub record IsCurrent (opened : PeerData) (count : ℕ) (entered : List (ℕ × ChangeParts)) (p : PeerData) : Type 0 where
+  pub id : p.id ≡ opened.id
+  pub actor : p.actor ≡ opened.actor
+  pub applied : p.applied ≡ opened.applied ++ changes_of entered
+  pub seats : (x : ℕ × ChangeParts) → In x entered → x.0 < count
 
 -- The peer goes on from what the seat left, and the changes that have the seat's number are those that it entered.
-pub record Fits (count : ℕ) (entered : List ChangeParts) (h : HeldPeer) (t : SeatState) : Type 0 where
+pub record Fits (count : ℕ) (entered : List (ℕ × ChangeParts)) (p : PeerData) (t : SeatState) : Type 0 where
   pub number : t.number < count
-  pub goes_on : GoesOn t h.peer
-  pub mine : entered_by t.number h.who entered ≡ t.mine
+  pub kept : IsKeptIn t p
+  pub mine : entered_by t.number entered ≡ t.mine
 
 -- the same of each of these seats
-abbrev pub AllFit : ℕ → List ChangeParts → HeldPeer → List SeatState → Type 0
-AllFit count entered h [] = Unit {0}
-AllFit count entered h (t ∷ ts) = Fits count entered h t × AllFit count entered h ts
+abbrev pub AllFit : ℕ → List (ℕ × ChangeParts) → PeerData → List SeatState → Type 0
+AllFit count entered p [] = Unit {0}
+AllFit count entered p (t ∷ ts) = Fits count entered p t × AllFit count entered p ts
 
 -- The word is 0: the peer is in the slot, and no view holds one.
-pub record IsHome (h : HeldPeer) (s : Shared) : Type 0 where
+pub record IsHome (p : PeerData) (s : Shared) : Type 0 where
   pub word : s.words ≡ 0 ∷ []
-  pub slot : s.homes ≡ maybe.some (Some h) ∷ []
+  pub slot : s.homes ≡ maybe.some (Some p) ∷ []
   pub idle : (j : ℕ) (v : ViewState) → get_elem? s.views j ≡ maybe.some v → v.holding ≡ None
 
 -- The word is 1: the slot is out, and one view holds the peer, that of a single seat.
-pub record IsOut (h : HeldPeer) (s : Shared) : Type 0 where
+pub record IsOut (p : PeerData) (s : Shared) : Type 0 where
   pub word : s.words ≡ 1 ∷ []
   pub slot : s.homes ≡ maybe.none ∷ []
   pub holder : ℕ
   pub seat : SeatState
-  pub held : get_elem? s.views holder ≡ maybe.some (holds h seat)
+  pub held : get_elem? s.views holder ≡ maybe.some (holds p seat)
   pub idle : (j : ℕ) (v : ViewState) → get_elem? s.views j ≡ maybe.some v → j ≢ holder → v.holding ≡ None
 
 -- The peer is what a seat's last turn left, or the opened one.
-pub record IsLeft (h : HeldPeer) (views : List ViewState) : Type 0 where
+pub record IsLeft (p : PeerData) (views : List ViewState) : Type 0 where
   pub view : ℕ
   pub state : ViewState
   pub there : get_elem? views view ≡ maybe.some state
   pub seat : SeatState
   pub member : In seat state.seats
-  pub left : h.peer ≡ seat.after
+  pub left : p ≡ seat.after
 
 -- The rule. There is one current peer. Each number of a seat stands once among all views, and nothing else does.
 pub record IsServed (opened : PeerData) (count : ℕ) (s : Shared) : Type 0 where
-  pub current : HeldPeer
-  pub entered : List ChangeParts
+  pub current : PeerData
+  pub entered : List (ℕ × ChangeParts)
   pub is : IsCurrent opened count entered current
   pub place : IsHome current s ⊎ IsOut current s
   pub fits : (j : ℕ) (v : ViewState) → get_elem? s.views j ≡ maybe.some v → AllFit count entered current v.seats

@@ -7,11 +7,6 @@ use Rattle.tp_peer.specs.PeerData.{PeerData}
 use Rattle.tp_peer.specs.PeerStep.{Call, PeerStep, Reply}
 use Rattle.atomic_table.specs.Seated.{TableId}
 
--- The peer, and for each change past those that it was opened with the number of the seat that entered it.
-pub record HeldPeer : Type 0 where
-  pub peer : PeerData
-  pub who : List ℕ
-
 -- What a seat knows: its number; the whole peer as its last turn found it, and as it left it; the changes that its
 -- turns entered, in order; how many turns it took; and how many of its tries found the word taken.
 pub record SeatState : Type 0 where
@@ -66,9 +61,9 @@ past p p' = drop (length p.applied) p'.applied
 abbrev pub gave : PeerData → PeerData → SeatState → SeatState
 gave p p' t = record t { before = p; after = p'; mine = t.mine ++ past p p' }
 
--- Of what the seat left, the peer that its next turn finds has it all: its list begins with what the seat has seen, and
--- on the link with the seat's number it knows what it knew there.
-pub record GoesOn (t : SeatState) (p : PeerData) : Type 0 where
+-- The peer has all that the seat left: its list begins with what the seat has seen, and on the link with the seat's
+-- number it knows what it knew there.
+pub record IsKeptIn (t : SeatState) (p : PeerData) : Type 0 where
   pub seen : Begins t.after.applied p.applied
   pub link : known_of p.links t.number ≡ known_of t.after.links t.number
 
@@ -79,7 +74,7 @@ pub record Shows (t : SeatState) (call : Call) (reply : Reply) (t' : SeatState) 
   pub number : t'.number ≡ t.number
   pub taken : t'.taken ≡ t.taken + 1
   pub step : PeerStep t'.before call reply t'.after
-  pub goes_on : GoesOn t t'.before
+  pub kept : IsKeptIn t t'.before
   pub mine : t'.mine ≡ t.mine ++ past t'.before t'.after
 
 -- Of two seats, what one has seen begins what the other has seen.

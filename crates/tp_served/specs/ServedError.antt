@@ -1,7 +1,5 @@
 -- The numbers of the refusals, and what a call's answer says.
 use Rattle.std.specs.Prelude.{ℕ, Result, Ok, Err}
-use Rattle.tp_peer.specs.declared.error.PeerError.{PeerError}
-use Rattle.tp_peer.specs.declared.error.PeerError.TheVariants as refusal
 use Rattle.tp_peer.specs.PeerStep.{Reply, Refused}
 use Rattle.tp_served.specs.declared.error.ServedError.{ServedError}
 use Rattle.tp_served.specs.declared.error.ServedError.TheVariants.{Busy, Peer, BadSeats, OutOfMemory}
@@ -11,12 +9,6 @@ code_of Busy = 1
 code_of (Peer e) = 2
 code_of BadSeats = 3
 code_of OutOfMemory = 4
-
--- the refusal of a message where there is no room for what it may enter, by that of a message of no bytes
-abbrev pub refusal_without_room : PeerError → PeerError
-refusal_without_room refusal.Stopped = refusal.Stopped
-refusal_without_room refusal.TooManyLinks = refusal.TooManyLinks
-refusal_without_room _ = refusal.OutOfMemory
 
 -- What came of one try: the word was found taken; the peer replied; or an answer that no try gives.
 pub data Answer : Type 0 where

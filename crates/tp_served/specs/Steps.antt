@@ -1,23 +1,24 @@
 -- The steps on a served peer's shared state, and what each tells the seat that makes it.
-use Rattle.std.specs.Prelude.{◌≡◌, ◌≢◌, ℕ, ◌==◌, List, [], ◌∷◌, ◌++◌, take, drop, replicate, length, Option, Some, MatchBool}
+use Rattle.std.specs.Prelude.{◌≡◌, ◌≢◌, ℕ, ◌==◌, List, [], ◌∷◌, ◌++◌, take, drop, Option, Some, MatchBool}
 use Rattle.atomic_table.specs.Table.{Me, Step}
 use Rattle.tp_change.specs.declared.parts.ChangeParts.{ChangeParts}
 use Rattle.tp_peer.specs.Links.{known_of}
-use Rattle.tp_served.specs.Seats.{GoesOn, HaveMet, HeldPeer, SeatState, gave, missed_by, took}
+use Rattle.tp_peer.specs.PeerData.{PeerData}
+use Rattle.tp_served.specs.Seats.{IsKeptIn, HaveMet, SeatState, gave, missed_by, took}
 use Rattle.tp_served.specs.Rule.{ViewState, alone, holds, idle}
 
 -- a seat at the table: its view, and the slots that are out with it
 abbrev pub Token : Type 0
-Token = Me (Option HeldPeer) ViewState
+Token = Me (Option PeerData) ViewState
 
 -- what a step tells: of the step, the seat before, the number found and the seat after
 abbrev pub Telling : Type 1
-Telling = Step (Option HeldPeer) → Token → ℕ → Token → Type 0
+Telling = Step (Option PeerData) → Token → ℕ → Token → Type 0
 
 -- The seat took the peer out of the slot: the peer goes on from what the seat left.
 pub record Takes (t : SeatState) (m' : Token) : Type 0 where
-  pub found : HeldPeer
-  pub goes_on : GoesOn t found.peer
+  pub found : PeerData
+  pub kept : IsKeptIn t found
   pub out : m' ≡ (holds found (took t), (0, Some found) ∷ [])
 
 -- take and miss: where 0 was found the seat took the peer, and else it notes that the word was taken
@@ -26,7 +27,7 @@ tried s m r m' = (t : SeatState) → m ≡ (alone t, []) → MatchBool (r == 0) 
 
 -- give back: the seat's turn went from the peer that it took to the one in the slot
 abbrev pub given : Telling
-given s m r m' = (t : SeatState) (h h' : HeldPeer) → m ≡ (holds h t, (0, Some h') ∷ []) → m' ≡ (alone (gave h.peer h'.peer t), [])
+given s m r m' = (t : SeatState) (p p' : PeerData) → m ≡ (holds p t, (0, Some p') ∷ []) → m' ≡ (alone (gave p p' t), [])
 
 -- look: of two joined seats, what one has seen begins what the other has seen
 abbrev pub looked : Telling
@@ -49,11 +50,10 @@ abbrev pub others_of : ViewState → ViewState
 others_of v = idle (drop 1 v.seats)
 
 -- What a turn of the seat n may do to the peer that it holds: it stays the same document under the same actor, its list
--- grows at its end, each change that it got has the seat's number, and it knows what it knew on every other link.
-pub record Serves (n : ℕ) (h h' : HeldPeer) : Type 0 where
-  pub id : h'.peer.id ≡ h.peer.id
-  pub actor : h'.peer.actor ≡ h.peer.actor
+-- grows at its end, and it knows what it knew on every other link.
+pub record Serves (n : ℕ) (p p' : PeerData) : Type 0 where
+  pub id : p'.id ≡ p.id
+  pub actor : p'.actor ≡ p.actor
   pub new : List ChangeParts
-  pub applied : h'.peer.applied ≡ h.peer.applied ++ new
-  pub who : h'.who ≡ h.who ++ replicate (length new) n
-  pub links : (m : ℕ) → m ≢ n → known_of h'.peer.links m ≡ known_of h.peer.links m
+  pub applied : p'.applied ≡ p.applied ++ new
+  pub links : (m : ℕ) → m ≢ n → known_of p'.links m ≡ known_of p.links m

@@ -6,7 +6,6 @@ ghost use Rattle.tp_served.specs.Rule.{idle};
 ghost use Rattle.tp_served.specs.Calls.{AreOf, Closes};
 
 use crate::error::ServedError;
-use crate::held::Held;
 use crate::rule::{Together, View};
 use crate::seat::Seat;
 use crate::served::{Served, Shared};
@@ -30,7 +29,7 @@ fn join_all<J: Journal>(
     table: &Shared<J>,
     last: Seat,
     seats: Vec<Seat>,
-) -> Token<Option<Held<J>>, View>
+) -> Token<Option<Peer<J>>, View>
     requires word { table.now.shared.table_id.words ≡ 1 }
     requires last { last.served ≡ table.now.shared.table_id }
     requires seats { AreOf table.now.shared.table_id seats.items }
@@ -89,10 +88,10 @@ impl<J: Journal> Served<J> {
         } = self;
         let joined = join_all(&table, last, seats);
         let mut closed = table.close_with(joined);
-        let held = closed.take(0);
+        let peer = closed.take(0);
         closed.free();
-        match held {
-            Some(held) => held.into_peer(),
+        match peer {
+            Some(peer) => peer,
             None => unreachable!(),
         }
     }

@@ -7,7 +7,6 @@
 
 mod closing;
 mod error;
-mod held;
 mod meeting;
 mod opening;
 mod rule;

@@ -1,14 +1,25 @@
 //! Two seats that meet.
 
-ghost use Rattle.std.specs.Prelude.{◌≡◌};
-ghost use Rattle.tp_served.specs.Seats.{HaveMet};
+ghost use Rattle.std.specs.Prelude.{◌≡◌, [], ◌∷◌};
+ghost use Rattle.tp_served.specs.Rule.{alone};
+ghost use Rattle.tp_served.specs.Seats.{HaveMet, SeatState};
 
-use crate::rule::{Apart, Look, Together};
+use crate::rule::{Apart, Look, Together, View};
 use crate::seat::Seat;
 use crate::served::Served;
-use atomic_table::Badge;
+use atomic_table::{Badge, Seat as Token};
 use std::mem;
 use tp_journal::Journal;
+use tp_peer::Peer;
+
+// The token of a seat, in whose place a blank badge is left.
+fn token_out<J: Journal>(badge: &mut Badge<View>) -> Token<Option<Peer<J>>, View>
+    requires { (t : SeatState) × (badge.old.views ≡ alone t ∷ []) }
+    ensures table { result.table_id ≡ badge.old.table_id }
+    ensures seat { (t : SeatState) → badge.old.views ≡ alone t ∷ [] → result.me ≡ (alone t, []) }
+{
+    mem::replace(badge, Badge::blank()).into_seat()
+}
 
 impl<J: Journal> Served<J> {
     /// Tells two seats that what one of them has seen begins what the other has seen. Both stay as they are.
@@ -19,8 +30,8 @@ impl<J: Journal> Served<J> {
         ensures other { other.new ≡ other.old }
         ensures met { HaveMet one.old.state other.old.state }
     {
-        let first = mem::replace(&mut one.badge, Badge::blank()).into_seat();
-        let mut both = mem::replace(&mut other.badge, Badge::blank()).into_seat();
+        let first = token_out(&mut one.badge);
+        let mut both = token_out(&mut other.badge);
         let shared = &self.table.shared;
         shared.join_seat::<Together>(&mut both, first);
         shared.load::<Look>(&mut both, 0);

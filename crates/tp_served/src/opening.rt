@@ -7,7 +7,6 @@ ghost use Rattle.tp_served.specs.Rule.{idle};
 ghost use Rattle.tp_served.specs.Calls.{NotServed};
 
 use crate::error::ServedError;
-use crate::held::Held;
 use crate::rule::{Apart, Opening, View};
 use crate::seat::Seat;
 use crate::served::{Served, Shared};
@@ -34,7 +33,7 @@ fn table_of<J: Journal>(
     alloc: Global,
     peer: Peer<J>,
     count: usize,
-) -> Result<(Shared<J>, Token<Option<Held<J>>, View>), AllocError>
+) -> Result<(Shared<J>, Token<Option<Peer<J>>, View>), AllocError>
     requires { 0 < count }
     ensures { IfOk result (λ t. (t.0.shared.table_id.words ≡ 1) × (t.0.shared.table_id.slots ≡ 1)
         × (t.0.shared.key.peer.value ≡ peer) × (t.0.shared.key.count ≡ count)
@@ -45,7 +44,7 @@ fn table_of<J: Journal>(
         count,
     };
     let mut slots = Vec::with_capacity(alloc, 1)?;
-    slots.push_reserved(Some(Held::new(alloc, peer)));
+    slots.push_reserved(Some(peer));
     match Table::new(alloc, &[0], slots, &about) {
         Ok(parts) => Ok(parts),
         Err(Refused { slots: _ }) => Err(AllocError),
@@ -55,7 +54,7 @@ fn table_of<J: Journal>(
 // Parts the seats that are joined in the token, and puts them behind one another.
 fn part<J: Journal>(
     table: &Shared<J>,
-    token: Token<Option<Held<J>>, View>,
+    token: Token<Option<Peer<J>>, View>,
     seats: &mut Vec<Seat>,
     count: u8,
 )

@@ -2,7 +2,6 @@
 
 ghost use Rattle.tp_served.specs.Steps.{first_of, given, joined, looked, others_of, spent, tried};
 
-use crate::held::Held;
 use atomic_table::{Join, Play, Split, TableRule};
 use std::marker::Model;
 use std::snapshot::Snapshot;
@@ -30,7 +29,7 @@ pub(crate) struct Opening<J: Journal> {
 
 pub(crate) struct Rule;
 
-impl<J: Journal> TableRule<Option<Held<J>>, View, Opening<J>> for Rule {
+impl<J: Journal> TableRule<Option<Peer<J>>, View, Opening<J>> for Rule {
     ghost use Rattle.tp_served.specs.Seats.{fresh_from};
     ghost use Rattle.tp_served.specs.Rule.{IsServed, idle};
 
@@ -42,21 +41,21 @@ impl<J: Journal> TableRule<Option<Held<J>>, View, Opening<J>> for Rule {
 /// Take or miss.
 pub(crate) struct Take;
 
-impl<J: Journal> Play<Option<Held<J>>, View> for Take {
+impl<J: Journal> Play<Option<Peer<J>>, View> for Take {
     ghost then = { tried };
 }
 
 /// Give back.
 pub(crate) struct Give;
 
-impl<J: Journal> Play<Option<Held<J>>, View> for Give {
+impl<J: Journal> Play<Option<Peer<J>>, View> for Give {
     ghost then = { given };
 }
 
 /// Look.
 pub(crate) struct Look;
 
-impl<J: Journal> Play<Option<Held<J>>, View> for Look {
+impl<J: Journal> Play<Option<Peer<J>>, View> for Look {
     ghost then = { looked };
 }
 

@@ -2,15 +2,15 @@
 
 ghost use Rattle.std.specs.Prelude.{◌≡◌};
 
-use crate::held::Held;
 use crate::rule::{Opening, Rule, View};
 use atomic_table::Table;
 use std::alloc::Global;
 use std::marker::Model;
 use tp_journal::Journal;
 use tp_opid::DocId;
+use tp_peer::Peer;
 
-pub(crate) type Shared<J> = Table<Option<Held<J>>, View, Opening<J>, Rule, Global>;
+pub(crate) type Shared<J> = Table<Option<Peer<J>>, View, Opening<J>, Rule, Global>;
 
 /// A peer that the threads with its seats share. The peer stands in one slot, and one word says whether it is there: a
 /// call takes it out by one compare-exchange of the word from 0 to 1, and gives it back by one store of 0.

@@ -1,13 +1,14 @@
 //! Calls that answer `Busy` where the word is taken.
 
-ghost use Rattle.std.specs.Prelude.{◌≡◌};
+ghost use Rattle.std.specs.Prelude.{◌≡◌, MatchOption};
 ghost use Rattle.std.specs.Str.{chars};
 ghost use Rattle.std.specs.String.{string_bytes};
-ghost use Rattle.tp_peer.specs.PeerStep.{Edit, Made, Receive, Received as Reported, Generate, Generated, Forget, Forgotten, Read, Reply, Text, replied};
+ghost use Rattle.tp_peer.specs.Calls.{call_of, reply_of};
+ghost use Rattle.tp_peer.specs.PeerStep.{Edit, Made, Receive, Received as Reported, Generate, Generated, Forget, Forgotten, Read, Reply as ReplyOf, Text, replied};
 ghost use Rattle.tp_peer.specs.Sent.{sent_of};
 ghost use Rattle.tp_peer.specs.Taking.{report_of};
-ghost use Rattle.tp_served.specs.ServedError.{Replied, answered};
-ghost use Rattle.tp_served.specs.Calls.{Tries};
+ghost use Rattle.tp_served.specs.ServedError.{Missed, Replied, answered};
+ghost use Rattle.tp_served.specs.Calls.{IsOnlyOn, Tries};
 
 use crate::error::ServedError;
 use crate::seat::Seat;
@@ -17,11 +18,11 @@ use std::mem;
 use tp_edit::Splice;
 use tp_journal::Journal;
 use tp_opid::Hash;
-use tp_peer::{Outgoing, PeerError, Received};
+use tp_peer::{Call, Link, Outgoing, PeerError, Received, Reply};
 
 // What the peer answered, as the answer of a try.
 fn of_peer<T>(outcome: Result<T, PeerError>) -> Result<T, ServedError>
-    ensures { (f : T → Reply) → answered f result ≡ Replied (replied f outcome) }
+    ensures { (f : T → ReplyOf) → answered f result ≡ Replied (replied f outcome) }
 {
     match outcome {
         Ok(value) => Ok(value),
@@ -30,6 +31,30 @@ fn of_peer<T>(outcome: Result<T, PeerError>) -> Result<T, ServedError>
 }
 
 impl<J: Journal> Served<J> {
+    // Makes the call where no other seat has the peer.
+    fn try_call(&self, seat: &mut Seat, call: Call) -> Option<Reply>
+        requires served { seat.old.served ≡ self.now.served }
+        requires link { IsOnlyOn seat.old.state.number (call_of call) }
+        ensures served { seat.new.served ≡ seat.old.served }
+        ensures tries { MatchOption result
+            (Tries seat.old.state (call_of call.entry) Missed seat.new.state)
+            (λ reply. Tries seat.old.state (call_of call.entry) (Replied (reply_of reply))
+            seat.new.state) }
+    {
+        let badge = mem::replace(&mut seat.badge, Badge::blank());
+        match self.take(badge) {
+            Ok(turn) => {
+                let (badge, reply) = self.call_on(turn, call);
+                seat.badge = badge;
+                Some(reply)
+            }
+            Err(badge) => {
+                seat.badge = badge;
+                None
+            }
+        }
+    }
+
     /// Reads the text, as `Peer::read` does. `Busy` where another seat has the peer.
     pub fn try_read(&self, seat: &mut Seat) -> Result<String, ServedError>
         requires { seat.old.served ≡ self.now.served }
@@ -37,17 +62,9 @@ impl<J: Journal> Served<J> {
         ensures tries { Tries seat.old.state Read
             (answered (λ t. Text (chars (string_bytes t))) result) seat.new.state }
     {
-        let badge = mem::replace(&mut seat.badge, Badge::blank());
-        match self.take(badge) {
-            Ok(turn) => {
-                let (badge, result) = self.read_on(turn);
-                seat.badge = badge;
-                of_peer(result)
-            }
-            Err(badge) => {
-                seat.badge = badge;
-                Err(ServedError::Busy)
-            }
+        match self.try_call(seat, Call::Read) {
+            Some(reply) => of_peer(reply.into_text()),
+            None => Err(ServedError::Busy),
         }
     }
 
@@ -64,25 +81,21 @@ impl<J: Journal> Served<J> {
         ensures tries { Tries seat.old.state (Edit splices.now time (chars message.now))
             (answered Made result) seat.new.state }
     {
-        let badge = mem::replace(&mut seat.badge, Badge::blank());
-        match self.take(badge) {
-            Ok(turn) => {
-                let (badge, result) = self.edit_on(turn, seat.number, splices, time, message);
-                seat.badge = badge;
-                of_peer(result)
-            }
-            Err(badge) => {
-                seat.badge = badge;
-                Err(ServedError::Busy)
-            }
+        match self.try_call(
+            seat,
+            Call::Edit {
+                splices,
+                time,
+                message,
+            },
+        ) {
+            Some(reply) => of_peer(reply.into_made()),
+            None => Err(ServedError::Busy),
         }
     }
 
     /// Receives a message that came on the link with the seat's number, as `Peer::receive_bytes` does. `Busy` where
     /// another seat has the peer.
-    ///
-    /// Room for the numbers of 2,048 changes more is made first. Where it is refused the call is refused as `Stopped`,
-    /// `TooManyLinks` or `OutOfMemory`, in that order, and nothing has changed.
     pub fn try_receive(&self, seat: &mut Seat, bytes: &[u8]) -> Result<Received, ServedError>
         requires { seat.old.served ≡ self.now.served }
         ensures served { seat.new.served ≡ seat.old.served }
@@ -90,17 +103,10 @@ impl<J: Journal> Served<J> {
             (answered (λ r. Reported (report_of r.applied) r.same_heads) result)
             seat.new.state }
     {
-        let badge = mem::replace(&mut seat.badge, Badge::blank());
-        match self.take(badge) {
-            Ok(turn) => {
-                let (badge, result) = self.receive_on(turn, seat.number, bytes);
-                seat.badge = badge;
-                of_peer(result)
-            }
-            Err(badge) => {
-                seat.badge = badge;
-                Err(ServedError::Busy)
-            }
+        let link = Link(seat.number());
+        match self.try_call(seat, Call::Receive { link, bytes }) {
+            Some(reply) => of_peer(reply.into_received()),
+            None => Err(ServedError::Busy),
         }
     }
 
@@ -113,17 +119,10 @@ impl<J: Journal> Served<J> {
             (answered (λ sent. Generated (sent_of sent)) result)
             seat.new.state }
     {
-        let badge = mem::replace(&mut seat.badge, Badge::blank());
-        match self.take(badge) {
-            Ok(turn) => {
-                let (badge, result) = self.generate_on(turn, seat.number);
-                seat.badge = badge;
-                of_peer(result)
-            }
-            Err(badge) => {
-                seat.badge = badge;
-                Err(ServedError::Busy)
-            }
+        let link = Link(seat.number());
+        match self.try_call(seat, Call::Generate { link }) {
+            Some(reply) => of_peer(reply.into_generated()),
+            None => Err(ServedError::Busy),
         }
     }
 
@@ -135,17 +134,10 @@ impl<J: Journal> Served<J> {
             (answered (λ _. Forgotten) result)
             seat.new.state }
     {
-        let badge = mem::replace(&mut seat.badge, Badge::blank());
-        match self.take(badge) {
-            Ok(turn) => {
-                let (badge, result) = self.forget_on(turn, seat.number);
-                seat.badge = badge;
-                of_peer(result)
-            }
-            Err(badge) => {
-                seat.badge = badge;
-                Err(ServedError::Busy)
-            }
+        let link = Link(seat.number());
+        match self.try_call(seat, Call::Forget { link }) {
+            Some(reply) => of_peer(reply.into_forgotten()),
+            None => Err(ServedError::Busy),
         }
     }
 }

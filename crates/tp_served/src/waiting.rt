@@ -3,12 +3,13 @@
 ghost use Rattle.std.specs.Prelude.{◌≡◌, ℕ, [], ◌∷◌};
 ghost use Rattle.std.specs.Str.{chars};
 ghost use Rattle.std.specs.String.{string_bytes};
+ghost use Rattle.tp_peer.specs.Calls.{call_of, reply_of};
 ghost use Rattle.tp_peer.specs.PeerStep.{Edit, Made, Receive, Received as Reported, Generate, Generated, Forget, Forgotten, Read, Text, replied};
 ghost use Rattle.tp_peer.specs.Sent.{sent_of};
 ghost use Rattle.tp_peer.specs.Taking.{report_of};
 ghost use Rattle.tp_served.specs.Seats.{SeatState, Shows, missed_by};
 ghost use Rattle.tp_served.specs.Rule.{alone};
-ghost use Rattle.tp_served.specs.Calls.{IsTurn};
+ghost use Rattle.tp_served.specs.Calls.{IsOnlyOn, IsTurn};
 
 use crate::rule::View;
 use crate::seat::Seat;
@@ -20,7 +21,7 @@ use std::{mem, thread};
 use tp_edit::Splice;
 use tp_journal::Journal;
 use tp_opid::Hash;
-use tp_peer::{Outgoing, PeerError, Received};
+use tp_peer::{Call, Link, Outgoing, PeerError, Received, Reply};
 
 impl<J: Journal> Served<J> {
     // Tries to take the peer until it has it.
@@ -29,7 +30,7 @@ impl<J: Journal> Served<J> {
         requires seat { (t : SeatState) × (badge.views ≡ alone t ∷ []) }
         ensures served { result.token.table_id ≡ self.now.served }
         ensures taken { (t : SeatState) → badge.views ≡ alone t ∷ []
-            → (k : ℕ) × IsTurn (missed_by k t) result.token.me result.held }
+            → (k : ℕ) × IsTurn (missed_by k t) result.token.me result.peer }
     {
         let mut badge = badge;
         for _ in rt.forever() {
@@ -42,6 +43,21 @@ impl<J: Journal> Served<J> {
         unreachable!()
     }
 
+    // Makes the call once the seat has the peer.
+    fn call<R: Wait>(&self, rt: &R, seat: &mut Seat, call: Call) -> Reply
+        requires served { seat.old.served ≡ self.now.served }
+        requires link { IsOnlyOn seat.old.state.number (call_of call) }
+        ensures served { seat.new.served ≡ seat.old.served }
+        ensures shows { Shows seat.old.state (call_of call.entry) (reply_of result)
+            seat.new.state }
+    {
+        let badge = mem::replace(&mut seat.badge, Badge::blank());
+        let turn = self.wait(rt, badge);
+        let (badge, reply) = self.call_on(turn, call);
+        seat.badge = badge;
+        reply
+    }
+
     /// Reads the text, as `Peer::read` does, once the seat has the peer.
     pub fn read<R: Wait>(&self, rt: &R, seat: &mut Seat) -> Result<String, PeerError>
         requires { seat.old.served ≡ self.now.served }
@@ -49,11 +65,8 @@ impl<J: Journal> Served<J> {
         ensures shows { Shows seat.old.state Read
             (replied (λ t. Text (chars (string_bytes t))) result) seat.new.state }
     {
-        let badge = mem::replace(&mut seat.badge, Badge::blank());
-        let turn = self.wait(rt, badge);
-        let (badge, result) = self.read_on(turn);
-        seat.badge = badge;
-        result
+        let reply = self.call(rt, seat, Call::Read);
+        reply.into_text()
     }
 
     /// Edits the text, as `Peer::edit` does, once the seat has the peer.
@@ -70,18 +83,20 @@ impl<J: Journal> Served<J> {
         ensures shows { Shows seat.old.state (Edit splices.now time (chars message.now))
             (replied Made result) seat.new.state }
     {
-        let badge = mem::replace(&mut seat.badge, Badge::blank());
-        let turn = self.wait(rt, badge);
-        let (badge, result) = self.edit_on(turn, seat.number, splices, time, message);
-        seat.badge = badge;
-        result
+        let reply = self.call(
+            rt,
+            seat,
+            Call::Edit {
+                splices,
+                time,
+                message,
+            },
+        );
+        reply.into_made()
     }
 
     /// Receives a message that came on the link with the seat's number, as `Peer::receive_bytes` does, once the seat has
     /// the peer.
-    ///
-    /// Room for the numbers of 2,048 changes more is made first. Where it is refused the call is refused as `Stopped`,
-    /// `TooManyLinks` or `OutOfMemory`, in that order, and nothing has changed.
     pub fn receive<R: Wait>(
         &self,
         rt: &R,
@@ -94,11 +109,9 @@ impl<J: Journal> Served<J> {
             (replied (λ r. Reported (report_of r.applied) r.same_heads) result)
             seat.new.state }
     {
-        let badge = mem::replace(&mut seat.badge, Badge::blank());
-        let turn = self.wait(rt, badge);
-        let (badge, result) = self.receive_on(turn, seat.number, bytes);
-        seat.badge = badge;
-        result
+        let link = Link(seat.number());
+        let reply = self.call(rt, seat, Call::Receive { link, bytes });
+        reply.into_received()
     }
 
     /// Makes the next message on the link with the seat's number, as `Peer::generate_bytes` does, once the seat has the
@@ -110,11 +123,9 @@ impl<J: Journal> Served<J> {
             (replied (λ sent. Generated (sent_of sent)) result)
             seat.new.state }
     {
-        let badge = mem::replace(&mut seat.badge, Badge::blank());
-        let turn = self.wait(rt, badge);
-        let (badge, result) = self.generate_on(turn, seat.number);
-        seat.badge = badge;
-        result
+        let link = Link(seat.number());
+        let reply = self.call(rt, seat, Call::Generate { link });
+        reply.into_generated()
     }
 
     /// Forgets the link with the seat's number, as `Peer::forget_link` does, once the seat has the peer.
@@ -125,10 +136,8 @@ impl<J: Journal> Served<J> {
             (replied (λ _. Forgotten) result)
             seat.new.state }
     {
-        let badge = mem::replace(&mut seat.badge, Badge::blank());
-        let turn = self.wait(rt, badge);
-        let (badge, result) = self.forget_on(turn, seat.number);
-        seat.badge = badge;
-        result
+        let link = Link(seat.number());
+        let reply = self.call(rt, seat, Call::Forget { link });
+        reply.into_forgotten()
     }
 }

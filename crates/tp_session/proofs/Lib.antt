@@ -1,3 +1,2 @@
-pub mod OneCall
 pub mod SessionLaws
 pub mod StepFacts

@@ -15,153 +15,137 @@ use Rattle.tp_session.specs.declared.session.Phase.TheVariants.{AwaitsHello, Exc
 use Rattle.tp_session.specs.declared.session.TheConstants.{VERSION}
 use Rattle.tp_session.specs.declared.turn.Turn.{Turn}
 use Rattle.tp_session.specs.declared.turn.Ended.{Ended}
+use Rattle.tp_session.specs.HostCalls.{HostCall}
 use Rattle.tp_session.specs.Laws.{is_over}
 use Rattle.tp_session.specs.NetError.{refusal_of}
 use Rattle.tp_session.specs.SessionData.{SessionData, counting, greeting}
-use Rattle.tp_session.specs.SessionStep.{Says, Closes, Fails, IsLate, is_stale, Sends, Answers, Tells, Heard, Hears, Welcomes, OnHello, OnSync, OnDone, OnRefusal, SessionStep}
+use Rattle.tp_session.specs.SessionStep.{Says, Closes, Fails, IsLate, is_stale, Sends, Answers, Tells, Heard, Hears, Welcomes, OnFrame, SessionStep}
 
 -- what the answer tells, where the session was in the phase before and is s' then
 abbrev Told : Phase → Result Turn Ended → SessionData → Type 0
 Told phase (Ok turn) s' = turn.ended ≡ is_over s'.phase
 Told phase (Err ended) s' = (is_over s'.phase ≡ true) × (is_over phase ≡ false → ended.send ≡ refusal_of ended.error)
 
--- the role and the document stay, and the answer tells the end
-pub record Keeps (s : SessionData) (answer : Result Turn Ended) (s' : SessionData) : Type 0 where
+-- the role and the document stay, so many changes are counted then, and the answer tells the end
+pub record Keeps (s : SessionData) (n : ℕ) (answer : Result Turn Ended) (s' : SessionData) : Type 0 where
   pub role : s'.role ≡ s.role
   pub id : s'.id ≡ s.id
+  pub applied : s'.applied ≡ n
   pub told : Told s.phase answer s'
 
 -- ---- what a side does
 
-says : (s : SessionData) (f : Frame) (phase : Phase) (answer : Result Turn Ended) (s' : SessionData) → is_over phase ≡ false → Says s f phase answer s' → Keeps s answer s'
+says : (s : SessionData) (f : Frame) (phase : Phase) (answer : Result Turn Ended) (s' : SessionData) → is_over phase ≡ false → Says s f phase answer s' → Keeps s s.applied answer s'
 says s f phase answer s' going step = record {
   role = ap (λ (q : SessionData). q.role) step.1;
   id = ap (λ (q : SessionData). q.id) step.1;
+  applied = ap (λ (q : SessionData). q.applied) step.1;
   told = subst (λ (a : Result Turn Ended). Told s.phase a s') (sym step.0) (sym (ap (λ (q : SessionData). is_over q.phase) step.1 ∙ going));
 }
 
-closes : (s : SessionData) (send : Option Frame) (answer : Result Turn Ended) (s' : SessionData) → Closes s send answer s' → Keeps s answer s'
+closes : (s : SessionData) (send : Option Frame) (answer : Result Turn Ended) (s' : SessionData) → Closes s send answer s' → Keeps s s.applied answer s'
 closes s send answer s' step = record {
   role = ap (λ (q : SessionData). q.role) step.1;
   id = ap (λ (q : SessionData). q.id) step.1;
+  applied = ap (λ (q : SessionData). q.applied) step.1;
   told = subst (λ (a : Result Turn Ended). Told s.phase a s') (sym step.0) (sym (ap (λ (q : SessionData). is_over q.phase) step.1));
 }
 
-fails : (s : SessionData) (error : NetError) (answer : Result Turn Ended) (s' : SessionData) → Fails s error answer s' → Keeps s answer s'
+fails : (s : SessionData) (error : NetError) (answer : Result Turn Ended) (s' : SessionData) → Fails s error answer s' → Keeps s s.applied answer s'
 fails s error answer s' step = record {
   role = ap (λ (q : SessionData). q.role) step.1;
   id = ap (λ (q : SessionData). q.id) step.1;
+  applied = ap (λ (q : SessionData). q.applied) step.1;
   told = subst (λ (a : Result Turn Ended). Told s.phase a s') (sym step.0) (ap (λ (q : SessionData). is_over q.phase) step.1, λ (going : is_over s.phase ≡ false). refl);
 }
 
-late : (s : SessionData) (answer : Result Turn Ended) (s' : SessionData) → s.phase ≡ Over → IsLate s answer s' → Keeps s answer s'
+late : (s : SessionData) (answer : Result Turn Ended) (s' : SessionData) → s.phase ≡ Over → IsLate s answer s' → Keeps s s.applied answer s'
 late s answer s' over step =
     let ended : is_over s.phase ≡ true = ap is_over over in
     record {
       role = ap (λ (q : SessionData). q.role) step.1;
       id = ap (λ (q : SessionData). q.id) step.1;
+      applied = ap (λ (q : SessionData). q.applied) step.1;
       told = subst (λ (a : Result Turn Ended). Told s.phase a s') (sym step.0) (ap (λ (q : SessionData). is_over q.phase) step.1 ∙ ended, λ (going : is_over s.phase ≡ false). cc);
     }
 
 -- ---- messages
 
-sends_if : (b : Bool) (s : SessionData) (bytes : List ℕ) (answer : Result Turn Ended) (s' : SessionData) → MatchBool b (Says s Done SaidDone answer s') (Says s (Sync bytes) Exchanges answer s' ⊎ Fails s OutOfMemory answer s') → Keeps s answer s'
+sends_if : (b : Bool) (s : SessionData) (bytes : List ℕ) (answer : Result Turn Ended) (s' : SessionData) → MatchBool b (Says s Done SaidDone answer s') (Says s (Sync bytes) Exchanges answer s' ⊎ Fails s OutOfMemory answer s') → Keeps s s.applied answer s'
 sends_if true s bytes answer s' step = says s Done SaidDone answer s' refl step
 sends_if false s bytes answer s' step = elim step [
   | inl sent ↦ says s (Sync bytes) Exchanges answer s' refl sent
   | inr failed ↦ fails s OutOfMemory answer s' failed
 ]
 
-sends : (s : SessionData) (stale : Bool) (sent : List ℕ × Bool) (answer : Result Turn Ended) (s' : SessionData) → Sends s stale sent answer s' → Keeps s answer s'
-sends s stale sent answer s' step = sends_if (stale && sent.1) s sent.0 answer s' step
-
-answers : (s : SessionData) (stale : Bool) (reply : Reply) (answer : Result Turn Ended) (s' : SessionData) → Answers s stale reply answer s' → Keeps s answer s'
-answers s stale (Generated (Some sent)) answer s' step = sends s stale sent answer s' step
+pub answers : (s : SessionData) (stale : Bool) (reply : Reply) (answer : Result Turn Ended) (s' : SessionData) → Answers s stale reply answer s' → Keeps s s.applied answer s'
+answers s stale (Generated (Some sent)) answer s' step = sends_if (stale && sent.1) s sent.0 answer s' step
 answers s stale (Generated None) answer s' step = says s Done SaidDone answer s' refl step
 answers s stale (Refused e) answer s' step = fails s (Peer e) answer s' step
 answers s stale _ answer s' step = absurd step
 
-tells : {H : Type 0} (generates : H → Reply → H → Type 0) (s : SessionData) (stale : Bool) (h : H) (answer : Result Turn Ended) (s' : SessionData) (h' : H) → Tells generates s stale h answer s' h' → Keeps s answer s'
-tells generates s stale h answer s' h' step = answers s stale step.0 answer s' step.2
+module _ {H : Type 0} (steps : H → HostCall → Reply → H → Type 0) where
+  heard : (reply : Reply) (a : SessionData × H) (answer : Result Turn Ended) (b : SessionData × H) → Heard steps reply a answer b → (n : ℕ) × Keeps a.0 n answer b.0
+  heard (Received r same_heads) a answer b step =
+      let s : SessionData = counting a.0 (length r.applied) in
+      let k : Keeps s s.applied answer b.0 = answers s (is_stale r same_heads) step.0 answer b.0 step.2 in
+      (s.applied, record { role = k.role; id = k.id; applied = k.applied; told = k.told })
+  heard (Refused e) a answer b step = (a.0.applied, fails a.0 (Peer e) answer b.0 step.0)
+  heard _ a answer b step = absurd step
 
-heard : {H : Type 0} (generates : H → Reply → H → Type 0) (s : SessionData) (reply : Reply) (m : H) (answer : Result Turn Ended) (s' : SessionData) (h' : H) → Heard generates s reply m answer s' h' → Keeps s answer s'
-heard generates s (Received r same_heads) m answer s' h' step =
-    let k = tells generates (counting s (length r.applied)) (is_stale r same_heads) m answer s' h' step in
-    record { role = k.role; id = k.id; told = k.told }
-heard generates s (Refused e) m answer s' h' step = fails s (Peer e) answer s' step.0
-heard generates s _ m answer s' h' step = absurd step
+  -- ---- frames
 
-hears : {H : Type 0} (receives : H → List ℕ → Reply → H → Type 0) (generates : H → Reply → H → Type 0) (s : SessionData) (bytes : List ℕ) (h : H) (answer : Result Turn Ended) (s' : SessionData) (h' : H) → Hears receives generates s bytes h answer s' h' → Keeps s answer s'
-hears receives generates s bytes h answer s' h' step = heard generates s step.0 step.1 answer s' h' step.3
+  -- What a step is: the side answers by itself, or by a message that the host was asked for, or the host receives one first.
+  abbrev pub Ways : SessionData × H → Result Turn Ended → SessionData × H → Type 0
+  Ways a answer b =
+      (Keeps a.0 a.0.applied answer b.0 × (b.1 ≡ a.1)) ⊎ (((stale : Bool) × Tells steps stale a answer b) ⊎ ((bytes : List ℕ) × Hears steps bytes a answer b))
 
--- ---- frames
+  welcomes : (role : Role) (a : SessionData × H) (answer : Result Turn Ended) (b : SessionData × H) → Welcomes steps role a answer b → Ways a answer b
+  welcomes Client a answer b step = inr (inl (false, step))
+  welcomes Server a answer b step = inl (says a.0 (greeting a.0.id) Exchanges answer b.0 refl step.0, step.1)
 
-welcomes : {H : Type 0} (generates : H → Reply → H → Type 0) (role : Role) (s : SessionData) (h : H) (answer : Result Turn Ended) (s' : SessionData) (h' : H) → Welcomes generates role s h answer s' h' → Keeps s answer s'
-welcomes generates Client s h answer s' h' step = tells generates s false h answer s' h' step
-welcomes generates Server s h answer s' h' step = says s (greeting s.id) Exchanges answer s' refl step.0
+  greets : (x y : Bool) (a : SessionData × H) (answer : Result Turn Ended) (b : SessionData × H)
+      → MatchBool x (MatchBool y (Welcomes steps a.0.role a answer b) (Fails a.0 OtherDocument answer b.0 × (b.1 ≡ a.1))) (Fails a.0 Version answer b.0 × (b.1 ≡ a.1)) → Ways a answer b
+  greets true true a answer b step = welcomes a.0.role a answer b step
+  greets true false a answer b step = inl (fails a.0 OtherDocument answer b.0 step.0, step.1)
+  greets false y a answer b step = inl (fails a.0 Version answer b.0 step.0, step.1)
 
-judged_document : {H : Type 0} (generates : H → Reply → H → Type 0) (b : Bool) (s : SessionData) (h : H) (answer : Result Turn Ended) (s' : SessionData) (h' : H)
-    → MatchBool b (Welcomes generates s.role s h answer s' h') (Fails s OtherDocument answer s' × (h' ≡ h)) → Keeps s answer s'
-judged_document generates true s h answer s' h' step = welcomes generates s.role s h answer s' h' step
-judged_document generates false s h answer s' h' step = fails s OtherDocument answer s' step.0
+  on_frame : (phase : Phase) (f : Frame) (a : SessionData × H) (answer : Result Turn Ended) (b : SessionData × H) → a.0.phase ≡ phase → OnFrame steps phase f a answer b → Ways a answer b
+  on_frame AwaitsHello (Hello version id) a answer b at step = greets (version == VERSION) (same_doc a.0.id id) a answer b step
+  on_frame AwaitsHello (Sync bytes) a answer b at step = inl (fails a.0 Unexpected answer b.0 step.0, step.1)
+  on_frame AwaitsHello Done a answer b at step = inl (fails a.0 Unexpected answer b.0 step.0, step.1)
+  on_frame AwaitsHello (Refusal code) a answer b at step = inl (fails a.0 (RefusedByOther code) answer b.0 step.0, step.1)
+  on_frame Exchanges (Hello version id) a answer b at step = inl (fails a.0 Unexpected answer b.0 step.0, step.1)
+  on_frame Exchanges (Sync bytes) a answer b at step = inr (inr (bytes, step))
+  on_frame Exchanges Done a answer b at step = inl (closes a.0 (Some Done) answer b.0 step.0, step.1)
+  on_frame Exchanges (Refusal code) a answer b at step = inl (fails a.0 (RefusedByOther code) answer b.0 step.0, step.1)
+  on_frame SaidDone (Hello version id) a answer b at step = inl (fails a.0 Unexpected answer b.0 step.0, step.1)
+  on_frame SaidDone (Sync bytes) a answer b at step = inl (fails a.0 Unexpected answer b.0 step.0, step.1)
+  on_frame SaidDone Done a answer b at step = inl (closes a.0 None answer b.0 step.0, step.1)
+  on_frame SaidDone (Refusal code) a answer b at step = inl (fails a.0 (RefusedByOther code) answer b.0 step.0, step.1)
+  on_frame Over f a answer b at step = inl (late a.0 answer b.0 at step.0, step.1)
 
-judged_version : {H : Type 0} (generates : H → Reply → H → Type 0) (b c : Bool) (s : SessionData) (h : H) (answer : Result Turn Ended) (s' : SessionData) (h' : H)
-    → MatchBool b (MatchBool c (Welcomes generates s.role s h answer s' h') (Fails s OtherDocument answer s' × (h' ≡ h))) (Fails s Version answer s' × (h' ≡ h)) → Keeps s answer s'
-judged_version generates true c s h answer s' h' step = judged_document generates c s h answer s' h' step
-judged_version generates false c s h answer s' h' step = fails s Version answer s' step.0
+  pub step_ways : (a : SessionData × H) (f : Frame) (answer : Result Turn Ended) (b : SessionData × H) → SessionStep steps a f answer b → Ways a answer b
+  step_ways a f answer b step = on_frame a.0.phase f a answer b refl step
 
-on_hello : {H : Type 0} (generates : H → Reply → H → Type 0) (phase : Phase) (s : SessionData) (version : ℕ) (id : DocId) (h : H) (answer : Result Turn Ended) (s' : SessionData) (h' : H)
-    → s.phase ≡ phase → OnHello generates phase s version id h answer s' h' → Keeps s answer s'
-on_hello generates AwaitsHello s version id h answer s' h' at step = judged_version generates (version == VERSION) (same_doc s.id id) s h answer s' h' step
-on_hello generates Exchanges s version id h answer s' h' at step = fails s Unexpected answer s' step.0
-on_hello generates SaidDone s version id h answer s' h' at step = fails s Unexpected answer s' step.0
-on_hello generates Over s version id h answer s' h' at step = late s answer s' at step.0
+  -- A step keeps the role and the document, and its answer tells the end.
+  step_keeps : (a : SessionData × H) (f : Frame) (answer : Result Turn Ended) (b : SessionData × H) → SessionStep steps a f answer b → (n : ℕ) × Keeps a.0 n answer b.0
+  step_keeps a f answer b step = elim (step_ways a f answer b step) [
+    | inl alone ↦ (a.0.applied, alone.0)
+    | inr (inl told) ↦ (a.0.applied, answers a.0 told.0 told.1.0 answer b.0 told.1.2)
+    | inr (inr came) ↦ heard came.1.0 (a.0, came.1.1) answer b came.1.3
+  ]
 
-on_sync : {H : Type 0} (receives : H → List ℕ → Reply → H → Type 0) (generates : H → Reply → H → Type 0) (phase : Phase) (s : SessionData) (bytes : List ℕ) (h : H) (answer : Result Turn Ended) (s' : SessionData) (h' : H)
-    → s.phase ≡ phase → OnSync receives generates phase s bytes h answer s' h' → Keeps s answer s'
-on_sync receives generates AwaitsHello s bytes h answer s' h' at step = fails s Unexpected answer s' step.0
-on_sync receives generates Exchanges s bytes h answer s' h' at step = hears receives generates s bytes h answer s' h' step
-on_sync receives generates SaidDone s bytes h answer s' h' at step = fails s Unexpected answer s' step.0
-on_sync receives generates Over s bytes h answer s' h' at step = late s answer s' at step.0
+  -- ---- the laws
 
-on_done : (phase : Phase) (s : SessionData) (answer : Result Turn Ended) (s' : SessionData) → s.phase ≡ phase → OnDone phase s answer s' → Keeps s answer s'
-on_done AwaitsHello s answer s' at step = fails s Unexpected answer s' step
-on_done Exchanges s answer s' at step = closes s (Some Done) answer s' step
-on_done SaidDone s answer s' at step = closes s None answer s' step
-on_done Over s answer s' at step = late s answer s' at step
+  pub role_and_id : (a b : SessionData × H) (f : Frame) (answer : Result Turn Ended) → SessionStep steps a f answer b → (b.0.role ≡ a.0.role) × (b.0.id ≡ a.0.id)
+  role_and_id a b f answer step = let k = step_keeps a f answer b step in (k.1.role, k.1.id)
 
-on_refusal : (phase : Phase) (s : SessionData) (code : ℕ) (answer : Result Turn Ended) (s' : SessionData) → s.phase ≡ phase → OnRefusal phase s code answer s' → Keeps s answer s'
-on_refusal AwaitsHello s code answer s' at step = fails s (RefusedByOther code) answer s' step
-on_refusal Exchanges s code answer s' at step = fails s (RefusedByOther code) answer s' step
-on_refusal SaidDone s code answer s' at step = fails s (RefusedByOther code) answer s' step
-on_refusal Over s code answer s' at step = late s answer s' at step
+  pub turn_tells : (a b : SessionData × H) (f : Frame) (turn : Turn) → SessionStep steps a f (Ok turn) b → turn.ended ≡ is_over b.0.phase
+  turn_tells a b f turn step = let k = step_keeps a f (Ok turn) b step in k.1.told
 
--- A step keeps the role and the document, and its answer tells the end.
-pub step_keeps : {H : Type 0} (receives : H → List ℕ → Reply → H → Type 0) (generates : H → Reply → H → Type 0) (s : SessionData) (f : Frame) (h : H) (answer : Result Turn Ended) (s' : SessionData) (h' : H)
-    → SessionStep receives generates s f h answer s' h' → Keeps s answer s'
-step_keeps receives generates s (Hello version id) h answer s' h' step = on_hello generates s.phase s version id h answer s' h' refl step
-step_keeps receives generates s (Sync bytes) h answer s' h' step = on_sync receives generates s.phase s bytes h answer s' h' refl step
-step_keeps receives generates s Done h answer s' h' step = on_done s.phase s answer s' refl step.0
-step_keeps receives generates s (Refusal code) h answer s' h' step = on_refusal s.phase s code answer s' refl step.0
+  pub error_ends : (a b : SessionData × H) (f : Frame) (ended : Ended) → SessionStep steps a f (Err ended) b → is_over b.0.phase ≡ true
+  error_ends a b f ended step = let k = step_keeps a f (Err ended) b step in k.1.told.0
 
--- ---- the laws
-
-pub role_and_id : {H : Type 0} (receives : H → List ℕ → Reply → H → Type 0) (generates : H → Reply → H → Type 0) (s : SessionData) (f : Frame) (h : H) (answer : Result Turn Ended) (s' : SessionData) (h' : H)
-    → SessionStep receives generates s f h answer s' h' → (s'.role ≡ s.role) × (s'.id ≡ s.id)
-role_and_id receives generates s f h answer s' h' step =
-    let k = step_keeps receives generates s f h answer s' h' step in (k.role, k.id)
-
-pub turn_tells : {H : Type 0} (receives : H → List ℕ → Reply → H → Type 0) (generates : H → Reply → H → Type 0) (s : SessionData) (f : Frame) (h : H) (turn : Turn) (s' : SessionData) (h' : H)
-    → SessionStep receives generates s f h (Ok turn) s' h' → turn.ended ≡ is_over s'.phase
-turn_tells receives generates s f h turn s' h' step =
-    let k = step_keeps receives generates s f h (Ok turn) s' h' step in k.told
-
-pub error_ends : {H : Type 0} (receives : H → List ℕ → Reply → H → Type 0) (generates : H → Reply → H → Type 0) (s : SessionData) (f : Frame) (h : H) (ended : Ended) (s' : SessionData) (h' : H)
-    → SessionStep receives generates s f h (Err ended) s' h' → is_over s'.phase ≡ true
-error_ends receives generates s f h ended s' h' step =
-    let k = step_keeps receives generates s f h (Err ended) s' h' step in k.told.0
-
-pub refusal_due : {H : Type 0} (receives : H → List ℕ → Reply → H → Type 0) (generates : H → Reply → H → Type 0) (s : SessionData) (f : Frame) (h : H) (ended : Ended) (s' : SessionData) (h' : H)
-    → is_over s.phase ≡ false → SessionStep receives generates s f h (Err ended) s' h' → ended.send ≡ refusal_of ended.error
-refusal_due receives generates s f h ended s' h' going step =
-    let k = step_keeps receives generates s f h (Err ended) s' h' step in k.told.1 going
+  pub refusal_due : (a b : SessionData × H) (f : Frame) (ended : Ended) → is_over a.0.phase ≡ false → SessionStep steps a f (Err ended) b → ended.send ≡ refusal_of ended.error
+  refusal_due a b f ended going step = let k = step_keeps a f (Err ended) b step in k.1.told.1 going

@@ -2,5 +2,5 @@ pub mod Reason
 pub mod NetError
 pub mod SessionData
 pub mod SessionStep
-pub mod Leading
+pub mod HostCalls
 pub mod Laws

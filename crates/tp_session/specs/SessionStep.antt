@@ -1,4 +1,5 @@
--- The session as a machine: what a side answers to a frame, and how it and its host stand then.
+-- The session as a machine: what a side answers to a frame, and how it and its host are then. A side is a session with
+-- what is seen of its host, whose calls go by the relation `steps`.
 use Rattle.std.specs.Prelude.{◌≡◌, ◌⊎◌, ℕ, ◌==◌, List, length, Bool, false, true, ◌&&◌, Option, Some, None, Result, Ok, Err, MatchBool}
 use Rattle.tp_opid.specs.declared.doc_id.DocId.{DocId}
 use Rattle.tp_opid.specs.Same.{same_doc}
@@ -15,6 +16,7 @@ use Rattle.tp_session.specs.declared.session.Phase.TheVariants.{AwaitsHello, Exc
 use Rattle.tp_session.specs.declared.session.TheConstants.{VERSION}
 use Rattle.tp_session.specs.declared.turn.Turn.{Turn}
 use Rattle.tp_session.specs.declared.turn.Ended.{Ended}
+use Rattle.tp_session.specs.HostCalls.{HostCall, Receive, Generate}
 use Rattle.tp_session.specs.NetError.{refusal_of}
 use Rattle.tp_session.specs.SessionData.{SessionData, counting, greeting}
 
@@ -56,66 +58,48 @@ Answers s stale (Refused e) answer s' = Fails s (Peer e) answer s'
 Answers s stale _ answer s' = ⊥
 
 -- The host was asked for a message, and the side answers by what it replied.
-abbrev pub Tells : {H : Type 0} → (H → Reply → H → Type 0) → SessionData → Bool → H → Result Turn Ended → SessionData → H → Type 0
-Tells generates s stale h answer s' h' = (reply : Reply) × generates h reply h' × Answers s stale reply answer s'
+abbrev pub Tells : {H : Type 0} → (H → HostCall → Reply → H → Type 0) → Bool → SessionData × H → Result Turn Ended → SessionData × H → Type 0
+Tells steps stale a answer b = (reply : Reply) × steps a.1 Generate reply b.1 × Answers a.0 stale reply answer b.0
 
--- what it does by what the host replied as it received a message, and how the host stood then
-abbrev pub Heard : {H : Type 0} → (H → Reply → H → Type 0) → SessionData → Reply → H → Result Turn Ended → SessionData → H → Type 0
-Heard generates s (Received r same_heads) m answer s' h' = Tells generates (counting s (length r.applied)) (is_stale r same_heads) m answer s' h'
-Heard generates s (Refused e) m answer s' h' = Fails s (Peer e) answer s' × (h' ≡ m)
-Heard generates s _ m answer s' h' = ⊥
+-- what it does by what the host replied as it received a message
+abbrev pub Heard : {H : Type 0} → (H → HostCall → Reply → H → Type 0) → Reply → SessionData × H → Result Turn Ended → SessionData × H → Type 0
+Heard steps (Received r same_heads) a answer b = Tells steps (is_stale r same_heads) (counting a.0 (length r.applied), a.1) answer b
+Heard steps (Refused e) a answer b = Fails a.0 (Peer e) answer b.0 × (b.1 ≡ a.1)
+Heard steps _ a answer b = ⊥
 
 -- The host received the bytes, and the side answers by what it replied.
-abbrev pub Hears : {H : Type 0} → (H → List ℕ → Reply → H → Type 0) → (H → Reply → H → Type 0) → SessionData → List ℕ → H → Result Turn Ended → SessionData → H → Type 0
-Hears {H} receives generates s bytes h answer s' h' =
-    (reply : Reply) × (m : H) × receives h bytes reply m × Heard generates s reply m answer s' h'
+abbrev pub Hears : {H : Type 0} → (H → HostCall → Reply → H → Type 0) → List ℕ → SessionData × H → Result Turn Ended → SessionData × H → Type 0
+Hears {H} steps bytes a answer b = (reply : Reply) × (m : H) × steps a.1 (Receive bytes) reply m × Heard steps reply (a.0, m) answer b
 
 -- ---- frames
 
 -- A hello that may come: its version is judged, and then its document. A server answers by its hello, a client by its
 -- first message.
-abbrev pub Welcomes : {H : Type 0} → (H → Reply → H → Type 0) → Role → SessionData → H → Result Turn Ended → SessionData → H → Type 0
-Welcomes generates Client s h answer s' h' = Tells generates s false h answer s' h'
-Welcomes generates Server s h answer s' h' = Says s (greeting s.id) Exchanges answer s' × (h' ≡ h)
+abbrev pub Welcomes : {H : Type 0} → (H → HostCall → Reply → H → Type 0) → Role → SessionData × H → Result Turn Ended → SessionData × H → Type 0
+Welcomes steps Client a answer b = Tells steps false a answer b
+Welcomes steps Server a answer b = Says a.0 (greeting a.0.id) Exchanges answer b.0 × (b.1 ≡ a.1)
 
-abbrev pub Greets : {H : Type 0} → (H → Reply → H → Type 0) → SessionData → ℕ → DocId → H → Result Turn Ended → SessionData → H → Type 0
-Greets generates s version id h answer s' h' =
+abbrev pub Greets : {H : Type 0} → (H → HostCall → Reply → H → Type 0) → ℕ → DocId → SessionData × H → Result Turn Ended → SessionData × H → Type 0
+Greets steps version id a answer b =
     MatchBool (version == VERSION)
-    (MatchBool (same_doc s.id id) (Welcomes generates s.role s h answer s' h') (Fails s OtherDocument answer s' × (h' ≡ h)))
-    (Fails s Version answer s' × (h' ≡ h))
+    (MatchBool (same_doc a.0.id id) (Welcomes steps a.0.role a answer b) (Fails a.0 OtherDocument answer b.0 × (b.1 ≡ a.1)))
+    (Fails a.0 Version answer b.0 × (b.1 ≡ a.1))
 
--- A hello comes: it is the first frame, and no other.
-abbrev pub OnHello : {H : Type 0} → (H → Reply → H → Type 0) → Phase → SessionData → ℕ → DocId → H → Result Turn Ended → SessionData → H → Type 0
-OnHello generates AwaitsHello s version id h answer s' h' = Greets generates s version id h answer s' h'
-OnHello generates Exchanges s version id h answer s' h' = Fails s Unexpected answer s' × (h' ≡ h)
-OnHello generates SaidDone s version id h answer s' h' = Fails s Unexpected answer s' × (h' ≡ h)
-OnHello generates Over s version id h answer s' h' = IsLate s answer s' × (h' ≡ h)
+-- A frame comes for which the host isn't asked: a session that has ended is late, and a refusal ends any other. To the
+-- other's done a side that hasn't said it says it, and the session has ended. Nothing else may come so.
+abbrev pub AnswersAlone : Phase → Frame → SessionData → Result Turn Ended → SessionData → Type 0
+AnswersAlone Over frame s answer s' = IsLate s answer s'
+AnswersAlone phase (Refusal code) s answer s' = Fails s (RefusedByOther code) answer s'
+AnswersAlone Exchanges Done s answer s' = Closes s (Some Done) answer s'
+AnswersAlone SaidDone Done s answer s' = Closes s None answer s'
+AnswersAlone phase frame s answer s' = Fails s Unexpected answer s'
 
--- A message comes: between the other's hello and this side's done. The host receives it, and then is asked for one.
-abbrev pub OnSync : {H : Type 0} → (H → List ℕ → Reply → H → Type 0) → (H → Reply → H → Type 0) → Phase → SessionData → List ℕ → H → Result Turn Ended → SessionData → H → Type 0
-OnSync receives generates AwaitsHello s bytes h answer s' h' = Fails s Unexpected answer s' × (h' ≡ h)
-OnSync receives generates Exchanges s bytes h answer s' h' = Hears receives generates s bytes h answer s' h'
-OnSync receives generates SaidDone s bytes h answer s' h' = Fails s Unexpected answer s' × (h' ≡ h)
-OnSync receives generates Over s bytes h answer s' h' = IsLate s answer s' × (h' ≡ h)
+-- A frame comes in the phase: a hello as the first, and messages between the other's hello and this side's done.
+abbrev pub OnFrame : {H : Type 0} → (H → HostCall → Reply → H → Type 0) → Phase → Frame → SessionData × H → Result Turn Ended → SessionData × H → Type 0
+OnFrame steps AwaitsHello (Hello version id) a answer b = Greets steps version id a answer b
+OnFrame steps Exchanges (Sync bytes) a answer b = Hears steps bytes a answer b
+OnFrame steps phase frame a answer b = AnswersAlone phase frame a.0 answer b.0 × (b.1 ≡ a.1)
 
--- The other says done, after its hello: a side that hasn't said it says it, and the session has ended.
-abbrev pub OnDone : Phase → SessionData → Result Turn Ended → SessionData → Type 0
-OnDone AwaitsHello s answer s' = Fails s Unexpected answer s'
-OnDone Exchanges s answer s' = Closes s (Some Done) answer s'
-OnDone SaidDone s answer s' = Closes s None answer s'
-OnDone Over s answer s' = IsLate s answer s'
-
--- A refusal comes: it ends the session wherever it is.
-abbrev pub OnRefusal : Phase → SessionData → ℕ → Result Turn Ended → SessionData → Type 0
-OnRefusal AwaitsHello s code answer s' = Fails s (RefusedByOther code) answer s'
-OnRefusal Exchanges s code answer s' = Fails s (RefusedByOther code) answer s'
-OnRefusal SaidDone s code answer s' = Fails s (RefusedByOther code) answer s'
-OnRefusal Over s code answer s' = IsLate s answer s'
-
--- From the session s and the host h, whose calls go by the two relations, the frame may give the answer and leave s' and
--- h'.
-abbrev pub SessionStep : {H : Type 0} → (H → List ℕ → Reply → H → Type 0) → (H → Reply → H → Type 0) → SessionData → Frame → H → Result Turn Ended → SessionData → H → Type 0
-SessionStep receives generates s (Hello version id) h answer s' h' = OnHello generates s.phase s version id h answer s' h'
-SessionStep receives generates s (Sync bytes) h answer s' h' = OnSync receives generates s.phase s bytes h answer s' h'
-SessionStep receives generates s Done h answer s' h' = OnDone s.phase s answer s' × (h' ≡ h)
-SessionStep receives generates s (Refusal code) h answer s' h' = OnRefusal s.phase s code answer s' × (h' ≡ h)
+-- From the side a the frame may give the answer and leave b.
+abbrev pub SessionStep : {H : Type 0} → (H → HostCall → Reply → H → Type 0) → SessionData × H → Frame → Result Turn Ended → SessionData × H → Type 0
+SessionStep steps a frame answer b = OnFrame steps a.0.phase frame a answer b

@@ -15,33 +15,28 @@ use crate::host::Host;
 /// Once a side has said done, the next frame ends the session, whatever it is: the host isn't asked, and nothing but a
 /// refusal is sent. So done is said once, and behind it no message.
 pub fn done_is_said_last<H: Host>()
-    ensures { (s : SessionData) (f : FrameOf) (h : H) (answer : Result TurnOf EndedOf)
-        (s' : SessionData) (h' : H) → s.phase ≡ SaidDone
-        → SessionStep H.receives H.generates s f h answer s' h'
-        → (s'.phase ≡ Over) × (h' ≡ h) × SaysNoMore answer }
+    ensures { (a b : SessionData × H.Seen) (f : FrameOf) (answer : Result TurnOf EndedOf)
+        → a.0.phase ≡ SaidDone → SessionStep H.steps a f answer b
+        → (b.0.phase ≡ Over) × (b.1 ≡ a.1) × SaysNoMore answer }
 {}
 
 /// Whatever frame comes, a side keeps its role and its document.
 pub fn role_and_document_stay<H: Host>()
-    ensures { (s : SessionData) (f : FrameOf) (h : H) (answer : Result TurnOf EndedOf)
-        (s' : SessionData) (h' : H) → SessionStep H.receives H.generates s f h answer s' h'
-        → (s'.role ≡ s.role) × (s'.id ≡ s.id) }
+    ensures { (a b : SessionData × H.Seen) (f : FrameOf) (answer : Result TurnOf EndedOf)
+        → SessionStep H.steps a f answer b → (b.0.role ≡ a.0.role) × (b.0.id ≡ a.0.id) }
 {}
 
 /// A turn says whether the session has ended, and an error ends it.
 pub fn the_end_is_told<H: Host>()
-    ensures turn { (s : SessionData) (f : FrameOf) (h : H) (turn : TurnOf)
-        (s' : SessionData) (h' : H) → SessionStep H.receives H.generates s f h (Ok turn) s' h'
-        → turn.ended ≡ is_over s'.phase }
-    ensures error { (s : SessionData) (f : FrameOf) (h : H) (ended : EndedOf)
-        (s' : SessionData) (h' : H) → SessionStep H.receives H.generates s f h (Err ended) s' h'
-        → is_over s'.phase ≡ true }
+    ensures turn { (a b : SessionData × H.Seen) (f : FrameOf) (turn : TurnOf)
+        → SessionStep H.steps a f (Ok turn) b → turn.ended ≡ is_over b.0.phase }
+    ensures error { (a b : SessionData × H.Seen) (f : FrameOf) (ended : EndedOf)
+        → SessionStep H.steps a f (Err ended) b → is_over b.0.phase ≡ true }
 {}
 
 /// With each error stands the refusal that is due for it, unless the session had ended before.
 pub fn the_refusal_is_due<H: Host>()
-    ensures { (s : SessionData) (f : FrameOf) (h : H) (ended : EndedOf)
-        (s' : SessionData) (h' : H) → is_over s.phase ≡ false
-        → SessionStep H.receives H.generates s f h (Err ended) s' h'
+    ensures { (a b : SessionData × H.Seen) (f : FrameOf) (ended : EndedOf)
+        → is_over a.0.phase ≡ false → SessionStep H.steps a f (Err ended) b
         → ended.send ≡ refusal_of ended.error }
 {}

@@ -1,8 +1,8 @@
 //! A peer with one of its links, as the host of a session.
 
 ghost use Rattle.std.specs.Prelude.{◌≡◌};
-ghost use Rattle.tp_peer.specs.PeerStep.{PeerStep, Receive, Generate, Forget};
-ghost use Rattle.tp_session.specs.Leading.{GoesOn};
+ghost use Rattle.tp_peer.specs.PeerStep.{PeerStep};
+ghost use Rattle.tp_session.specs.HostCalls.{on};
 
 use crate::host::Host;
 use tp_journal::Journal;
@@ -27,18 +27,17 @@ impl<'a, J: Journal> LinkedPeer<'a, J> {
 }
 
 impl<'a, J: Journal> Host for LinkedPeer<'a, J> {
+    ghost use Rattle.std.specs.Prelude.{ℕ};
     ghost use Rattle.std.proofs.Common.{refl, ◌∙◌};
-    ghost use Rattle.tp_session.specs.Leading.{stays as stays_at, joins as joins_at};
+    ghost use Rattle.tp_peer.specs.PeerData.{PeerData};
 
-    ghost goes_on = { λ a b. (b.link.0 ≡ a.link.0) × (b.peer.ghost_name ≡ a.peer.ghost_name)
-        × GoesOn a.link.0 a.peer.now b.peer.now };
+    ghost Seen = { ℕ × PeerData };
 
-    ghost receives = { λ a bytes reply b.
-        PeerStep a.peer.now (Receive a.link.0 bytes) reply b.peer.now };
+    ghost seen = { λ h. (h.link.0, h.peer.now) };
 
-    ghost generates = { λ a reply b. PeerStep a.peer.now (Generate a.link.0) reply b.peer.now };
+    ghost steps = { λ p call reply q. (q.0 ≡ p.0) × PeerStep p.1 (on p.0 call) reply q.1 };
 
-    ghost forgets = { λ a reply b. PeerStep a.peer.now (Forget a.link.0) reply b.peer.now };
+    ghost goes_on = { λ a b. (b.link.0 ≡ a.link.0) × (b.peer.ghost_name ≡ a.peer.ghost_name) };
 
     fn receive(&mut self, bytes: &[u8]) -> Result<Received, PeerError> {
         self.peer.receive_bytes(self.link, bytes)
@@ -52,11 +51,7 @@ impl<'a, J: Journal> Host for LinkedPeer<'a, J> {
         self.peer.forget_link(self.link)
     }
 
-    ghost stays = { λ h. (refl, refl, stays_at h.link.0 h.peer.now) };
+    ghost stays = { λ h. (refl, refl) };
 
-    ghost joins = { λ a b c first then. (
-      then.0 ∙ first.0,
-      then.1 ∙ first.1,
-      joins_at a.link.0 b.link.0 a.peer.now b.peer.now c.peer.now first.0 first.2 then.2,
-    ) };
+    ghost joins = { λ a b c first then. (then.0 ∙ first.0, then.1 ∙ first.1) };
 }

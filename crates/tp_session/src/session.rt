@@ -1,10 +1,8 @@
 //! The session: what a side answers to each frame.
 
-ghost use Rattle.std.specs.Prelude.{◌≡◌, length, Err, None, Some};
-ghost use Rattle.tp_frame.specs.declared.frame.Frame.TheVariants.{Hello, Sync, Done, Refusal};
-ghost use Rattle.tp_peer.specs.Sent.{sent_of};
-ghost use Rattle.tp_session.specs.SessionData.{begun, first_of, counting};
-ghost use Rattle.tp_session.specs.SessionStep.{SessionStep, Says, Fails, Tells, Sends, OnHello, OnSync, OnDone, OnRefusal};
+ghost use Rattle.std.specs.Prelude.{◌≡◌, length, Err, None};
+ghost use Rattle.tp_session.specs.SessionData.{begun, first_of, counting, greeting};
+ghost use Rattle.tp_session.specs.SessionStep.{SessionStep, Says, Closes, Fails, Tells, Sends, Greets, Hears};
 
 use crate::error::NetError;
 use crate::host::Host;
@@ -78,11 +76,18 @@ impl Session {
         ensures { result ≡ first_of self.now.role self.now.id }
     {
         match self.role {
-            Role::Client => Some(Frame::Hello {
-                version: VERSION,
-                id: self.id,
-            }),
+            Role::Client => Some(self.hello()),
             Role::Server => None,
+        }
+    }
+
+    // The side's hello.
+    fn hello(&self) -> Frame
+        ensures { result ≡ greeting self.now.id }
+    {
+        Frame::Hello {
+            version: VERSION,
+            id: self.id,
         }
     }
 
@@ -109,6 +114,14 @@ impl Session {
             send: Some(frame),
             ended: false,
         })
+    }
+
+    // Ends well, and sends what it still has to.
+    fn close(&mut self, send: Option<Frame>) -> Result<Turn, Ended>
+        ensures { Closes self.old send result self.new }
+    {
+        self.phase = Phase::Over;
+        Ok(Turn { send, ended: true })
     }
 
     // Ends for an error, with the refusal that is due.
@@ -142,7 +155,8 @@ impl Session {
 
     // Sends the host's next message, or done where it has none.
     fn tell<H: Host>(&mut self, stale: bool, host: &mut H) -> Result<Turn, Ended>
-        ensures step { Tells H.generates self.old stale host.old result self.new host.new }
+        ensures step { Tells H.steps stale (self.old, H.seen host.old)
+            result (self.new, H.seen host.new) }
         ensures host { H.goes_on host.old host.new }
     {
         match host.generate() {
@@ -152,82 +166,37 @@ impl Session {
         }
     }
 
-    // A hello comes.
-    fn on_hello<H: Host>(&mut self, version: u8, id: DocId, host: &mut H) -> Result<Turn, Ended>
-        ensures step { OnHello H.generates self.old.phase self.old version id host.old
-            result self.new host.new }
+    // The first hello comes.
+    fn greet<H: Host>(&mut self, version: u8, id: DocId, host: &mut H) -> Result<Turn, Ended>
+        ensures step { Greets H.steps version id (self.old, H.seen host.old)
+            result (self.new, H.seen host.new) }
         ensures host { H.goes_on host.old host.new }
     {
-        match self.phase {
-            Phase::AwaitsHello => {
-                if version != VERSION {
-                    return self.fail(NetError::Version);
-                }
-                if !self.id.is(&id) {
-                    return self.fail(NetError::OtherDocument);
-                }
-                match self.role {
-                    Role::Client => self.tell(false, host),
-                    Role::Server => {
-                        let id = self.id;
-                        self.say(
-                            Frame::Hello {
-                                version: VERSION,
-                                id,
-                            },
-                            Phase::Exchanges,
-                        )
-                    }
-                }
-            }
-            Phase::Exchanges | Phase::SaidDone => self.fail(NetError::Unexpected),
-            Phase::Over => late(),
+        if version != VERSION {
+            return self.fail(NetError::Version);
+        }
+        if !self.id.is(&id) {
+            return self.fail(NetError::OtherDocument);
+        }
+        match self.role {
+            Role::Client => self.tell(false, host),
+            Role::Server => self.say(self.hello(), Phase::Exchanges),
         }
     }
 
     // A message comes.
-    fn on_sync<H: Host>(&mut self, bytes: &[u8], host: &mut H) -> Result<Turn, Ended>
-        ensures step { OnSync H.receives H.generates self.old.phase self.old bytes.now host.old
-            result self.new host.new }
+    fn hear<H: Host>(&mut self, bytes: &[u8], host: &mut H) -> Result<Turn, Ended>
+        ensures step { Hears H.steps bytes.now (self.old, H.seen host.old)
+            result (self.new, H.seen host.new) }
         ensures host { H.goes_on host.old host.new }
     {
-        match self.phase {
-            Phase::Exchanges => match host.receive(bytes) {
-                Ok(received) => {
-                    let stale = received.applied.applied.is_empty() && received.same_heads;
-                    self.count(&received);
-                    self.tell(stale, host)
-                }
-                Err(error) => self.fail(NetError::Peer(error)),
-            },
-            Phase::AwaitsHello | Phase::SaidDone => self.fail(NetError::Unexpected),
-            Phase::Over => late(),
-        }
-    }
-
-    // The other says done.
-    fn on_done(&mut self) -> Result<Turn, Ended>
-        ensures { OnDone self.old.phase self.old result self.new }
-    {
-        let send = match self.phase {
-            Phase::AwaitsHello => return self.fail(NetError::Unexpected),
-            Phase::Exchanges => Some(Frame::Done),
-            Phase::SaidDone => None,
-            Phase::Over => return late(),
-        };
-        self.phase = Phase::Over;
-        Ok(Turn { send, ended: true })
-    }
-
-    // A refusal comes.
-    fn on_refusal(&mut self, code: u8) -> Result<Turn, Ended>
-        ensures { OnRefusal self.old.phase self.old code result self.new }
-    {
-        match self.phase {
-            Phase::AwaitsHello | Phase::Exchanges | Phase::SaidDone => {
-                self.fail(NetError::RefusedByOther { code })
+        match host.receive(bytes) {
+            Ok(received) => {
+                let stale = received.applied.applied.is_empty() && received.same_heads;
+                self.count(&received);
+                self.tell(stale, host)
             }
-            Phase::Over => late(),
+            Err(error) => self.fail(NetError::Peer(error)),
         }
     }
 
@@ -247,15 +216,18 @@ impl Session {
     ///
     /// The cost is that of the host's calls. No byte of a message is copied.
     pub fn on_frame<H: Host>(&mut self, frame: Frame, host: &mut H) -> Result<Turn, Ended>
-        ensures step { SessionStep H.receives H.generates self.old frame host.old
-            result self.new host.new }
+        ensures step { SessionStep H.steps (self.old, H.seen host.old) frame
+            result (self.new, H.seen host.new) }
         ensures host { H.goes_on host.old host.new }
     {
-        match frame {
-            Frame::Hello { version, id } => self.on_hello(version, id, host),
-            Frame::Sync(bytes) => self.on_sync(bytes.as_slice(), host),
-            Frame::Done => self.on_done(),
-            Frame::Refusal(code) => self.on_refusal(code),
+        match (self.phase, &frame) {
+            (Phase::AwaitsHello, Frame::Hello { version, id }) => self.greet(*version, *id, host),
+            (Phase::Exchanges, Frame::Sync(bytes)) => self.hear(bytes.as_slice(), host),
+            (Phase::Over, _) => late(),
+            (_, Frame::Refusal(code)) => self.fail(NetError::RefusedByOther { code: *code }),
+            (Phase::Exchanges, Frame::Done) => self.close(Some(Frame::Done)),
+            (Phase::SaidDone, Frame::Done) => self.close(None),
+            _ => self.fail(NetError::Unexpected),
         }
     }
 }

@@ -16,6 +16,7 @@ use Rattle.tp_shell.specs.declared.job.FileJob.{FileJob}
 use Rattle.tp_shell.specs.declared.job.FileJob.TheVariants.{New, Edit, Text, Heads, Log, Graph, Cursor, Merge, Save, Load, Show, Simulate}
 use Rattle.tp_shell.specs.declared.job.Job.{Job}
 use Rattle.tp_shell.specs.declared.job.Job.TheVariants.{Files, Serve, Sync}
+use Rattle.tp_shell.specs.Files.{ChangesFile, IsLoaded, OfFile, SavesTo}
 use Rattle.tp_shell.specs.Lines.{IsEditLine, IsMergeLine, IsNewLine}
 use Rattle.tp_shell.specs.Names.{refusal_text}
 use Rattle.tp_shell.specs.Network.{IsServed, IsSynced}
@@ -25,30 +26,33 @@ use Rattle.tp_shell.specs.ShellError.{failed, no_memory}
 abbrev pub IsShown : List ℕ → Type 0
 IsShown printed = (log : List ℕ) × (text : List ℕ) × HasText log text × (printed ≡ text_line text)
 
--- The bytes are what is printed of the job where it was done, on files that held some bytes: of `text`, `heads`, `log`, `graph`
--- and `cursor` what these bytes say; of `show` the text of the log that they are; of `new` the identifier that is drawn; of
--- `edit` the hash of the change that was made, or `nothing`; of `merge` how many changes entered; of `save` and `load`
--- nothing; of `simulate` the replies to the lines of a script, and the one list of its world.
-abbrev pub IsFilesPrinted : FileJob → List ℕ → Type 0
-IsFilesPrinted (New file key) printed = IsNewLine key printed
-IsFilesPrinted (Edit file splice time message key) printed = IsEditLine key splice time (chars message.now) printed
-IsFilesPrinted (Text file heads) printed = (journal : List ℕ) × IsTextLine journal heads.items printed
-IsFilesPrinted (Heads file) printed = (journal : List ℕ) × AreHeadLines journal printed
-IsFilesPrinted (Log file) printed = (journal : List ℕ) × AreChangeLines journal printed
-IsFilesPrinted (Graph file) printed = (journal : List ℕ) × IsChangeGraph journal printed
-IsFilesPrinted (Cursor file at heads) printed = (journal : List ℕ) × IsCursorLine journal at heads.items printed
-IsFilesPrinted (Merge file other key) printed = IsMergeLine key printed
-IsFilesPrinted (Save file out) printed = printed ≡ []
-IsFilesPrinted (Load saved file) printed = printed ≡ []
-IsFilesPrinted (Show log) printed = IsShown printed
-IsFilesPrinted (Simulate script) printed = IsScriptPrinted printed
+-- The bytes are what is printed of the job where it was done: of `text`, `heads`, `log`, `graph` and `cursor` what the bytes
+-- say that were read of the file; of `show` the text of a log; of `new` the identifier that is drawn; of `edit` the hash of
+-- the change that was made, or `nothing`; of `merge` how many changes of the other file entered; of `save` and `load`
+-- nothing; of `simulate` the replies to the lines of a script, and the one list of its world. And the file that a job
+-- writes was left as it says.
+abbrev pub IsFilesPrinted : (List ℕ → List ℕ → Type 0) → (List ℕ → List ℕ → Type 0) → FileJob → List ℕ → Type 0
+IsFilesPrinted reads leaves (New file key) printed = ChangesFile reads leaves file.now (λ before after. IsNewLine key before after printed)
+IsFilesPrinted reads leaves (Edit file splice time message key) printed =
+    ChangesFile reads leaves file.now (λ before after. IsEditLine key splice time (chars message.now) before after printed)
+IsFilesPrinted reads leaves (Text file heads) printed = OfFile reads file.now (λ journal. IsTextLine journal heads.items printed)
+IsFilesPrinted reads leaves (Heads file) printed = OfFile reads file.now (λ journal. AreHeadLines journal printed)
+IsFilesPrinted reads leaves (Log file) printed = OfFile reads file.now (λ journal. AreChangeLines journal printed)
+IsFilesPrinted reads leaves (Graph file) printed = OfFile reads file.now (λ journal. IsChangeGraph journal printed)
+IsFilesPrinted reads leaves (Cursor file at heads) printed = OfFile reads file.now (λ journal. IsCursorLine journal at heads.items printed)
+IsFilesPrinted reads leaves (Merge file other key) printed =
+    ChangesFile reads leaves file.now (λ before after. OfFile reads other.now (λ bytes. IsMergeLine key before bytes after printed))
+IsFilesPrinted reads leaves (Save file out) printed = (printed ≡ []) × OfFile reads file.now (λ journal. SavesTo leaves out.now journal)
+IsFilesPrinted reads leaves (Load saved file) printed = (printed ≡ []) × OfFile reads saved.now (λ bytes. ChangesFile reads leaves file.now (IsLoaded bytes))
+IsFilesPrinted reads leaves (Show log) printed = IsShown printed
+IsFilesPrinted reads leaves (Simulate script) printed = IsScriptPrinted printed
 
 -- The bytes are what is printed of the job where it was done: of `serve` the port and how many sessions were held; of `sync`
 -- how many changes entered.
-abbrev pub IsPrinted : Job → List ℕ → Type 0
-IsPrinted (Files job) printed = IsFilesPrinted job printed
-IsPrinted (Serve file addr sessions key) printed = IsServed sessions printed
-IsPrinted (Sync file addr key) printed = IsSynced printed
+abbrev pub IsPrinted : (List ℕ → List ℕ → Type 0) → (List ℕ → List ℕ → Type 0) → Job → List ℕ → Type 0
+IsPrinted reads leaves (Files job) printed = IsFilesPrinted reads leaves job printed
+IsPrinted reads leaves (Serve file addr sessions key) printed = IsServed sessions printed
+IsPrinted reads leaves (Sync file addr key) printed = IsSynced printed
 
 -- What the writer holds grew by bytes of which P holds.
 abbrev pub Grows : (List ℕ → Type 0) → Option (List ℕ) → Option (List ℕ) → Type 0
@@ -69,15 +73,15 @@ LeavesScript (Line number) before after = StopsAt number before after
 LeavesScript e before after = Keeps before after ⊎ PrintsPart before after
 
 -- What the output holds after the refusal of what is done to files. A script is printed as it goes on, all else at the end.
-abbrev pub LeavesFiles : FileJob → JobError → Option (List ℕ) → Option (List ℕ) → Type 0
-LeavesFiles (Simulate script) e before after = LeavesScript e before after
-LeavesFiles job e before after = Leaves (IsFilesPrinted job) e before after
+abbrev pub LeavesFiles : (List ℕ → List ℕ → Type 0) → (List ℕ → List ℕ → Type 0) → FileJob → JobError → Option (List ℕ) → Option (List ℕ) → Type 0
+LeavesFiles reads leaves (Simulate script) e before after = LeavesScript e before after
+LeavesFiles reads leaves job e before after = Leaves (IsFilesPrinted reads leaves job) e before after
 
 -- What the output holds after the refusal of a job. A server prints its port once it listens.
-abbrev pub LeavesOf : Job → JobError → Option (List ℕ) → Option (List ℕ) → Type 0
-LeavesOf (Files job) e before after = LeavesFiles job e before after
-LeavesOf (Serve file addr sessions key) e before after = Keeps before after ⊎ GrowsPart (IsServed sessions) before after
-LeavesOf (Sync file addr key) e before after = Leaves IsSynced e before after
+abbrev pub LeavesOf : (List ℕ → List ℕ → Type 0) → (List ℕ → List ℕ → Type 0) → Job → JobError → Option (List ℕ) → Option (List ℕ) → Type 0
+LeavesOf reads leaves (Files job) e before after = LeavesFiles reads leaves job e before after
+LeavesOf reads leaves (Serve file addr sessions key) e before after = Keeps before after ⊎ GrowsPart (IsServed sessions) before after
+LeavesOf reads leaves (Sync file addr key) e before after = Leaves IsSynced e before after
 
 -- The bytes are the line of the refusal; or of `OutOfMemory`, where there was no memory for that line.
 abbrev pub IsLineOf : ShellError → List ℕ → Type 0

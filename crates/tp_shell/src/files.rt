@@ -1,28 +1,53 @@
-//! Files that a command reads and writes.
+//! The files that commands read and write.
 
-use std::alloc::Global;
+ghost use Rattle.std.specs.Prelude.{◌≡◌, ℕ, List, IfOk, OnOk};
+
 use std::fs;
 use std::fs::OpenFile;
-use std::io::Write;
+use std::io::{Read, Seek, Write};
 use std::rt::Files;
 use tp_commands::CommandError;
-use tp_journal::FileJournal;
+use tp_journal::{DurableJournal, FileJournal};
 
-/// All bytes of a file.
-pub(crate) fn read_file<R: Files + AllocGlobal>(
-    rt: &R,
-    path: &str,
-) -> Result<Vec<u8>, CommandError> {
-    Ok(fs::read(rt, path)?)
-}
+/// Files at paths, as commands meet them.
+///
+/// Contracts see what a call did by two relations of its own, each between a path and bytes: these were read of the file
+/// there (`reads`), and the file there was left with these, on the disk (`leaves`). What the system does with a file
+/// between two calls is outside of them.
+pub trait Disk {
+    /// An open file.
+    type File: Read + Write + Seek + OpenFile + Drop;
 
-/// The journal in the file at the path. An absent one is made where `make` is true.
-pub(crate) fn journal_at<R: Files + AllocGlobal>(
-    rt: &R,
-    path: &str,
-    make: bool,
-) -> Result<FileJournal<R::File>, CommandError> {
-    Ok(FileJournal::at(rt, rt.alloc(), path, make)?)
+    /// The path, and the bytes that were read of the file there.
+    ghost reads: { Self → List ℕ → List ℕ → Type 0 };
+
+    /// The path, and the bytes with which the file there was left.
+    ghost leaves: { Self → List ℕ → List ℕ → Type 0 };
+
+    /// Opens a file to read it.
+    fn open(&self, path: &str) -> Result<Self::File, CommandError>;
+
+    /// All bytes of a file.
+    fn read(&self, path: &str) -> Result<Vec<u8>, CommandError>
+        ensures { IfOk result (λ bytes. reads self.now path.now bytes.items) };
+
+    /// The journal in a file. An absent one is made where `make` is true.
+    fn journal(&self, path: &str, make: bool) -> Result<FileJournal<Self::File>, CommandError>
+        ensures { IfOk result (λ j. reads self.now path.now j.content) };
+
+    /// The journal in a file, each append of which is brought to the disk. An absent one is refused.
+    fn durable_journal(&self, path: &str) -> Result<DurableJournal<Self::File>, CommandError>
+        ensures { IfOk result (λ j. reads self.now path.now j.file.content) };
+
+    /// Brings to the disk what was written to a journal that was taken from the path. Its content stays.
+    fn sync(&self, path: &str, journal: &mut FileJournal<Self::File>) -> Result<(), CommandError>
+        ensures left { OnOk result (leaves self.now path.now journal.new.content) }
+        ensures stays { journal.new.content ≡ journal.old.content };
+
+    /// Makes the file at the path of these bytes, in place of one that is there. A crash leaves the file at the path as it
+    /// was, or whole.
+    fn replace(&self, path: &str, bytes: &[u8]) -> Result<(), CommandError>
+        ensures { OnOk result (leaves self.now path.now bytes.now) };
 }
 
 // Writes a new file, and brings it to the disk.
@@ -44,19 +69,42 @@ fn write_and_rename<R: Files>(
     Ok(fs::rename(rt, part, path)?)
 }
 
-/// Makes the file at the path of these bytes, in place of one that is there. They are written to a file beside it, whose
-/// name ends with `.part`, which then takes its name: a crash leaves the file at the path as it was, or whole. Where it is
-/// refused, the file beside it is removed, as far as that can be done.
-pub(crate) fn replace_file<R: Files>(
-    rt: &R,
-    alloc: Global,
-    path: &str,
-    bytes: &[u8],
-) -> Result<(), CommandError> {
-    let part = format!(in alloc; "{path}.part")?;
-    let replaced = write_and_rename(rt, part.as_str(), path, bytes);
-    if replaced.is_err() {
-        let _ = fs::remove_file(rt, part.as_str());
+/// The files of the system, of which its calls promise nothing. A file is replaced by one that is written beside it, whose
+/// name ends with `.part`, and then takes its name. Where it is refused, the file beside it is removed, as far as that can
+/// be done.
+impl<R: Files + AllocGlobal> Disk for R {
+    type File = R::File;
+
+    ghost reads = { λ _ _ _. Unit {0} };
+
+    ghost leaves = { λ _ _ _. Unit {0} };
+
+    fn open(&self, path: &str) -> Result<R::File, CommandError> {
+        Ok(fs::open(self, path)?)
     }
-    replaced
+
+    fn read(&self, path: &str) -> Result<Vec<u8>, CommandError> {
+        Ok(fs::read(self, path)?)
+    }
+
+    fn journal(&self, path: &str, make: bool) -> Result<FileJournal<R::File>, CommandError> {
+        Ok(FileJournal::at(self, self.alloc(), path, make)?)
+    }
+
+    fn durable_journal(&self, path: &str) -> Result<DurableJournal<R::File>, CommandError> {
+        Ok(DurableJournal::at(self, self.alloc(), path, false)?)
+    }
+
+    fn sync(&self, _path: &str, journal: &mut FileJournal<R::File>) -> Result<(), CommandError> {
+        Ok(journal.sync()?)
+    }
+
+    fn replace(&self, path: &str, bytes: &[u8]) -> Result<(), CommandError> {
+        let part = format!(in self.alloc(); "{path}.part")?;
+        let replaced = write_and_rename(self, part.as_str(), path, bytes);
+        if replaced.is_err() {
+            let _ = fs::remove_file(self, part.as_str());
+        }
+        replaced
+    }
 }

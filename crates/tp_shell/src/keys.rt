@@ -10,13 +10,12 @@ ghost use Rattle.tp_shell.specs.Keys.{AreHashes, IsKeyOf, IsKeyed, IsNoHash, aft
 ghost use Rattle.tp_shell.specs.ShellError.{failed};
 
 use crate::error::{JobError, ShellError};
+use crate::files::Disk;
 use rand_chacha::ChaCha20Rng;
 use rand_core::SeedableRng;
 use std::alloc::Global;
-use std::fs;
 use std::io::Read;
 use std::net::SocketAddr;
-use std::rt::Files;
 use tp_commands::CommandError;
 use tp_opid::{Actor, Hash};
 use tp_peer::fresh_actor;
@@ -70,18 +69,15 @@ pub(crate) fn address_in(text: &str) -> Result<SocketAddr, ShellError>
 }
 
 // 32 bytes that nobody can guess.
-fn random_key<R: Files>(rt: &R) -> Result<[u8; 32], CommandError> {
+fn random_key<D: Disk>(rt: &D) -> Result<[u8; 32], CommandError> {
     let mut key = [0; 32];
-    let mut source = fs::open(rt, "/dev/urandom")?;
+    let mut source = rt.open("/dev/urandom")?;
     source.read_exact(&mut key)?;
     Ok(key)
 }
 
 /// A generator of random numbers with the key, or with one that nobody can guess where none is given.
-pub(crate) fn generator<R: Files>(
-    rt: &R,
-    key: Option<[u8; 32]>,
-) -> Result<ChaCha20Rng, CommandError>
+pub(crate) fn generator<D: Disk>(rt: &D, key: Option<[u8; 32]>) -> Result<ChaCha20Rng, CommandError>
     ensures { IfOk result (IsKeyed key) }
 {
     let key = match key {
@@ -101,7 +97,7 @@ pub(crate) fn draw(generator: &mut ChaCha20Rng) -> Actor
 }
 
 /// An actor that is drawn from the generator with the key, or with one that nobody can guess where none is given.
-pub fn draw_actor<R: Files>(rt: &R, key: Option<[u8; 32]>) -> Result<Actor, CommandError>
+pub fn draw_actor<D: Disk>(rt: &D, key: Option<[u8; 32]>) -> Result<Actor, CommandError>
     ensures { IfOk result (λ actor. (g : ChaCha) × IsKeyed key g × (actor ≡ drawn g)) }
 {
     Ok(draw(&mut generator(rt, key)?))

@@ -9,6 +9,7 @@ mod program;
 mod running;
 
 pub use error::{JobError, ShellError};
+pub use files::Disk;
 pub use job::{FileJob, Job, job_of};
 pub use keys::draw_actor;
 pub use program::{Errors, MISUSED, explain};

@@ -11,19 +11,19 @@ ghost use Rattle.tp_commands.specs.Log.{AreChangeLines};
 ghost use Rattle.tp_commands.specs.Reading.{AreHeadLines, IsCursorLine, IsTextLine, line};
 ghost use Rattle.tp_commands.specs.declared.error.CommandError.{CommandError as CommandFault};
 ghost use Rattle.tp_shell.specs.declared.error.JobError.TheVariants.{Command as OfCommand};
+ghost use Rattle.tp_shell.specs.Files.{BeginsJournal, ChangesFile, IsLoaded, OfFile, SavesTo};
 ghost use Rattle.tp_shell.specs.Lines.{IsEditLine, IsMergeLine, IsNewLine, made_line as line_of_made};
 ghost use Rattle.tp_shell.specs.Names.{refusal_text};
 ghost use Rattle.tp_shell.specs.Output.{Grows, GrowsPart, IsFilesPrinted, IsLineOf, IsShown, Leaves, LeavesFiles, LeavesScript};
 ghost use Rattle.tp_shell.specs.ShellError.{failed};
 
 use crate::error::{JobError, ShellError};
-use crate::files::{journal_at, read_file, replace_file};
+use crate::files::Disk;
 use crate::job::FileJob;
 use crate::keys::{draw, draw_actor, generator};
 use std::alloc::{AllocError, Global};
+use std::io;
 use std::io::{BufReader, Write};
-use std::rt::Files;
-use std::{fs, io};
 use tp_commands::{
     CommandError, begin, cursor_line, edit, graph_lines, hash_line, head_lines, id_line, log_lines,
     merge, reopen, saved, text_line,
@@ -98,14 +98,16 @@ pub fn put<W: Write>(out: &mut W, printed: Result<String, CommandError>) -> Resu
 /// Does what is to be done to files, and writes what is printed of it to `out`, which is flushed. A refusal writes nothing
 /// to `out`; where `out` itself failed, which is refused as `Io`, it has taken a beginning of what is printed. A script is
 /// printed line by line as it goes on, and what was printed before a refusal stays.
-pub fn carry_out<R: Files + AllocGlobal, W: Write>(
-    rt: &R,
+pub fn carry_out<D: Disk + AllocGlobal, W: Write>(
+    rt: &D,
     job: FileJob,
     out: &mut W,
 ) -> Result<(), JobError>
     ensures prints { OnOk result
-        (Grows (IsFilesPrinted job.entry) (W.contents out.old) (W.contents out.new)) }
-    ensures err { IfErr result (λ e. LeavesFiles job.entry e
+        (Grows (IsFilesPrinted (D.reads rt.now) (D.leaves rt.now) job.entry)
+        (W.contents out.old) (W.contents out.new)) }
+    ensures err { IfErr result
+        (λ e. LeavesFiles (D.reads rt.now) (D.leaves rt.now) job.entry e
         (W.contents out.old) (W.contents out.new)) }
 {
     match job {
@@ -131,17 +133,17 @@ pub fn carry_out<R: Files + AllocGlobal, W: Write>(
 }
 
 // What reads the file at a path.
-fn reader_of<R: Files + AllocGlobal>(
-    rt: &R,
+fn reader_of<D: Disk + AllocGlobal>(
+    rt: &D,
     path: &str,
-) -> Result<BufReader<R::File>, CommandError> {
-    let file = fs::open(rt, path)?;
+) -> Result<BufReader<D::File>, CommandError> {
+    let file = rt.open(path)?;
     Ok(BufReader::new(rt.alloc(), file)?)
 }
 
 // Writes the text of the log at a path.
-fn show_file<R: Files + AllocGlobal, W: Write>(
-    rt: &R,
+fn show_file<D: Disk + AllocGlobal, W: Write>(
+    rt: &D,
     log: &str,
     out: &mut W,
 ) -> Result<(), JobError>
@@ -156,8 +158,8 @@ fn show_file<R: Files + AllocGlobal, W: Write>(
 }
 
 // Runs the script at a path.
-fn simulate_file<R: Files + AllocGlobal, W: Write>(
-    rt: &R,
+fn simulate_file<D: Disk + AllocGlobal, W: Write>(
+    rt: &D,
     script: &str,
     out: &mut W,
 ) -> Result<(), JobError>
@@ -172,74 +174,80 @@ fn simulate_file<R: Files + AllocGlobal, W: Write>(
     }
 }
 
-fn text<R: Files + AllocGlobal>(rt: &R, file: &str, heads: &[Hash]) -> Result<String, CommandError>
-    ensures { IfOk result (λ l. (journal : List ℕ) × IsTextLine journal heads.now (string_bytes l)) }
+fn text<D: Disk + AllocGlobal>(rt: &D, file: &str, heads: &[Hash]) -> Result<String, CommandError>
+    ensures { IfOk result (λ l. OfFile (D.reads rt.now) file.now
+        (λ journal. IsTextLine journal heads.now (string_bytes l))) }
 {
-    text_line(rt.alloc(), &read_file(rt, file)?, heads)
+    text_line(rt.alloc(), &rt.read(file)?, heads)
 }
 
-fn heads<R: Files + AllocGlobal>(rt: &R, file: &str) -> Result<String, CommandError>
-    ensures { IfOk result (λ l. (journal : List ℕ) × AreHeadLines journal (string_bytes l)) }
+fn heads<D: Disk + AllocGlobal>(rt: &D, file: &str) -> Result<String, CommandError>
+    ensures { IfOk result (λ l. OfFile (D.reads rt.now) file.now
+        (λ journal. AreHeadLines journal (string_bytes l))) }
 {
-    head_lines(rt.alloc(), &read_file(rt, file)?)
+    head_lines(rt.alloc(), &rt.read(file)?)
 }
 
-fn log<R: Files + AllocGlobal>(rt: &R, file: &str) -> Result<String, CommandError>
-    ensures { IfOk result (λ l. (journal : List ℕ) × AreChangeLines journal (string_bytes l)) }
+fn log<D: Disk + AllocGlobal>(rt: &D, file: &str) -> Result<String, CommandError>
+    ensures { IfOk result (λ l. OfFile (D.reads rt.now) file.now
+        (λ journal. AreChangeLines journal (string_bytes l))) }
 {
-    log_lines(rt.alloc(), &read_file(rt, file)?)
+    log_lines(rt.alloc(), &rt.read(file)?)
 }
 
-fn graph<R: Files + AllocGlobal>(rt: &R, file: &str) -> Result<String, CommandError>
-    ensures { IfOk result (λ l. (journal : List ℕ) × IsChangeGraph journal (string_bytes l)) }
+fn graph<D: Disk + AllocGlobal>(rt: &D, file: &str) -> Result<String, CommandError>
+    ensures { IfOk result (λ l. OfFile (D.reads rt.now) file.now
+        (λ journal. IsChangeGraph journal (string_bytes l))) }
 {
-    graph_lines(rt.alloc(), &read_file(rt, file)?)
+    graph_lines(rt.alloc(), &rt.read(file)?)
 }
 
-fn cursor<R: Files + AllocGlobal>(
-    rt: &R,
+fn cursor<D: Disk + AllocGlobal>(
+    rt: &D,
     file: &str,
     at: usize,
     heads: &[Hash],
 ) -> Result<String, CommandError>
-    ensures { IfOk result
-        (λ l. (journal : List ℕ) × IsCursorLine journal at heads.now (string_bytes l)) }
+    ensures { IfOk result (λ l. OfFile (D.reads rt.now) file.now
+        (λ journal. IsCursorLine journal at heads.now (string_bytes l))) }
 {
-    cursor_line(rt.alloc(), &read_file(rt, file)?, at, heads)
+    cursor_line(rt.alloc(), &rt.read(file)?, at, heads)
 }
 
 // The document identifier and then the actor are drawn.
-fn new<R: Files + AllocGlobal>(
-    rt: &R,
+fn new<D: Disk + AllocGlobal>(
+    rt: &D,
     file: &str,
     key: Option<[u8; 32]>,
 ) -> Result<String, CommandError>
-    ensures { IfOk result (λ l. IsNewLine key (string_bytes l)) }
+    ensures { IfOk result (λ l. ChangesFile (D.reads rt.now) (D.leaves rt.now) file.now
+        (λ before after. IsNewLine key before after (string_bytes l))) }
 {
     let mut generator = generator(rt, key)?;
     let Actor(drawn) = draw(&mut generator);
     let id = DocId(drawn);
     let actor = draw(&mut generator);
-    let mut journal = begin(rt.alloc(), journal_at(rt, file, true)?, id, actor)?;
-    journal.sync()?;
+    let mut journal = begin(rt.alloc(), rt.journal(file, true)?, id, actor)?;
+    rt.sync(file, &mut journal)?;
     id_line(rt.alloc(), &id)
 }
 
-fn edited<R: Files + AllocGlobal>(
-    rt: &R,
+fn edited<D: Disk + AllocGlobal>(
+    rt: &D,
     file: &str,
     splice: Splice,
     time: u64,
     message: &str,
     key: Option<[u8; 32]>,
 ) -> Result<String, CommandError>
-    ensures { IfOk result (λ l. IsEditLine key splice.entry time (chars message.now)
-        (string_bytes l)) }
+    ensures { IfOk result (λ l. ChangesFile (D.reads rt.now) (D.leaves rt.now) file.now
+        (λ before after. IsEditLine key splice.entry time (chars message.now) before after
+        (string_bytes l))) }
 {
     let actor = draw_actor(rt, key)?;
-    let journal = journal_at(rt, file, false)?;
+    let journal = rt.journal(file, false)?;
     let (mut journal, made) = edit(rt.alloc(), journal, actor, splice, time, message)?;
-    journal.sync()?;
+    rt.sync(file, &mut journal)?;
     made_line(rt.alloc(), made)
 }
 
@@ -253,22 +261,24 @@ fn made_line(alloc: Global, made: Option<Hash>) -> Result<String, CommandError>
     }
 }
 
-fn merged<R: Files + AllocGlobal>(
-    rt: &R,
+fn merged<D: Disk + AllocGlobal>(
+    rt: &D,
     file: &str,
     other: &str,
     key: Option<[u8; 32]>,
 ) -> Result<String, CommandError>
-    ensures { IfOk result (λ l. IsMergeLine key (string_bytes l)) }
+    ensures { IfOk result (λ l. ChangesFile (D.reads rt.now) (D.leaves rt.now) file.now
+        (λ before after. OfFile (D.reads rt.now) other.now
+        (λ bytes. IsMergeLine key before bytes after (string_bytes l)))) }
 {
     let mut generator = generator(rt, key)?;
     let actor = draw(&mut generator);
     let other_actor = draw(&mut generator);
-    let peer = reopen(rt.alloc(), journal_at(rt, file, false)?, actor)?;
-    match read_file(rt, other) {
+    let peer = reopen(rt.alloc(), rt.journal(file, false)?, actor)?;
+    match rt.read(other) {
         Ok(bytes) => {
             let (mut journal, count) = merge(rt.alloc(), peer, bytes, other_actor)?;
-            journal.sync()?;
+            rt.sync(file, &mut journal)?;
             Ok(format!(in rt.alloc(); "applied {count}\n")?)
         }
         Err(error) => {
@@ -278,33 +288,36 @@ fn merged<R: Files + AllocGlobal>(
     }
 }
 
-fn save_to<R: Files + AllocGlobal>(rt: &R, file: &str, out: &str) -> Result<String, CommandError>
-    ensures { IfOk result (λ l. string_bytes l ≡ []) }
+fn save_to<D: Disk + AllocGlobal>(rt: &D, file: &str, out: &str) -> Result<String, CommandError>
+    ensures empty { IfOk result (λ l. string_bytes l ≡ []) }
+    ensures saved { OnOk result (OfFile (D.reads rt.now) file.now
+        (λ journal. SavesTo (D.leaves rt.now) out.now journal)) }
 {
-    let bytes = saved(rt.alloc(), &read_file(rt, file)?)?;
-    replace_file(rt, rt.alloc(), out, &bytes)?;
+    let bytes = saved(rt.alloc(), &rt.read(file)?)?;
+    rt.replace(out, &bytes)?;
     Ok(String::new(rt.alloc()))
 }
 
 // Begins the journal at a path with the document.
-fn begin_at<R: Files + AllocGlobal>(
-    rt: &R,
+fn begin_at<D: Disk + AllocGlobal>(
+    rt: &D,
     file: &str,
     document: &Document<PeerSequence>,
-) -> Result<(), CommandError> {
-    let mut journal = journal_at(rt, file, true)?;
+) -> Result<(), CommandError>
+    ensures { OnOk result (ChangesFile (D.reads rt.now) (D.leaves rt.now) file.now
+        (λ before after. BeginsJournal document.now.id document.now.applied before after)) }
+{
+    let mut journal = rt.journal(file, true)?;
     create_journal(rt.alloc(), &mut journal, document)?;
-    Ok(journal.sync()?)
+    rt.sync(file, &mut journal)
 }
 
-fn load_from<R: Files + AllocGlobal>(
-    rt: &R,
-    saved: &str,
-    file: &str,
-) -> Result<String, CommandError>
-    ensures { IfOk result (λ l. string_bytes l ≡ []) }
+fn load_from<D: Disk + AllocGlobal>(rt: &D, saved: &str, file: &str) -> Result<String, CommandError>
+    ensures empty { IfOk result (λ l. string_bytes l ≡ []) }
+    ensures begun { OnOk result (OfFile (D.reads rt.now) saved.now
+        (λ bytes. ChangesFile (D.reads rt.now) (D.leaves rt.now) file.now (IsLoaded bytes))) }
 {
-    let document = load::<PeerSequence>(rt.alloc(), &read_file(rt, saved)?)?;
+    let document = load::<PeerSequence>(rt.alloc(), &rt.read(saved)?)?;
     let begun = begin_at(rt, file, &document);
     drop(document);
     begun?;

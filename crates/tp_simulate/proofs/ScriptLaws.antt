@@ -2,7 +2,7 @@
 use Rattle.std.proofs.Common.{◌≡◌, ◌⊎◌, inl, inr, ℕ, ◌+◌, List, [], ◌∷◌, ◌++◌, length, Option, Result, Ok, Err, refl, sym, ap, ◌∙◌, subst, append_assoc, append-nil, length-append, arith}
 use Rattle.std.specs.Prelude.{IfErr, OnOk}
 use Rattle.std.specs.Io.KnownBytes.{Appends, Keeps}
-use Rattle.std.proofs.KnownBytes.{Appends-kept, Appends-trans}
+use Rattle.std.proofs.KnownBytes.{Appends-kept, Appends-nil, Appends-trans}
 use Rattle.tp_opid.specs.declared.doc_id.DocId.{DocId}
 use Rattle.tp_opid.specs.declared.op_id.OpId.{OpId}
 use Rattle.tp_journal.specs.Layout.{IsDocId}
@@ -62,6 +62,18 @@ pub record Going (number : ℕ) (w : World) (marks : List Mark) (before after : 
   pub plays : Plays (beginning id) [] asked printed w marks
   pub count : length asked + 1 ≡ number
   pub written : Appends before after printed
+
+-- no line yet
+pub going_begins : (id : DocId) → IsDocId id → (w : World) (M : List Mark) (held : Option (List ℕ)) → w ≡ beginning id → M ≡ [] → Going 1 w M held held
+going_begins id is w M held fresh none = record {
+  id = id;
+  is_id = is;
+  asked = [];
+  printed = [];
+  plays = record { lines = []; asks = refl; tells = refl; carried = ap (λ (x : World). (x, M)) fresh ∙ ap (λ (N : List Mark). (beginning id, N)) none };
+  count = omega arith;
+  written = Appends-nil held;
+}
 
 pub going_more : (n : ℕ) (w w' : World) (M M' : List Mark) (before mid after : Option (List ℕ)) (a : Asked) (r : Reply) → Going n w M before mid → Carries w M a r w' M'
     → Appends mid after (told a r) → Going (n + 1) w' M' before after

@@ -3,7 +3,8 @@ use Rattle.std.specs.Prelude.{ℕ, ◌-◌, Bool, true, false, List, [], ◌∷�
 use Rattle.std.specs.List.{slice_get}
 use Rattle.std.specs.Str.{chars}
 use Rattle.tp_opid.specs.declared.hash.Hash.{Hash}
-use Rattle.tp_headline.specs.Reply.{Reply, Text}
+use Rattle.tp_peer.specs.PeerStep.{Text}
+use Rattle.tp_headline.specs.Reply.{Reply, Answered}
 use Rattle.tp_headline.specs.World.{ReadRecord, World}
 use Rattle.tp_simulate.specs.declared.mark.Mark.{Mark}
 
@@ -28,7 +29,7 @@ mark_of name w = record { name = chars name; heads = last_heads w.reads }
 
 -- a text was read
 abbrev pub is_text : Reply → Bool
-is_text (Text text) = true
+is_text (Answered (Text text)) = true
 is_text _ = false
 
 -- the marks after a read for a mark was replied to, where the world is w then: one more, if a text was read

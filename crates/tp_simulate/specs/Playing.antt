@@ -1,10 +1,15 @@
 -- What the lines of a script do to a world.
-use Rattle.std.specs.Prelude.{◌≡◌, ℕ, List, [], ◌∷◌, ◌++◌, length, Option, Some, None, MatchOption}
+use Rattle.std.specs.Prelude.{◌≡◌, ℕ, List, [], ◌∷◌, length, map, Option, Some, None, MatchOption}
+use Rattle.std.specs.List.{flat_map}
 use Rattle.std.specs.Option.{option_map}
 use Rattle.std.specs.Str.{chars}
+use Rattle.tp_list.specs.Traces.{Trace}
+use Rattle.tp_opid.specs.declared.actor.Actor.{Actor}
 use Rattle.tp_opid.specs.declared.doc_id.DocId.{DocId}
 use Rattle.tp_journal.specs.Layout.{IsDocId}
+use Rattle.tp_peer.specs.PeerStep as peer
 use Rattle.tp_headline.specs.Call as call
+use Rattle.tp_headline.specs.Call.{Call}
 use Rattle.tp_headline.specs.Event as event
 use Rattle.tp_headline.specs.Event.{Event}
 use Rattle.tp_headline.specs.Happening.{Next}
@@ -14,36 +19,36 @@ use Rattle.tp_headline.specs.Running.{Run}
 use Rattle.tp_headline.specs.World.{World, beginning}
 use Rattle.tp_simulate.specs.declared.asked.Asked.{Asked}
 use Rattle.tp_simulate.specs.declared.asked.Asked.TheVariants as asks
-use Rattle.tp_simulate.specs.declared.asked.Interrupted.{Interrupted}
-use Rattle.tp_simulate.specs.declared.asked.Interrupted.TheVariants as within
+use Rattle.tp_simulate.specs.declared.asked.AskedCall.{AskedCall}
+use Rattle.tp_simulate.specs.declared.asked.AskedCall.TheVariants as within
 use Rattle.tp_simulate.specs.declared.mark.Mark.{Mark}
 use Rattle.tp_simulate.specs.Marks.{latest, marks_named}
 use Rattle.tp_simulate.specs.Telling.{told}
 
--- the message of every edit, which is empty
-abbrev pub no_message : List ℕ
-no_message = chars []
+-- The call that is asked for where these marks are set; none where it names a mark that isn't. Every edit is made at the
+-- time 0, with an empty message.
+abbrev pub call_in : List Mark → AskedCall → Option Call
+call_in marks (within.Edit splice) = Some (call.Alone (peer.Edit (splice ∷ []) 0 (chars [])))
+call_in marks (within.Merge from) = Some (call.Merge from)
+call_in marks (within.Send to) = Some (call.Alone (peer.Generate to))
+call_in marks (within.Deliver entry) = Some (call.Deliver entry)
+call_in marks (within.Bytes from bytes) = Some (call.Alone (peer.Receive from bytes.items))
+call_in marks within.Read = Some (call.Alone peer.Read)
+call_in marks (within.ReadAt name) = option_map (λ hashes. call.Alone (peer.ReadAt hashes)) (latest name.now None marks)
 
--- the call during which a peer crashes: of an edit, its one splice at the time 0
-abbrev pub call_in : Interrupted → call.Call
-call_in (within.Edit splice) = call.Edit (splice ∷ []) 0 no_message
-call_in (within.Merge from) = call.Merge from
-call_in (within.Deliver entry) = call.Deliver entry
+-- the event in which the peer numbered n makes the call, or crashes during it and comes back under the actor, its journal
+-- keeping so many bytes of what the call appends
+abbrev pub event_with : ℕ → Option (ℕ × Actor) → Call → Event
+event_with n None c = event.Call n c
+event_with n (Some crash) c = event.Crash n (Some c) crash.0 crash.1
 
 -- the event that a line asks for where these marks are set; none where it names a mark that isn't
 abbrev pub event_in : List Mark → Asked → Option Event
 event_in marks (asks.Start actor) = Some (event.Start actor)
 event_in marks (asks.Fork of actor) = Some (event.Fork of actor)
-event_in marks (asks.Edit peer splice) = Some (event.Edit peer (splice ∷ []) 0 no_message)
-event_in marks (asks.Merge into from) = Some (event.Merge into from)
-event_in marks (asks.Send from to) = Some (event.Send from to)
-event_in marks (asks.Deliver entry to) = Some (event.Deliver entry to)
-event_in marks (asks.Bytes to from bytes) = Some (event.DeliverBytes to from bytes.items)
-event_in marks (asks.Crash peer actor) = Some (event.Crash peer None 0 actor)
-event_in marks (asks.CrashDuring peer actor kept during) = Some (event.Crash peer (Some (call_in during)) kept actor)
-event_in marks (asks.Mark name peer) = Some (event.Read peer)
-event_in marks (asks.Read peer) = Some (event.Read peer)
-event_in marks (asks.ReadAt peer name) = option_map (λ heads. event.ReadAt peer heads) (latest name.now None marks)
+event_in marks (asks.Call n made crash) = option_map (λ c. event_with n crash c) (call_in marks made)
+event_in marks (asks.Crash n actor) = Some (event.Crash n None 0 actor)
+event_in marks (asks.Mark name n) = Some (event_with n None (call.Alone peer.Read))
 
 -- There is an event, and the world w meets it as its own steps do.
 abbrev pub Meets : World → Option Event → Reply → World → Type 0
@@ -59,12 +64,16 @@ pub record Carries (w : World) (marks : List Mark) (asked : Asked) (reply : Repl
   pub next : Meets w (event_in marks asked) reply w'
   pub marked : marks' ≡ marks_after marks asked reply w'
 
+-- the same of the world and the marks together, and of the line with its reply
+abbrev pub CarriesLine : World × List Mark → Asked × Reply → World × List Mark → Type 0
+CarriesLine s line s' = Carries s.0 s.1 line.0 line.1 s'.0 s'.1
+
 -- The lines were carried out one after another, and these bytes were told of them.
-abbrev pub Plays : World → List Mark → List Asked → List ℕ → World → List Mark → Type 0
-Plays w marks [] printed w' marks' = (printed ≡ []) × (w' ≡ w) × (marks' ≡ marks)
-Plays w marks (a ∷ asked) printed w' marks' =
-    (reply : Reply) × (m : World) × (more : List Mark) × (rest : List ℕ) × Carries w marks a reply m more
-    × (printed ≡ told a reply ++ rest) × Plays m more asked rest w' marks'
+pub record Plays (w : World) (marks : List Mark) (asked : List Asked) (printed : List ℕ) (w' : World) (marks' : List Mark) : Type 0 where
+  pub lines : List (Asked × Reply)
+  pub asks : map (λ (line : Asked × Reply). line.0) lines ≡ asked
+  pub tells : flat_map (λ (line : Asked × Reply). told line.0 line.1) lines ≡ printed
+  pub carried : Trace CarriesLine (w, marks) lines (w', marks')
 
 -- The lines were carried out from the beginning of a world that is w then: it is a run of as many events, so the headline
 -- holds of it, and these bytes were told.
@@ -73,8 +82,7 @@ pub record Played (asked : List Asked) (printed : List ℕ) (w : World) : Type 0
   pub is_id : IsDocId id
   pub marks : List Mark
   pub plays : Plays (beginning id) [] asked printed w marks
-  pub events : List Event
-  pub replies : List Reply
+  pub events : List (Event × Reply)
   pub one_each : length events ≡ length asked
-  pub run : Run id events replies w
+  pub run : Run id events w
   pub headline : Headline w

@@ -4,7 +4,8 @@ use Rattle.std.specs.Fmt.{decimal}
 use Rattle.std.specs.List.{flat_map}
 use Rattle.tp_opid.specs.declared.op_id.OpId.{OpId}
 use Rattle.tp_peer.specs.Taking.{Report}
-use Rattle.tp_headline.specs.Reply.{Reply, Peer, Edited, Merged, Wire, Quiet, Delivered, Reopened, Text, Refused, Inner}
+use Rattle.tp_peer.specs.PeerStep as peer
+use Rattle.tp_headline.specs.Reply.{Reply, Peer, Wire, Reopened, Answered, Refused}
 use Rattle.tp_names.specs.Names.{name_of_peer, name_of_world}
 use Rattle.tp_simulate.specs.declared.asked.Asked.{Asked}
 use Rattle.tp_simulate.specs.declared.asked.Asked.TheVariants as asks
@@ -29,19 +30,23 @@ is_mark _ = false
 abbrev pub told_text : Asked → List ℕ → List ℕ
 told_text asked text = if is_mark asked then line (codes "marked") else line (codes "text " ++ encode_utf8_all text)
 
+-- what is printed of what a peer answered. No line asks it to forget a link, or for its heads.
+abbrev pub told_answer : Asked → peer.Reply → List ℕ
+told_answer asked (peer.Made (Some h)) = line (codes "made")
+told_answer asked (peer.Made None) = line (codes "nothing")
+told_answer asked (peer.Merged report) = line (codes "applied " ++ decimal (length report.applied))
+told_answer asked (peer.Received report same_heads) = counts report
+told_answer asked (peer.Text text) = told_text asked text
+told_answer asked (peer.Refused error) = line (codes "refused " ++ name_of_peer error)
+told_answer asked answer = line (codes "quiet")
+
 -- what is printed of a line, which was replied to so
 abbrev pub told : Asked → Reply → List ℕ
 told asked (Peer n) = line (codes "peer " ++ decimal n)
-told asked (Edited (Some h)) = line (codes "made")
-told asked (Edited None) = line (codes "nothing")
-told asked (Merged report) = line (codes "applied " ++ decimal (length report.applied))
 told asked (Wire n) = line (codes "wire " ++ decimal n)
-told asked Quiet = line (codes "quiet")
-told asked (Delivered report same_heads) = counts report
 told asked Reopened = line (codes "reopened")
-told asked (Text text) = told_text asked text
+told asked (Answered answer) = told_answer asked answer
 told asked (Refused why) = line (codes "refused " ++ name_of_world why)
-told asked (Inner error) = line (codes "refused " ++ name_of_peer error)
 
 -- the line of the one list of all elements, deleted ones among them: their characters
 abbrev pub order_line : List (OpId × ℕ) → List ℕ

@@ -3,18 +3,26 @@
 use tp_edit::Splice;
 use tp_opid::Actor;
 
-/// A call during which a peer crashes.
-#[derive(Clone, Copy, Drop)]
-pub enum Interrupted<'a> {
-    /// The peer edits.
+/// A call that a line asks a peer to make. Peers and messages go by their numbers, marks by their names.
+#[derive(Drop)]
+pub enum AskedCall<'a> {
+    /// `edit P AT DEL TEXT`: it edits.
     Edit(Splice<'a>),
-    /// The peer takes what the one with the number has.
+    /// `merge P Q`: it takes what another one has.
     Merge(usize),
-    /// The peer receives the message that was sent under the number.
+    /// `send P Q`: it makes a message to another one.
+    Send(usize),
+    /// `deliver N P`: it receives a message that was sent.
     Deliver(usize),
+    /// `bytes P Q HEX`: it receives bytes as from another one.
+    Bytes(usize, Vec<u8>),
+    /// `read P`: its text is read.
+    Read,
+    /// `readat P M`: its text is read at the heads that have a name.
+    ReadAt(&'a str),
 }
 
-/// What a line of a script asks for. Peers and messages go by their numbers, marks by their names.
+/// What a line of a script asks for.
 #[derive(Drop)]
 pub enum Asked<'a> {
     /// `start ACTOR`: a peer with an empty document joins.
@@ -29,42 +37,16 @@ pub enum Asked<'a> {
         /// The actor of its edits.
         actor: Actor,
     },
-    /// `edit P AT DEL TEXT`: a peer edits.
-    Edit {
+    /// The line of a call, or `crash P ACTOR KEPT` and one of the same peer: it crashes during the call, and is opened
+    /// again.
+    Call {
         /// The peer.
         peer: usize,
-        /// What it deletes and inserts.
-        splice: Splice<'a>,
-    },
-    /// `merge P Q`: a peer takes what another one has.
-    Merge {
-        /// The one that takes.
-        into: usize,
-        /// The other one.
-        from: usize,
-    },
-    /// `send P Q`: a peer makes a message to another one.
-    Send {
-        /// The one that makes it.
-        from: usize,
-        /// The other one.
-        to: usize,
-    },
-    /// `deliver N P`: a peer receives a message that was sent.
-    Deliver {
-        /// The message.
-        entry: usize,
-        /// The peer.
-        to: usize,
-    },
-    /// `bytes P Q HEX`: a peer receives bytes as from another one.
-    Bytes {
-        /// The one that receives them.
-        to: usize,
-        /// The other one.
-        from: usize,
-        /// The bytes.
-        bytes: Vec<u8>,
+        /// What it is asked to do.
+        call: AskedCall<'a>,
+        /// How many bytes of what the call appends the journal keeps, and the actor under which the peer is opened, where
+        /// it crashes.
+        crash: Option<(u64, Actor)>,
     },
     /// `crash P ACTOR`: a peer crashes between calls, and is opened again.
     Crash {
@@ -73,34 +55,11 @@ pub enum Asked<'a> {
         /// The actor under which it is opened.
         actor: Actor,
     },
-    /// `crash P ACTOR KEPT` and a line of the peer: it crashes during the call of that line, and is opened again.
-    CrashDuring {
-        /// The peer.
-        peer: usize,
-        /// The actor under which it is opened.
-        actor: Actor,
-        /// How many bytes of what the call appends the journal keeps.
-        kept: u64,
-        /// The call.
-        call: Interrupted<'a>,
-    },
     /// `mark M P`: the heads of a peer get a name.
     Mark {
         /// The name.
         name: &'a str,
         /// The peer.
         peer: usize,
-    },
-    /// `read P`: the text of a peer.
-    Read {
-        /// The peer.
-        peer: usize,
-    },
-    /// `readat P M`: the text of a peer at the heads that have a name.
-    ReadAt {
-        /// The peer.
-        peer: usize,
-        /// The name.
-        name: &'a str,
     },
 }

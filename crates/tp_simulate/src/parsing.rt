@@ -1,6 +1,6 @@
 //! From a line to what it asks for.
 
-use crate::asked::{Asked, Interrupted};
+use crate::asked::{Asked, AskedCall};
 use crate::words::{actor, bytes, count, number, words_of};
 use std::alloc::{AllocError, Global};
 use tp_edit::Splice;
@@ -28,54 +28,52 @@ fn plain<'a>(words: &[&'a str]) -> Option<Asked<'a>> {
             of: count(of)?,
             actor: actor(name)?,
         }),
-        ["edit", peer, at, del] => edit(peer, at, del, ""),
-        ["edit", peer, at, del, text] => edit(peer, at, del, text),
         ["crash", peer, name] => Some(Asked::Crash {
             peer: count(peer)?,
             actor: actor(name)?,
         }),
-        [word, first, second] => pair(word, first, second),
-        ["read", peer] => Some(Asked::Read { peer: count(peer)? }),
+        ["mark", name, peer] if !name.is_empty() => Some(Asked::Mark {
+            name,
+            peer: count(peer)?,
+        }),
+        words => {
+            let (peer, call) = call(words)?;
+            Some(Asked::Call {
+                peer,
+                call,
+                crash: None,
+            })
+        }
+    }
+}
+
+// The peer of a line of a call, and the call.
+fn call<'a>(words: &[&'a str]) -> Option<(usize, AskedCall<'a>)> {
+    match words {
+        ["send", peer, to] => Some((count(peer)?, AskedCall::Send(count(to)?))),
+        ["read", peer] => Some((count(peer)?, AskedCall::Read)),
+        ["readat", peer, name] => Some((count(peer)?, AskedCall::ReadAt(name))),
+        words => appending(words),
+    }
+}
+
+// The same, of a call that may append to the journal.
+fn appending<'a>(words: &[&'a str]) -> Option<(usize, AskedCall<'a>)> {
+    match words {
+        ["edit", peer, at, del] => Some((count(peer)?, edit(at, del, "")?)),
+        ["edit", peer, at, del, text] => Some((count(peer)?, edit(at, del, text)?)),
+        ["merge", peer, from] => Some((count(peer)?, AskedCall::Merge(count(from)?))),
+        ["deliver", entry, peer] => Some((count(peer)?, AskedCall::Deliver(count(entry)?))),
         _ => None,
     }
 }
 
-// What a word with two others behind it asks for.
-fn pair<'a>(word: &str, first: &'a str, second: &'a str) -> Option<Asked<'a>> {
-    match word {
-        "merge" => Some(Asked::Merge {
-            into: count(first)?,
-            from: count(second)?,
-        }),
-        "send" => Some(Asked::Send {
-            from: count(first)?,
-            to: count(second)?,
-        }),
-        "deliver" => Some(Asked::Deliver {
-            entry: count(first)?,
-            to: count(second)?,
-        }),
-        "mark" if !first.is_empty() => Some(Asked::Mark {
-            name: first,
-            peer: count(second)?,
-        }),
-        "readat" => Some(Asked::ReadAt {
-            peer: count(first)?,
-            name: second,
-        }),
-        _ => None,
-    }
-}
-
-fn edit<'a>(peer: &str, at: &str, del: &str, text: &'a str) -> Option<Asked<'a>> {
-    Some(Asked::Edit {
-        peer: count(peer)?,
-        splice: Splice {
-            at: count(at)?,
-            del: count(del)?,
-            text,
-        },
-    })
+fn edit<'a>(at: &str, del: &str, text: &'a str) -> Option<AskedCall<'a>> {
+    Some(AskedCall::Edit(Splice {
+        at: count(at)?,
+        del: count(del)?,
+        text,
+    }))
 }
 
 // `bytes TO FROM HEX`.
@@ -85,11 +83,15 @@ fn delivery<'a>(
     from: &str,
     digits: &str,
 ) -> Result<Option<Asked<'a>>, AllocError> {
-    let (Some(to), Some(from)) = (count(to), count(from)) else {
+    let (Some(peer), Some(from)) = (count(to), count(from)) else {
         return Ok(None);
     };
     match bytes(alloc, digits)? {
-        Some(bytes) => Ok(Some(Asked::Bytes { to, from, bytes })),
+        Some(bytes) => Ok(Some(Asked::Call {
+            peer,
+            call: AskedCall::Bytes(from, bytes),
+            crash: None,
+        })),
         None => Ok(None),
     }
 }
@@ -108,20 +110,15 @@ fn crash<'a>(
 
 fn crash_during<'a>(peer: &str, name: &str, kept: &str, words: &[&'a str]) -> Option<Asked<'a>> {
     let peer = count(peer)?;
-    Some(Asked::CrashDuring {
-        peer,
-        actor: actor(name)?,
-        kept: number(kept)?,
-        call: call_of(peer, plain(words)?)?,
-    })
-}
-
-// The call of the peer that a line asks for, if it asks for one that may be interrupted.
-fn call_of<'a>(of: usize, asked: Asked<'a>) -> Option<Interrupted<'a>> {
-    match asked {
-        Asked::Edit { peer, splice } if peer == of => Some(Interrupted::Edit(splice)),
-        Asked::Merge { into, from } if into == of => Some(Interrupted::Merge(from)),
-        Asked::Deliver { entry, to } if to == of => Some(Interrupted::Deliver(entry)),
-        _ => None,
+    let actor = actor(name)?;
+    let kept = number(kept)?;
+    let (of, call) = appending(words)?;
+    if of != peer {
+        return None;
     }
+    Some(Asked::Call {
+        peer,
+        call,
+        crash: Some((kept, actor)),
+    })
 }

@@ -1,20 +1,21 @@
 //! A line carried out in a world.
 
-ghost use Rattle.std.specs.Prelude.{◌≡◌, ◌++◌, ◌∷◌, [], IfOk, OnOk, IfSome, MatchOption, None, Some};
+ghost use Rattle.std.specs.Prelude.{◌≡◌, ◌++◌, ◌∷◌, [], IfOk, OnOk, IfSome, MatchOption, None};
 ghost use Rattle.std.specs.Option.{option_map};
-ghost use Rattle.tp_headline.specs.Event as events;
+ghost use Rattle.tp_peer.specs.PeerStep.{Read, ReadAt};
+ghost use Rattle.tp_headline.specs.Call as events;
 ghost use Rattle.tp_headline.specs.Happening.{Next};
-ghost use Rattle.tp_world.specs.Told.{reply_of};
+ghost use Rattle.tp_world.specs.Told.{call_of, reply_of};
 ghost use Rattle.tp_simulate.specs.Marks.{is_text, last_heads, latest, mark_of, marks_named};
-ghost use Rattle.tp_simulate.specs.Playing.{Carries, Meets, call_in, event_in};
+ghost use Rattle.tp_simulate.specs.Playing.{Carries, Meets, call_in, event_in, event_with};
 
-use crate::asked::{Asked, Interrupted};
+use crate::asked::{Asked, AskedCall};
 use crate::mark::Mark;
 use crate::marks::heads_named;
 use std::alloc::{AllocError, Global};
 use tp_list::{Items, Text};
 use tp_opid::{Actor, Hash};
-use tp_world::{Call, Event, Reply, World};
+use tp_world::{Answer, Call, Event, Link, PeerCall, PeerReply, Reply, World};
 
 /// A world, and the marks that were set in it.
 pub(crate) struct Stage {
@@ -47,7 +48,7 @@ fn is_text(reply: &Reply) -> bool
     ensures { result ≡ is_text (reply_of reply.now) }
 {
     match reply {
-        Reply::Text(_) => true,
+        Reply::Answered(Answer::Alone(PeerReply::Text(_))) => true,
         _ => false,
     }
 }
@@ -69,70 +70,112 @@ impl Stage {
     }
 }
 
-// Names the heads of a peer, if its text can be read.
-fn mark(stage: &mut Stage, name: &str, peer: usize) -> Result<Reply, AllocError>
-    ensures next { IfOk result (λ reply. Next stage.old.world (events.Read peer)
-        (reply_of reply) stage.new.world) }
-    ensures marks { IfOk result (λ reply. stage.new.marks.items
-        ≡ marks_named stage.old.marks.items name.now (reply_of reply) stage.new.world) }
-{
-    let reply = stage.world.step(Event::Read { peer });
-    if is_text(&reply) {
-        stage.add_mark(name)?;
-    }
-    Ok(reply)
-}
-
-// Reads the text of a peer at the heads that have the name; `None` where none have it.
-fn read_at(stage: &mut Stage, peer: usize, name: &str) -> Option<Reply>
-    ensures next { MatchOption result (latest name.now None stage.old.marks.items ≡ None)
-        (λ reply. Meets stage.old.world
-        (option_map (λ heads. events.ReadAt peer heads) (latest name.now None stage.old.marks.items))
-        (reply_of reply) stage.new.world) }
-    ensures marks { stage.new.marks ≡ stage.old.marks }
-{
-    match heads_named(&stage.marks, name) {
-        Some(heads) => Some(stage.world.step(Event::ReadAt { peer, heads })),
-        None => None,
-    }
-}
-
-// A peer crashes during a call, and is opened again.
-fn crash_during(
-    stage: &mut Stage,
-    peer: usize,
-    call: &Interrupted,
-    kept: u64,
-    actor: Actor,
-) -> Reply
-    ensures next { Next stage.old.world (events.Crash peer (Some (call_in call.now)) kept actor)
+// A peer makes a call, or crashes during it.
+fn step(stage: &mut Stage, peer: usize, crash: Option<(u64, Actor)>, call: Call) -> Reply
+    ensures next { Next stage.old.world (event_with peer crash (call_of call.entry))
         (reply_of result) stage.new.world }
     ensures marks { stage.new.marks ≡ stage.old.marks }
 {
-    match call {
-        Interrupted::Edit(splice) => stage.world.step(Event::Crash {
+    match crash {
+        None => stage.world.step(Event::Call { peer, call }),
+        Some(crash) => stage.world.step(Event::Crash {
             peer,
-            during: Some(Call::Edit {
+            during: Some(call),
+            kept: crash.0,
+            actor: crash.1,
+        }),
+    }
+}
+
+// A peer reads its text at the heads that have the name, or crashes during that; `None` where none have it.
+fn read_at(stage: &mut Stage, peer: usize, crash: Option<(u64, Actor)>, name: &str) -> Option<Reply>
+    ensures next { MatchOption result (latest name.now None stage.old.marks.items ≡ None)
+        (λ reply. Meets stage.old.world
+        (option_map (λ hashes. event_with peer crash (events.Alone (ReadAt hashes)))
+        (latest name.now None stage.old.marks.items))
+        (reply_of reply) stage.new.world) }
+    ensures marks { stage.new.marks ≡ stage.old.marks }
+{
+    let hashes = match heads_named(&stage.marks, name) {
+        Some(hashes) => hashes,
+        None => return None,
+    };
+    let call = Call::Alone(PeerCall::ReadAt { hashes });
+    match crash {
+        None => Some(stage.world.step(Event::Call { peer, call })),
+        Some(crash) => Some(
+            stage.world.step(Event::Crash {
+                peer,
+                during: Some(call),
+                kept: crash.0,
+                actor: crash.1,
+            }),
+        ),
+    }
+}
+
+// A peer makes the call that is asked for, or crashes during it. `None` where it names a mark that isn't set.
+fn made(
+    stage: &mut Stage,
+    peer: usize,
+    crash: Option<(u64, Actor)>,
+    call: &AskedCall,
+) -> Option<Reply>
+    ensures next { MatchOption result (call_in stage.old.marks.items call.now ≡ None)
+        (λ reply. Meets stage.old.world
+        (option_map (λ c. event_with peer crash c) (call_in stage.old.marks.items call.now))
+        (reply_of reply) stage.new.world) }
+    ensures marks { stage.new.marks ≡ stage.old.marks }
+{
+    match call {
+        AskedCall::Edit(splice) => Some(step(
+            stage,
+            peer,
+            crash,
+            Call::Alone(PeerCall::Edit {
                 splices: &[*splice],
                 time: 0,
                 message: "",
             }),
-            kept,
-            actor,
-        }),
-        Interrupted::Merge(from) => stage.world.step(Event::Crash {
+        )),
+        AskedCall::Merge(from) => Some(step(stage, peer, crash, Call::Merge { from: *from })),
+        AskedCall::Send(to) => Some(step(
+            stage,
             peer,
-            during: Some(Call::Merge { from: *from }),
-            kept,
-            actor,
-        }),
-        Interrupted::Deliver(entry) => stage.world.step(Event::Crash {
+            crash,
+            Call::Alone(PeerCall::Generate {
+                link: Link(*to as u64),
+            }),
+        )),
+        AskedCall::Deliver(entry) => {
+            Some(step(stage, peer, crash, Call::Deliver { entry: *entry }))
+        }
+        AskedCall::Bytes(from, bytes) => Some(step(
+            stage,
             peer,
-            during: Some(Call::Deliver { entry: *entry }),
-            kept,
-            actor,
-        }),
+            crash,
+            Call::Alone(PeerCall::Receive {
+                link: Link(*from as u64),
+                bytes: bytes.as_slice(),
+            }),
+        )),
+        AskedCall::Read => Some(step(stage, peer, crash, Call::Alone(PeerCall::Read))),
+        AskedCall::ReadAt(name) => read_at(stage, peer, crash, name),
     }
+}
+
+// Names the heads of a peer, if its text can be read.
+fn mark(stage: &mut Stage, name: &str, peer: usize) -> Result<Reply, AllocError>
+    ensures next { IfOk result (λ reply. Next stage.old.world
+        (event_with peer None (events.Alone Read)) (reply_of reply) stage.new.world) }
+    ensures marks { IfOk result (λ reply. stage.new.marks.items
+        ≡ marks_named stage.old.marks.items name.now (reply_of reply) stage.new.world) }
+{
+    let reply = step(stage, peer, None, Call::Alone(PeerCall::Read));
+    if is_text(&reply) {
+        stage.add_mark(name)?;
+    }
+    Ok(reply)
 }
 
 /// Carries out what a line asks for. `None` where it names a mark that isn't set; then nothing happens.
@@ -144,14 +187,6 @@ pub(crate) fn carry_out(stage: &mut Stage, asked: &Asked) -> Result<Option<Reply
         stage.new.world stage.new.marks.items)) }
 {
     match asked {
-        Asked::Mark { name, peer } => Ok(Some(mark(stage, name, *peer)?)),
-        Asked::ReadAt { peer, name } => Ok(read_at(stage, *peer, name)),
-        Asked::CrashDuring {
-            peer,
-            actor,
-            kept,
-            call,
-        } => Ok(Some(crash_during(stage, *peer, call, *kept, *actor))),
         Asked::Start { actor } => Ok(Some(stage.world.step(Event::Start { actor: *actor }))),
         Asked::Fork { of, actor } => Ok(Some(
             stage.world.step(Event::Fork {
@@ -159,39 +194,7 @@ pub(crate) fn carry_out(stage: &mut Stage, asked: &Asked) -> Result<Option<Reply
                 actor: *actor,
             }),
         )),
-        Asked::Edit { peer, splice } => Ok(Some(
-            stage.world.step(Event::Edit {
-                peer: *peer,
-                splices: &[*splice],
-                time: 0,
-                message: "",
-            }),
-        )),
-        Asked::Merge { into, from } => Ok(Some(
-            stage.world.step(Event::Merge {
-                into: *into,
-                from: *from,
-            }),
-        )),
-        Asked::Send { from, to } => Ok(Some(
-            stage.world.step(Event::Send {
-                from: *from,
-                to: *to,
-            }),
-        )),
-        Asked::Deliver { entry, to } => Ok(Some(
-            stage.world.step(Event::Deliver {
-                entry: *entry,
-                to: *to,
-            }),
-        )),
-        Asked::Bytes { to, from, bytes } => Ok(Some(
-            stage.world.step(Event::DeliverBytes {
-                to: *to,
-                from: *from,
-                bytes: bytes.as_slice(),
-            }),
-        )),
+        Asked::Call { peer, call, crash } => Ok(made(stage, *peer, *crash, call)),
         Asked::Crash { peer, actor } => Ok(Some(
             stage.world.step(Event::Crash {
                 peer: *peer,
@@ -200,6 +203,6 @@ pub(crate) fn carry_out(stage: &mut Stage, asked: &Asked) -> Result<Option<Reply
                 actor: *actor,
             }),
         )),
-        Asked::Read { peer } => Ok(Some(stage.world.step(Event::Read { peer: *peer }))),
+        Asked::Mark { name, peer } => Ok(Some(mark(stage, name, *peer)?)),
     }
 }

@@ -3,9 +3,8 @@
 ghost use Rattle.std.specs.Prelude.{◌≡◌, ◌⊎◌, ℕ, ◌+◌, List, true, false, IfOk, IfErr, OnOk};
 ghost use Rattle.std.specs.Io.KnownBytes.{Appends, Keeps};
 ghost use Rattle.std.specs.String.{string_bytes};
-ghost use Rattle.tp_journal.specs.Layout.{IsDocId};
 ghost use Rattle.tp_opid.specs.declared.op_id.OpId.{OpId};
-ghost use Rattle.tp_headline.specs.Reply.{Reply as Answer};
+ghost use Rattle.tp_headline.specs.Reply.{Reply as ReplyData};
 ghost use Rattle.tp_headline.specs.World.{World as WorldData};
 ghost use Rattle.tp_textpeer.specs.Output.{AppendsPart};
 ghost use Rattle.tp_world.specs.Order.{IsOneList};
@@ -25,33 +24,34 @@ use crate::telling::told;
 use std::alloc::{AllocError, Global};
 use std::io::{BufRead, Write};
 use tp_headline::WorldError;
+use tp_list::array_len;
 use tp_opid::{DocId, OpId};
 use tp_peer::PeerError;
 use tp_textpeer::write_out;
-use tp_world::{Reply, World};
+use tp_world::{Answer, PeerReply, Reply, World};
 
 // The identifier of the document of a script.
 const ID: DocId = DocId([0; 16]);
 
-// What the type of an identifier says: it has 16 bytes. Answers their number.
-fn id_len(id: DocId) -> usize
-    ensures { IsDocId id }
-{
-    let bytes = id.0;
-    bytes.len()
+fn refuses_memory(reply: &PeerReply) -> bool {
+    match reply {
+        PeerReply::Refused(error) => matches!(error, PeerError::OutOfMemory),
+        _ => false,
+    }
 }
 
 // Whether memory was short for what was asked.
 fn is_out_of_memory(reply: &Reply) -> bool {
-    matches!(
-        reply,
-        Reply::Refused(WorldError::OutOfMemory) | Reply::Inner(PeerError::OutOfMemory)
-    )
+    match reply {
+        Reply::Refused(why) => matches!(why, WorldError::OutOfMemory),
+        Reply::Answered(Answer::Alone(own)) => refuses_memory(own),
+        _ => false,
+    }
 }
 
 // Carries out what the line with the number asks for, and gives what is printed of it.
 fn carried(stage: &mut Stage, asked: &Asked, number: u64) -> Result<String, SimError>
-    ensures ok { IfOk result (λ printed. (reply : Answer)
+    ensures ok { IfOk result (λ printed. (reply : ReplyData)
         × Carries stage.old.world stage.old.marks.items asked.now reply
         stage.new.world stage.new.marks.items × (string_bytes printed ≡ told_of asked.now reply)) }
     ensures err { IfErr result (λ e. IsOutside e ⊎ (e ≡ refusal.Line number)) }
@@ -73,7 +73,7 @@ fn carried(stage: &mut Stage, asked: &Asked, number: u64) -> Result<String, SimE
 
 // Carries out the line with the number, and gives what is printed of it.
 fn played(stage: &mut Stage, line: &[u8], number: u64) -> Result<String, SimError>
-    ensures ok { IfOk result (λ printed. (a : AskedData) × (reply : Answer)
+    ensures ok { IfOk result (λ printed. (a : AskedData) × (reply : ReplyData)
         × Carries stage.old.world stage.old.marks.items a reply
         stage.new.world stage.new.marks.items × (string_bytes printed ≡ told_of a reply)) }
     ensures err { IfErr result (λ e. IsOutside e ⊎ (e ≡ refusal.Line number)) }
@@ -126,7 +126,7 @@ fn step<R: BufRead, W: Write>(
     writer: &mut W,
     number: u64,
 ) -> Result<bool, SimError>
-    ensures more { IfOk result (λ more. more ≡ true → (a : AskedData) × (reply : Answer)
+    ensures more { IfOk result (λ more. more ≡ true → (a : AskedData) × (reply : ReplyData)
         × Carries stage.old.world stage.old.marks.items a reply
         stage.new.world stage.new.marks.items
         × Appends (W.contents writer.old) (W.contents writer.new) (told_of a reply)) }
@@ -135,7 +135,7 @@ fn step<R: BufRead, W: Write>(
     // A refusal leaves what was written as it was, but for a beginning of what is printed of the line.
     ensures err { IfErr result (λ e. ((IsOutside e ⊎ (e ≡ refusal.Line number))
         × Keeps (W.contents writer.old) (W.contents writer.new))
-        ⊎ (IsOutside e × ((a : AskedData) × (reply : Answer) × (w : WorldData) × (marks : List MarkData)
+        ⊎ (IsOutside e × ((a : AskedData) × (reply : ReplyData) × (w : WorldData) × (marks : List MarkData)
         × Carries stage.old.world stage.old.marks.items a reply w marks
         × AppendsPart (W.contents writer.old) (W.contents writer.new) (told_of a reply)))) }
 {
@@ -207,7 +207,7 @@ pub fn simulate<R: BufRead, W: Write>(
     ensures line { (k : ℕ) → result ≡ Err (refusal.Line k)
         → StopsAt k (W.contents writer.old) (W.contents writer.new) }
 {
-    let _len = id_len(ID);
+    let _len = array_len(ID.0);
     let mut stage = Stage {
         alloc,
         world: World::new(alloc, ID),

@@ -4,15 +4,16 @@ ghost use Rattle.std.specs.Prelude.{◌≡◌, ◌++◌, IfOk, codes, length};
 ghost use Rattle.std.specs.Fmt.{decimal};
 ghost use Rattle.std.specs.Str.{chars};
 ghost use Rattle.std.specs.String.{string_bytes};
+ghost use Rattle.tp_peer.specs.Calls.{reply_of as own_reply_of};
 ghost use Rattle.tp_peer.specs.Taking.{report_of};
 ghost use Rattle.tp_world.specs.Told.{reply_of};
-ghost use Rattle.tp_simulate.specs.Telling.{counts, is_mark as is_mark_of, line as line_of, told as told_of, told_text as told_text_of};
+ghost use Rattle.tp_simulate.specs.Telling.{counts, is_mark as is_mark_of, line as line_of, told as told_of, told_answer as told_answer_of, told_text as told_text_of};
 
 use crate::asked::Asked;
 use std::alloc::{AllocError, Global};
 use tp_document::Applied;
 use tp_names::{peer_name, world_name};
-use tp_world::Reply;
+use tp_world::{Answer, PeerReply, Reply};
 
 // A line.
 fn line(alloc: Global, text: &str) -> Result<String, AllocError>
@@ -73,6 +74,22 @@ fn told_text(alloc: Global, asked: &Asked, text: &str) -> Result<String, AllocEr
     shown(alloc, text)
 }
 
+// What is printed of what a peer answered.
+fn told_own(alloc: Global, asked: &Asked, reply: &PeerReply) -> Result<String, AllocError>
+    ensures { IfOk result (λ l. string_bytes l
+        ≡ told_answer_of asked.now (own_reply_of reply.now)) }
+{
+    match reply {
+        PeerReply::Made(Some(_)) => line(alloc, "made"),
+        PeerReply::Made(None) => line(alloc, "nothing"),
+        PeerReply::Received(received) => counted(alloc, &received.applied),
+        PeerReply::Generated(_) => line(alloc, "quiet"),
+        PeerReply::Forgotten => line(alloc, "quiet"),
+        PeerReply::Text(text) => told_text(alloc, asked, text.as_str()),
+        PeerReply::Refused(error) => refused(alloc, peer_name(*error)),
+    }
+}
+
 /// What is printed of a line that was replied to, with a newline.
 pub(crate) fn told(alloc: Global, asked: &Asked, reply: &Reply) -> Result<String, AllocError>
     ensures { IfOk result (λ l. string_bytes l ≡ told_of asked.now (reply_of reply.now)) }
@@ -82,18 +99,13 @@ pub(crate) fn told(alloc: Global, asked: &Asked, reply: &Reply) -> Result<String
             let n = *n;
             format!(in alloc; "peer {n}\n")
         }
-        Reply::Edited(Some(_)) => line(alloc, "made"),
-        Reply::Edited(None) => line(alloc, "nothing"),
-        Reply::Merged(report) => merged(alloc, report),
         Reply::Wire(n) => {
             let n = *n;
             format!(in alloc; "wire {n}\n")
         }
-        Reply::Quiet => line(alloc, "quiet"),
-        Reply::Delivered(received) => counted(alloc, &received.applied),
         Reply::Reopened => line(alloc, "reopened"),
-        Reply::Text(text) => told_text(alloc, asked, text.as_str()),
+        Reply::Answered(Answer::Alone(reply)) => told_own(alloc, asked, reply),
+        Reply::Answered(Answer::Merged(report)) => merged(alloc, report),
         Reply::Refused(why) => refused(alloc, world_name(*why)),
-        Reply::Inner(error) => refused(alloc, peer_name(*error)),
     }
 }

@@ -9,7 +9,7 @@ use Rattle.tp_opid.specs.declared.doc_id.DocId.{DocId}
 use Rattle.tp_codec.specs.Prefix.{byte_at, bytes_at}
 use Rattle.tp_codec.specs.Reading.{give, and_then, found_or, or_fail, require, repeat_at}
 use Rattle.tp_codec.proofs.Fields.{AreBytes, AreBytes-cons, IsField, as_field, give_field, then_field, require_field, test_field, byte_field, bytes_field, AreSoMany, number_field, repeat_field, EachFits, wide32}
-use Rattle.tp_change.specs.Limits.{IsBytes}
+use Rattle.tp_list.specs.Bytes.{IsBytes}
 use Rattle.tp_store.specs.declared.error.StoreError.TheVariants.{BadMagic, Truncated, Damaged}
 use Rattle.tp_store.specs.declared.layout.Header.{Header}
 use Rattle.tp_store.specs.declared.saved.TheConstants.{MAGIC}

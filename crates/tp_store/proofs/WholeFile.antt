@@ -14,7 +14,8 @@ use Rattle.tp_opid.specs.declared.doc_id.DocId.{DocId}
 use Rattle.tp_codec.specs.Reading.{repeat_at}
 use Rattle.tp_codec.proofs.Fields.{AreBytes, AreBytes-rest, AreBytes-take, reads_more}
 use Rattle.tp_change.specs.declared.parts.ChangeParts.{ChangeParts}
-use Rattle.tp_change.specs.Limits.{IsChange, IsBytes}
+use Rattle.tp_list.specs.Bytes.{IsBytes}
+use Rattle.tp_change.specs.Limits.{IsChange}
 use Rattle.tp_change.specs.Spelling.{spelling}
 use Rattle.tp_change.specs.declared.error.ChangeError.{ChangeError}
 use Rattle.tp_change.specs.Reading.{change_at}

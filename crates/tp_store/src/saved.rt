@@ -3,7 +3,6 @@
 ghost use Rattle.std.specs.Prelude.{◌≡◌, ◌++◌, length, min, IfOk, OnOk, IsOkUnless};
 ghost use Rattle.std.specs.List.{flat_map};
 ghost use Rattle.sha2.specs.Sha256.{sha256};
-ghost use Rattle.tp_change.specs.Limits.{IsBytes};
 ghost use Rattle.tp_store.specs.Saved as spelled;
 ghost use Rattle.tp_store.specs.declared.error.StoreError.TheVariants.{OutOfMemory};
 
@@ -12,6 +11,7 @@ use sha2::{Digest, Sha256};
 use std::alloc::{AllocError, Global};
 use tp_change::Change;
 use tp_document::Document;
+use tp_list::array_len;
 use tp_opid::DocId;
 use tp_rga::Sequence;
 
@@ -23,14 +23,6 @@ pub(crate) const HEADER_LEN: usize = 28;
 
 /// How many bytes the digest has.
 pub(crate) const DIGEST_LEN: usize = 32;
-
-// What the type of an identifier says: it has 16 bytes. Answers their number.
-fn id_len(id: DocId) -> usize
-    ensures { IsBytes 16 id.0 }
-{
-    let bytes = id.0;
-    bytes.len()
-}
 
 // How many bytes the changes have with their lengths, or `usize::MAX`.
 fn entries_len(changes: &[Change]) -> usize
@@ -98,7 +90,7 @@ pub fn save<S: Sequence>(alloc: Global, document: &Document<S>) -> Result<Vec<u8
 {
     let changes = document.changes();
     let id = document.id();
-    let _bytes = id_len(id);
+    let _bytes = array_len(id.0);
     let len = entries_len(changes).saturating_add(HEADER_LEN + DIGEST_LEN);
     let mut out = Vec::with_capacity(alloc, len)?;
     put_header(&mut out, id, changes.len() as u32)?;

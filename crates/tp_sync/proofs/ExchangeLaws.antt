@@ -1,53 +1,42 @@
 -- What an exchange leaves, where nothing waited and nothing was left out or refused.
-use Rattle.std.proofs.Common.{◌≡◌, inl, inr, List, [], ◌++◌, false, Some, Option, refl, sym, ap, ◌∙◌, subst, append-nil, filter}
-use Rattle.std.proofs.Common.{Result, Ok, Err, IfOk, IfErr}
-use Rattle.tp_list.specs.Members.{In, AllIn, SameMembers}
-use Rattle.tp_list.proofs.Members.{In-left, In-right, In-append, In-filter, SameMembers-trans}
-use Rattle.tp_list.proofs.Tests.{neither_left, neither_right}
+use Rattle.tp_sync.proofs.Common.{◌≡◌, inl, inr, List, [], ◌++◌, false, Some, Option, refl, sym, ap, ◌∙◌, subst, append-nil, filter, Result, Ok, Err, IfOk, IfErr, IsSomeAnd, In, In-left, In-right, In-append, In-filter, neither_left, neither_right, Hash, ChangeParts, heads, Sound, SyncError, BadMessage, BadChange, OutOfMemory, SyncParts, declared, due_of, is_due, leaves_out, Stops, AllIn, SameMembers, GraphError, Known, HashesApart, Intake, OtherDocument, fresh, known_hashes, Exchanged, Exchanges, Passes, ReplyFails, side}
+use Rattle.tp_list.proofs.Members.{SameMembers-trans}
 use Rattle.tp_opid.specs.declared.doc_id.DocId.{DocId}
-use Rattle.tp_opid.specs.declared.hash.Hash.{Hash}
-use Rattle.tp_change.specs.declared.parts.ChangeParts.{ChangeParts}
-use Rattle.tp_graph.specs.declared.error.GraphError.{GraphError}
-use Rattle.tp_graph.specs.declared.error.GraphError.TheVariants.{Known}
-use Rattle.tp_graph.specs.Named.{HashesApart}
-use Rattle.tp_graph.specs.Heads.{heads}
-use Rattle.tp_graph.specs.Sound.{Sound}
 use Rattle.tp_graph.proofs.SoundLaws.{hashes_apart}
 use Rattle.tp_graph.proofs.SetLaws.{heads_decide}
 use Rattle.tp_receive.specs.declared.intake.Applied.{Applied}
 use Rattle.tp_receive.specs.declared.keeper.NoKeeper.{NoKeeper}
 use Rattle.tp_receive.specs.Delivery.{is_full}
-use Rattle.tp_receive.specs.Intake.{Intake, Run, Ends, begin, intake}
+use Rattle.tp_receive.specs.Intake.{Run, Ends, begin, intake}
+use Rattle.tp_receive.specs.Outcome.{ReceivesAlone, Stopped, keeps_nothing}
 use Rattle.tp_receive.proofs.ResultLaws.{results}
 use Rattle.tp_receive.proofs.RunLaws.{progress}
-use Rattle.tp_document.specs.declared.error.DocError.{DocError}
-use Rattle.tp_document.specs.declared.error.DocError.TheVariants as doc
 use Rattle.tp_document.specs.DocState.{DocState}
-use Rattle.tp_document.specs.Applying.{no_keeper, keeps_nothing}
-use Rattle.tp_sync.specs.declared.error.SyncError.{SyncError}
-use Rattle.tp_sync.specs.declared.error.SyncError.TheVariants.{BadMessage, BadChange, TooManyHeads, PendingFull, OutOfMemory, OtherDocument, NotKept}
-use Rattle.tp_sync.specs.Receiving.{refusal_of}
-use Rattle.tp_sync.specs.State.{SyncParts, declared, fresh}
-use Rattle.tp_sync.specs.Known.{known_hashes}
-use Rattle.tp_sync.specs.Due.{due_of, is_due, leaves_out}
-use Rattle.tp_sync.specs.Exchange.{Exchanges, IsOtherOnly, PassFails, Passes, RefusesKnownAlone, ReplyFails, Side, Stops, side}
+use Rattle.tp_document.specs.Applying.{kept_by_none}
+use Rattle.tp_sync.specs.declared.error.SyncError.TheVariants.{TooManyHeads, PendingFull, NotKept}
+use Rattle.tp_sync.specs.SyncError.{receiving}
+use Rattle.tp_sync.specs.Exchange.{IsOtherOnly, PassFails, RefusesKnownAlone, Side}
 use Rattle.tp_sync.proofs.KnownLaws.{has_all-declared}
 use Rattle.tp_sync.proofs.TakeLaws.{all_carried}
 use Rattle.tp_sync.proofs.UnionLaws.{Arrived, Delivered, came_due, delivered, no_member, twins_of}
 
 -- ---- one message
 
+-- nobody
+abbrev nobody : NoKeeper
+nobody = record {}
+
 apart_within : (C : List ChangeParts) (F : List ChangeParts) → AllIn F C → HashesApart C → HashesApart F
 apart_within C F of apart c d i j e = apart c d (of c i) (of d j) e
 
 arrived : (D W K : List ChangeParts) (t : Intake NoKeeper) → Sound D → HashesApart K → W ≡ [] → is_full D W K ≡ false
-    → Run keeps_nothing (begin no_keeper D W K) t → Ends t → ((h : Hash) (e : GraphError) → In (h, e) t.refused → e ≡ Known) → Arrived keeps_nothing no_keeper D K t
+    → Run keeps_nothing (begin nobody D W K) t → Ends t → ((h : Hash) (e : GraphError) → In (h, e) t.refused → e ≡ Known) → Arrived keeps_nothing nobody D K t
 arrived D W K t sound apart idle space run ends known =
-    let first : Run keeps_nothing (begin no_keeper D [] K) t = subst (λ V. Run keeps_nothing (begin no_keeper D V K) t) idle run in
+    let first : Run keeps_nothing (begin nobody D [] K) t = subst (λ V. Run keeps_nothing (begin nobody D V K) t) idle run in
     let room : is_full D [] K ≡ false = subst (λ V. is_full D V K ≡ false) idle space in
     record {
-      progress = progress keeps_nothing no_keeper D [] K t first;
-      results = results keeps_nothing no_keeper D [] K t sound apart room first ends;
+      progress = progress keeps_nothing nobody D [] K t first;
+      results = results keeps_nothing nobody D [] K t sound apart room first ends;
       known = known;
     }
 
@@ -73,17 +62,17 @@ passed from told to to' r p sound held apart idle theirs whole known =
     let H : List Hash = tells D in
     let F : List ChangeParts = filter (is_due C H from.state.wants) C in
     let sends : p.message.changes ≡ F = p.says.changes ∙ all_carried C from.state whole ∙ ap (λ o. due_of C o from.state.wants C) theirs in
-    let t : Intake NoKeeper = intake no_keeper to'.document.applied to'.document.waiting [] r.applied.items r.refused.items in
+    let t : Intake NoKeeper = intake nobody to'.document.applied to'.document.waiting [] r.applied.items r.refused.items in
     let mine : AllIn F C = λ c i. (In-filter (is_due C H from.state.wants) C c i).0 in
-    delivered keeps_nothing no_keeper C D F t sound apart mine (came_due C D H from.state.wants held (has_all-declared D) (twins_of D C apart))
+    delivered keeps_nothing nobody C D F t sound apart mine (came_due C D H from.state.wants held (has_all-declared D) (twins_of D C apart))
     (arrived D to.document.waiting F t held (apart_within C F mine (hashes_apart C sound)) idle
-    (subst (λ K. is_full D to.document.waiting K ≡ false) sends p.space)
-    (subst (λ K. Run keeps_nothing (begin no_keeper D to.document.waiting K) t) sends p.takes.run) p.takes.ends known)
+    (subst (λ K. is_full D to.document.waiting K ≡ false) sends p.takes.space)
+    (subst (λ K. Run keeps_nothing (begin nobody D to.document.waiting K) t) sends p.takes.run) p.takes.ends known)
 
 -- The first message leaves the other as it is, where nothing waits there.
-begun_still : (D : List ChangeParts) (t : Intake NoKeeper) → Run keeps_nothing (begin no_keeper D [] []) t → (t.applied ≡ D) × (t.waiting ≡ [])
+begun_still : (D : List ChangeParts) (t : Intake NoKeeper) → Run keeps_nothing (begin nobody D [] []) t → (t.applied ≡ D) × (t.waiting ≡ [])
 begun_still D t run =
-    let p = progress keeps_nothing no_keeper D [] [] t run in
+    let p = progress keeps_nothing nobody D [] [] t run in
     let none : p.new ≡ [] = no_member p.new (λ c i. p.grows.came c i) in (
       p.grows.begins ∙ ap (λ l. D ++ l) none ∙ append-nil D,
       no_member t.waiting (λ c i. p.waits c i),
@@ -113,29 +102,29 @@ heads_of_same C D s t apart e = record {
   back = heads_decide D C t s (twins_of C D (apart_within (D ++ C) (C ++ D) (flip C D).there apart)) (sym e);
 }
 
-pub one_set : (a b a' b' : DocState) (into_a into_b : Applied) → Sound a.applied → Sound b.applied → HashesApart (a.applied ++ b.applied)
-    → a.waiting ≡ [] → b.waiting ≡ [] → Exchanges a b a' b' into_a into_b false → RefusesKnownAlone into_a → RefusesKnownAlone into_b
+pub one_set : (a b a' b' : DocState) (r : Exchanged) → Sound a.applied → Sound b.applied → HashesApart (a.applied ++ b.applied)
+    → a.waiting ≡ [] → b.waiting ≡ [] → Exchanges a b a' b' r → r.cut ≡ false → RefusesKnownAlone r.into_a → RefusesKnownAlone r.into_b
     → SameMembers a'.applied (a.applied ++ b.applied) × SameMembers b'.applied (a.applied ++ b.applied)
-one_set a b a' b' into_a into_b sa sb apart ia ib x ka kb =
+one_set a b a' b' r sa sb apart ia ib x whole ka kb =
     let A : List ChangeParts = a.applied in
     let B : List ChangeParts = b.applied in
-    let begun : Intake NoKeeper = intake no_keeper x.asked.document.applied x.asked.document.waiting [] x.begun.applied.items x.begun.refused.items in
-    let run : Run keeps_nothing (begin no_keeper B b.waiting x.first.message.changes) begun = x.first.takes.run in
+    let begun : Intake NoKeeper = intake nobody x.asked.document.applied x.asked.document.waiting [] x.begun.applied.items x.begun.refused.items in
+    let run : Run keeps_nothing (begin nobody B b.waiting x.first.message.changes) begun = x.first.takes.run in
     let none_sent : x.first.message.changes ≡ [] = x.first.says.changes in
-    let still = begun_still B begun (subst (λ K. Run keeps_nothing (begin no_keeper B [] K) begun) none_sent (subst (λ W. Run keeps_nothing (begin no_keeper B W x.first.message.changes) begun) ib run)) in
+    let still = begun_still B begun (subst (λ K. Run keeps_nothing (begin nobody B [] K) begun) none_sent (subst (λ W. Run keeps_nothing (begin nobody B W x.first.message.changes) begun) ib run)) in
     let B_is : x.asked.document.applied ≡ B = still.0 in
     let sasked : Sound x.asked.document.applied = subst Sound (sym B_is) sb in
     let to_a : declared x.asked.state ≡ Some (tells A) = declares (side a fresh) x.told (side b fresh) x.asked x.begun x.first in
-    let lefts = x.replies.left_out in
-    let second = passed x.asked x.replies.answered (side a x.told) (side a' x.replies.knows) into_a x.replies.second sasked sa (subst (λ l. HashesApart (A ++ l)) (sym B_is) apart) ia to_a
+    let lefts = sym whole ∙ x.replies.left_out in
+    let second = passed x.asked x.replies.answered (side a x.told) (side a' x.replies.knows) r.into_a x.replies.second sasked sa (subst (λ l. HashesApart (A ++ l)) (sym B_is) apart) ia to_a
     (neither_left (leaves_out x.asked.document.applied x.asked.state) (leaves_out a'.applied x.replies.knows) (sym lefts)) ka in
     let here : SameMembers a'.applied (A ++ B) = subst (λ l. SameMembers a'.applied (A ++ l)) B_is second.members in
     let to_b : x.replies.knows.theirs ≡ Some (heads x.asked.document.applied) = ap (λ (s : SyncParts). s.theirs) x.replies.second.hears ∙ ap Some x.replies.second.says.heads in
-    let told_b : declared x.replies.knows ≡ Some (tells x.asked.document.applied) = declares x.asked x.replies.answered (side a x.told) (side a' x.replies.knows) into_a x.replies.second in
+    let told_b : declared x.replies.knows ≡ Some (tells x.asked.document.applied) = declares x.asked x.replies.answered (side a x.told) (side a' x.replies.knows) r.into_a x.replies.second in
     let apart_b : HashesApart (x.asked.document.applied ++ a'.applied) = subst (λ l. HashesApart (l ++ a'.applied)) (sym B_is) (apart_of A B a'.applied apart here) in
     let there : SameMembers b'.applied (x.asked.document.applied ++ a'.applied) = elim x.replies.third [
       | inl p ↦
-          (passed (side a' x.replies.knows) p.0 (side x.asked.document x.replies.answered) (side b' x.replies.ends) into_b p.1 second.sound sasked apart_b still.1 told_b
+          (passed (side a' x.replies.knows) p.0 (side x.asked.document x.replies.answered) (side b' x.replies.ends) r.into_b p.1 second.sound sasked apart_b still.1 told_b
           (neither_right (leaves_out x.asked.document.applied x.asked.state) (leaves_out a'.applied x.replies.knows) (sym lefts)) kb).members
       | inr q ↦
           let heads_are : heads x.asked.document.applied ≡ heads a'.applied = some_is _ _ (sym to_b ∙ q.quiet.even.theirs) in
@@ -162,27 +151,15 @@ pub if_err : {T E : Type 0} (P Q : E → Type 0) (r : Result T E) → ((e : E) �
 if_err P Q (Ok x) f h = h
 if_err P Q (Err e) f h = f e h
 
-refusal_not_other : (d : DocError) → refusal_of d ≡ OtherDocument → ⊥
-refusal_not_other doc.PendingFull e = cc
-refusal_not_other doc.NotKept e = cc
-refusal_not_other doc.OutOfRange e = cc
-refusal_not_other doc.CounterLimit e = cc
-refusal_not_other doc.TooManyOps e = cc
-refusal_not_other doc.TooManyHeads e = cc
-refusal_not_other doc.UnknownHead e = cc
-refusal_not_other doc.UnknownElement e = cc
-refusal_not_other doc.HashTaken e = cc
-refusal_not_other doc.OutOfMemory e = cc
-refusal_not_other doc.OtherDocument e = cc
-refusal_not_other doc.TooLong e = cc
-refusal_not_other doc.Full e = cc
-
 pass_not_other : (from : Side) (to to' : DocState) (e : SyncError) → PassFails from to to' e → e ≡ OtherDocument → ⊥
 pass_not_other from to to' e (inl w) o = elim w.0 [
   | inl x ↦ let no : TooManyHeads ≡ OtherDocument = sym x.0 ∙ o in cc
   | inr x ↦ let no : OutOfMemory ≡ OtherDocument = sym x ∙ o in cc
 ]
-pass_not_other from to to' e (inr w) o = refusal_not_other w.3.0 (sym w.3.1 ∙ o)
+pass_not_other from to to' e (inr w) o =
+    let no : IsSomeAnd (receiving OtherDocument) (λ why. ReceivesAlone (kept_by_none to) w.0.changes (kept_by_none to') (Stopped why)) =
+    subst (λ (x : SyncError). IsSomeAnd (receiving x) (λ why. ReceivesAlone (kept_by_none to) w.0.changes (kept_by_none to') (Stopped why))) o w.3 in
+    no
 
 reply_not_other : (a b : Side) (a' b' : DocState) (e : SyncError) → ReplyFails a b a' b' e → e ≡ OtherDocument → ⊥
 reply_not_other a b a' b' e (inl w) o = pass_not_other b a.document a' e w.1 o

@@ -1,28 +1,11 @@
 -- Laws of the changes that a message tells of as known.
-use Rattle.std.proofs.Common.{◌≡◌, ◌↔◌, ◌<◌, ◌≤◌, ℕ, suc, zero, ◌+◌, ◌-◌, ◌*◌, ◌^◌, inl, inr, List, [], ◌∷◌, ◌++◌, length, true, false, cond, nat_le, Some, drop, take, map, refl, sym, ap, subst, ◌∙◌, arith, add-one, leb-true}
-use Rattle.std.specs.List.{slice_get}
-use Rattle.std.specs.declared.cmp.Ordering.TheVariants.{Less, Equal, Greater}
-use Rattle.std.proofs.lemmas.Bool.{cases_lt}
-use Rattle.std.proofs.lemmas.List.{length-append}
-use Rattle.std.proofs.lemmas.Bool.Decides.{nat_tests}
+use Rattle.tp_sync.proofs.Common.{◌≡◌, ◌↔◌, ◌<◌, ◌≤◌, ℕ, suc, zero, ◌+◌, ◌-◌, ◌*◌, ◌^◌, inl, inr, List, [], ◌∷◌, ◌++◌, length, true, false, cond, nat_le, Some, drop, take, map, refl, sym, ap, subst, ◌∙◌, arith, add-one, leb-true, slice_get, nat_tests, In, IsRising, put, rising, In-append, In-left, In-right, Hash, hash_cmp, ChangeParts, hash_of, heads, has, has_all, In-has, Less, Equal, Greater, cases_lt, length-append, put_at, In-rising, rising-In, rising-rises, hash_exact, hash_total, most_changes, In-has_all, has_all-In, known_hashes, powers_before_end}
 use Rattle.std.proofs.lemmas.Nat.{pow_pos}
 use Rattle.std.proofs.Math.Nat.{pow-suc}
 use Rattle.std.proofs.Math.Pow.{pow_mono}
-use Rattle.tp_list.specs.Members.{In}
-use Rattle.tp_list.specs.Rising.{IsRising, put, put_at, rising}
-use Rattle.tp_list.proofs.Members.{In-append, In-left, In-right, In-slice_get}
-use Rattle.tp_list.proofs.RisingLaws.{In-rising, rising-In, rising-rises}
-use Rattle.tp_opid.specs.declared.hash.Hash.{Hash}
-use Rattle.tp_opid.specs.Order.{hash_cmp}
-use Rattle.tp_opid.proofs.Orders.{hash_exact, hash_total}
-use Rattle.tp_change.specs.declared.parts.ChangeParts.{ChangeParts}
-use Rattle.tp_change.specs.ChangeHash.{hash_of}
-use Rattle.tp_graph.specs.Fit.{most_changes}
-use Rattle.tp_graph.specs.Heads.{heads}
-use Rattle.tp_graph.specs.Named.{has, has_all}
+use Rattle.tp_list.proofs.Members.{In-slice_get}
 use Rattle.tp_graph.proofs.HeadsLaws.{has_all-heads}
-use Rattle.tp_graph.proofs.NamedLaws.{In-has, In-has_all, has_all-In}
-use Rattle.tp_sync.specs.Known.{before_end, known_hashes, powers_before_end, IsPowerBeforeEnd}
+use Rattle.tp_sync.specs.Known.{before_end, IsPowerBeforeEnd}
 
 -- ---- how many there are
 

@@ -1,3 +1,4 @@
+pub mod Common
 pub mod MarkLaws
 pub mod TakeLaws
 pub mod LoadLaws
@@ -10,3 +11,8 @@ pub mod Refusals
 pub mod MessageFields
 pub mod WholeMessage
 pub mod FaultLaws
+pub mod ShortLaws
+pub mod StepLaws
+pub mod SizeLaws
+pub mod JudgeLaws
+pub mod ReaderLaws

@@ -1,12 +1,5 @@
 -- Limits of what a message carries.
-use Rattle.std.proofs.Common.{◌≡◌, ℕ, ◌+◌, List, [], ◌∷◌, ◌++◌, length, false, nat_le, inl, inr, sym, ap, ◌∙◌, arith}
-use Rattle.std.proofs.lemmas.Bool.Decides.{nat_tests}
-use Rattle.tp_list.proofs.Tests.{neither_left, neither_right, truth}
-use Rattle.tp_change.specs.declared.parts.ChangeParts.{ChangeParts}
-use Rattle.tp_change.specs.Spelling.{spelling}
-use Rattle.tp_sync.specs.declared.limits.TheConstants.{FULL_BYTES, MAX_CHANGES}
-use Rattle.tp_sync.specs.State.{SyncParts}
-use Rattle.tp_sync.specs.Due.{begins_at, carried, due_from, is_laden, take_due}
+use Rattle.tp_sync.proofs.Common.{◌≡◌, ℕ, ◌+◌, List, [], ◌∷◌, ◌++◌, length, false, nat_le, inl, inr, sym, ap, ◌∙◌, arith, nat_tests, neither_left, neither_right, truth, ChangeParts, spelling, MAX_CHANGES, SyncParts, begins_at, carried, due_from, take_due, FULL_BYTES, is_laden}
 use Rattle.tp_sync.specs.Room.{HasRoom, size_of}
 use Rattle.tp_sync.proofs.TakeLaws.{take_due-laden, take_due-on}
 

@@ -1,27 +1,12 @@
 -- What a message carries, by marks of the changes that are due.
-use Rattle.std.proofs.Common.{◌≡◌, ◌<◌, ◌↔◌, inl, inr, ℕ, List, [], ◌∷◌, ◌++◌, length, Bool, true, false, ◌||◌, ◌&&◌, not, cond, Some, drop, map, filter, refl, sym, ap, ◌∙◌, subst, nat_lt, arith}
-use Rattle.std.specs.List.{list_any}
-use Rattle.std.specs.Option.{option_map}
+use Rattle.tp_sync.proofs.Common.{◌≡◌, ◌<◌, ◌↔◌, inl, inr, ℕ, List, [], ◌∷◌, ◌++◌, length, Bool, true, false, ◌||◌, ◌&&◌, not, cond, Some, drop, map, filter, refl, sym, ap, ◌∙◌, subst, nat_lt, arith, list_any, nat_tests, In, filter-In, In-left, truth, never, not_true, or_left, Hash, ChangeParts, hash_of, names, has, heads, past, pick, marks_since, Sound, In-has, SyncParts, declared, begins_at, carried, due, due_from, due_of, is_any, is_due, leaves_out, take_due, option_map, has-In}
 use Rattle.std.proofs.lemmas.List.{length-map}
-use Rattle.std.proofs.lemmas.Bool.Decides.{nat_tests}
-use Rattle.tp_list.specs.Members.{In}
-use Rattle.tp_list.proofs.Members.{filter-In, In-left}
-use Rattle.tp_list.proofs.Tests.{truth, never, not_true, neither, or_left}
-use Rattle.tp_opid.specs.declared.hash.Hash.{Hash}
-use Rattle.tp_change.specs.declared.parts.ChangeParts.{ChangeParts}
-use Rattle.tp_change.specs.ChangeHash.{hash_of}
-use Rattle.tp_graph.specs.Named.{names, has}
-use Rattle.tp_graph.specs.Heads.{heads}
-use Rattle.tp_graph.specs.Past.{past}
-use Rattle.tp_graph.specs.Marks.{pick}
-use Rattle.tp_graph.specs.Since.{marks_since}
-use Rattle.tp_graph.specs.Sound.{Sound}
-use Rattle.tp_graph.proofs.NamedLaws.{has-In, In-has, names-In, In-names}
+use Rattle.tp_list.proofs.Tests.{neither}
+use Rattle.tp_graph.proofs.NamedLaws.{names-In, In-names}
 use Rattle.tp_graph.proofs.SoundLaws.{deps_first}
 use Rattle.tp_graph.proofs.HeadsLaws.{past-heads}
 use Rattle.tp_graph.proofs.PastLaws.{past-more}
-use Rattle.tp_sync.specs.State.{SyncParts, declared}
-use Rattle.tp_sync.specs.Due.{begins_again, begins_at, carried, due, due_from, due_of, is_any, is_due, leaves_out, take_due}
+use Rattle.tp_sync.specs.Due.{begins_again}
 use Rattle.tp_sync.proofs.MarkLaws.{marks_are_due, any-drop, pick-drop, length-marked}
 use Rattle.tp_sync.proofs.TakeLaws.{piece}
 

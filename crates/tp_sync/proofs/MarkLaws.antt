@@ -1,24 +1,14 @@
 -- Marks of the changes that are due.
-use Rattle.std.proofs.Common.{◌≡◌, ℕ, suc, List, [], ◌∷◌, length, Bool, true, false, ◌||◌, not, cond, map, filter, drop, refl, sym, ap, ◌∙◌, inl, inr}
-use Rattle.std.specs.List.{list_any}
+use Rattle.tp_sync.proofs.Common.{◌≡◌, ℕ, suc, List, [], ◌∷◌, length, Bool, true, false, ◌||◌, not, cond, map, filter, drop, refl, sym, ap, ◌∙◌, inl, inr, list_any, In, never, not_true, Hash, ChangeParts, hash_of, names, has, past, pick, marks_since, Sound, In-has, is_due, is_any}
 use Rattle.std.proofs.lemmas.List.{drop-map}
-use Rattle.tp_list.specs.Members.{In}
-use Rattle.tp_list.proofs.Tests.{never, not_true}
-use Rattle.tp_opid.specs.declared.hash.Hash.{Hash}
 use Rattle.tp_opid.specs.Same.{same_hash}
 use Rattle.tp_opid.proofs.Orders.{same_hash-same, same_hash-itself}
-use Rattle.tp_change.specs.declared.parts.ChangeParts.{ChangeParts}
-use Rattle.tp_change.specs.ChangeHash.{hash_of}
-use Rattle.tp_graph.specs.Named.{names, has, is_needed}
-use Rattle.tp_graph.specs.Past.{past}
+use Rattle.tp_graph.specs.Named.{is_needed}
 use Rattle.tp_graph.specs.GraphState.{HashesOnce}
-use Rattle.tp_graph.specs.Marks.{marks, marked_more, pick}
-use Rattle.tp_graph.specs.Since.{marks_since}
-use Rattle.tp_graph.specs.Sound.{Sound}
-use Rattle.tp_graph.proofs.NamedLaws.{In-has, lacks-fewer}
+use Rattle.tp_graph.specs.Marks.{marks, marked_more}
+use Rattle.tp_graph.proofs.NamedLaws.{lacks-fewer}
 use Rattle.tp_graph.proofs.PastLaws.{past-In}
 use Rattle.tp_graph.proofs.MarksLaws.{hashes_once}
-use Rattle.tp_sync.specs.Due.{is_due, is_any}
 
 -- ---- a past, by the hashes of its changes
 

@@ -1,8 +1,5 @@
 -- A refusal that passes on.
-use Rattle.std.proofs.Common.{◌≡◌, Result, Err}
-use Rattle.tp_sync.specs.declared.error.SyncError.{SyncError}
-use Rattle.tp_sync.specs.declared.error.SyncError.TheVariants.{OutOfMemory}
-use Rattle.tp_sync.specs.Gives.{FailsWith}
+use Rattle.tp_sync.proofs.Common.{◌≡◌, Result, Err, SyncError, OutOfMemory, FailsWith}
 
 pub fails_on : {X Y : Type 0} (e : SyncError) (r : Result X SyncError) (t : Result Y SyncError) → (r ≡ Err e → t ≡ Err e) → FailsWith e r → FailsWith e t
 fails_on OutOfMemory r t f h = tt

@@ -1,18 +1,6 @@
 -- Laws of what a message takes.
-use Rattle.std.proofs.Common.{◌≡◌, ◌<◌, ◌≤◌, ℕ, suc, zero, ◌+◌, inl, inr, List, [], ◌∷◌, ◌++◌, length, Bool, true, false, cond, Some, drop, get_or, refl, sym, ap, subst, ◌∙◌, arith, add-one, append_assoc, append-nil, filter, length-append, take, Option, None, nat_le}
-use Rattle.std.specs.List.{slice_get}
-use Rattle.std.proofs.lemmas.List.{take-append-drop}
-use Rattle.std.proofs.lemmas.Bool.Decides.{nat_tests}
-use Rattle.tp_opid.specs.declared.hash.Hash.{Hash}
-use Rattle.tp_change.specs.declared.parts.ChangeParts.{ChangeParts}
-use Rattle.tp_change.specs.Spelling.{spelling}
-use Rattle.tp_graph.specs.Marks.{pick}
-use Rattle.tp_list.specs.Members.{In}
-use Rattle.tp_list.proofs.Members.{In-filter, In-left, In-right}
-use Rattle.tp_list.proofs.Tests.{neither_left, truth}
-use Rattle.tp_sync.specs.declared.limits.TheConstants.{FULL_BYTES, MAX_CHANGES}
-use Rattle.tp_sync.specs.State.{SyncParts, declared}
-use Rattle.tp_sync.specs.Due.{begins_at, carried, due, due_from, due_of, is_any, is_due, is_laden, leaves_out, take_due, IsPiece, MovesOn}
+use Rattle.tp_sync.proofs.Common.{◌≡◌, ◌<◌, ◌≤◌, ℕ, suc, zero, ◌+◌, inl, inr, List, [], ◌∷◌, ◌++◌, length, Bool, true, false, cond, Some, drop, get_or, refl, sym, ap, subst, ◌∙◌, arith, add-one, append_assoc, append-nil, filter, length-append, take, Option, None, nat_le, slice_get, take-append-drop, nat_tests, Hash, ChangeParts, spelling, pick, In, In-filter, In-left, In-right, neither_left, truth, MAX_CHANGES, SyncParts, declared, begins_at, carried, due, due_from, due_of, is_any, is_due, leaves_out, take_due, FULL_BYTES, is_laden}
+use Rattle.tp_sync.specs.Due.{IsPiece, MovesOn}
 
 pick-step : (bs : List Bool) (C : List ChangeParts) (i : ℕ) (c : ChangeParts) → length bs ≡ length C → slice_get C i ≡ Some c
     → pick (drop i bs) (drop i C) ≡ cond (get_or bs i false) (c ∷ pick (drop (suc i) bs) (drop (suc i) C)) (pick (drop (suc i) bs) (drop (suc i) C))

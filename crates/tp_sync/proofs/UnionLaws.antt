@@ -1,27 +1,14 @@
 -- Why an exchange leaves both documents with the union of what they had.
-use Rattle.std.proofs.Common.{◌≡◌, ◌⊎◌, inl, inr, List, [], ◌∷◌, ◌++◌, Bool, true, false, not, Some, None, Option, length, ◌==◌, refl, sym, ap, ◌∙◌, subst, append_assoc, filter}
-use Rattle.tp_list.specs.Members.{In, AllIn, SameMembers}
-use Rattle.tp_list.proofs.Members.{In-left, In-right, In-append, filter-In}
-use Rattle.tp_list.proofs.Tests.{truth, never, neither_right}
-use Rattle.tp_opid.specs.declared.hash.Hash.{Hash}
-use Rattle.tp_change.specs.declared.parts.ChangeParts.{ChangeParts}
-use Rattle.tp_change.specs.ChangeHash.{hash_of}
-use Rattle.tp_graph.specs.declared.error.GraphError.{GraphError}
-use Rattle.tp_graph.specs.declared.error.GraphError.TheVariants.{Known}
-use Rattle.tp_graph.specs.Named.{names, has, has_all, HashesApart}
-use Rattle.tp_graph.specs.Past.{past}
-use Rattle.tp_graph.specs.Fit.{defect, or_full, cause, most_changes}
-use Rattle.tp_graph.specs.Sound.{Sound}
+use Rattle.tp_sync.proofs.Common.{◌≡◌, ◌⊎◌, inl, inr, List, [], ◌∷◌, ◌++◌, Bool, true, false, not, Some, None, Option, length, ◌==◌, refl, sym, ap, ◌∙◌, subst, append_assoc, filter, In, In-left, In-right, In-append, filter-In, truth, never, neither_right, Hash, ChangeParts, hash_of, names, has, has_all, past, Sound, In-has, is_due, AllIn, SameMembers, GraphError, Known, HashesApart, most_changes, has-In, has_all-In, In-has_all, Intake}
+use Rattle.tp_graph.specs.Fit.{defect, or_full, cause}
 use Rattle.tp_graph.proofs.CauseLaws.{known_is}
-use Rattle.tp_graph.proofs.NamedLaws.{has-In, In-has, has-left, has_all-In, In-has_all}
+use Rattle.tp_graph.proofs.NamedLaws.{has-left}
 use Rattle.tp_graph.proofs.SoundLaws.{Fits-at, deps_there}
 use Rattle.tp_graph.proofs.ReachLaws.{InPast-from_past}
 use Rattle.tp_graph.proofs.SetLaws.{NoTwins, chain_over}
 use Rattle.tp_receive.specs.Receiving.{hashes}
-use Rattle.tp_receive.specs.Intake.{Intake}
 use Rattle.tp_receive.specs.Replies.{Progress, Results}
 use Rattle.tp_receive.proofs.CausesLaws.{waits_for}
-use Rattle.tp_sync.specs.Due.{is_due}
 
 -- ---- what isn't due is there
 

@@ -1,23 +1,13 @@
 -- Laws of what is wanted.
-use Rattle.std.proofs.Common.{◌≡◌, ◌<◌, ◌≤◌, ◌↔◌, inl, inr, ℕ, zero, suc, ◌+◌, List, [], ◌∷◌, ◌++◌, length, Bool, true, false, ◌||◌, not, Option, take, drop, get_or, filter, refl, sym, ap, ◌∙◌, subst, append_assoc, add-one, drop-cons, min, arith}
-use Rattle.std.specs.List.{flat_map, insert}
+use Rattle.tp_sync.proofs.Common.{◌≡◌, ◌<◌, ◌≤◌, ◌↔◌, inl, inr, ℕ, zero, suc, ◌+◌, List, [], ◌∷◌, ◌++◌, length, Bool, true, false, ◌||◌, not, Option, take, drop, get_or, filter, refl, sym, ap, ◌∙◌, subst, append_assoc, add-one, drop-cons, min, arith, flat_map, take-append-drop, In, IsBelowAll, IsRising, put, rising, In-append, In-left, In-right, In-filter, filter-In, never, or_cases, or_left, Hash, hash_cmp, ChangeParts, has, MAX_HASHES, insert, Less, Equal, Greater, put_at, rising-In, In-rising, rising-rises, or_right, hash_total, hash_exact, HasPut, is_absent}
 use Rattle.std.specs.Ordering.{ordering_reverse}
-use Rattle.std.specs.declared.cmp.Ordering.TheVariants.{Less, Equal, Greater}
-use Rattle.std.proofs.lemmas.List.{length-take, take_more, take-append-drop}
-use Rattle.tp_list.specs.Members.{In}
-use Rattle.tp_list.specs.Rising.{IsBelowAll, IsRising, put, put_at, rising}
-use Rattle.tp_list.proofs.Members.{In-append, In-left, In-right, In-middle, In-filter, filter-In}
-use Rattle.tp_list.proofs.RisingLaws.{below-In, put-In, In-put, In-put_other, put-rises, rising-In, In-rising, rising-rises, one_list}
-use Rattle.tp_list.proofs.Tests.{never, or_cases, or_left, or_right}
-use Rattle.tp_opid.specs.declared.hash.Hash.{Hash}
-use Rattle.tp_opid.specs.Order.{hash_cmp}
-use Rattle.tp_opid.proofs.Orders.{hash_total, hash_exact}
-use Rattle.tp_change.specs.declared.parts.ChangeParts.{ChangeParts}
-use Rattle.tp_graph.specs.Named.{among, has}
+use Rattle.std.proofs.lemmas.List.{length-take, take_more}
+use Rattle.tp_list.proofs.Members.{In-middle}
+use Rattle.tp_list.proofs.RisingLaws.{below-In, put-In, In-put, In-put_other, put-rises, one_list}
+use Rattle.tp_graph.specs.Named.{among}
 use Rattle.tp_graph.specs.Since.{is_wanted, IsMissing}
 use Rattle.tp_graph.proofs.HeadsLaws.{among-In, In-among}
-use Rattle.tp_sync.specs.declared.limits.TheConstants.{MAX_HASHES}
-use Rattle.tp_sync.specs.Wanting.{HasPut, heard_of, is_absent, wanted}
+use Rattle.tp_sync.specs.Wanting.{heard_of, wanted}
 
 -- ---- a hash is put at its index
 

@@ -1,16 +1,7 @@
 -- The laws of the whole: the bytes of a message are read as it, and what is read is a message that the bytes spell.
-use Rattle.std.proofs.Common.{◌≡◌, ℕ, Bool, true, false, cond, eqb, List, [], ◌++◌, length, Result, Ok, Err, refl, sym, ap, ◌∙◌, ◌∷◌, append-nil, append_assoc, eqb-true}
+use Rattle.tp_sync.proofs.Common.{◌≡◌, ℕ, Bool, true, false, cond, eqb, List, [], ◌++◌, length, Result, Ok, Err, refl, sym, ap, ◌∙◌, ◌∷◌, append-nil, append_assoc, eqb-true, w32, flat_map, nil_from_length, AreBytes, Hash, ChangeParts, SyncError, BadMessage, BadChange, MessageParts, IsMessage, entry, to_be_bytes, spelling_of_hashes}
 use Rattle.std.specs.Prelude.{◌↔◌}
-use Rattle.std.specs.Int.{w32, to_be_bytes}
-use Rattle.std.specs.List.{flat_map}
-use Rattle.std.proofs.lemmas.List.{nil_from_length}
-use Rattle.tp_codec.proofs.Fields.{AreBytes}
-use Rattle.tp_opid.specs.declared.hash.Hash.{Hash}
-use Rattle.tp_change.specs.declared.parts.ChangeParts.{ChangeParts}
-use Rattle.tp_sync.specs.declared.error.SyncError.{SyncError}
-use Rattle.tp_sync.specs.declared.error.SyncError.TheVariants.{BadMessage, BadChange}
-use Rattle.tp_sync.specs.Message.{MessageParts, IsMessage}
-use Rattle.tp_sync.specs.Spelling.{entry, spelling_of_hashes, spelling_of_known, message_spelling}
+use Rattle.tp_sync.specs.Spelling.{spelling_of_known, message_spelling}
 use Rattle.tp_sync.specs.Reading.{parts_at, ended, message_at}
 use Rattle.tp_sync.proofs.MessageFields.{parts_field}
 

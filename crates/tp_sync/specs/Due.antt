@@ -1,11 +1,7 @@
 -- Which changes are due to another peer, and which of them a message carries.
 use Rattle.std.specs.Prelude.{◌≡◌, ◌⊎◌, ℕ, ◌+◌, List, [], ◌∷◌, ◌++◌, length, drop, filter, Bool, true, false, ◌||◌, ◌&&◌, not, cond, nat_lt, nat_le, Option, Some, None}
-use Rattle.std.specs.List.{slice_get}
-use Rattle.tp_opid.specs.declared.hash.Hash.{Hash}
-use Rattle.tp_change.specs.declared.parts.ChangeParts.{ChangeParts}
-use Rattle.tp_change.specs.ChangeHash.{hash_of}
-use Rattle.tp_change.specs.Spelling.{spelling}
-use Rattle.tp_graph.specs.Named.{names, has}
+use Rattle.tp_sync.specs.Common.{Hash, ChangeParts, hash_of, spelling, has, slice_get}
+use Rattle.tp_graph.specs.Named.{names}
 use Rattle.tp_graph.specs.Past.{past}
 use Rattle.tp_graph.specs.Heads.{heads}
 use Rattle.tp_sync.specs.declared.limits.TheConstants.{MAX_CHANGES, FULL_BYTES}

@@ -1,23 +1,21 @@
 -- What an exchange does: at most three messages, each received at once.
-use Rattle.std.specs.Prelude.{◌≡◌, ◌⊎◌, ◌<◌, [], length, Bool, false, ◌||◌, Result, Ok, Err}
+use Rattle.std.specs.Prelude.{◌≡◌, ◌⊎◌, ◌<◌, [], length, ◌||◌, IsSomeAnd, Result, Ok, Err}
 use Rattle.tp_opid.specs.declared.doc_id.DocId.{DocId}
-use Rattle.tp_opid.specs.declared.hash.Hash.{Hash}
-use Rattle.tp_list.specs.Members.{In}
+use Rattle.tp_sync.specs.Common.{Hash, In, ReceivesAlone, DocState, kept_by_none}
 use Rattle.tp_graph.specs.declared.error.GraphError.{GraphError}
 use Rattle.tp_graph.specs.declared.error.GraphError.TheVariants.{Known}
 use Rattle.tp_graph.specs.Heads as head
 use Rattle.tp_receive.specs.declared.intake.Applied.{Applied}
-use Rattle.tp_receive.specs.Delivery as delivery
-use Rattle.tp_document.specs.DocState.{DocState}
-use Rattle.tp_document.specs.Applying.{no_keeper, keeps_nothing, refuses_nothing, Takes}
+use Rattle.tp_receive.specs.Outcome.{Done, Stopped, report_of}
 use Rattle.tp_sync.specs.declared.error.SyncError.{SyncError}
+use Rattle.tp_sync.specs.declared.exchanging.Exchanged.{Exchanged}
 use Rattle.tp_sync.specs.declared.error.SyncError.TheVariants.{TooManyHeads, OutOfMemory, OtherDocument}
 use Rattle.tp_sync.specs.declared.limits.TheConstants.{MAX_HASHES}
 use Rattle.tp_sync.specs.Message.{MessageParts}
 use Rattle.tp_sync.specs.State.{SyncParts, fresh, heard}
 use Rattle.tp_sync.specs.Due.{leaves_out}
 use Rattle.tp_sync.specs.Answer.{IsQuiet, Says}
-use Rattle.tp_sync.specs.Receiving.{HearsPart}
+use Rattle.tp_sync.specs.SyncError.{receiving}
 
 -- A document and what is known of the other.
 pub record Side : Type 0 where
@@ -32,8 +30,7 @@ side d s = record { document = d; state = s }
 pub record Passes (from : Side) (told : SyncParts) (to to' : Side) (r : Applied) : Type 0 where
   pub message : MessageParts
   pub says : Says from.document.applied from.document.waiting from.state message told
-  pub space : delivery.is_full to.document.applied to.document.waiting message.changes ≡ false
-  pub takes : Takes keeps_nothing no_keeper no_keeper message.changes to.document to'.document r
+  pub takes : ReceivesAlone (kept_by_none to.document) message.changes (kept_by_none to'.document) (Done (report_of r))
   pub hears : to'.state ≡ heard to.state message
 
 -- Nothing entered, nothing waits of what came, and nothing was refused.
@@ -54,23 +51,23 @@ Closes from to to' r = ((told : SyncParts) × Passes from told to to' r) ⊎ Res
 
 -- What b did once it was told the heads of a: it answered, and a answered that, or had nothing to say. Reported are what
 -- these two messages did, and whether one of them left out changes that were due.
-pub record Replies (a b : Side) (a' b' : DocState) (into_a into_b : Applied) (cut : Bool) : Type 0 where
+pub record Replies (a b : Side) (a' b' : DocState) (r : Exchanged) : Type 0 where
   -- what b knows once it answered, what a knows then, and what b knows in the end
   pub answered : SyncParts
   pub knows : SyncParts
   pub ends : SyncParts
-  pub second : Passes b answered a (side a' knows) into_a
-  pub third : Closes (side a' knows) (side b.document answered) (side b' ends) into_b
-  pub left_out : cut ≡ (leaves_out b.document.applied b.state || leaves_out a'.applied knows)
+  pub second : Passes b answered a (side a' knows) r.into_a
+  pub third : Closes (side a' knows) (side b.document answered) (side b' ends) r.into_b
+  pub left_out : r.cut ≡ (leaves_out b.document.applied b.state || leaves_out a'.applied knows)
 
 -- What an exchange did of the documents a and b, which became a' and b': a told b its heads, and b replied.
-pub record Exchanges (a b a' b' : DocState) (into_a into_b : Applied) (cut : Bool) : Type 0 where
+pub record Exchanges (a b a' b' : DocState) (r : Exchanged) : Type 0 where
   -- what a knows once it told b, b then, and what the message did
   pub told : SyncParts
   pub asked : Side
   pub begun : Applied
   pub first : Passes (side a fresh) told (side b fresh) asked begun
-  pub replies : Replies (side a told) asked a' b' into_a into_b cut
+  pub replies : Replies (side a told) asked a' b' r
 
 -- Nothing was refused but what was known.
 abbrev pub RefusesKnownAlone : Applied → Type 0
@@ -85,7 +82,7 @@ abbrev pub PassFails : Side → DocState → DocState → SyncError → Type 0
 PassFails from to to' e =
     (CantSay from.document e × (to' ≡ to))
     ⊎ ((m : MessageParts) × (told : SyncParts) × Says from.document.applied from.document.waiting from.state m told
-    × HearsPart keeps_nothing refuses_nothing no_keeper no_keeper m.changes to to' e)
+    × IsSomeAnd (receiving e) (λ why. ReceivesAlone (kept_by_none to) m.changes (kept_by_none to') (Stopped why)))
 
 -- The third message was refused, once the second was received.
 pub record StopsLate (a b : Side) (a' b' : DocState) (e : SyncError) : Type 0 where

@@ -1,11 +1,6 @@
 -- Which changes a message tells of as known: fewer and fewer, the farther they are from the end of the list.
 use Rattle.std.specs.Prelude.{◌≡◌, ◌≤◌, ℕ, suc, zero, ◌-◌, ◌^◌, List, [], ◌++◌, length, nat_le, cond, drop, take, map, Some}
-use Rattle.std.specs.List.{slice_get}
-use Rattle.tp_list.specs.Rising.{rising}
-use Rattle.tp_opid.specs.declared.hash.Hash.{Hash}
-use Rattle.tp_opid.specs.Order.{hash_cmp}
-use Rattle.tp_change.specs.declared.parts.ChangeParts.{ChangeParts}
-use Rattle.tp_change.specs.ChangeHash.{hash_of}
+use Rattle.tp_sync.specs.Common.{Hash, hash_cmp, ChangeParts, hash_of, slice_get, rising}
 use Rattle.tp_sync.specs.declared.limits.TheConstants.{MAX_KNOWN}
 
 -- the hash of the change that is so many places before the end of C, where there are so many

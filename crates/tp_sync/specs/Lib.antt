@@ -1,3 +1,4 @@
+pub mod Common
 pub mod SyncError
 pub mod Message
 pub mod State
@@ -6,9 +7,11 @@ pub mod Due
 pub mod Room
 pub mod Wanting
 pub mod Answer
-pub mod Receiving
 pub mod Exchange
 pub mod Spelling
 pub mod Reading
 pub mod Gives
 pub mod Lists
+pub mod Stages
+pub mod Steps
+pub mod ReaderState

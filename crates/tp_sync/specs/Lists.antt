@@ -1,5 +1,5 @@
 -- What was read of a message, as its parts.
-use Rattle.tp_sync.specs.declared.reading.Lists.{Lists}
+use Rattle.tp_sync.specs.declared.stages.Lists.{Lists}
 use Rattle.tp_sync.specs.Message.{MessageParts}
 
 abbrev pub parts_in : Lists → MessageParts

@@ -1,12 +1,6 @@
 -- What contracts see of a message, and its limits.
 use Rattle.std.specs.Prelude.{◌≡◌, ◌⊎◌, ℕ, ◌≤◌, List, [], length}
-use Rattle.std.specs.List.{AllByRecursion}
-use Rattle.tp_list.specs.Rising.{IsRising}
-use Rattle.tp_opid.specs.declared.hash.Hash.{Hash}
-use Rattle.tp_opid.specs.Order.{hash_cmp}
-use Rattle.tp_change.specs.declared.parts.ChangeParts.{ChangeParts}
-use Rattle.tp_change.specs.Limits.{IsHash}
-use Rattle.tp_document.specs.DocState.{AllChanges}
+use Rattle.tp_sync.specs.Common.{AllByRecursion, IsRising, Hash, hash_cmp, ChangeParts, IsHash, AllChanges}
 use Rattle.tp_sync.specs.declared.limits.TheConstants.{MAX_HASHES, MAX_KNOWN, MAX_CHANGES}
 
 -- The version of the layout, the heads of the sender, the hashes of the changes that it wants, those of changes that it

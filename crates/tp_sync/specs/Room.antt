@@ -1,7 +1,6 @@
 -- Whether a message has room for one change more.
 use Rattle.std.specs.Prelude.{ℕ, ◌+◌, ◌<◌, List, [], ◌∷◌, length}
-use Rattle.tp_change.specs.declared.parts.ChangeParts.{ChangeParts}
-use Rattle.tp_change.specs.Spelling.{spelling}
+use Rattle.tp_sync.specs.Common.{ChangeParts, spelling}
 use Rattle.tp_sync.specs.declared.limits.TheConstants.{MAX_CHANGES, FULL_BYTES}
 
 -- how many bytes the changes have

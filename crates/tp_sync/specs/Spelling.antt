@@ -1,10 +1,7 @@
 -- The bytes of a message: all numbers big-endian.
 use Rattle.std.specs.Prelude.{ℕ, ◌==◌, List, [], ◌∷◌, ◌++◌, length, if◌then◌else◌}
-use Rattle.std.specs.Int.{w32, to_be_bytes}
-use Rattle.std.specs.List.{flat_map}
-use Rattle.tp_opid.specs.declared.hash.Hash.{Hash}
-use Rattle.tp_change.specs.declared.parts.ChangeParts.{ChangeParts}
-use Rattle.tp_change.specs.Spelling.{spelling}
+use Rattle.tp_sync.specs.Common.{w32, flat_map, Hash, ChangeParts, spelling}
+use Rattle.std.specs.Int.{to_be_bytes}
 use Rattle.tp_sync.specs.Message.{MessageParts}
 
 -- a count of 4 bytes, and 32 bytes for each hash

@@ -1,8 +1,6 @@
 -- What contracts see of a sync state.
 use Rattle.std.specs.Prelude.{ℕ, List, [], ◌∷◌, ◌++◌, Bool, false, Option, Some, None}
-use Rattle.std.specs.Option.{option_map}
-use Rattle.tp_opid.specs.declared.hash.Hash.{Hash}
-use Rattle.tp_change.specs.declared.parts.ChangeParts.{ChangeParts}
+use Rattle.tp_sync.specs.Common.{Hash, ChangeParts, option_map}
 use Rattle.tp_sync.specs.Message.{MessageParts}
 
 -- The heads that the other declared last, if any, the hashes that it wanted then, and those of changes that it knew then;

@@ -1,13 +1,7 @@
 -- Which changes a document wants of another peer.
 use Rattle.std.specs.Prelude.{◌≡◌, ◌⊎◌, List, [], ◌++◌, take, filter, Bool, true, ◌||◌, not, Option}
-use Rattle.std.specs.List.{flat_map}
+use Rattle.tp_sync.specs.Common.{flat_map, In, IsRising, Hash, hash_cmp, ChangeParts, has, rising}
 use Rattle.std.specs.Option.{unwrap_or}
-use Rattle.tp_list.specs.Members.{In}
-use Rattle.tp_list.specs.Rising.{IsRising, rising}
-use Rattle.tp_opid.specs.declared.hash.Hash.{Hash}
-use Rattle.tp_opid.specs.Order.{hash_cmp}
-use Rattle.tp_change.specs.declared.parts.ChangeParts.{ChangeParts}
-use Rattle.tp_graph.specs.Named.{has}
 use Rattle.tp_sync.specs.declared.limits.TheConstants.{MAX_HASHES}
 
 -- the hashes that were heard of: the heads that the other declared, and the dependencies of the changes that wait

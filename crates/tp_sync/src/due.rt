@@ -2,9 +2,8 @@
 
 ghost use Rattle.std.specs.Prelude.{◌≡◌, ◌↔◌, ◌+◌, ◌<◌, ◌^◌, ◌∷◌, ◌++◌, ◌&&◌, [], cond, length, nat_lt, drop, filter, not, false, Some, IfOk, IsTrue, OnOk, IsOkUnless};
 ghost use Rattle.std.specs.List.{list_any};
-ghost use Rattle.tp_change.specs.Spelling.{spelling};
+ghost use Rattle.tp_sync.specs.Common.{spelling, has};
 ghost use Rattle.tp_graph.specs.Marks.{pick};
-ghost use Rattle.tp_graph.specs.Named.{has};
 ghost use Rattle.tp_sync.specs.Due as of_due;
 ghost use Rattle.tp_sync.specs.Due.{carried, leaves_out, take_due, IsEven, MovesOn};
 ghost use Rattle.tp_sync.specs.State.{declared};

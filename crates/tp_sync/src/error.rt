@@ -1,11 +1,12 @@
 //! Why a call on a message or a sync state was refused.
 
-ghost use Rattle.std.specs.Prelude.{◌≡◌};
-ghost use Rattle.tp_sync.specs.SyncError.{code_of};
+ghost use Rattle.std.specs.Prelude.{◌≡◌, Some};
+ghost use Rattle.tp_sync.specs.SyncError.{code_of, receiving};
 ghost use Rattle.tp_sync.specs.declared.error.SyncError.TheVariants.{OutOfMemory};
 
 use std::alloc::{AllocError, AllocFailed};
 use thiserror::Error;
+use tp_receive::ReceiveError;
 
 /// Why a call was refused. A refused call leaves the sync state as it was.
 #[derive(Clone, Copy, Debug, PartialEq, Eq, Error)]
@@ -63,5 +64,17 @@ impl<T: Drop> From<AllocFailed<T>> for SyncError {
 
     fn from(_e: AllocFailed<T>) -> SyncError {
         SyncError::OutOfMemory
+    }
+}
+
+impl From<ReceiveError> for SyncError {
+    ghost from_gives = { λ e r. receiving r ≡ Some e };
+
+    fn from(error: ReceiveError) -> SyncError {
+        match error {
+            ReceiveError::PendingFull => SyncError::PendingFull,
+            ReceiveError::NotKept => SyncError::NotKept,
+            ReceiveError::OutOfMemory => SyncError::OutOfMemory,
+        }
     }
 }

@@ -135,7 +135,7 @@ fn reply<S: Sequence>(
     ensures a_id { a.new.id ≡ a.old.id }
     ensures b_id { b.new.id ≡ b.old.id }
     ensures ok { IfOk result (λ r. Replies (side a.old ours.old) (side b.old theirs.old)
-        a.new b.new r.into_a r.into_b r.cut) }
+        a.new b.new r) }
     ensures err { IfErr result (λ e. ReplyFails (side a.old ours.old) (side b.old theirs.old)
         a.new b.new e) }
 {
@@ -164,8 +164,7 @@ fn exchange_from<S: Sequence>(
     requires theirs { theirs.old ≡ fresh }
     ensures a_id { a.new.id ≡ a.old.id }
     ensures b_id { b.new.id ≡ b.old.id }
-    ensures ok { IfOk result
-        (λ r. Exchanges a.old b.old a.new b.new r.into_a r.into_b r.cut) }
+    ensures ok { IfOk result (λ r. Exchanges a.old b.old a.new b.new r) }
     ensures err { IfErr result (λ e. Stops a.old b.old a.new b.new e) }
 {
     match speak(alloc, a, ours, b, theirs) {
@@ -189,10 +188,8 @@ pub fn exchange<S: Sequence>(
     a: &mut Document<S>,
     b: &mut Document<S>,
 ) -> Result<Exchanged, SyncError>
-    ensures a_id { a.new.id ≡ a.old.id }
-    ensures b_id { b.new.id ≡ b.old.id }
-    ensures ok { IfOk result
-        (λ r. Exchanges a.old b.old a.new b.new r.into_a r.into_b r.cut) }
+    ensures ids { (a.new.id ≡ a.old.id) × (b.new.id ≡ b.old.id) }
+    ensures ok { IfOk result (λ r. Exchanges a.old b.old a.new b.new r) }
     ensures other { IsOtherOnly result a.old.id b.old.id }
     ensures err { IfErr result (λ e. ExchangeFails a.old b.old a.new b.new e) }
 {

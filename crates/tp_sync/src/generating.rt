@@ -1,13 +1,8 @@
 //! Making the next message to another peer.
 
 ghost use Rattle.std.specs.Prelude.{◌≡◌, ◌↔◌, ◌<◌, ◌≤◌, ◌⊎◌, length, Err, IfOk, IfErr, IfSome, IsTrue};
-ghost use Rattle.std.specs.List.{AllByRecursion};
-ghost use Rattle.std.specs.Option.{option_map};
-ghost use Rattle.tp_list.specs.Rising.{IsRising};
-ghost use Rattle.tp_opid.specs.Order.{hash_cmp};
-ghost use Rattle.tp_change.specs.Limits.{IsHash};
+ghost use Rattle.tp_sync.specs.Common.{AllByRecursion, IsRising, hash_cmp, IsHash, AllChanges, option_map};
 ghost use Rattle.tp_graph.specs.Heads as head;
-ghost use Rattle.tp_document.specs.DocState.{AllChanges};
 ghost use Rattle.tp_sync.specs.Answer.{Answer, IsQuiet};
 ghost use Rattle.tp_sync.specs.Due.{leaves_out};
 ghost use Rattle.tp_sync.specs.declared.error.SyncError.TheVariants.{OutOfMemory, TooManyHeads};

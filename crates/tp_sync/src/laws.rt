@@ -1,21 +1,17 @@
 //! Laws of syncing, each the contract of a function that does nothing.
 
 ghost use Rattle.std.specs.Prelude.{◌≡◌, ◌↔◌, ◌≤◌, [], ◌∷◌, ◌++◌, List, true, false, length};
-ghost use Rattle.tp_list.specs.Members.{In, SameMembers};
-ghost use Rattle.tp_opid.specs.declared.hash.Hash.{Hash};
-ghost use Rattle.tp_change.specs.declared.parts.ChangeParts.{ChangeParts};
-ghost use Rattle.tp_change.specs.ChangeHash.{hash_of};
+ghost use Rattle.tp_sync.specs.Common.{In, Hash, ChangeParts, hash_of, has, Sound, DocState};
+ghost use Rattle.tp_list.specs.Members.{SameMembers};
 ghost use Rattle.tp_graph.specs.Fit.{most_changes};
-ghost use Rattle.tp_graph.specs.Named.{has, has_all, HashesApart};
-ghost use Rattle.tp_graph.specs.Sound.{Sound};
-ghost use Rattle.tp_receive.specs.declared.intake.Applied.{Applied};
-ghost use Rattle.tp_document.specs.DocState.{DocState};
+ghost use Rattle.tp_graph.specs.Named.{has_all, HashesApart};
 ghost use Rattle.tp_sync.specs.Message.{MessageParts};
 ghost use Rattle.tp_sync.specs.State.{SyncParts};
 ghost use Rattle.tp_sync.specs.Due.{carried, due, is_any, is_due, leaves_out, IsPiece};
 ghost use Rattle.tp_sync.specs.Answer.{Says};
 ghost use Rattle.tp_sync.specs.Known.{known_hashes, IsPowerBeforeEnd};
 ghost use Rattle.tp_sync.specs.Room.{HasRoom, size_of};
+ghost use Rattle.tp_sync.specs.declared.exchanging.Exchanged.{Exchanged};
 ghost use Rattle.tp_sync.specs.Exchange.{Exchanges, RefusesKnownAlone};
 
 /// A message carries a piece of what is due, in applied order and without a gap.
@@ -73,10 +69,10 @@ pub fn what_is_told_as_known()
 /// An exchange that left out nothing, and in which nothing was refused but as `Known`, between documents in which nothing
 /// waited leaves both with the union of their changes, where equal hashes mean equal changes.
 pub fn an_exchange_leaves_the_union()
-    ensures { (a b a' b' : DocState) (into_a into_b : Applied) → Sound a.applied
-        → Sound b.applied → HashesApart (a.applied ++ b.applied)
-        → a.waiting ≡ [] → b.waiting ≡ [] → Exchanges a b a' b' into_a into_b false
-        → RefusesKnownAlone into_a → RefusesKnownAlone into_b
+    ensures { (a b a' b' : DocState) (r : Exchanged) → Sound a.applied → Sound b.applied
+        → HashesApart (a.applied ++ b.applied) → a.waiting ≡ [] → b.waiting ≡ []
+        → Exchanges a b a' b' r → r.cut ≡ false
+        → RefusesKnownAlone r.into_a → RefusesKnownAlone r.into_b
         → SameMembers a'.applied (a.applied ++ b.applied)
         × SameMembers b'.applied (a.applied ++ b.applied) }
 {}

@@ -1,15 +1,12 @@
 //! Messages.
 
 ghost use Rattle.std.specs.Prelude.{◌≡◌, ◌≤◌, length};
-ghost use Rattle.std.specs.List.{AllByRecursion};
-ghost use Rattle.tp_list.specs.Rising.{IsRising};
-ghost use Rattle.tp_opid.specs.Order.{hash_cmp};
-ghost use Rattle.tp_change.specs.Limits.{IsHash};
-ghost use Rattle.tp_document.specs.DocState.{AllChanges};
+ghost use Rattle.tp_sync.specs.Common.{AllByRecursion, IsRising, hash_cmp, IsHash, AllChanges};
 
 use crate::limits::{MAX_CHANGES, MAX_HASHES, MAX_KNOWN};
 use std::marker::Model;
 use tp_change::Change;
+use tp_list::array_len;
 use tp_opid::Hash;
 
 // The version of the messages that are made.
@@ -40,20 +37,12 @@ impl Model for Message {
     ghost invariant = { λ m. IsMessage (record { version = m.version; heads = m.heads.items; wants = m.wants.items; known = m.known.items; changes = m.changes.items }) };
 }
 
-// What the type of a hash says: it has 32 bytes. Answers their number.
-fn of_hash(hash: Hash) -> usize
-    ensures { IsHash hash }
-{
-    let bytes = hash.0;
-    bytes.len()
-}
-
 // What the type of hashes says: each has 32 bytes.
 fn of_hashes(hashes: &[Hash])
     ensures { AllByRecursion IsHash hashes.now }
 {
     for hash in hashes {
-        let _bytes = of_hash(*hash);
+        let _bytes = array_len(hash.0);
     }
 }
 

@@ -1,222 +1,185 @@
-//! Reading a message from its bytes.
-//!
-//! Every function takes its field from the start of a reader, and says which field of specs/Reading that is. The first
-//! fault is the refusal. A count takes no more room than the bytes that are left can fill, and a change is decoded
-//! where its bytes stand.
-#![tactic(auto, unfolding(tp_codec::specs::Reading::or_fail, tp_codec::specs::Reading::found_or, tp_codec::specs::Reading::and_then, tp_codec::specs::Reading::and_next, tp_codec::specs::Reading::give, tp_codec::specs::Reading::require, tp_codec::specs::Reading::passed, tp_codec::specs::Reading::fail, crate::specs::Reading::version_at, crate::specs::Reading::hash_at, crate::specs::Reading::hashes_at, crate::specs::Reading::known_at, crate::specs::Reading::decoded, crate::specs::Reading::entry_at, crate::specs::Reading::changes_at, crate::specs::Reading::parts_at, crate::specs::Reading::message_at, crate::specs::Reading::ended))]
+//! Reading a message from its bytes, which come in any pieces.
+#![tactic(auto)]
 
-ghost use Rattle.std.specs.Prelude.{◌≡◌, ℕ, List, None, Ok, IfOk};
-ghost use Rattle.std.specs.Int.{w32};
-ghost use Rattle.tp_codec.specs.Prefix.{byte_at, bytes_at, number_at};
-ghost use Rattle.tp_codec.specs.Reading.{or_fail, repeat_at};
-ghost use Rattle.tp_change.specs.Reading.{rises, next_before, change_at};
+ghost use Rattle.std.specs.Prelude.{◌≡◌, ◌↔◌, ◌⊎◌, ℕ, ◌<◌, ◌≤◌, List, [], ◌++◌, length, true, Ok, Err, Some, IfOk, IfErr, IsSome, IsTrue, IsOkUnless};
+ghost use Rattle.tp_sync.specs.declared.error.SyncError.{SyncError as Refusal};
 ghost use Rattle.tp_sync.specs.declared.error.SyncError.TheVariants.{BadMessage};
 ghost use Rattle.tp_sync.specs.Message.{MessageParts, IsMessage};
 ghost use Rattle.tp_sync.specs.Spelling.{message_spelling};
 ghost use Rattle.tp_sync.specs.Gives.{Gives};
-ghost use Rattle.tp_sync.specs.Lists.{parts_in};
-ghost use Rattle.tp_sync.specs.Reading.{version_at, hash_at, hashes_at, known_at, decoded, entry_at, each_entry, stay, changes_at, parts_at, message_at};
+ghost use Rattle.tp_sync.specs.Reading.{message_at};
+ghost use Rattle.tp_sync.specs.Stages.{is_whole, fault_of};
+ghost use Rattle.tp_sync.specs.ReaderState.{reads, Answers};
 
 use crate::error::SyncError;
-use crate::limits::{MAX_CHANGES, MAX_HASHES, MAX_KNOWN};
 use crate::message::Message;
+use crate::stages::{Lists, Stage, field_len, next_stage};
 use std::alloc::Global;
-use std::cmp::Ordering;
-use tp_change::{Change, ChangeError};
-use tp_codec::Reader;
-use tp_opid::Hash;
+use std::marker::Model;
+use tp_change::MAX_BYTES;
 
-// The bytes of a hash.
-const HASH_LEN: usize = 32;
+// The fewest bytes that a message has.
+const SMALLEST: usize = 13;
 
-// The fewest bytes that a change has behind its length: so a count that the bytes can't hold takes no room.
-const SMALLEST_CHANGE: usize = 56;
+/// Takes the bytes of a message in whatever pieces they come, and decodes each field once its last byte is there.
+///
+/// Contracts see how far it has come. Of the bytes it holds those of one field that isn't whole yet, and no others.
+pub struct MessageReader {
+    stage: Stage,
+    lists: Lists,
+    held: Vec<u8>,
+    left: usize,
+}
 
-fn u8_of(reader: &mut Reader<'_>) -> Result<u8, SyncError>
-    ensures { Gives (λ b. (b, reader.new)) result (or_fail BadMessage byte_at reader.old) }
-{
-    match reader.u8() {
-        Some(byte) => Ok(byte),
-        None => Err(SyncError::BadMessage),
+impl Drop for MessageReader {
+    fn drop(self) {
+        let MessageReader {
+            stage: _,
+            lists: _,
+            held: _,
+            left: _,
+        } = self;
     }
 }
 
-fn u32_of(reader: &mut Reader<'_>) -> Result<u32, SyncError>
-    ensures { Gives (λ n. (n, reader.new)) result (or_fail BadMessage (number_at w32) reader.old) }
-{
-    match reader.u32() {
-        Some(n) => Ok(n),
-        None => Err(SyncError::BadMessage),
-    }
+impl Model for MessageReader {
+    ghost use Rattle.tp_sync.specs.Lists.{parts_in};
+    ghost use Rattle.tp_sync.specs.ReaderState.{ReaderState, IsReader};
+
+    ghost Value = { ReaderState };
+
+    ghost view = { λ r. record { stage = r.stage; parts = parts_in r.lists; held = r.held.items; left = r.left } };
+
+    ghost invariant = { λ r. IsReader (record { stage = r.stage; parts = parts_in r.lists; held = r.held.items; left = r.left }) };
 }
 
-fn bytes_of<'a>(reader: &mut Reader<'a>, count: usize) -> Result<&'a [u8], SyncError>
-    ensures { Gives (λ b. (b.now, reader.new)) result
-        (or_fail BadMessage (bytes_at count) reader.old) }
-{
-    match reader.bytes(count) {
-        Some(bytes) => Ok(bytes),
-        None => Err(SyncError::BadMessage),
+impl MessageReader {
+    /// A reader of a message that has so many bytes. No memory. `BadMessage` where they are fewer than 13, which is no
+    /// message.
+    pub fn new(alloc: Global, total: u32) -> Result<MessageReader, SyncError>
+        ensures ok { IfOk result (λ r. (r.left ≡ total)
+            × ((bytes : List ℕ) → reads r bytes ≡ message_at bytes)) }
+        ensures short { (result ≡ Err BadMessage) ↔ (total < 13) }
+        ensures err { IsOkUnless result BadMessage }
+    {
+        MessageReader::of_len(alloc, total as usize)
     }
-}
 
-fn version_of(reader: &mut Reader<'_>) -> Result<u8, SyncError>
-    ensures { Gives (λ v. (v, reader.new)) result (version_at reader.old) }
-{
-    let version = u8_of(reader)?;
-    if version == 1 || version == 2 {
-        return Ok(version);
+    // The same for any number of bytes.
+    fn of_len(alloc: Global, total: usize) -> Result<MessageReader, SyncError>
+        ensures ok { IfOk result (λ r. (r.left ≡ total)
+            × ((bytes : List ℕ) → reads r bytes ≡ message_at bytes)) }
+        ensures short { (result ≡ Err BadMessage) ↔ (total < 13) }
+        ensures err { IsOkUnless result BadMessage }
+        ensures every { IfErr result (λ e. (bytes : List ℕ) → length bytes ≡ total
+            → message_at bytes ≡ Err e) }
+    {
+        if total < SMALLEST {
+            return Err(SyncError::BadMessage);
+        }
+        let lists = Lists {
+            version: 0,
+            heads: Vec::new(alloc),
+            wants: Vec::new(alloc),
+            known: Vec::new(alloc),
+            changes: Vec::new(alloc),
+        };
+        Ok(MessageReader {
+            stage: Stage::Version,
+            lists,
+            held: Vec::new(alloc),
+            left: total,
+        })
     }
-    Err(SyncError::BadMessage)
-}
 
-// Whether a hash is greater than the one before it.
-fn follows(before: Option<Hash>, hash: &Hash) -> bool
-    ensures { result ≡ rises before hash.now }
-{
-    match before {
-        None => true,
-        Some(before) => matches!(before.order(hash), Ordering::Less),
-    }
-}
-
-fn hash_of(reader: &mut Reader<'_>, before: Option<Hash>) -> Result<Hash, SyncError>
-    ensures { Gives (λ h. (h, reader.new)) result (hash_at before reader.old) }
-{
-    match reader.array_32() {
-        None => Err(SyncError::BadMessage),
-        Some(bytes) => {
-            let hash = Hash(bytes);
-            if !follows(before, &hash) {
-                return Err(SyncError::BadMessage);
+    /// Takes bytes of the piece, to the end of one field at most, and tells how many: none only where there are none,
+    /// or all of the message were taken.
+    ///
+    /// A refusal is [`Message::decode`]'s, for all bytes of the message that begin with those taken, and comes as soon as
+    /// a field shows it: `BadMessage`, or `BadChange`, also for a change of no byte or of more than 4,194,304, once its
+    /// length is there. It stays the answer of every later call. `OutOfMemory` changes nothing.
+    ///
+    /// Bytes are copied only where a field comes in several pieces.
+    pub fn take(&mut self, piece: &[u8]) -> Result<usize, SyncError>
+        ensures answers { Answers self.old piece.now result self.new }
+        ensures again { (e : Refusal) → fault_of self.old.stage ≡ Some e
+            → (result ≡ Err e) × (self.new ≡ self.old) }
+    {
+        match self.stage {
+            Stage::Whole => return Ok(0),
+            Stage::Failed(error) => return Err(error),
+            _ => {}
+        }
+        let missing = field_len(self.stage) - self.held.len();
+        if piece.len() < missing {
+            self.held.extend_from_slice(piece)?;
+            self.left -= piece.len();
+            return Ok(piece.len());
+        }
+        let left = self.left - missing;
+        let last = &piece[..missing];
+        match next_stage(self.stage, &mut self.lists, &mut self.held, last, left) {
+            Ok(next) => {
+                self.stage = next;
+                self.left = left;
+                Ok(missing)
             }
-            Ok(hash)
+            Err(error) => match error {
+                SyncError::OutOfMemory => Err(SyncError::OutOfMemory),
+                _ => {
+                    self.stage = Stage::Failed(error);
+                    self.left = left;
+                    Err(error)
+                }
+            },
         }
     }
-}
 
-fn counted_hashes_of(
-    alloc: Global,
-    reader: &mut Reader<'_>,
-    count: u32,
-) -> Result<Vec<Hash>, SyncError>
-    ensures { Gives (λ v. (v.items, reader.new)) result
-        (repeat_at hash_at next_before count None reader.old) }
-{
-    let room = (count as usize).min(reader.len() / HASH_LEN);
-    let mut hashes = Vec::with_capacity(alloc, room)?;
-    let mut before = None;
-    for _ in 0..count {
-        let hash = hash_of(reader, before)?;
-        hashes.push(hash)?;
-        before = Some(hash);
+    /// Whether all bytes were taken, and are a message. Where all were taken and it isn't so, the message was refused.
+    pub fn whole(&self) -> bool
+        ensures exact { result ≡ is_whole self.now.stage }
+        ensures taken { is_whole self.now.stage ≡ true → self.now.left ≡ 0 }
+        ensures ended { self.now.left ≡ 0
+            → (is_whole self.now.stage ≡ true) ⊎ IsSome (fault_of self.now.stage) }
+    {
+        matches!(self.stage, Stage::Whole)
     }
-    Ok(hashes)
-}
 
-fn hashes_of(alloc: Global, reader: &mut Reader<'_>, limit: usize) -> Result<Vec<Hash>, SyncError>
-    ensures { Gives (λ v. (v.items, reader.new)) result (hashes_at limit reader.old) }
-{
-    let count = u32_of(reader)?;
-    if count as usize > limit {
-        return Err(SyncError::BadMessage);
+    /// How many bytes are held: those of a field that isn't whole yet, at most 4,194,304.
+    pub fn held(&self) -> usize
+        ensures exact { result ≡ length self.now.held }
+        ensures few { result ≤ MAX_BYTES }
+    {
+        self.held.len()
     }
-    counted_hashes_of(alloc, reader, count)
-}
 
-// The hashes of known changes, which version 2 has alone.
-fn known_of(alloc: Global, reader: &mut Reader<'_>, version: u8) -> Result<Vec<Hash>, SyncError>
-    ensures { Gives (λ v. (v.items, reader.new)) result (known_at version reader.old) }
-{
-    if version == 2 {
-        return hashes_of(alloc, reader, MAX_KNOWN);
+    /// The message, which is whole. No memory.
+    pub fn finish(self) -> Message
+        requires { IsTrue (is_whole self.stage) }
+        ensures exact { reads self [] ≡ Ok result }
+        ensures limits { IsMessage result }
+    {
+        let MessageReader {
+            stage: _,
+            lists,
+            held: _,
+            left: _,
+        } = self;
+        let Lists {
+            version,
+            heads,
+            wants,
+            known,
+            changes,
+        } = lists;
+        Message {
+            version,
+            heads,
+            wants,
+            known,
+            changes,
+        }
     }
-    Ok(Vec::new(alloc))
-}
-
-// The change that the bytes are.
-fn change_of(alloc: Global, bytes: &[u8]) -> Result<Change, SyncError>
-    ensures { (rest : List ℕ) → Gives (λ c. (c, rest)) result (decoded (change_at bytes.now) rest) }
-{
-    match Change::decode(alloc, bytes) {
-        Ok(change) => Ok(change),
-        Err(ChangeError::OutOfMemory) => Err(SyncError::OutOfMemory),
-        Err(_) => Err(SyncError::BadChange),
-    }
-}
-
-fn entry_of(alloc: Global, reader: &mut Reader<'_>) -> Result<Change, SyncError>
-    ensures { Gives (λ c. (c, reader.new)) result (entry_at reader.old) }
-{
-    let len = u32_of(reader)?;
-    let bytes = bytes_of(reader, len as usize)?;
-    change_of(alloc, bytes)
-}
-
-fn counted_changes_of(
-    alloc: Global,
-    reader: &mut Reader<'_>,
-    count: u32,
-) -> Result<Vec<Change>, SyncError>
-    ensures { Gives (λ v. (v.items, reader.new)) result
-        (repeat_at each_entry stay count tt reader.old) }
-{
-    let room = (count as usize).min(reader.len() / (4 + SMALLEST_CHANGE));
-    let mut changes = Vec::with_capacity(alloc, room)?;
-    for _ in 0..count {
-        let change = entry_of(alloc, reader)?;
-        changes.push(change)?;
-    }
-    Ok(changes)
-}
-
-fn changes_of(alloc: Global, reader: &mut Reader<'_>) -> Result<Vec<Change>, SyncError>
-    ensures { Gives (λ v. (v.items, reader.new)) result (changes_at reader.old) }
-{
-    let count = u32_of(reader)?;
-    if count as usize > MAX_CHANGES {
-        return Err(SyncError::BadMessage);
-    }
-    counted_changes_of(alloc, reader, count)
-}
-
-/// The version and the lists of a message.
-#[derive(Drop)]
-pub(crate) struct Lists {
-    version: u8,
-    heads: Vec<Hash>,
-    wants: Vec<Hash>,
-    known: Vec<Hash>,
-    changes: Vec<Change>,
-}
-
-fn lists_of(alloc: Global, reader: &mut Reader<'_>) -> Result<Lists, SyncError>
-    ensures { Gives (λ l. (parts_in l, reader.new)) result (parts_at reader.old) }
-{
-    let version = version_of(reader)?;
-    let heads = hashes_of(alloc, reader, MAX_HASHES)?;
-    let wants = hashes_of(alloc, reader, MAX_HASHES)?;
-    let known = known_of(alloc, reader, version)?;
-    let changes = changes_of(alloc, reader)?;
-    Ok(Lists {
-        version,
-        heads,
-        wants,
-        known,
-        changes,
-    })
-}
-
-// The lists of the message that the bytes are.
-fn whole_of(alloc: Global, bytes: &[u8]) -> Result<Lists, SyncError>
-    ensures { Gives parts_in result (message_at bytes.now) }
-{
-    let mut reader = Reader::new(bytes);
-    let lists = lists_of(alloc, &mut reader)?;
-    if !reader.is_empty() {
-        return Err(SyncError::BadMessage);
-    }
-    Ok(lists)
 }
 
 impl Message {
@@ -232,20 +195,11 @@ impl Message {
             → Gives (λ n. n) result (Ok m) }
         ensures exact { Gives (λ m. m) result (message_at bytes.now) }
     {
-        let lists = whole_of(alloc, bytes)?;
-        let Lists {
-            version,
-            heads,
-            wants,
-            known,
-            changes,
-        } = lists;
-        Ok(Message {
-            version,
-            heads,
-            wants,
-            known,
-            changes,
-        })
+        let mut reader = MessageReader::of_len(alloc, bytes.len())?;
+        let mut at = 0;
+        while !reader.whole() {
+            at += reader.take(&bytes[at..])?;
+        }
+        Ok(reader.finish())
     }
 }

@@ -2,11 +2,9 @@
 
 ghost use Rattle.std.specs.Prelude.{◌≡◌, ◌↔◌, ◌⊎◌, ◌≤◌, true, length, IfOk, IsOkUnless, MatchOption, OnOk};
 ghost use Rattle.std.specs.List.{insert};
-ghost use Rattle.tp_list.specs.Members.{In};
+ghost use Rattle.tp_sync.specs.Common.{In, IsRising, hash_cmp};
 ghost use Rattle.tp_list.specs.Rising as list;
-ghost use Rattle.tp_list.specs.Rising.{IsRising};
 ghost use Rattle.tp_opid.specs.declared.hash.Hash.{Hash as HashOf};
-ghost use Rattle.tp_opid.specs.Order.{hash_cmp};
 ghost use Rattle.tp_sync.specs.Wanting as wanting;
 ghost use Rattle.tp_sync.specs.Wanting.{HasPut};
 ghost use Rattle.tp_sync.specs.declared.error.SyncError.TheVariants.{OutOfMemory};

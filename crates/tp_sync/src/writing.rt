@@ -1,8 +1,7 @@
 //! The bytes of a message, written from first to last.
 
 ghost use Rattle.std.specs.Prelude.{◌≡◌, ◌<◌, ◌^◌, ◌++◌, length, IfOk, OnOk, IsOkUnless};
-ghost use Rattle.std.specs.List.{flat_map};
-ghost use Rattle.tp_opid.specs.declared.hash.Hash.{Hash};
+ghost use Rattle.tp_sync.specs.Common.{flat_map, Hash};
 ghost use Rattle.tp_sync.specs.declared.error.SyncError.TheVariants.{OutOfMemory};
 ghost use Rattle.tp_sync.specs.Message.{IsMessage};
 ghost use Rattle.tp_sync.specs.Spelling.{entry, spelling_of_hashes, spelling_of_known, message_spelling};

@@ -4,7 +4,7 @@ use std::alloc::{AllocError, Global};
 use std::test::Fail;
 use tp_edit::Splice;
 use tp_opid::{Actor, DocId};
-use tp_world::{Call, Event, Reply, World};
+use tp_world::{Answer, Call, Event, Link, PeerCall, PeerReply, Reply, World};
 
 const ANN: Actor = Actor([1; 16]);
 
@@ -27,18 +27,28 @@ const FOREIGN: [u8; 75] = [
 fn told(alloc: Global, reply: &Reply) -> Result<String, AllocError> {
     match reply {
         Reply::Peer(n) => format!(in alloc; "peer {n}"),
-        Reply::Edited(Some(_)) => String::from_str(alloc, "made"),
-        Reply::Edited(None) => String::from_str(alloc, "nothing"),
-        Reply::Merged(applied) => format!(in alloc; "applied {}", applied.applied.len()),
         Reply::Wire(n) => format!(in alloc; "wire {n}"),
-        Reply::Quiet => String::from_str(alloc, "quiet"),
-        Reply::Delivered(received) => {
+        Reply::Reopened => String::from_str(alloc, "reopened"),
+        Reply::Answered(Answer::Merged(applied)) => {
+            format!(in alloc; "applied {}", applied.applied.len())
+        }
+        Reply::Answered(Answer::Alone(reply)) => told_own(alloc, reply),
+        Reply::Refused(why) => format!(in alloc; "refused {why}"),
+    }
+}
+
+// What a peer answered, as one line.
+fn told_own(alloc: Global, reply: &PeerReply) -> Result<String, AllocError> {
+    match reply {
+        PeerReply::Made(Some(_)) => String::from_str(alloc, "made"),
+        PeerReply::Made(None) => String::from_str(alloc, "nothing"),
+        PeerReply::Received(received) => {
             format!(in alloc; "delivered {}", received.applied.applied.len())
         }
-        Reply::Reopened => String::from_str(alloc, "reopened"),
-        Reply::Text(text) => format!(in alloc; "text {text}"),
-        Reply::Refused(why) => format!(in alloc; "refused {why}"),
-        Reply::Inner(error) => format!(in alloc; "refused {error}"),
+        PeerReply::Generated(_) => String::from_str(alloc, "quiet"),
+        PeerReply::Forgotten => String::from_str(alloc, "forgotten"),
+        PeerReply::Text(text) => format!(in alloc; "text {text}"),
+        PeerReply::Refused(error) => format!(in alloc; "refused {error}"),
     }
 }
 
@@ -126,11 +136,72 @@ const MORE: [Splice<'static>; 1] = [Splice {
     text: "x",
 }];
 
-const EDIT_MORE: Option<Call<'static>> = Some(Call::Edit {
+const EDIT_ONE_TWO: Call<'static> = Call::Alone(PeerCall::Edit {
+    splices: &ONE_TWO,
+    time: 0,
+    message: "",
+});
+
+const EDIT_THREE_FOUR: Call<'static> = Call::Alone(PeerCall::Edit {
+    splices: &THREE_FOUR,
+    time: 0,
+    message: "",
+});
+
+const EDIT_FAR: Call<'static> = Call::Alone(PeerCall::Edit {
+    splices: &FAR,
+    time: 0,
+    message: "",
+});
+
+const EDIT_NONE: Call<'static> = Call::Alone(PeerCall::Edit {
+    splices: &NONE,
+    time: 0,
+    message: "",
+});
+
+const EDIT_MORE: Call<'static> = Call::Alone(PeerCall::Edit {
     splices: &MORE,
     time: 0,
     message: "",
 });
+
+const SEND_TO_ANN: Call<'static> = Call::Alone(PeerCall::Generate { link: Link(0) });
+
+const SEND_TO_BEN: Call<'static> = Call::Alone(PeerCall::Generate { link: Link(1) });
+
+const SEND_TO_NOBODY: Call<'static> = Call::Alone(PeerCall::Generate { link: Link(7) });
+
+const READ: Call<'static> = Call::Alone(PeerCall::Read);
+
+const READ_AT_NONE: Call<'static> = Call::Alone(PeerCall::ReadAt { hashes: &[] });
+
+const RECEIVE_QUIET: Call<'static> = Call::Alone(PeerCall::Receive {
+    link: Link(1),
+    bytes: &QUIET,
+});
+
+const RECEIVE_CUT: Call<'static> = Call::Alone(PeerCall::Receive {
+    link: Link(1),
+    bytes: &CUT,
+});
+
+const RECEIVE_FOREIGN: Call<'static> = Call::Alone(PeerCall::Receive {
+    link: Link(1),
+    bytes: &FOREIGN,
+});
+
+const FORGET_BEN: Call<'static> = Call::Alone(PeerCall::Forget { link: Link(1) });
+
+// A peer makes a call.
+macro_rules! call {
+    ($peer:expr, $call:expr) => {
+        Event::Call {
+            peer: $peer,
+            call: $call,
+        }
+    };
+}
 
 // Events with their replies, and what the world then has.
 struct Schedule {
@@ -146,50 +217,18 @@ struct Schedule {
 const EDITS: [(Event<'static>, &str); 25] = [
     (Event::Start { actor: ANN }, "peer 0"),
     (Event::Start { actor: BEN }, "peer 1"),
-    (
-        Event::Edit {
-            peer: 0,
-            splices: &ONE_TWO,
-            time: 0,
-            message: "",
-        },
-        "made",
-    ),
-    (
-        Event::Edit {
-            peer: 1,
-            splices: &THREE_FOUR,
-            time: 0,
-            message: "",
-        },
-        "made",
-    ),
-    (Event::Merge { into: 0, from: 1 }, "applied 1"),
-    (Event::Read { peer: 0 }, "text 3412"),
-    (Event::Send { from: 0, to: 1 }, "wire 0"),
-    (Event::Send { from: 1, to: 0 }, "wire 1"),
-    (Event::Send { from: 0, to: 7 }, "refused NoPeer"),
-    (Event::Merge { into: 0, from: 0 }, "applied 0"),
+    (call!(0, EDIT_ONE_TWO), "made"),
+    (call!(1, EDIT_THREE_FOUR), "made"),
+    (call!(0, Call::Merge { from: 1 }), "applied 1"),
+    (call!(0, READ), "text 3412"),
+    (call!(0, SEND_TO_BEN), "wire 0"),
+    (call!(1, SEND_TO_ANN), "wire 1"),
+    (call!(0, SEND_TO_NOBODY), "refused NoPeer"),
+    (call!(0, Call::Merge { from: 0 }), "applied 0"),
     (Event::Start { actor: ANN }, "refused ActorUsed"),
-    (Event::Read { peer: 7 }, "refused NoPeer"),
-    (
-        Event::Edit {
-            peer: 0,
-            splices: &FAR,
-            time: 0,
-            message: "",
-        },
-        "refused OutOfRange",
-    ),
-    (
-        Event::Edit {
-            peer: 0,
-            splices: &NONE,
-            time: 0,
-            message: "",
-        },
-        "nothing",
-    ),
+    (call!(7, READ), "refused NoPeer"),
+    (call!(0, EDIT_FAR), "refused OutOfRange"),
+    (call!(0, EDIT_NONE), "nothing"),
     (
         Event::Crash {
             peer: 1,
@@ -199,27 +238,27 @@ const EDITS: [(Event<'static>, &str); 25] = [
         },
         "reopened",
     ),
-    (Event::Read { peer: 1 }, "text 34"),
+    (call!(1, READ), "text 34"),
     (
         Event::Crash {
             peer: 1,
-            during: EDIT_MORE,
+            during: Some(EDIT_MORE),
             kept: 10,
             actor: Actor([4; 16]),
         },
         "reopened",
     ),
-    (Event::Read { peer: 1 }, "text 34"),
+    (call!(1, READ), "text 34"),
     (
         Event::Crash {
             peer: 1,
-            during: EDIT_MORE,
+            during: Some(EDIT_MORE),
             kept: 1000,
             actor: Actor([5; 16]),
         },
         "reopened",
     ),
-    (Event::Read { peer: 1 }, "text 34x"),
+    (call!(1, READ), "text 34x"),
     (
         Event::Fork {
             of: 1,
@@ -227,7 +266,7 @@ const EDITS: [(Event<'static>, &str); 25] = [
         },
         "peer 2",
     ),
-    (Event::Read { peer: 2 }, "text 34x"),
+    (call!(2, READ), "text 34x"),
     (
         Event::Crash {
             peer: 0,
@@ -237,43 +276,21 @@ const EDITS: [(Event<'static>, &str); 25] = [
         },
         "reopened",
     ),
-    (Event::Read { peer: 0 }, "text 34x12"),
-    (
-        Event::ReadAt {
-            peer: 0,
-            heads: &[],
-        },
-        "text ",
-    ),
+    (call!(0, READ), "text 34x12"),
+    (call!(0, READ_AT_NONE), "text "),
 ];
 
-const DELIVERIES: [(Event<'static>, &str); 26] = [
+const DELIVERIES: [(Event<'static>, &str); 27] = [
     (Event::Start { actor: ANN }, "peer 0"),
     (Event::Start { actor: BEN }, "peer 1"),
-    (
-        Event::Edit {
-            peer: 0,
-            splices: &ONE_TWO,
-            time: 0,
-            message: "",
-        },
-        "made",
-    ),
-    (
-        Event::Edit {
-            peer: 1,
-            splices: &THREE_FOUR,
-            time: 0,
-            message: "",
-        },
-        "made",
-    ),
-    (Event::Send { from: 0, to: 1 }, "wire 0"),
-    (Event::Deliver { entry: 0, to: 1 }, "delivered 0"),
-    (Event::Send { from: 1, to: 0 }, "wire 1"),
-    (Event::Deliver { entry: 1, to: 0 }, "delivered 1"),
-    (Event::Read { peer: 0 }, "text 3412"),
-    (Event::Send { from: 0, to: 1 }, "wire 2"),
+    (call!(0, EDIT_ONE_TWO), "made"),
+    (call!(1, EDIT_THREE_FOUR), "made"),
+    (call!(0, SEND_TO_BEN), "wire 0"),
+    (call!(1, Call::Deliver { entry: 0 }), "delivered 0"),
+    (call!(1, SEND_TO_ANN), "wire 1"),
+    (call!(0, Call::Deliver { entry: 1 }), "delivered 1"),
+    (call!(0, READ), "text 3412"),
+    (call!(0, SEND_TO_BEN), "wire 2"),
     (
         Event::Crash {
             peer: 1,
@@ -283,7 +300,7 @@ const DELIVERIES: [(Event<'static>, &str); 26] = [
         },
         "reopened",
     ),
-    (Event::Read { peer: 1 }, "text 34"),
+    (call!(1, READ), "text 34"),
     (
         Event::Crash {
             peer: 1,
@@ -293,20 +310,20 @@ const DELIVERIES: [(Event<'static>, &str); 26] = [
         },
         "reopened",
     ),
-    (Event::Read { peer: 1 }, "text 3412"),
-    (Event::Deliver { entry: 2, to: 1 }, "delivered 0"),
+    (call!(1, READ), "text 3412"),
+    (call!(1, Call::Deliver { entry: 2 }), "delivered 0"),
     (
         Event::Start {
             actor: Actor([5; 16]),
         },
         "peer 2",
     ),
-    (Event::Deliver { entry: 2, to: 2 }, "delivered 1"),
-    (Event::Read { peer: 2 }, "text 12"),
-    (Event::Deliver { entry: 1, to: 2 }, "delivered 1"),
-    (Event::Read { peer: 2 }, "text 3412"),
-    (Event::Deliver { entry: 3, to: 0 }, "refused NoEntry"),
-    (Event::Deliver { entry: 0, to: 3 }, "refused NoPeer"),
+    (call!(2, Call::Deliver { entry: 2 }), "delivered 1"),
+    (call!(2, READ), "text 12"),
+    (call!(2, Call::Deliver { entry: 1 }), "delivered 1"),
+    (call!(2, READ), "text 3412"),
+    (call!(0, Call::Deliver { entry: 3 }), "refused NoEntry"),
+    (call!(3, Call::Deliver { entry: 0 }), "refused NoPeer"),
     (
         Event::Crash {
             peer: 0,
@@ -316,30 +333,10 @@ const DELIVERIES: [(Event<'static>, &str); 26] = [
         },
         "refused NoEntry",
     ),
-    (
-        Event::DeliverBytes {
-            to: 0,
-            from: 1,
-            bytes: &QUIET,
-        },
-        "delivered 0",
-    ),
-    (
-        Event::DeliverBytes {
-            to: 0,
-            from: 1,
-            bytes: &CUT,
-        },
-        "refused BadMessage",
-    ),
-    (
-        Event::DeliverBytes {
-            to: 0,
-            from: 1,
-            bytes: &FOREIGN,
-        },
-        "refused ForeignChange",
-    ),
+    (call!(0, RECEIVE_QUIET), "delivered 0"),
+    (call!(0, RECEIVE_CUT), "refused BadMessage"),
+    (call!(0, RECEIVE_FOREIGN), "refused ForeignChange"),
+    (call!(0, FORGET_BEN), "forgotten"),
 ];
 
 const SCHEDULES: [Schedule; 2] = [

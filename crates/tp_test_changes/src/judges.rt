@@ -24,8 +24,8 @@ struct Reading {
     format: Format,
 }
 
-// `ok` where the bytes are spelled by just what they were decoded to.
-fn spelled<E: Display + Drop>(
+/// `ok` where the bytes are spelled by just what they were decoded to.
+pub fn spelled<E: Display + Drop>(
     alloc: Global,
     again: Result<Vec<u8>, E>,
     bytes: &[u8],

@@ -13,6 +13,7 @@ mod judges;
 mod layouts;
 mod logs;
 mod messages;
+mod pieces;
 mod splices;
 mod states;
 mod streams;

@@ -1,8 +1,8 @@
 //! What the rows of an example have made so far, and what makes their calls.
 
 use crate::{
-    changes, documents, errors, exchanges, identifiers, judges, layouts, logs, messages, splices,
-    states, streams,
+    changes, documents, errors, exchanges, identifiers, judges, layouts, logs, messages, pieces,
+    splices, states, streams,
 };
 use std::alloc::Global;
 use tp_change::Change;
@@ -71,6 +71,9 @@ fn alone(world: &mut World, word: &str, words: &mut Words) -> Option<Result<Stri
         return Some(answer);
     }
     if let Some(answer) = logs::call(&world.bytes, word, words) {
+        return Some(answer);
+    }
+    if let Some(answer) = pieces::call(&world.bytes, word, words) {
         return Some(answer);
     }
     if let Some(answer) = splices::call(world.alloc, word, words) {

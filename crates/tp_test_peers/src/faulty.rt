@@ -2,8 +2,7 @@
 
 ghost use Rattle.std.specs.Prelude.{◌≡◌};
 
-use tp_journal::{Journal, MemJournal};
-use tp_store::StoreError;
+use tp_journal::{Journal, JournalError, MemJournal};
 
 /// A journal in memory whose device fails once, at an append: a beginning of the bytes stands there then.
 #[derive(Drop)]
@@ -35,14 +34,14 @@ impl Journal for FaultyJournal {
 
     ghost failures = { λ j. j.failures };
 
-    fn append(&mut self, bytes: &[u8]) -> Result<(), StoreError> {
+    fn append(&mut self, bytes: &[u8]) -> Result<(), JournalError> {
         match self.succeeds {
             Some(0) => {
                 let keeps = self.keeps.min(bytes.len());
                 self.memory.append(&bytes[..keeps])?;
                 self.succeeds = None;
                 self.failures = self.failures.saturating_add(1);
-                Err(StoreError::Io)
+                Err(JournalError::Io)
             }
             Some(count) => {
                 self.memory.append(bytes)?;
@@ -53,11 +52,11 @@ impl Journal for FaultyJournal {
         }
     }
 
-    fn cut(&mut self, len: u64) -> Result<(), StoreError> {
+    fn cut(&mut self, len: u64) -> Result<(), JournalError> {
         self.memory.cut(len)
     }
 
-    fn read_all(&mut self) -> Result<Vec<u8>, StoreError> {
+    fn read_all(&mut self) -> Result<Vec<u8>, JournalError> {
         self.memory.read_all()
     }
 

@@ -6,8 +6,7 @@ use std::alloc::{AllocError, Global};
 use std::fs::OpenFile;
 use std::io::Write;
 use std::rt::Files;
-use tp_journal::{FileJournal, Journal, MemJournal};
-use tp_store::StoreError;
+use tp_journal::{FileJournal, Journal, JournalError, MemJournal};
 use tp_test_runner::{Fault, Words, bytes, number};
 
 /// A call on a journal.
@@ -69,14 +68,14 @@ fn calls_in(alloc: Global, words: &[String]) -> Result<Vec<JournalCall>, Fault> 
 }
 
 // A refusal as an answer, by its name.
-fn refused(alloc: Global, error: StoreError) -> Result<String, Stop> {
+fn refused(alloc: Global, error: JournalError) -> Result<String, Stop> {
     match error {
-        StoreError::OutOfMemory => Err(Stop::Refused),
+        JournalError::OutOfMemory => Err(Stop::Refused),
         error => Ok(format!(in alloc; "{error}")?),
     }
 }
 
-fn told(alloc: Global, answer: Result<(), StoreError>) -> Result<String, Stop> {
+fn told(alloc: Global, answer: Result<(), JournalError>) -> Result<String, Stop> {
     match answer {
         Ok(()) => Ok(String::from_str(alloc, "ok")?),
         Err(error) => refused(alloc, error),

@@ -6,8 +6,7 @@ use std::alloc::Global;
 use std::sync::Arc;
 use std::sync::atomic::{AtomicBool, Ordering};
 use std::thread;
-use tp_journal::{Journal, MemJournal};
-use tp_store::StoreError;
+use tp_journal::{Journal, JournalError, MemJournal};
 
 /// How often a thread looks for another at most, so that none waits for ever.
 const MOST_LOOKS: u64 = 20_000_000;
@@ -75,16 +74,16 @@ impl Journal for GatedJournal {
 
     ghost failures = { λ _. 0 };
 
-    fn append(&mut self, bytes: &[u8]) -> Result<(), StoreError> {
+    fn append(&mut self, bytes: &[u8]) -> Result<(), JournalError> {
         self.gate.pass();
         self.memory.append(bytes)
     }
 
-    fn cut(&mut self, len: u64) -> Result<(), StoreError> {
+    fn cut(&mut self, len: u64) -> Result<(), JournalError> {
         self.memory.cut(len)
     }
 
-    fn read_all(&mut self) -> Result<Vec<u8>, StoreError> {
+    fn read_all(&mut self) -> Result<Vec<u8>, JournalError> {
         self.memory.read_all()
     }
 

@@ -11,70 +11,20 @@ use Rattle.tp_opid.specs.Same.{same_actor}
 use Rattle.tp_opid.proofs.Orders.{same_actor-itself, same_actor-same}
 use Rattle.tp_change.specs.declared.parts.ChangeParts.{ChangeParts}
 use Rattle.tp_change.specs.ChangeHash.{hash_of}
-use Rattle.tp_edit.specs.declared.splice.Splice.{Splice}
-use Rattle.tp_document.specs.Editing.{Edited, asking}
-use Rattle.tp_document.proofs.EditFits.{edit_determined}
 use Rattle.tp_graph.specs.Named.{has}
 use Rattle.tp_graph.proofs.NamedLaws.{has-In, In-has}
-use Rattle.tp_journal.specs.Layout.{record_of}
 use Rattle.tp_peer.specs.PeerData.{PeerData}
 use Rattle.tp_headline.specs.declared.error.WorldError.{WorldError}
 use Rattle.tp_headline.specs.declared.error.WorldError.TheVariants.{NoPeer, ActorUsed, ForeignChange, HashClash, Stopped, NoEntry, OutOfMemory}
 use Rattle.tp_headline.specs.WorldError.{code_of}
-use Rattle.tp_headline.specs.Call as call
 use Rattle.tp_headline.specs.Carried.{Carried}
-use Rattle.tp_headline.specs.Event.{Event, Start, Fork, Edit, Merge, Send, Deliver, DeliverBytes, Crash, Read, ReadAt, entries_of, peers_of, running_of}
-use Rattle.tp_headline.specs.Refusing.{IsEditAt, IsRefusal, MayHappen, Passes, WouldMake}
+use Rattle.tp_headline.specs.Event.{Event, entries_of, peers_of, running_of}
+use Rattle.tp_headline.specs.Refusing.{IsRefusal, MayHappen, Passes, WouldMake, keeps_whole}
 use Rattle.tp_headline.specs.World.{World}
-use Rattle.tp_headline.proofs.FollowLaws.{same_peer}
-use Rattle.tp_headline.proofs.RunLaws.{edit_is_new}
-use Rattle.tp_world.specs.Judging.{AllThere, IsFresh, PassesBefore, clashes_in, is_named, keeps_whole}
-use Rattle.tp_world.specs.Making.{IsWould, WouldEdit}
-
--- ---- clashes
-
-one_edit_at : (w : World) (n : ℕ) (ss : List Splice) (time : ℕ) (message : List ℕ) (c d : ChangeParts) → Carried w → IsEditAt w n ss time message c → IsEditAt w n ss time message d → c ≡ d
-one_edit_at w n ss time message c d h e f =
-    let p = e.peer in
-    let edited : Edited p.applied (asking p.actor ss time message) d =
-    subst (λ (q : PeerData). Edited q.applied (asking q.actor ss time message) d) (same_peer w n f.peer p f.stands e.stands) f.edited in
-    edit_determined p.applied (asking p.actor ss time message) c d (h.peers n p e.stands).history.sound e.edited edited
-
-one_would : (w : World) (e : Event) (c d : ChangeParts) → Carried w → WouldEdit w e c → WouldEdit w e d → c ≡ d
-one_would w (Edit n ss time message) c d h x y = one_edit_at w n ss time message c d h x y
-one_would w (Crash n (Some (call.Edit ss time message)) kept actor) c d h x y = one_edit_at w n ss time message c d h x y
-one_would w (Crash n (Some (call.Merge from)) kept actor) c d h x y = absurd x
-one_would w (Crash n (Some (call.Deliver entry)) kept actor) c d h x y = absurd x
-one_would w (Crash n None kept actor) c d h x y = absurd x
-one_would w (Start actor) c d h x y = absurd x
-one_would w (Fork n actor) c d h x y = absurd x
-one_would w (Merge n m) c d h x y = absurd x
-one_would w (Send n m) c d h x y = absurd x
-one_would w (Deliver n m) c d h x y = absurd x
-one_would w (DeliverBytes n m bytes) c d h x y = absurd x
-one_would w (Read n) c d h x y = absurd x
-one_would w (ReadAt n H) c d h x y = absurd x
-
-would_is_new : (w : World) (e : Event) (c : ChangeParts) → Carried w → WouldEdit w e c → In c w.made → ⊥
-would_is_new w (Edit n ss time message) c h x i = edit_is_new w n ss time message c h x i
-would_is_new w (Crash n (Some (call.Edit ss time message)) kept actor) c h x i = edit_is_new w n ss time message c h x i
-would_is_new w (Crash n (Some (call.Merge from)) kept actor) c h x i = absurd x
-would_is_new w (Crash n (Some (call.Deliver entry)) kept actor) c h x i = absurd x
-would_is_new w (Crash n None kept actor) c h x i = absurd x
-would_is_new w (Start actor) c h x i = absurd x
-would_is_new w (Fork n actor) c h x i = absurd x
-would_is_new w (Merge n m) c h x i = absurd x
-would_is_new w (Send n m) c h x i = absurd x
-would_is_new w (Deliver n m) c h x i = absurd x
-would_is_new w (DeliverBytes n m bytes) c h x i = absurd x
-would_is_new w (Read n) c h x i = absurd x
-would_is_new w (ReadAt n H) c h x i = absurd x
-
-le-true : (a b : ℕ) → a ≤ b → nat_le a b ≡ true
-le-true a b h = grind (arith, nat_tests)
-
-true-le : (a b : ℕ) → nat_le a b ≡ true → a ≤ b
-true-le a b h = grind (arith, nat_tests)
+use Rattle.tp_headline.proofs.MakingLaws.{edit_is_new}
+use Rattle.tp_world.specs.Judging.{AllThere, IsFresh, PassesBefore, clashes_in, is_named}
+use Rattle.tp_world.specs.Making.{IsWould}
+use Rattle.tp_world.proofs.Happenings.{one_would}
 
 true-lt : (a b : ℕ) → nat_lt a b ≡ true → a < b
 true-lt a b h = grind (arith, nat_tests)
@@ -82,50 +32,19 @@ true-lt a b h = grind (arith, nat_tests)
 lt-true : (a b : ℕ) → a < b → nat_lt a b ≡ true
 lt-true a b h = grind (arith, nat_tests)
 
-makes_edit : (w : World) (e : Event) (c : ChangeParts) → WouldMake w e c → WouldEdit w e c × (keeps_whole e c ≡ true)
-makes_edit w (Edit n ss time message) c x = (x, refl)
-makes_edit w (Crash n (Some (call.Edit ss time message)) kept actor) c x = (x.0, le-true (length (record_of c)) kept x.1)
-makes_edit w (Crash n (Some (call.Merge from)) kept actor) c x = absurd x
-makes_edit w (Crash n (Some (call.Deliver entry)) kept actor) c x = absurd x
-makes_edit w (Crash n None kept actor) c x = absurd x
-makes_edit w (Start actor) c x = absurd x
-makes_edit w (Fork n actor) c x = absurd x
-makes_edit w (Merge n m) c x = absurd x
-makes_edit w (Send n m) c x = absurd x
-makes_edit w (Deliver n m) c x = absurd x
-makes_edit w (DeliverBytes n m bytes) c x = absurd x
-makes_edit w (Read n) c x = absurd x
-makes_edit w (ReadAt n H) c x = absurd x
-
-edit_makes : (w : World) (e : Event) (c : ChangeParts) → WouldEdit w e c → keeps_whole e c ≡ true → WouldMake w e c
-edit_makes w (Edit n ss time message) c x whole = x
-edit_makes w (Crash n (Some (call.Edit ss time message)) kept actor) c x whole = (x, true-le (length (record_of c)) kept whole)
-edit_makes w (Crash n (Some (call.Merge from)) kept actor) c x whole = absurd x
-edit_makes w (Crash n (Some (call.Deliver entry)) kept actor) c x whole = absurd x
-edit_makes w (Crash n None kept actor) c x whole = absurd x
-edit_makes w (Start actor) c x whole = absurd x
-edit_makes w (Fork n actor) c x whole = absurd x
-edit_makes w (Merge n m) c x whole = absurd x
-edit_makes w (Send n m) c x whole = absurd x
-edit_makes w (Deliver n m) c x whole = absurd x
-edit_makes w (DeliverBytes n m bytes) c x whole = absurd x
-edit_makes w (Read n) c x whole = absurd x
-edit_makes w (ReadAt n H) c x whole = absurd x
-
 pub no_clash : (w : World) (e : Event) (made : Option ChangeParts) → Carried w → IsWould w e made → clashes_in w.made e made ≡ false → Passes w e HashClash
 no_clash w e (Some c) h would none = λ d other makes i same.
-    let m = makes_edit w e d makes in
-    let is : d ≡ c = one_would w e d c h m.0 would in
+    let is : d ≡ c = one_would w e d c h makes.0 would in
     let there : has w.made (hash_of c) ≡ true = In-has w.made other (hash_of c) i (same ∙ ap hash_of is) in
-    let whole : keeps_whole e c ≡ true = subst (λ x. keeps_whole e x ≡ true) is m.1 in
+    let whole : keeps_whole e c ≡ true = subst (λ x. keeps_whole e x ≡ true) is makes.1 in
     never (both (has w.made (hash_of c)) (keeps_whole e c) there whole) none
-no_clash w e None h would none = λ d other makes i same. absurd (would d (makes_edit w e d makes).0)
+no_clash w e None h would none = λ d other makes i same. absurd (would d makes.0)
 
 pub a_clash : (w : World) (e : Event) (made : Option ChangeParts) → Carried w → IsWould w e made → clashes_in w.made e made ≡ true → Passes w e HashClash → ⊥
 a_clash w e (Some c) h would found passes =
     let there = has-In w.made (hash_of c) (both_left (has w.made (hash_of c)) (keeps_whole e c) found) in
-    let makes = edit_makes w e c would (both_right (has w.made (hash_of c)) (keeps_whole e c) found) in
-    would_is_new w e c h would (subst (λ x. In x w.made) (passes c there.0 makes there.1 there.2) there.1)
+    let makes : WouldMake w e c = (would, both_right (has w.made (hash_of c)) (keeps_whole e c) found) in
+    edit_is_new w would.number would.made c h would.edit (subst (λ x. In x w.made) (passes c there.0 makes there.1 there.2) there.1)
 a_clash w e None h would found passes = cc
 
 -- ---- all tests
@@ -133,12 +52,7 @@ a_clash w e None h would found passes = cc
 -- no test comes before the first
 pub passes_none : (w : World) (e : Event) → PassesBefore w e NoPeer
 passes_none w e NoPeer less = absurd (omega arith)
-passes_none w e ActorUsed less = absurd (omega arith)
-passes_none w e ForeignChange less = absurd (omega arith)
-passes_none w e HashClash less = absurd (omega arith)
-passes_none w e Stopped less = absurd (omega arith)
-passes_none w e NoEntry less = absurd (omega arith)
-passes_none w e OutOfMemory less = absurd (omega arith)
+passes_none w e why less = absurd (omega arith)
 
 -- the refusal with the number
 numbered : ℕ → WorldError

@@ -1,8 +1,7 @@
 pub mod RefusedEdits
-pub mod JudgeLaws
-pub mod Happenings
-pub mod Deliveries
 pub mod MemberLaws
+pub mod Happenings
+pub mod JudgeLaws
 pub mod Runs
 pub mod OrderLaws
 pub mod ForeignLaws

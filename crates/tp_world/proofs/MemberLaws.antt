@@ -10,17 +10,23 @@ use Rattle.tp_change.specs.ChangeHash.{hash_of}
 use Rattle.tp_document.specs.Merging.{absent}
 use Rattle.tp_graph.specs.Named.{has}
 use Rattle.tp_graph.proofs.NamedLaws.{In-has}
-use Rattle.tp_receive.proofs.TurnLaws.{Run-none}
-use Rattle.tp_peer.specs.declared.error.PeerError.{PeerError}
-use Rattle.tp_peer.specs.declared.error.PeerError.TheVariants.{ActorInUse, JournalFailed, Stopped, TooManyLinks, JournalNotEmpty, Doc, Sync, Store, OutOfMemory}
-use Rattle.tp_peer.specs.Appending.{AppendsRecord}
+use Rattle.tp_receive.proofs.TakingLaws.{Stops-still}
+use Rattle.tp_peer.specs.declared.error.PeerError.TheVariants.{JournalFailed, Stopped, Doc, OutOfMemory}
+use Rattle.tp_peer.specs.Appending.{AppendsRecord, RefusesRecord}
+use Rattle.tp_peer.specs.declared.call.Call.{Call as OwnCall}
+use Rattle.tp_peer.specs.declared.call.Call.TheVariants as own
+use Rattle.tp_peer.specs.Calls.{call_of}
 use Rattle.tp_peer.specs.PeerData.{PeerData, opened}
-use Rattle.tp_peer.specs.PeerStep.{Call, Merge, Reply, Made, Merged, Received, Generated, Forgotten, Text, Heads, Refused, PeerStep, Runs, needs_stopped}
-use Rattle.tp_peer.specs.Taking.{TakesAll, TakesAndStops, TakesPart, coming}
+use Rattle.tp_peer.specs.PeerStep.{Call, Merge, Reply, Merged, Refused, PeerStep, Runs, needs_stopped}
+use Rattle.tp_receive.specs.declared.error.ReceiveError.TheVariants as receive
+use Rattle.tp_receive.specs.Intake.{begin}
+use Rattle.tp_receive.specs.Outcome as outcome
+use Rattle.tp_peer.specs.Taking.{Takes, journal_of}
 use Rattle.tp_peer.proofs.StepLaws.{either_stopped, none_stopped, step_runs, step_stopped}
-use Rattle.tp_headline.specs.Calling.{Steps}
+use Rattle.tp_headline.specs.Calling.{IsAlone, Steps}
+use Rattle.tp_headline.specs.Reply.{Reply as Told}
 use Rattle.tp_headline.proofs.PlaceLaws.{slice_get-set}
-use Rattle.tp_world.specs.Members.{MergesAt, OpensAgain, OpensAgainAt, StepsAt, left_with}
+use Rattle.tp_world.specs.Members.{MergesAt, OpensAgainAt, OpensOn, left_with}
 
 -- the same step, named otherwise
 pub steps_as : (p q p' q' : PeerData) (call : Call) (a b : Reply) → p ≡ q → a ≡ b → p' ≡ q' → Steps p call a p' → Steps q call b q'
@@ -33,6 +39,15 @@ pub left_steps : (p : PeerData) (id : DocId) (actor : Actor) (bytes : List ℕ) 
 left_steps p id actor bytes e call h =
     let q = left_with id actor bytes in
     subst (λ (x : PeerData). Steps x call (Refused Stopped) x) (sym e) (record { step = step_stopped q call h; no_failure = refl })
+
+-- a call of the program asks for no other peer
+pub alone_stopped : (c : OwnCall) (p : PeerData) → needs_stopped p (call_of c) ≡ p.stopped
+alone_stopped (own.Receive link bytes) p = refl
+alone_stopped c p = refl
+
+pub is_alone : (c : OwnCall) → IsAlone (call_of c)
+is_alone (own.Receive link bytes) = tt
+is_alone c = tt
 
 -- one that takes from itself too, where it has stopped
 pub itself_stopped : (p : PeerData) → p.stopped ≡ true → p.failures ≡ 0 → Steps p (Merge p) (Refused Stopped) p
@@ -60,22 +75,11 @@ unfolding PeerStep
 runs_of p call reply p' e h = subst (λ b. MatchBool b ((reply ≡ Refused Stopped) × (p' ≡ p)) (Runs p call reply p')) e h
 
 empty_to_itself : (p : PeerData) (reply : Reply) (p' : PeerData) → Runs p (Merge (opened p.id p.actor [] 0)) reply p' → Runs p (Merge p) reply p'
-empty_to_itself p (Merged r) p' h = (refl, subst (λ K. TakesAll p K r p') (nothing_absent p.applied) h.1)
+empty_to_itself p (Merged r) p' h = (refl, subst (λ K. Takes p K (outcome.Done r) p') (nothing_absent p.applied) h.1)
 empty_to_itself p (Refused (Doc e)) p' h = absurd (h.0.1 refl)
-empty_to_itself p (Refused JournalFailed) p' h = (refl, subst (λ K. TakesAndStops p K p') (nothing_absent p.applied) h.1)
-empty_to_itself p (Refused OutOfMemory) p' h = (refl, subst (λ K. TakesPart p K p') (nothing_absent p.applied) h.1)
-empty_to_itself p (Refused ActorInUse) p' h = absurd h
-empty_to_itself p (Refused Stopped) p' h = absurd h
-empty_to_itself p (Refused JournalNotEmpty) p' h = absurd h
-empty_to_itself p (Refused (Store e)) p' h = absurd h
-empty_to_itself p (Refused TooManyLinks) p' h = absurd h
-empty_to_itself p (Refused (Sync e)) p' h = absurd h
-empty_to_itself p (Made made) p' h = absurd h
-empty_to_itself p (Text t) p' h = absurd h
-empty_to_itself p (Heads hs) p' h = absurd h
-empty_to_itself p (Received r same_heads) p' h = absurd h
-empty_to_itself p (Generated sent) p' h = absurd h
-empty_to_itself p Forgotten p' h = absurd h
+empty_to_itself p (Refused JournalFailed) p' h = (refl, subst (λ K. Takes p K (outcome.Stopped receive.NotKept) p') (nothing_absent p.applied) h.1)
+empty_to_itself p (Refused OutOfMemory) p' h = (refl, subst (λ K. Takes p K (outcome.Stopped receive.OutOfMemory) p') (nothing_absent p.applied) h.1)
+empty_to_itself p _ p' h = absurd h
 
 -- what is taken from a peer with no changes is what is taken from itself
 pub takes_from_itself : (p empty : PeerData) (reply : Reply) (p' : PeerData) → p.stopped ≡ false → empty ≡ opened p.id p.actor [] 0 → Steps p (Merge empty) reply p' → Steps p (Merge p) reply p'
@@ -91,8 +95,13 @@ takes_from_itself p empty reply p' runs is h =
 -- memory was refused before anything was taken
 pub takes_nothing : (p : PeerData) → p.stopped ≡ false → p.failures ≡ 0 → Steps p (Merge p) (Refused OutOfMemory) p
 takes_nothing p runs quiet = record {
-  step = step_runs p (Merge p) (Refused OutOfMemory) p (none_stopped p.stopped p.stopped runs runs)
-      (refl, record { at = coming p (absent p.applied p.applied); run = Run-none AppendsRecord (coming p (absent p.applied p.applied)); left = refl });
+  step = step_runs p (Merge p) (Refused OutOfMemory) p (none_stopped p.stopped p.stopped runs runs) (
+    refl,
+    record {
+      receives = (λ full. refl, Stops-still AppendsRecord RefusesRecord (begin (journal_of p) p.applied p.waiting (absent p.applied p.applied)) (journal_of p) p.applied p.waiting refl refl refl);
+      left = refl;
+    },
+  );
   no_failure = quiet;
 }
 
@@ -116,9 +125,9 @@ merge_other peers mid after n m p nobody other p' answer stands out there apart 
 }
 
 -- a peer that was taken out was opened again, and put back
-pub reopened_at : (peers mid after : List PeerData) (n keep : ℕ) (actor : Actor) (opened : Result (Unit {0}) PeerError) (p nobody p' : PeerData) → slice_get peers n ≡ Some p → mid ≡ slice_set peers n nobody
-    → length p.journal < 2 ^ 64 → OpensAgain p (take keep p.journal) actor opened p' → after ≡ slice_set mid n p' → OpensAgainAt peers n keep actor opened after
-reopened_at peers mid after n keep actor opened p nobody p' stands out small opens back = record {
+pub reopened_at : (peers mid after : List PeerData) (n keep : ℕ) (actor : Actor) (reply : Told) (p nobody p' : PeerData) → slice_get peers n ≡ Some p → mid ≡ slice_set peers n nobody
+    → length p.journal < 2 ^ 64 → OpensOn p.id p.actor (take keep p.journal) actor reply p' → after ≡ slice_set mid n p' → OpensAgainAt peers n keep actor reply after
+reopened_at peers mid after n keep actor reply p nobody p' stands out small opens back = record {
   before = p;
   stands = stands;
   small = small;
@@ -128,13 +137,10 @@ reopened_at peers mid after n keep actor opened p nobody p' stands out small ope
 }
 
 -- a peer that stays as it is
-set_still : {X : Type 0} (xs : List X) (n : ℕ) (x : X) → slice_get xs n ≡ Some x → xs ≡ slice_set xs n x
+pub set_still : {X : Type 0} (xs : List X) (n : ℕ) (x : X) → slice_get xs n ≡ Some x → xs ≡ slice_set xs n x
 set_still [] n x h = absurd cc
 set_still (a ∷ xs) zero x h = let same : a ≡ x = cc in ap (λ y. y ∷ xs) same
 set_still (a ∷ xs) (suc n) x h = ap (λ l. a ∷ l) (set_still xs n x h)
-
-pub stays_at : (peers : List PeerData) (n : ℕ) (p : PeerData) (call : Call) (answer : Reply) → slice_get peers n ≡ Some p → Steps p call answer p → StepsAt peers n call answer peers
-stays_at peers n p call answer stands steps = record { before = p; stands = stands; after = p; steps = steps; left = set_still peers n p stands }
 
 pub set_below : {X : Type 0} (xs ys : List X) (n m : ℕ) (x : X) → ys ≡ slice_set xs n x → m < length xs → m < length ys
 set_below xs ys n m x e h = subst (λ l. m < length l) (sym e) (below xs n m x h) where

@@ -30,7 +30,8 @@ use Rattle.tp_document.proofs.ShowingLaws.{one_text}
 use Rattle.tp_edit.specs.declared.splice.Splice.{Splice}
 use Rattle.tp_journal.specs.Recovery.{IsHistory}
 use Rattle.tp_peer.specs.PeerData.{PeerData}
-use Rattle.tp_world.specs.Making.{IsEditOf}
+use Rattle.tp_peer.specs.PeerStep.{Edit}
+use Rattle.tp_world.specs.Making.{IsRunningEdit}
 use Rattle.tp_journal.proofs.HistoryLaws.{history_push}
 
 -- ---- what an edit asks determines its change
@@ -106,7 +107,7 @@ not_refused C asked c NotKept h x other r = r
 
 -- A refused edit of a peer makes no change.
 pub no_edit : (p : PeerData) (C : List ChangeParts) (a : Actor) (ss : List Splice) (time : ℕ) (message : List ℕ) (e : DocError) → C ≡ p.applied → a ≡ p.actor → IsHistory p.applied → (e ≡ OutOfMemory → ⊥)
-    → IsRefused C (asking a ss time message) e → (c : ChangeParts) → IsEditOf p ss time message c → ⊥
+    → IsRefused C (asking a ss time message) e → (c : ChangeParts) → IsRunningEdit p (Edit ss time message) c → ⊥
 no_edit p C a ss time message e same who history other refused c edit =
     let here : IsRefused p.applied (asking p.actor ss time message) e =
     subst (λ (D : List ChangeParts). IsRefused D (asking p.actor ss time message) e) same (subst (λ (b : Actor). IsRefused C (asking b ss time message) e) who refused) in

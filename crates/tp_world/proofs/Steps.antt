@@ -7,7 +7,7 @@ use Rattle.tp_headline.specs.Event.{Event}
 use Rattle.tp_headline.specs.Happening.{Next}
 use Rattle.tp_headline.specs.Refusing.{IsRefusal, MayHappen}
 use Rattle.tp_headline.specs.Reply.{Reply, Refused}
-use Rattle.tp_headline.specs.Running.{GoesOn}
+use Rattle.tp_headline.specs.Running.{GoesOnWith}
 use Rattle.tp_headline.specs.World.{World}
 use Rattle.tp_headline.proofs.EventLaws.{goes_on_carries, next_carries}
 use Rattle.tp_world.specs.Judging.{Meets}
@@ -24,5 +24,5 @@ refused_next w e why is = inl (record { why = why; refused = is; replied = refl;
 pub step_carried : (w : World) (e : Event) (reply : Reply) (w' : World) → Carried w → Next w e reply w' → Carried w'
 step_carried w e reply w' h next = (next_carries w e reply w' h next).carried
 
-pub run_carried : (w : World) (events : List Event) (replies : List Reply) (w' : World) → Carried w → GoesOn w events replies w' → Carried w'
-run_carried w events replies w' h goes = (goes_on_carries events replies w w' h goes).carried
+pub run_carried : (w : World) (events : List Event) (replies : List Reply) (w' : World) → Carried w → GoesOnWith w events replies w' → Carried w'
+run_carried w events replies w' h goes = (goes_on_carries goes.both w w' h goes.run).carried

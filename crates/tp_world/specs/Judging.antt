@@ -7,19 +7,18 @@ use Rattle.tp_opid.specs.declared.actor.Actor.{Actor}
 use Rattle.tp_opid.specs.Same.{same_actor}
 use Rattle.tp_change.specs.declared.parts.ChangeParts.{ChangeParts}
 use Rattle.tp_change.specs.ChangeHash.{hash_of}
-use Rattle.tp_edit.specs.declared.splice.Splice.{Splice}
 use Rattle.tp_graph.specs.Named.{has}
-use Rattle.tp_journal.specs.Layout.{record_of}
 use Rattle.tp_peer.specs.PeerData.{PeerData}
+use Rattle.tp_peer.specs.PeerStep as peer
 use Rattle.tp_headline.specs.declared.error.WorldError.{WorldError}
 use Rattle.tp_headline.specs.declared.error.WorldError.TheVariants.{OutOfMemory}
 use Rattle.tp_headline.specs.WorldError.{code_of}
-use Rattle.tp_headline.specs.Event.{Event, Crash}
+use Rattle.tp_headline.specs.Event.{Event}
 use Rattle.tp_headline.specs.Happening.{Happens}
-use Rattle.tp_headline.specs.Refusing.{Passes}
+use Rattle.tp_headline.specs.Refusing.{Passes, keeps_whole}
 use Rattle.tp_headline.specs.Reply.{Reply, Refused}
 use Rattle.tp_headline.specs.World.{World}
-use Rattle.tp_world.specs.Making.{IsEditOf}
+use Rattle.tp_world.specs.Making.{IsRunningEdit}
 
 -- the numbers of two peers at most
 abbrev pub numbers_in : Option ℕ × Option ℕ → List ℕ
@@ -42,17 +41,10 @@ is_named (b ∷ used) a = same_actor b a || is_named used a
 abbrev pub IsFresh : List Actor → Option Actor → Type 0
 IsFresh used actor = (a : Actor) → actor ≡ Some a → In a used → ⊥
 
--- The change is that of the edit of the peer with the number, or there is no such peer or its edit makes none.
-abbrev pub IsJustEditAt : List PeerData → ℕ → List Splice → ℕ → List ℕ → Option ChangeParts → Type 0
-IsJustEditAt peers n splices time message (Some c) =
-    (p : PeerData) × (slice_get peers n ≡ Some p) × IsEditOf p splices time message c
-IsJustEditAt peers n splices time message None =
-    (p : PeerData) → slice_get peers n ≡ Some p → (c : ChangeParts) → IsEditOf p splices time message c → ⊥
-
--- the event keeps the whole record of the change that it would make
-abbrev pub keeps_whole : Event → ChangeParts → Bool
-keeps_whole (Crash n during kept actor) c = nat_le (length (record_of c)) kept
-keeps_whole _ c = true
+-- The change is that of the edit that the call of the peer with the number is, or there is none.
+abbrev pub IsJustEditAt : List PeerData → ℕ → peer.Call → Option ChangeParts → Type 0
+IsJustEditAt peers n made (Some c) = (p : PeerData) × (slice_get peers n ≡ Some p) × IsRunningEdit p made c
+IsJustEditAt peers n made None = (p : PeerData) → slice_get peers n ≡ Some p → (c : ChangeParts) → IsRunningEdit p made c → ⊥
 
 -- A change that was made has the hash of the one that the event would make, and keeps whole.
 abbrev pub clashes_in : List ChangeParts → Event → Option ChangeParts → Bool

@@ -1,46 +1,40 @@
--- The change that an edit would make.
+-- The change that an event would make, and what is noted of an answer.
 use Rattle.std.specs.Prelude.{◌≡◌, ◌⊎◌, ℕ, List, [], ◌∷◌, ◌++◌, length, Bool, true, false, nat_le, Option, Some, None, Result, Ok, Err}
+use Rattle.tp_opid.specs.declared.actor.Actor.{Actor}
 use Rattle.tp_opid.specs.declared.hash.Hash.{Hash}
 use Rattle.tp_change.specs.declared.parts.ChangeParts.{ChangeParts}
-use Rattle.tp_edit.specs.declared.splice.Splice.{Splice}
-use Rattle.tp_document.specs.Editing.{Edited, asking}
+use Rattle.tp_graph.specs.Heads.{heads}
 use Rattle.tp_journal.specs.Layout.{record_of}
+use Rattle.tp_peer.specs.declared.error.PeerError.{PeerError}
+use Rattle.tp_peer.specs.PeerData.{PeerData}
 use Rattle.tp_peer.specs.PeerStep as peer
 use Rattle.tp_headline.specs.declared.error.WorldError.TheVariants.{OutOfMemory}
 use Rattle.tp_headline.specs.Call as call
-use Rattle.tp_headline.specs.Event.{Event, Edit, Crash}
-use Rattle.tp_headline.specs.Refusing.{IsEditAt}
-use Rattle.tp_headline.specs.Reply.{Reply, Text, Refused, Inner}
-use Rattle.tp_headline.specs.World.{Entry, ReadRecord, World}
-use Rattle.tp_peer.specs.declared.error.PeerError.{PeerError}
-use Rattle.tp_peer.specs.PeerData.{PeerData}
+use Rattle.tp_headline.specs.Calling.{IsCall, Steps, heads_at, noting}
+use Rattle.tp_headline.specs.Event.{Event}
+use Rattle.tp_headline.specs.Refusing.{IsEditOf, WouldEdit}
+use Rattle.tp_headline.specs.Reply.{Reply, Peer, Answered, Refused, reply_to}
+use Rattle.tp_headline.specs.World.{World, HasPeer, with_new_peer, with_peer, with_used}
 
 -- c is the change of an edit of the peer, which runs.
-pub record IsEditOf (p : PeerData) (splices : List Splice) (time : ℕ) (message : List ℕ) (c : ChangeParts) : Type 0 where
+pub record IsRunningEdit (p : PeerData) (made : peer.Call) (c : ChangeParts) : Type 0 where
   pub runs : p.stopped ≡ false
-  pub edited : Edited p.applied (asking p.actor splices time message) c
+  pub edited : IsEditOf p made c
 
--- The change is that of the edit, or the edit makes none.
-abbrev pub IsJustEdit : PeerData → List Splice → ℕ → List ℕ → Option ChangeParts → Type 0
-IsJustEdit p splices time message (Some c) = IsEditOf p splices time message c
-IsJustEdit p splices time message None = (c : ChangeParts) → IsEditOf p splices time message c → ⊥
+-- The change is that of the edit that the call is, or it makes none.
+abbrev pub IsJustEdit : PeerData → peer.Call → Option ChangeParts → Type 0
+IsJustEdit p made (Some c) = IsRunningEdit p made c
+IsJustEdit p made None = (c : ChangeParts) → IsRunningEdit p made c → ⊥
 
--- c is the change of the edit that the event is, or during which a peer crashes in it, however much of it is kept.
-abbrev pub WouldEdit : World → Event → ChangeParts → Type 0
-WouldEdit w (Edit n splices time message) c = IsEditAt w n splices time message c
-WouldEdit w (Crash n (Some (call.Edit splices time message)) kept actor) c = IsEditAt w n splices time message c
-WouldEdit w _ c = ⊥
-
--- The change is that one, or there is none.
+-- The change is that of the edit that the event is, or during which a peer crashes in it, or there is none.
 abbrev pub IsWould : World → Event → Option ChangeParts → Type 0
 IsWould w e (Some c) = WouldEdit w e c
 IsWould w e None = (c : ChangeParts) → WouldEdit w e c → ⊥
 
--- the edit made a change
-abbrev pub is_made : Result (Option Hash) PeerError → Bool
-is_made (Ok (Some h)) = true
-is_made (Ok None) = false
-is_made (Err e) = false
+-- an edit made a change
+abbrev pub is_made : peer.Reply → Bool
+is_made (peer.Made (Some hash)) = true
+is_made answer = false
 
 -- the change, where it was entered
 abbrev pub entered_of : Option ChangeParts → Bool → List ChangeParts
@@ -53,15 +47,28 @@ abbrev pub is_kept_in : Option ChangeParts → ℕ → Bool
 is_kept_in (Some c) kept = nat_le (length (record_of c)) kept
 is_kept_in None kept = false
 
--- What a peer answered to a read of its text, what is replied, and the reads then: one more where a text is replied.
-abbrev pub AddsRead : List ReadRecord → ℕ → List Hash → peer.Reply → Reply → List ReadRecord → Type 0
-AddsRead reads n heads (peer.Text text) reply reads' =
-    ((reply ≡ Refused OutOfMemory) × (reads' ≡ reads))
-    ⊎ ((reply ≡ Text text) × (reads' ≡ reads ++ record { peer = n; heads = heads; text = text } ∷ []))
-AddsRead reads n heads (peer.Refused error) reply reads' = (reply ≡ Inner error) × (reads' ≡ reads)
-AddsRead reads n heads _ reply reads' = ⊥
+-- the heads at which a text of the peer p is read, by the name of the call
+abbrev pub heads_named : PeerData → call.Call → List Hash
+heads_named p (call.Alone own) = heads_at p own
+heads_named p named = heads p.applied
 
--- the wire, once the peer numbered n answered so to the call for a message
-abbrev pub wire_with : List Entry → ℕ → peer.Reply → List Entry
-wire_with wire n (peer.Generated (Some message)) = wire ++ record { sender = n; bytes = message.0 } ∷ []
-wire_with wire n _ = wire
+-- The peer numbered n made the call that is named so, and answered so. Nothing else changed.
+pub record AnswersAt (w : World) (n : ℕ) (named : call.Call) (answer : peer.Reply) (w' : World) : Type 0 where
+  pub before : PeerData
+  pub stands : HasPeer w n before
+  pub made : peer.Call
+  pub is : IsCall w named made
+  pub after : PeerData
+  pub steps : Steps before made answer after
+  pub left : w' ≡ with_peer w n after
+
+-- The answer was noted, or memory for the text that was read was refused and nothing changed.
+abbrev pub Notes : World → ℕ → List Hash → peer.Reply → Reply → World → Type 0
+Notes w n H answer reply w' =
+    ((text : List ℕ) × (answer ≡ peer.Text text) × (reply ≡ Refused OutOfMemory) × (w' ≡ w))
+    ⊎ ((reply ≡ reply_to (length w.wire) answer) × (w' ≡ noting w n H answer))
+
+-- The peer joined, or it couldn't be opened. The actor is used.
+abbrev pub JoinsAs : World → Actor → Result PeerData PeerError → Reply → World → Type 0
+JoinsAs w actor (Ok p) reply w' = (reply ≡ Peer (length w.peers)) × (w' ≡ with_used (with_new_peer w p) actor)
+JoinsAs w actor (Err error) reply w' = (reply ≡ Answered (peer.Refused error)) × (w' ≡ with_used w actor)

@@ -1,5 +1,5 @@
 -- The peers of a world, by their numbers, and what becomes of one that crashes.
-use Rattle.std.specs.Prelude.{◌≡◌, ℕ, ◌<◌, ◌^◌, List, [], length, take, slice_set, true, Option, Some, None, Result, Ok, Err}
+use Rattle.std.specs.Prelude.{◌≡◌, ◌⊎◌, ℕ, ◌<◌, ◌^◌, List, [], length, take, slice_set, true, Option, Some, None, Result, Ok, Err}
 use Rattle.std.specs.List.{slice_get}
 use Rattle.tp_opid.specs.declared.actor.Actor.{Actor}
 use Rattle.tp_opid.specs.declared.doc_id.DocId.{DocId}
@@ -10,7 +10,7 @@ use Rattle.tp_peer.specs.Opening.{Forks, NotForked, NotReopened, Reopens}
 use Rattle.tp_peer.specs.PeerData.{PeerData}
 use Rattle.tp_peer.specs.PeerStep as peer
 use Rattle.tp_headline.specs.Calling.{Steps, in_memory}
-use Rattle.tp_headline.specs.World.{Entry}
+use Rattle.tp_headline.specs.Reply.{Reply, Answered, Reopened}
 
 -- the changes that were recovered, if any
 abbrev pub changes_in : Option (DocId × List ChangeParts × ℕ) → List ChangeParts
@@ -25,13 +25,11 @@ left_with id actor bytes =
 
 -- What a peer comes to, of this document and actor, where the bytes were opened again under another actor: one that
 -- runs, or what is left of it.
-abbrev pub OpensOn : DocId → Actor → List ℕ → Actor → Result (Unit {0}) PeerError → PeerData → Type 0
-OpensOn id old bytes actor (Ok x) p' = Reopens (in_memory bytes) actor p'
-OpensOn id old bytes actor (Err e) p' = NotReopened (in_memory bytes) actor e (in_memory bytes) × (p' ≡ left_with id old bytes)
-
--- What a peer p comes to where its journal kept the bytes and was opened again under the actor.
-abbrev pub OpensAgain : PeerData → List ℕ → Actor → Result (Unit {0}) PeerError → PeerData → Type 0
-OpensAgain p bytes actor opened p' = OpensOn p.id p.actor bytes actor opened p'
+abbrev pub OpensOn : DocId → Actor → List ℕ → Actor → Reply → PeerData → Type 0
+OpensOn id old bytes actor reply p' =
+    ((reply ≡ Reopened) × Reopens (in_memory bytes) actor p')
+    ⊎ ((error : PeerError) × (reply ≡ Answered (peer.Refused error)) × NotReopened (in_memory bytes) actor error (in_memory bytes)
+    × (p' ≡ left_with id old bytes))
 
 -- ---- by their numbers
 
@@ -54,17 +52,11 @@ pub record MergesAt (peers : List PeerData) (n m : ℕ) (answer : peer.Reply) (p
   pub there : slice_get peers m ≡ Some other
   pub at : StepsAt peers n (peer.Merge other) answer peers'
 
--- The peer numbered n received the entry numbered k of the wire, on its link to the peer that sent it.
-pub record DeliversAt (peers : List PeerData) (wire : List Entry) (k n : ℕ) (answer : peer.Reply) (peers' : List PeerData) : Type 0 where
-  pub message : Entry
-  pub sent : slice_get wire k ≡ Some message
-  pub at : StepsAt peers n (peer.Receive message.sender message.bytes) answer peers'
-
 -- The journal of the peer numbered n kept `keep` bytes at most, and was opened again under the actor.
-pub record OpensAgainAt (peers : List PeerData) (n keep : ℕ) (actor : Actor) (result : Result (Unit {0}) PeerError) (peers' : List PeerData) : Type 0 where
+pub record OpensAgainAt (peers : List PeerData) (n keep : ℕ) (actor : Actor) (reply : Reply) (peers' : List PeerData) : Type 0 where
   pub before : PeerData
   pub stands : slice_get peers n ≡ Some before
   pub small : length before.journal < 2 ^ 64
   pub after : PeerData
-  pub opens : OpensAgain before (take keep before.journal) actor result after
+  pub opens : OpensOn before.id before.actor (take keep before.journal) actor reply after
   pub left : peers' ≡ slice_set peers n after

@@ -1,28 +1,57 @@
 //! What an event names, and what is asked of it before it happens.
 
 ghost use Rattle.std.specs.Prelude.{◌≡◌, false, true, MatchBool, IfOk, IsOkUnless, ◌&&◌};
-ghost use Rattle.std.specs.Str.{chars};
-ghost use Rattle.std.specs.Option.{option_to_list};
+ghost use Rattle.std.specs.Option.{option_map, option_to_list};
 ghost use Rattle.tp_graph.specs.Named.{has};
 ghost use Rattle.tp_headline.specs.declared.error.WorldError.TheVariants.{OutOfMemory};
 ghost use Rattle.tp_headline.specs.Event as events;
-ghost use Rattle.tp_world.specs.Judging.{AllRun, AllThere, IsFresh, IsJustEditAt, is_named, keeps_whole, numbers_in};
-ghost use Rattle.tp_world.specs.Told.{during_of, event_of};
+ghost use Rattle.tp_headline.specs.Refusing.{keeps_whole};
+ghost use Rattle.tp_peer.specs.Calls.{call_of as peer_call_of};
+ghost use Rattle.tp_world.specs.Judging.{AllRun, AllThere, IsFresh, IsJustEditAt, is_named, numbers_in};
+ghost use Rattle.tp_world.specs.Told.{call_of, event_of};
 
 use crate::entry::Entry;
 use crate::event::{Call, Event};
 use crate::member::{Member, record_len};
 use tp_change::Change;
-use tp_edit::Splice;
 use tp_headline::WorldError;
 use tp_opid::{Actor, Hash};
+use tp_peer::Call as PeerCall;
 
-// The peer that an interrupted call needs beside the one that makes it.
-fn needed_by(during: &Option<Call>) -> Option<usize>
-    ensures { option_to_list result ≡ events.needed_by (during_of during.now) }
+/// The peer that makes a call in an event, and the call.
+pub(crate) fn called_in<'a>(event: &Event<'a>) -> Option<(usize, Call<'a>)>
+    ensures { option_map (λ x. (x.0, call_of x.1)) result ≡ events.called_in (event_of event.now) }
 {
-    match during {
-        Some(Call::Merge { from }) => Some(*from),
+    match event {
+        Event::Call { peer, call } => Some((*peer, *call)),
+        Event::Crash {
+            peer,
+            during: Some(call),
+            ..
+        } => Some((*peer, *call)),
+        _ => None,
+    }
+}
+
+// The peer that a call names beside the one that makes it.
+fn named_by(call: &Call) -> Option<usize>
+    ensures { option_to_list result ≡ events.named_by (call_of call.now) }
+{
+    match call {
+        Call::Alone(PeerCall::Receive { link, .. }) => Some(link.0 as usize),
+        Call::Alone(PeerCall::Generate { link }) => Some(link.0 as usize),
+        Call::Alone(PeerCall::Forget { link }) => Some(link.0 as usize),
+        Call::Merge { from } => Some(*from),
+        _ => None,
+    }
+}
+
+// The peer that a call needs beside the one that makes it.
+fn needed_by(call: &Call) -> Option<usize>
+    ensures { option_to_list result ≡ events.needed_by (call_of call.now) }
+{
+    match call {
+        Call::Merge { from } => Some(*from),
         _ => None,
     }
 }
@@ -34,26 +63,34 @@ pub(crate) fn peers_of(event: &Event) -> (Option<usize>, Option<usize>)
     match event {
         Event::Start { .. } => (None, None),
         Event::Fork { of, .. } => (Some(*of), None),
-        Event::Edit { peer, .. } => (Some(*peer), None),
-        Event::Merge { into, from } => (Some(*into), Some(*from)),
-        Event::Send { from, to } => (Some(*from), Some(*to)),
-        Event::Deliver { to, .. } => (Some(*to), None),
-        Event::DeliverBytes { to, from, .. } => (Some(*to), Some(*from)),
-        Event::Crash { peer, during, .. } => (Some(*peer), needed_by(during)),
-        Event::Read { peer } => (Some(*peer), None),
-        Event::ReadAt { peer, .. } => (Some(*peer), None),
+        Event::Call { peer, call } => (Some(*peer), named_by(call)),
+        Event::Crash {
+            peer,
+            during: None,
+            ..
+        } => (Some(*peer), None),
+        Event::Crash {
+            peer,
+            during: Some(call),
+            ..
+        } => (Some(*peer), named_by(call)),
     }
 }
 
-/// The peers that an event acts on or reads while they run.
+/// The peers that an event needs while they run.
 pub(crate) fn running_of(event: &Event) -> (Option<usize>, Option<usize>)
     ensures { numbers_in result ≡ events.running_of (event_of event.now) }
 {
     match event {
+        Event::Start { .. } => (None, None),
+        Event::Fork { of, .. } => (Some(*of), None),
+        Event::Call { peer, call } => (Some(*peer), needed_by(call)),
         Event::Crash { during: None, .. } => (None, None),
-        Event::Send { from, .. } => (Some(*from), None),
-        Event::DeliverBytes { to, .. } => (Some(*to), None),
-        event => peers_of(event),
+        Event::Crash {
+            peer,
+            during: Some(call),
+            ..
+        } => (Some(*peer), needed_by(call)),
     }
 }
 
@@ -62,11 +99,31 @@ pub(crate) fn entry_of(event: &Event) -> Option<usize>
     ensures { option_to_list result ≡ events.entries_of (event_of event.now) }
 {
     match event {
-        Event::Deliver { entry, .. } => Some(*entry),
+        Event::Call {
+            call: Call::Deliver { entry },
+            ..
+        } => Some(*entry),
         Event::Crash {
             during: Some(Call::Deliver { entry }),
             ..
         } => Some(*entry),
+        _ => None,
+    }
+}
+
+/// The bytes of any origin that an event delivers.
+pub(crate) fn bytes_of<'a>(event: &Event<'a>) -> Option<&'a [u8]>
+    ensures { option_map (λ bytes. bytes.now) result ≡ events.bytes_of (event_of event.now) }
+{
+    match event {
+        Event::Call {
+            call: Call::Alone(PeerCall::Receive { bytes, .. }),
+            ..
+        } => Some(bytes),
+        Event::Crash {
+            during: Some(Call::Alone(PeerCall::Receive { bytes, .. })),
+            ..
+        } => Some(bytes),
         _ => None,
     }
 }
@@ -78,8 +135,8 @@ pub(crate) fn actor_of(event: &Event) -> Option<Actor>
     match event {
         Event::Start { actor } => Some(*actor),
         Event::Fork { actor, .. } => Some(*actor),
+        Event::Call { .. } => None,
         Event::Crash { actor, .. } => Some(*actor),
-        _ => None,
     }
 }
 
@@ -183,22 +240,20 @@ pub(crate) fn keeps_whole(event: &Event, change: &Change) -> bool
     }
 }
 
-/// The change that an edit of the peer with the number would make; `None` where it would make none, or there is no such
+/// The change that the call of the peer with the number would make; `None` where it would make none, or there is no such
 /// peer. The only refusal is `OutOfMemory`.
 pub(crate) fn edit_change_at(
     members: &[Member],
     n: usize,
-    splices: &[Splice],
-    time: u64,
-    message: &str,
+    call: &PeerCall,
 ) -> Result<Option<Change>, WorldError>
     ensures ok { IfOk result
-        (λ made. IsJustEditAt members.now n splices.now time (chars message.now) made) }
+        (λ made. IsJustEditAt members.now n (peer_call_of call.now) made) }
     ensures err { IsOkUnless result OutOfMemory }
 {
     if n < members.len() {
         let member = &members[n];
-        member.edit_change(splices, time, message)
+        member.edit_change(call)
     } else {
         Ok(None)
     }

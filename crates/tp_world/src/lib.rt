@@ -23,6 +23,7 @@ mod world;
 pub use entry::Entry;
 pub use event::{Call, Event};
 pub use read_record::ReadRecord;
-pub use reply::Reply;
+pub use reply::{Answer, Reply};
 pub use tp_headline::WorldError;
+pub use tp_peer::{Call as PeerCall, Link, Reply as PeerReply};
 pub use world::World;

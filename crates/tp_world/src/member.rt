@@ -2,19 +2,20 @@
 
 ghost use Rattle.std.specs.Prelude.{◌≡◌, ◌<◌, ◌^◌, [], length, take, min, false, IfOk, IfErr, IsOkUnless};
 ghost use Rattle.std.specs.Str.{chars};
-ghost use Rattle.std.specs.String.{string_bytes};
 ghost use Rattle.tp_graph.specs.Heads.{heads};
 ghost use Rattle.tp_journal.specs.Layout.{header_of, record_of, records_of};
+ghost use Rattle.tp_peer.specs.Calls.{call_of, reply_of};
 ghost use Rattle.tp_peer.specs.Opening.{Forks, NotBegun, NotForked};
 ghost use Rattle.tp_peer.specs.PeerData.{opened};
-ghost use Rattle.tp_peer.specs.PeerStep.{Edit, Generate, Generated, Made, Merge, Merged, Read, ReadAt, Receive, Received as Reported, Text, replied};
-ghost use Rattle.tp_peer.specs.Sent.{sent_of};
+ghost use Rattle.tp_peer.specs.PeerStep.{Edit, Merge, Merged, replied};
 ghost use Rattle.tp_peer.specs.Taking.{report_of};
 ghost use Rattle.tp_headline.specs.Calling.{Steps, in_memory};
 ghost use Rattle.tp_headline.specs.declared.error.WorldError.TheVariants.{OutOfMemory};
 ghost use Rattle.tp_world.specs.Making.{IsJustEdit};
-ghost use Rattle.tp_world.specs.Members.{OpensAgain, OpensOn, left_with};
+ghost use Rattle.tp_world.specs.Members.{OpensOn, left_with};
+ghost use Rattle.tp_world.specs.Told.{reply_of as told};
 
+use crate::reply::Reply;
 use std::alloc::{AllocError, Global};
 use std::marker::Model;
 use tp_change::Change;
@@ -24,7 +25,7 @@ use tp_headline::WorldError;
 use tp_journal::{DIGEST_BYTES, HEADER_BYTES, MemJournal};
 use tp_opid::{Actor, DocId, Hash};
 use tp_peer::laws::a_peer_in_memory_never_fails;
-use tp_peer::{Link, Outgoing, Peer, PeerError, Received};
+use tp_peer::{Call as PeerCall, Peer, PeerError, Reply as PeerReply};
 
 /// What has become of a peer.
 #[derive(Drop)]
@@ -53,19 +54,13 @@ impl Model for Member {
     ghost view = { λ m. member_data m.life };
 }
 
-// The peer edits.
-fn edit_running(
-    peer: &mut Peer<MemJournal>,
-    splices: &[Splice],
-    time: u64,
-    message: &str,
-) -> Result<Option<Hash>, PeerError>
-    ensures { Steps peer.old (Edit splices.now time (chars message.now))
-        (replied Made result) peer.new }
+// The peer makes the call.
+fn call_running(peer: &mut Peer<MemJournal>, call: PeerCall) -> PeerReply
+    ensures { Steps peer.old (call_of call.entry) (reply_of result) peer.new }
 {
-    let made = peer.edit(splices, time, message);
+    let reply = peer.call(call);
     a_peer_in_memory_never_fails(peer);
-    made
+    reply
 }
 
 // The peer takes what another one has.
@@ -81,30 +76,6 @@ fn merge_running(
     merged
 }
 
-// The peer makes a message on its link to another one.
-fn send_running(peer: &mut Peer<MemJournal>, to: usize) -> Result<Option<Outgoing>, PeerError>
-    ensures { Steps peer.old (Generate to)
-        (replied (λ s. Generated (sent_of s)) result) peer.new }
-{
-    let sent = peer.generate_bytes(Link(to as u64));
-    a_peer_in_memory_never_fails(peer);
-    sent
-}
-
-// The peer receives bytes on its link to another one.
-fn receive_running(
-    peer: &mut Peer<MemJournal>,
-    from: usize,
-    bytes: &[u8],
-) -> Result<Received, PeerError>
-    ensures { Steps peer.old (Receive from bytes.now)
-        (replied (λ r. Reported (report_of r.applied) r.same_heads) result) peer.new }
-{
-    let received = peer.receive_bytes(Link(from as u64), bytes);
-    a_peer_in_memory_never_fails(peer);
-    received
-}
-
 // The change that an edit of the peer would make, if any.
 fn edit_change_of(
     peer: &Peer<MemJournal>,
@@ -113,7 +84,7 @@ fn edit_change_of(
     message: &str,
 ) -> Result<Option<Change>, WorldError>
     ensures ok { IfOk result
-        (λ made. IsJustEdit peer.now splices.now time (chars message.now) made) }
+        (λ made. IsJustEdit peer.now (Edit splices.now time (chars message.now)) made) }
     ensures err { IsOkUnless result OutOfMemory }
 {
     if peer.is_stopped() {
@@ -160,20 +131,14 @@ fn merge_nothing(alloc: Global, peer: &mut Peer<MemJournal>) -> Result<Applied, 
 }
 
 // A peer opened again on the bytes under the actor, or what is left of it.
-fn open_again(
-    alloc: Global,
-    id: DocId,
-    old: Actor,
-    bytes: Vec<u8>,
-    actor: Actor,
-) -> (Member, Result<(), PeerError>)
-    ensures { OpensOn id old bytes.items actor result.1 result.0 }
+fn open_again(alloc: Global, id: DocId, old: Actor, bytes: Vec<u8>, actor: Actor) -> (Member, Reply)
+    ensures { OpensOn id old bytes.items actor (told result.1) result.0 }
 {
     match Peer::reopen(alloc, MemJournal::new(bytes), actor) {
-        Ok(peer) => (Member::running(peer), Ok(())),
+        Ok(peer) => (Member::running(peer), Reply::Reopened),
         Err(unopened) => (
             Member::stopped(id, old, unopened.journal),
-            Err(unopened.error),
+            Reply::unopened(unopened.error),
         ),
     }
 }
@@ -272,19 +237,13 @@ impl Member {
         }
     }
 
-    /// It edits.
-    pub(crate) fn edit(
-        &mut self,
-        splices: &[Splice],
-        time: u64,
-        message: &str,
-    ) -> Result<Option<Hash>, PeerError>
-        ensures { Steps self.old (Edit splices.now time (chars message.now))
-            (replied Made result) self.new }
+    /// It makes the call.
+    pub(crate) fn call(&mut self, call: PeerCall) -> PeerReply
+        ensures { Steps self.old (call_of call.entry) (reply_of result) self.new }
     {
         match &mut self.life {
-            Life::Running(peer) => edit_running(peer, splices, time, message),
-            Life::Stopped(_, _, _) => Err(PeerError::Stopped),
+            Life::Running(peer) => call_running(peer, call),
+            Life::Stopped(_, _, _) => PeerReply::Refused(PeerError::Stopped),
         }
     }
 
@@ -295,28 +254,6 @@ impl Member {
     {
         match &mut self.life {
             Life::Running(peer) => merge_member(peer, other),
-            Life::Stopped(_, _, _) => Err(PeerError::Stopped),
-        }
-    }
-
-    /// It makes a message on its link to another one, if there is something to say.
-    pub(crate) fn send(&mut self, to: usize) -> Result<Option<Outgoing>, PeerError>
-        ensures { Steps self.old (Generate to)
-            (replied (λ s. Generated (sent_of s)) result) self.new }
-    {
-        match &mut self.life {
-            Life::Running(peer) => send_running(peer, to),
-            Life::Stopped(_, _, _) => Err(PeerError::Stopped),
-        }
-    }
-
-    /// It receives bytes on its link to another one.
-    pub(crate) fn receive(&mut self, from: usize, bytes: &[u8]) -> Result<Received, PeerError>
-        ensures { Steps self.old (Receive from bytes.now)
-            (replied (λ r. Reported (report_of r.applied) r.same_heads) result) self.new }
-    {
-        match &mut self.life {
-            Life::Running(peer) => receive_running(peer, from, bytes),
             Life::Stopped(_, _, _) => Err(PeerError::Stopped),
         }
     }
@@ -332,34 +269,6 @@ impl Member {
         }
     }
 
-    /// Its text.
-    pub(crate) fn read(&self) -> Result<String, PeerError>
-        ensures { Steps self.now Read (replied (λ t. Text (chars (string_bytes t))) result)
-            self.now }
-    {
-        match &self.life {
-            Life::Running(peer) => {
-                a_peer_in_memory_never_fails(peer);
-                peer.read()
-            }
-            Life::Stopped(_, _, _) => Err(PeerError::Stopped),
-        }
-    }
-
-    /// Its text at the hashes.
-    pub(crate) fn read_at(&self, hashes: &[Hash]) -> Result<String, PeerError>
-        ensures { Steps self.now (ReadAt hashes.now)
-            (replied (λ t. Text (chars (string_bytes t))) result) self.now }
-    {
-        match &self.life {
-            Life::Running(peer) => {
-                a_peer_in_memory_never_fails(peer);
-                peer.read_at(hashes)
-            }
-            Life::Stopped(_, _, _) => Err(PeerError::Stopped),
-        }
-    }
-
     /// A copy of its heads.
     pub(crate) fn heads(&self, alloc: Global) -> Result<Vec<Hash>, AllocError>
         requires { self.now.stopped ≡ false }
@@ -371,20 +280,21 @@ impl Member {
         }
     }
 
-    /// The change that an edit would make; `None` where it would make none. The only refusal is `OutOfMemory`.
-    pub(crate) fn edit_change(
-        &self,
-        splices: &[Splice],
-        time: u64,
-        message: &str,
-    ) -> Result<Option<Change>, WorldError>
-        ensures ok { IfOk result
-            (λ made. IsJustEdit self.now splices.now time (chars message.now) made) }
+    /// The change that the call would make; `None` where it would make none. The only refusal is `OutOfMemory`.
+    pub(crate) fn edit_change(&self, call: &PeerCall) -> Result<Option<Change>, WorldError>
+        ensures ok { IfOk result (λ made. IsJustEdit self.now (call_of call.now) made) }
         ensures err { IsOkUnless result OutOfMemory }
     {
-        match &self.life {
-            Life::Running(peer) => edit_change_of(peer, splices, time, message),
-            Life::Stopped(_, _, _) => Ok(None),
+        match call {
+            PeerCall::Edit {
+                splices,
+                time,
+                message,
+            } => match &self.life {
+                Life::Running(peer) => edit_change_of(peer, splices, *time, message),
+                Life::Stopped(_, _, _) => Ok(None),
+            },
+            _ => Ok(None),
         }
     }
 
@@ -420,14 +330,10 @@ impl Member {
 
     /// It crashes: its journal keeps `keep` bytes at most, and is opened again under the actor. Where that is refused it
     /// has stopped.
-    pub(crate) fn reopened(
-        self,
-        alloc: Global,
-        keep: usize,
-        actor: Actor,
-    ) -> (Member, Result<(), PeerError>)
+    pub(crate) fn reopened(self, alloc: Global, keep: usize, actor: Actor) -> (Member, Reply)
         ensures len { length self.journal < 2 ^ 64 }
-        ensures opens { OpensAgain self (take keep self.journal) actor result.1 result.0 }
+        ensures opens { OpensOn self.id self.actor (take keep self.journal) actor (told result.1)
+            result.0 }
     {
         let (id, old, journal) = self.into_remains();
         let mut bytes = journal.into_vec();

@@ -2,23 +2,22 @@
 
 ghost use Rattle.std.specs.Prelude.{◌≡◌, ◌<◌, length, min, slice_set, Some, false, IfOk};
 ghost use Rattle.std.specs.List.{slice_get};
-ghost use Rattle.std.specs.Str.{chars};
-ghost use Rattle.std.specs.String.{string_bytes};
 ghost use Rattle.tp_graph.specs.Heads.{heads};
+ghost use Rattle.tp_peer.specs.Calls.{call_of, reply_of};
 ghost use Rattle.tp_peer.specs.PeerData.{PeerData};
-ghost use Rattle.tp_peer.specs.PeerStep.{Edit, Generate, Generated, Made, Merged, Read, ReadAt, Receive, Received as Reported, Text, replied};
-ghost use Rattle.tp_peer.specs.Sent.{sent_of};
+ghost use Rattle.tp_peer.specs.PeerStep.{Merged, Receive, replied};
 ghost use Rattle.tp_peer.specs.Taking.{report_of};
-ghost use Rattle.tp_world.specs.Members.{DeliversAt, ForksAt, MergesAt, OpensAgainAt, StepsAt};
+ghost use Rattle.tp_world.specs.Members.{ForksAt, MergesAt, OpensAgainAt, StepsAt};
+ghost use Rattle.tp_world.specs.Told.{reply_of as told};
 
 use crate::entry::Entry;
 use crate::member::Member;
+use crate::reply::Reply;
 use std::alloc::{AllocError, Global};
 use std::mem;
 use tp_document::Applied;
-use tp_edit::Splice;
 use tp_opid::{Actor, Hash};
-use tp_peer::{Outgoing, PeerError, Received};
+use tp_peer::{Call as PeerCall, Link, PeerError, Reply as PeerReply};
 
 /// A peer forks.
 pub(crate) fn fork_at(
@@ -34,65 +33,30 @@ pub(crate) fn fork_at(
     member.fork(alloc, actor)
 }
 
-/// A peer edits.
-pub(crate) fn edit_at(
-    members: &mut Vec<Member>,
-    n: usize,
-    splices: &[Splice],
-    time: u64,
-    message: &str,
-) -> Result<Option<Hash>, PeerError>
+/// A peer makes a call that needs no other one.
+pub(crate) fn call_at(members: &mut Vec<Member>, n: usize, call: PeerCall) -> PeerReply
     requires { n < length members.old.items }
-    ensures { StepsAt members.old.items n (Edit splices.now time (chars message.now))
-        (replied Made result) members.new.items }
+    ensures { StepsAt members.old.items n (call_of call.entry) (reply_of result)
+        members.new.items }
 {
     let member = &mut members[n];
-    member.edit(splices, time, message)
+    member.call(call)
 }
 
-/// A peer makes a message on its link to another one.
-pub(crate) fn send_at(
-    members: &mut Vec<Member>,
-    n: usize,
-    to: usize,
-) -> Result<Option<Outgoing>, PeerError>
+/// A peer receives the entry of the wire, on its link to the peer that sent it.
+pub(crate) fn receive_at(members: &mut Vec<Member>, n: usize, sent: &Entry) -> PeerReply
     requires { n < length members.old.items }
-    ensures { StepsAt members.old.items n (Generate to)
-        (replied (λ s. Generated (sent_of s)) result) members.new.items }
+    ensures { StepsAt members.old.items n (Receive sent.now.sender sent.now.bytes)
+        (reply_of result) members.new.items }
 {
-    let member = &mut members[n];
-    member.send(to)
-}
-
-/// A peer receives bytes on its link to another one.
-pub(crate) fn receive_at(
-    members: &mut Vec<Member>,
-    n: usize,
-    from: usize,
-    bytes: &[u8],
-) -> Result<Received, PeerError>
-    requires { n < length members.old.items }
-    ensures { StepsAt members.old.items n (Receive from bytes.now)
-        (replied (λ r. Reported (report_of r.applied) r.same_heads) result) members.new.items }
-{
-    let member = &mut members[n];
-    member.receive(from, bytes)
-}
-
-/// A peer receives the entry of the wire with the number, on its link to the peer that sent it.
-pub(crate) fn deliver_at(
-    members: &mut Vec<Member>,
-    wire: &[Entry],
-    entry: usize,
-    n: usize,
-) -> Result<Received, PeerError>
-    requires entry { entry < length wire.now }
-    requires peer { n < length members.old.items }
-    ensures { DeliversAt members.old.items wire.now entry n
-        (replied (λ r. Reported (report_of r.applied) r.same_heads) result) members.new.items }
-{
-    let sent = &wire[entry];
-    receive_at(members, n, sent.sender(), sent.bytes())
+    call_at(
+        members,
+        n,
+        PeerCall::Receive {
+            link: Link(sent.sender() as u64),
+            bytes: sent.bytes(),
+        },
+    )
 }
 
 // Takes the peer with the number out, and puts one in its place.
@@ -161,38 +125,14 @@ pub(crate) fn reopen_at(
     n: usize,
     keep: usize,
     actor: Actor,
-) -> Result<(), PeerError>
+) -> Reply
     requires { n < length members.old.items }
-    ensures { OpensAgainAt members.old.items n keep actor result members.new.items }
+    ensures { OpensAgainAt members.old.items n keep actor (told result) members.new.items }
 {
     let member = exchange(members, n, Member::nobody(alloc));
     let (member, opened) = member.reopened(alloc, keep, actor);
     let _nobody = exchange(members, n, member);
     opened
-}
-
-/// The text of a peer.
-pub(crate) fn read_at_number(members: &[Member], n: usize) -> Result<String, PeerError>
-    requires { n < length members.now }
-    ensures { StepsAt members.now n Read (replied (λ t. Text (chars (string_bytes t))) result)
-        members.now }
-{
-    let member = &members[n];
-    member.read()
-}
-
-/// The text of a peer at the hashes.
-pub(crate) fn read_past_at(
-    members: &[Member],
-    n: usize,
-    hashes: &[Hash],
-) -> Result<String, PeerError>
-    requires { n < length members.now }
-    ensures { StepsAt members.now n (ReadAt hashes.now)
-        (replied (λ t. Text (chars (string_bytes t))) result) members.now }
-{
-    let member = &members[n];
-    member.read_at(hashes)
 }
 
 /// A copy of the heads of a peer that runs.

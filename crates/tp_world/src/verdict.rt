@@ -12,8 +12,8 @@ ghost use Rattle.tp_world.specs.Told.{event_of};
 use crate::event::{Call, Event};
 use crate::foreign::carry_made;
 use crate::judging::{
-    actor_of, are_running, are_there, edit_change_at, entry_of, has_hash, is_fresh, is_sent,
-    keeps_whole, peers_of, running_of,
+    actor_of, are_running, are_there, bytes_of, called_in, edit_change_at, entry_of, has_hash,
+    is_fresh, is_sent, keeps_whole, peers_of, running_of,
 };
 use crate::state::State;
 use tp_change::Change;
@@ -41,9 +41,9 @@ impl State {
             (λ made. Judges (world_of self.now) (event_of event.now) ForeignChange made) }
         ensures err { IsOkUnless result OutOfMemory }
     {
-        match event {
-            Event::DeliverBytes { bytes, .. } => carry_made(self.alloc, bytes, &self.made),
-            _ => Ok(true),
+        match bytes_of(event) {
+            Some(bytes) => carry_made(self.alloc, bytes, &self.made),
+            None => Ok(true),
         }
     }
 
@@ -52,24 +52,8 @@ impl State {
         ensures ok { IfOk result (λ made. IsWould (world_of self.now) (event_of event.now) made) }
         ensures err { IsOkUnless result OutOfMemory }
     {
-        match event {
-            Event::Edit {
-                peer,
-                splices,
-                time,
-                message,
-            } => edit_change_at(&self.peers, *peer, splices, *time, message),
-            Event::Crash {
-                peer,
-                during: Some(
-                    Call::Edit {
-                        splices,
-                        time,
-                        message,
-                    },
-                ),
-                ..
-            } => edit_change_at(&self.peers, *peer, splices, *time, message),
+        match called_in(event) {
+            Some((n, Call::Alone(call))) => edit_change_at(&self.peers, n, &call),
             _ => Ok(None),
         }
     }

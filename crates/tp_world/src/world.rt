@@ -1,12 +1,11 @@
 //! The world that runs.
 
-ghost use Rattle.std.specs.Prelude.{◌≡◌, map, IfOk, OnErr, IsOkUnless};
-ghost use Rattle.tp_journal.specs.Layout.{IsDocId};
+ghost use Rattle.std.specs.Prelude.{◌≡◌, map, IfErr, IfOk, IsOkUnless};
 ghost use Rattle.tp_headline.specs.declared.error.WorldError.TheVariants.{OutOfMemory};
 ghost use Rattle.tp_headline.specs.Follows.{Follows};
 ghost use Rattle.tp_headline.specs.Happening.{Next};
 ghost use Rattle.tp_headline.specs.Headline.{Headline};
-ghost use Rattle.tp_headline.specs.Running.{GoesOn};
+ghost use Rattle.tp_headline.specs.Running.{GoesOnWith};
 ghost use Rattle.tp_headline.specs.World.{beginning};
 ghost use Rattle.tp_world.specs.Order.{IsOneList};
 ghost use Rattle.tp_world.specs.Told.{event_of, reply_of};
@@ -20,6 +19,7 @@ use crate::state::State;
 use std::alloc::Global;
 use std::marker::Model;
 use tp_headline::WorldError;
+use tp_list::array_len;
 use tp_opid::{DocId, OpId};
 
 /// A world of peers that edit one text, each with its journal in memory.
@@ -50,20 +50,12 @@ impl Model for World {
     ghost invariant = { λ w. Carried (world_of w.state) };
 }
 
-// What the type of an identifier says: it has 16 bytes. Answers their number.
-fn id_len(id: DocId) -> usize
-    ensures { IsDocId id }
-{
-    let bytes = id.0;
-    bytes.len()
-}
-
 impl World {
     /// A world in which nothing happened yet. No memory.
     pub fn new(alloc: Global, id: DocId) -> World
         ensures { result ≡ beginning id }
     {
-        let _len = id_len(id);
+        let _len = array_len(id.0);
         World {
             state: State::new(alloc, id),
         }
@@ -92,12 +84,11 @@ impl World {
     /// The events happen one after another. Room for the replies is taken first: where that is refused nothing happens.
     pub fn run(&mut self, events: Vec<Event>) -> Result<Vec<Reply>, WorldError>
         ensures ok { IfOk result
-            (λ replies. GoesOn self.old (map event_of events.entry.items)
+            (λ replies. GoesOnWith self.old (map event_of events.entry.items)
             (map reply_of replies.items) self.new) }
         ensures headline { Headline self.new }
         ensures follows { Follows self.new }
-        ensures err { OnErr result (self.new ≡ self.old) }
-        ensures only { IsOkUnless result OutOfMemory }
+        ensures err { IfErr result (λ e. (e ≡ OutOfMemory) × (self.new ≡ self.old)) }
     {
         let mut replies = match Vec::with_capacity(self.state.alloc, events.len()) {
             Ok(replies) => replies,

@@ -10,7 +10,7 @@ pub loop-hash-preserved : goal.loop-hash-preserved
 loop-hash-preserved c =
     let above = sym c.is_next.ensures ∙ c.if-not-is_next.false in (
       rises_step _ _ _ _ c.loop-hash-test.true above ∙ c.loop-hash.invariant.0,
-      All-more IsHash _ _ _ c.loop-hash-test.true c.loop-hash.invariant.1 c.of_32-bytes.ensures.bytes,
+      All-more IsHash _ _ _ c.loop-hash-test.true c.loop-hash.invariant.1 c.array_len-bytes.ensures.bytes,
     )
 
 pub returns-clause-bytes : goal.returns-clause-bytes

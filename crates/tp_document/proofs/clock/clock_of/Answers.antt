@@ -1,8 +1,4 @@
-use Rattle.std.proofs.Common.{◌+◌, ◌∙◌, ap, refl, get_or, take, cond}
-use Rattle.std.proofs.lemmas.Option.{slice_get_read}
-use Rattle.tp_opid.specs.Same.{same_actor}
-use Rattle.tp_change.specs.Elements.{later}
-use Rattle.tp_document.specs.History.{end_at, changes_at}
+use Rattle.tp_document.proofs.Common.{◌+◌, ◌∙◌, ap, refl, get_or, take, cond, same_actor, later, end_at, changes_at, slice_get_read}
 use Rattle.tp_document.proofs.ClockLaws.{place_at, changes_at-more, AreEnds-push}
 use Rattle.tp_document.proofs.clock.clock_of.Goals as goal
 

@@ -1,11 +1,4 @@
-use Rattle.std.proofs.Common.{◌≡◌, ◌+◌, ◌<◌, ◌^◌, List, length, subst, sym, ap}
-use Rattle.std.specs.Str.{chars}
-use Rattle.tp_opid.specs.declared.op_id.OpId.{OpId}
-use Rattle.tp_change.specs.declared.parts.ChangeParts.{ChangeParts}
-use Rattle.tp_graph.specs.Fit.{count_by}
-use Rattle.tp_rga.specs.Shown.{shown}
-use Rattle.tp_edit.specs.Splices.{AllInRange}
-use Rattle.tp_document.specs.Editing.{asking, IsEdit}
+use Rattle.tp_document.proofs.Common.{◌≡◌, ◌+◌, ◌<◌, ◌^◌, List, length, subst, sym, ap, chars, OpId, ChangeParts, count_by, shown, AllInRange, asking, IsEdit}
 use Rattle.tp_document.proofs.EditFits.{range_of}
 use Rattle.tp_document.proofs.EditSizes.{edit_limits}
 use Rattle.tp_document.proofs.EditAnswers.{edit_made}
@@ -29,5 +22,5 @@ make_change-requires g c =
     let is : IsEdit C asked c.in_ok-parts.parts = edit_made C (S.placed c.args.sequence.now) (S.removals c.args.sequence.now) asked c.next_seq-seq.result c.next_counter-next.result c.heads-heads.result.now c.in_ok-parts.parts h numbered c.next_counter-next.ensures c.heads-heads.ensures c.in_ok-parts.ensures in
     let small : c.in_ok-parts.parts.seq < 2 ^ 64 = subst (λ n. n < 2 ^ 64) (sym (ap (λ (p : ChangeParts). p.seq) c.in_ok-parts.ensures)) c.next_seq-seq.ensures.small in
     λ size. edit_limits C asked c.in_ok-parts.parts h.sound h.limits is c.requires.within.counters
-    (record { actor = c.actor_len-actor.ensures; time = c.ranges.time.fits; message = c.requires.within.spelled; texts = c.requires.within.texts })
+    (record { actor = c.array_len-actor.ensures.bytes; time = c.ranges.time.fits; message = c.requires.within.spelled; texts = c.requires.within.texts })
     small c.requires.within.message size

@@ -1,9 +1,4 @@
-use Rattle.std.proofs.Common.{◌≡◌, ◌+◌, ◌<◌, ◌≤◌, inl, List, length, subst, sym, ap, ◌∙◌}
-use Rattle.std.specs.Str.{chars}
-use Rattle.tp_opid.specs.declared.hash.Hash.{Hash}
-use Rattle.tp_change.specs.Elements.{next_counter}
-use Rattle.tp_edit.specs.Splices.{total_count}
-use Rattle.tp_document.specs.Editing.{asking}
+use Rattle.tp_document.proofs.Common.{◌≡◌, ◌+◌, ◌<◌, ◌≤◌, inl, List, length, subst, sym, ap, ◌∙◌, chars, Hash, next_counter, total_count, asking}
 use Rattle.tp_document.proofs.EditAnswers.{in_range_of, bad_refused, asks_some}
 use Rattle.tp_document.proofs.editing.validate_edit.Goals as goal
 

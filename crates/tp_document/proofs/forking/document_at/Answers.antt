@@ -1,7 +1,4 @@
-use Rattle.std.proofs.Common.{◌≡◌, None, ◌∙◌, ◌∷◌, [], ◌++◌, ap, sym, refl, subst, List, get_or}
-use Rattle.std.proofs.lemmas.Option.{slice_get_read}
-use Rattle.tp_change.specs.declared.parts.ChangeParts.{ChangeParts}
-use Rattle.tp_graph.specs.Fit.{cause}
+use Rattle.tp_document.proofs.Common.{◌≡◌, None, ◌∙◌, ◌∷◌, [], ◌++◌, ap, sym, refl, subst, List, get_or, ChangeParts, cause, slice_get_read}
 use Rattle.tp_document.proofs.ClockLaws.{place_at, changes_at-more}
 use Rattle.tp_document.proofs.ForkLaws.{next_enters}
 use Rattle.tp_document.proofs.forking.document_at.Goals as goal
@@ -27,7 +24,7 @@ loop-place-preserved g c =
     let x = c.index-changes-place.result in
     let within = c.requires.within (get_or ps i 0) (place_at ps i c.loop-place-test.true) in
     record {
-      id = c.in_ok-enter_copy.ensures.id ∙ c.loop-place.invariant.id;
+      named = c.in_ok-enter_copy.ensures.id ∙ c.loop-place.invariant.named;
       applied =
           c.in_ok-enter_copy.ensures.ok
           ∙ ap (λ (D : List ChangeParts). D ++ x ∷ []) c.loop-place.invariant.applied

@@ -1,7 +1,4 @@
-use Rattle.std.proofs.Common.{List, [], ◌∷◌, ◌++◌, take, ap, sym, ◌∙◌}
-use Rattle.std.proofs.lemmas.List.{take_more}
-use Rattle.tp_change.specs.declared.parts.ChangeParts.{ChangeParts}
-use Rattle.tp_graph.specs.Fit.{cause}
+use Rattle.tp_document.proofs.Common.{List, [], ◌∷◌, ◌++◌, take, ap, sym, ◌∙◌, take_more, ChangeParts, cause}
 use Rattle.tp_document.proofs.EditFits.{prefix_enters}
 use Rattle.tp_document.proofs.forking.document_of.Goals as goal
 
@@ -17,7 +14,7 @@ loop-change-preserved g c =
     let i = c.loop-change.change-index in
     let x = c.change-item.result in
     record {
-      id = c.in_ok-enter_copy.ensures.id ∙ c.loop-change.invariant.id;
+      named = c.in_ok-enter_copy.ensures.id ∙ c.loop-change.invariant.named;
       applied =
           c.in_ok-enter_copy.ensures.ok
           ∙ ap (λ (D : List ChangeParts). D ++ x ∷ []) c.loop-change.invariant.applied

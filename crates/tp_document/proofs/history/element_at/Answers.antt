@@ -1,6 +1,4 @@
-use Rattle.std.proofs.Common.{◌+◌, ◌∙◌, sym, ap, drop, length, ◌<◌, arith}
-use Rattle.std.specs.List.{slice_get}
-use Rattle.tp_document.specs.History.{shown_by}
+use Rattle.tp_document.proofs.Common.{◌+◌, ◌∙◌, sym, ap, drop, length, ◌<◌, arith, slice_get, shown_by}
 use Rattle.tp_document.proofs.SnapshotLaws.{no_place, found_here, found_later, found_after}
 use Rattle.tp_document.proofs.history.element_at.Goals as goal
 use Rattle.tp_document.proofs.history.element_at.Goals.{in-Some+then-shows+else-left-eq0, in-Some+else-shows, in_default}

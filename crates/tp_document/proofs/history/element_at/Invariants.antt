@@ -1,6 +1,4 @@
-use Rattle.std.proofs.Common.{◌≡◌, drop}
-use Rattle.std.specs.List.{slice_get}
-use Rattle.tp_document.specs.History.{shown_by}
+use Rattle.tp_document.proofs.Common.{◌≡◌, drop, slice_get, shown_by}
 use Rattle.tp_document.proofs.history.element_at.Given as goal
 
 -- the element is that at the index that is left among the elements that are left

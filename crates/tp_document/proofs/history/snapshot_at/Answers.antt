@@ -1,8 +1,4 @@
-use Rattle.std.proofs.Common.{◌≡◌, ◌<◌, ◌∙◌, ap, sym, subst, ℕ, List, length}
-use Rattle.tp_list.specs.Members.{In}
-use Rattle.tp_change.specs.declared.parts.ChangeParts.{ChangeParts}
-use Rattle.tp_graph.specs.Since.{past_places}
-use Rattle.tp_document.specs.History.{end_of, changes_at}
+use Rattle.tp_document.proofs.Common.{◌≡◌, ◌<◌, ◌∙◌, ap, sym, subst, ℕ, List, length, In, ChangeParts, past_places, end_of, changes_at}
 use Rattle.tp_document.proofs.ClockLaws.{changes_at-past, past_places-within}
 use Rattle.tp_document.proofs.history.snapshot_at.Goals as goal
 

@@ -1,8 +1,5 @@
-use Rattle.std.proofs.Common.{◌≡◌, take}
+use Rattle.tp_document.proofs.Common.{◌≡◌, take, string_bytes, chars_of, shown_by}
 use Rattle.std.specs.Prelude.{encode_utf8_all}
-use Rattle.std.specs.String.{string_bytes}
-use Rattle.tp_text.specs.Text.{chars_of}
-use Rattle.tp_document.specs.History.{shown_by}
 use Rattle.tp_document.proofs.history.text_of.Given as goal
 
 -- the text so far is that of the elements so far

@@ -1,6 +1,4 @@
-use Rattle.std.proofs.Common.{◌∙◌, ap, sym, ◌++◌, ◌∷◌, [], List, take}
-use Rattle.std.proofs.lemmas.List.{take_more}
-use Rattle.tp_change.specs.declared.parts.ChangeParts.{ChangeParts}
+use Rattle.tp_document.proofs.Common.{◌∙◌, ap, sym, ◌++◌, ◌∷◌, [], List, take, take_more, ChangeParts}
 use Rattle.tp_document.specs.Merging as merging
 use Rattle.tp_document.proofs.MergeLaws.{absent-append}
 use Rattle.tp_document.proofs.merging.absent.Goals as goal

@@ -6,5 +6,5 @@ pub returns : goal.returns
 returns c = record {
   begins = beginning_carried;
   goes_on = λ w e reply w' h s. (next_carries w e reply w' h s).carried;
-  runs = λ id events replies w is s. (goes_on_carries events replies (beginning id) w (beginning_carried id is) s).carried;
+  runs = λ id events w is s. (goes_on_carries events (beginning id) w (beginning_carried id is) s).carried;
 }

@@ -4,4 +4,4 @@ use Rattle.tp_headline.proofs.OneList.{carried_headline}
 use Rattle.tp_headline.proofs.laws.headline.Goals as goal
 
 pub returns : goal.returns
-returns c = λ id events replies w is s. carried_headline w (goes_on_carries events replies (beginning id) w (beginning_carried id is) s).carried
+returns c = λ id events w is s. carried_headline w (goes_on_carries events (beginning id) w (beginning_carried id is) s).carried

@@ -1,8 +1,9 @@
-use Rattle.tp_headline.proofs.RunLaws.{runs_join, runs_split}
+use Rattle.tp_list.proofs.TraceLaws.{trace_join, trace_split}
+use Rattle.tp_headline.specs.Running.{Met}
 use Rattle.tp_headline.proofs.laws.runs_part_by_part.Goals as goal
 
 pub returns : goal.returns
 returns c = record {
-  join = λ events more replies others w m w' first next. runs_join events replies more others w m w' first next;
-  split = runs_split;
+  join = λ events more w m w' first next. trace_join Met w events m more w' first next;
+  split = λ events more w w' run. trace_split Met w events more w' run;
 }

@@ -4,4 +4,4 @@ use Rattle.tp_headline.proofs.FollowLaws.{carried_follows}
 use Rattle.tp_headline.proofs.laws.what_was_shown_lasts.Goals as goal
 
 pub returns : goal.returns
-returns c = λ id events replies w is s. carried_follows w (goes_on_carries events replies (beginning id) w (beginning_carried id is) s).carried
+returns c = λ id events w is s. carried_follows w (goes_on_carries events (beginning id) w (beginning_carried id is) s).carried

@@ -1,15 +1,15 @@
-use Rattle.std.proofs.Common.{[], inl, inr, refl}
+use Rattle.std.proofs.Common.{[], ap, inl, inr, refl}
+use Rattle.std.specs.Prelude.{Err}
 use Rattle.std.proofs.KnownBytes.{Appends-nil, Consumes-nil}
 use Rattle.std.proofs.lemmas.Result.{err_from_is_err_and}
 use Rattle.tp_net.proofs.run.run_session.Goals as goal
 
-pub returns-in_err-forget-clause-broken : goal.returns-in_err-forget-clause-broken
-returns-in_err-forget-clause-broken g c =
+pub returns-in_err-forget-clause-session : goal.returns-in_err-forget-clause-session
+returns-in_err-forget-clause-session g c =
     let p = err_from_is_err_and c.from_residual.result c.from_residual.ensures.1 in
     rw p.1 (
-      [],
-      [],
+      record { read = []; sent = [] },
       Consumes-nil (g.R.Read.remaining c.args.reader.now),
       inr (Appends-nil (g.W.Write.contents c.args.writer.now)),
-      inl (record { refusal = c.in_err-forget.field-0.0; refused = c.in_err-forget.ensures.reply; told = p.2; nothing_read = refl; nothing_sent = refl }),
+      inl (record { refusal = c.in_err-forget.field-0.0; refused = c.in_err-forget.ensures.reply; told = ap Err p.2; nothing = refl }),
     )

@@ -1,17 +1,17 @@
 use Rattle.std.proofs.Common.{inr, refl, rules}
-use Rattle.tp_net.specs.Turns.{AllSit}
+use Rattle.tp_net.specs.Sessions.{AllSit}
 use Rattle.tp_net.proofs.SeatLists.{all_stay, still_of}
 use Rattle.tp_net.proofs.serving.serve.Goals as goal
 
 pub returns-in_default-clause-err : goal.returns-in_default-clause-err
-returns-in_default-clause-err g c = (all_stay c.args.seats.items, c.requires, inr refl)
+returns-in_default-clause-err g c = (all_stay _ c.args.seats.items, c.requires, inr refl)
 
 pub returns-in-Ok-accepted-clause-of : goal.returns-in-Ok-accepted-clause-of
 returns-in-Ok-accepted-clause-of g c =
-    let sit : AllSit c.args.seats.items c.join-seats.result.0.items = search rules in
-    still_of c.args.served.now.served c.args.seats.items c.join-seats.result.0.items c.requires sit
+    let sit : AllSit c.args.served.now.opened.id c.args.seats.items c.join-seats.result.0.items = search rules in
+    still_of _ c.args.served.now.served c.args.seats.items c.join-seats.result.0.items c.requires sit
 
 pub returns-in-Err-clause-err : goal.returns-in-Err-clause-err
 returns-in-Err-clause-err g c =
-    let sit : AllSit c.args.seats.items c.join-seats.result.0.items = search rules in
-    (sit, still_of c.args.served.now.served c.args.seats.items c.join-seats.result.0.items c.requires sit, search rules)
+    let sit : AllSit c.args.served.now.opened.id c.args.seats.items c.join-seats.result.0.items = search rules in
+    (sit, still_of _ c.args.served.now.served c.args.seats.items c.join-seats.result.0.items c.requires sit, search rules)

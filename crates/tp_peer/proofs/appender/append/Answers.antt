@@ -1,8 +1,5 @@
-use Rattle.std.proofs.Common.{◌≡◌, ℕ, List, ◌++◌, ap, subst, sym, ◌∙◌}
+use Rattle.tp_peer.proofs.Common.{◌≡◌, ℕ, List, ◌++◌, ap, subst, sym, ◌∙◌, LeavesPart, record_of, JournalState, RefusesRecord, journal_state}
 use Rattle.tp_receive.specs.declared.keeper.KeepError.{KeepError}
-use Rattle.tp_journal.specs.Journal.{LeavesPart}
-use Rattle.tp_journal.specs.Layout.{record_of}
-use Rattle.tp_peer.specs.Appending.{JournalState, RefusesRecord, journal_state}
 use Rattle.tp_peer.proofs.AppendingLaws.{record_refused}
 use Rattle.tp_peer.proofs.appender.append.Goals as goal
 

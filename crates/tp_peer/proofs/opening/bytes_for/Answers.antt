@@ -1,5 +1,4 @@
-use Rattle.tp_journal.specs.Layout.{journal}
-use Rattle.tp_peer.specs.Appending.{journal_state}
+use Rattle.tp_peer.proofs.Common.{journal, journal_state}
 use Rattle.tp_peer.proofs.OpeningLaws.{not_copied}
 use Rattle.tp_peer.proofs.opening.bytes_for.Goals as goal
 

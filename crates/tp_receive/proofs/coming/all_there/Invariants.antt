@@ -1,7 +1,4 @@
-use Rattle.std.proofs.Common.{◌≡◌, ◌++◌, List, drop}
-use Rattle.tp_change.specs.declared.parts.ChangeParts.{ChangeParts}
-use Rattle.tp_graph.specs.Named.{has_all}
-use Rattle.tp_receive.specs.HashSets.{IsHashSetOf}
+use Rattle.tp_receive.proofs.Common.{◌≡◌, ◌++◌, List, drop, ChangeParts, has_all, IsHashSetOf}
 use Rattle.tp_receive.proofs.coming.all_there.Given as goal
 
 abbrev pub invariant-loop-hash : goal.invariant-loop-hash

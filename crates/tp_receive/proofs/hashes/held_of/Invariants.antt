@@ -1,6 +1,4 @@
-use Rattle.std.proofs.Common.{◌≡◌, List, take}
-use Rattle.tp_change.specs.declared.parts.ChangeParts.{ChangeParts}
-use Rattle.tp_receive.specs.HashSets.{IsHashSetOf}
+use Rattle.tp_receive.proofs.Common.{◌≡◌, List, take, ChangeParts, IsHashSetOf}
 use Rattle.tp_receive.specs.Receiving as receiving
 use Rattle.tp_receive.proofs.hashes.held_of.Given as goal
 

@@ -1,8 +1,4 @@
-use Rattle.std.proofs.Common.{ap, get_or, sym}
-use Rattle.tp_list.proofs.Tests.{not_true}
-use Rattle.tp_opid.specs.Same.{same_hash}
-use Rattle.tp_opid.specs.declared.hash.Hash.{Hash}
-use Rattle.tp_opid.proofs.Orders.{same_hash-same}
+use Rattle.tp_receive.proofs.Common.{ap, get_or, sym, not_true, same_hash, Hash, same_hash-same}
 use Rattle.tp_receive.proofs.hashes.is_one.Goals as goal
 
 -- hashes whose first bytes differ aren't one

@@ -1,54 +1,53 @@
-use Rattle.std.proofs.Common.{refl, subst}
-use Rattle.tp_receive.specs.HashSets.{IsHashSetOf}
-use Rattle.tp_receive.specs.Intake.{begin, intake}
+use Rattle.tp_receive.proofs.Common.{refl, subst, IsHashSetOf, begin, receiver, OutOfMemory}
 use Rattle.tp_receive.proofs.HashLaws.{held_each}
-use Rattle.tp_receive.proofs.RunLaws.{kept_new}
-use Rattle.tp_receive.proofs.TakingLaws.{Run-begun, fails_for_memory, fails_at}
+use Rattle.tp_receive.proofs.TurnLaws.{Stops-then}
+use Rattle.tp_receive.proofs.TakingLaws.{Run-begun, Stops-still, has_stopped, is_space, nothing_done}
 use Rattle.tp_receive.proofs.intake.receive.Goals as goal
 
-pub returns-in_err-came-clause-err : goal.returns-in_err-came-clause-err
-returns-in_err-came-clause-err g c =
+pub returns-in_err-came-clause-outcome : goal.returns-in_err-came-clause-outcome
+returns-in_err-came-clause-outcome g c =
     let R = g.R.Replica in
-    fails_for_memory g.K.Keeper.keeps g.K.Keeper.refuses (begin c.args.keeper.now (R.applied c.args.replica.now) (R.waiting c.args.replica.now) c.args.changes.items)
-    c.args.keeper.now (R.applied c.args.replica.now) (R.waiting c.args.replica.now) c.from_residual.result refl refl refl c.from_residual.ensures.1
+    nothing_done g.K.Keeper.keeps g.K.Keeper.refuses (receiver c.args.keeper.now (R.applied c.args.replica.now) (R.waiting c.args.replica.now)) c.args.changes.items c.from_residual.result c.from_residual.ensures.1
 
-pub returns-in_err-coming-clause-err : goal.returns-in_err-coming-clause-err
-returns-in_err-coming-clause-err g c =
+pub returns-in_err-coming-clause-outcome : goal.returns-in_err-coming-clause-outcome
+returns-in_err-coming-clause-outcome g c =
     let R = g.R.Replica in
-    fails_for_memory g.K.Keeper.keeps g.K.Keeper.refuses (begin c.args.keeper.now (R.applied c.args.replica.now) (R.waiting c.args.replica.now) c.args.changes.items)
-    c.args.keeper.now (R.applied c.args.replica.now) (R.waiting c.args.replica.now) c.from_residual-in_err-coming.result refl refl refl c.from_residual-in_err-coming.ensures.1
+    nothing_done g.K.Keeper.keeps g.K.Keeper.refuses (receiver c.args.keeper.now (R.applied c.args.replica.now) (R.waiting c.args.replica.now)) c.args.changes.items c.from_residual-in_err-coming.result c.from_residual-in_err-coming.ensures.1
 
-pub returns-in_err-lacking-clause-err : goal.returns-in_err-lacking-clause-err
-returns-in_err-lacking-clause-err g c =
+pub returns-in_err-lacking-clause-outcome : goal.returns-in_err-lacking-clause-outcome
+returns-in_err-lacking-clause-outcome g c =
     let R = g.R.Replica in
-    fails_for_memory g.K.Keeper.keeps g.K.Keeper.refuses (begin c.args.keeper.now (R.applied c.args.replica.now) (R.waiting c.args.replica.now) c.args.changes.items)
-    c.args.keeper.now (R.applied c.args.replica.now) (R.waiting c.args.replica.now) c.from_residual-in_err-lacking.result refl refl refl c.from_residual-in_err-lacking.ensures.1
+    nothing_done g.K.Keeper.keeps g.K.Keeper.refuses (receiver c.args.keeper.now (R.applied c.args.replica.now) (R.waiting c.args.replica.now)) c.args.changes.items c.from_residual-in_err-lacking.result c.from_residual-in_err-lacking.ensures.1
 
-pub returns-in_err-held-clause-err : goal.returns-in_err-held-clause-err
-returns-in_err-held-clause-err g c =
+pub returns-in_err-held-clause-outcome : goal.returns-in_err-held-clause-outcome
+returns-in_err-held-clause-outcome g c =
     let R = g.R.Replica in
-    fails_at g.K.Keeper.keeps g.K.Keeper.refuses (begin c.args.keeper.now (R.applied c.args.replica.now) (R.waiting c.args.replica.now) c.args.changes.items)
-    (intake c.take_all.new.keeper (R.applied c.take_all.new.replica) (R.waiting c.take_all.new.replica) _ c.take_all.new.reported.applied.items c.take_all.new.reported.refused.items)
-    c.from_residual-in_err-held.result
-    (Run-begun g.K.Keeper.keeps c.args.keeper.now (R.applied c.args.replica.now) (R.waiting c.args.replica.now) c.args.changes.items c.in_ok-coming.coming.changes.items c.new-reported.result.applied.items c.new-reported.result.refused.items _
+    let k = c.args.keeper.now in
+    let C = R.applied c.args.replica.now in
+    let W = R.waiting c.args.replica.now in
+    let K = c.args.changes.items in
+    let t = receiver c.take_all.new.keeper (R.applied c.take_all.new.replica) (R.waiting c.take_all.new.replica) in
+    has_stopped g.K.Keeper.keeps g.K.Keeper.refuses (receiver k C W) K t c.from_residual-in_err-held.result OutOfMemory
+    (is_space C W c.pending.result.now K c.in_ok-coming.coming.changes.items c.in_ok-coming.coming.reserved c.pending.ensures.pending c.pending.ensures.few c.in_ok-coming.ensures.changes c.in_ok-coming.ensures.reserved c.if-pending-coming.false)
+    (Stops-then g.K.Keeper.keeps g.K.Keeper.refuses (begin k C W K) _ OutOfMemory t
+    (Run-begun g.K.Keeper.keeps k C W K c.in_ok-coming.coming.changes.items c.new-reported.result.applied.items c.new-reported.result.refused.items _
     c.in_ok-coming.ensures.changes c.new-reported.ensures.applied c.new-reported.ensures.refused c.in_ok-take_all.ensures.ok)
+    (Stops-still g.K.Keeper.keeps g.K.Keeper.refuses _ t.keeper t.applied t.waiting refl refl refl))
     c.from_residual-in_err-held.ensures.1
 
-pub returns-clause-ok : goal.returns-clause-ok
-returns-clause-ok g c =
+pub returns-clause-outcome : goal.returns-clause-outcome
+returns-clause-outcome g c =
     let R = g.R.Replica in
-    let came : IsHashSetOf c.in_ok-came.came c.args.changes.items = subst (IsHashSetOf c.in_ok-came.came) c.deref.ensures.value c.in_ok-came.ensures in
+    let k = c.args.keeper.now in
+    let C = R.applied c.args.replica.now in
+    let W = R.waiting c.args.replica.now in
+    let K = c.args.changes.items in
+    let came : IsHashSetOf c.in_ok-came.came K = subst (IsHashSetOf c.in_ok-came.came) c.deref.ensures.value c.in_ok-came.ensures in
     record {
-      run = Run-begun g.K.Keeper.keeps c.args.keeper.now (R.applied c.args.replica.now) (R.waiting c.args.replica.now) c.args.changes.items c.in_ok-coming.coming.changes.items c.new-reported.result.applied.items c.new-reported.result.refused.items _
+      space = is_space C W c.pending.result.now K c.in_ok-coming.coming.changes.items c.in_ok-coming.coming.reserved c.pending.ensures.pending c.pending.ensures.few c.in_ok-coming.ensures.changes c.in_ok-coming.ensures.reserved c.if-pending-coming.false;
+      run = Run-begun g.K.Keeper.keeps k C W K c.in_ok-coming.coming.changes.items c.new-reported.result.applied.items c.new-reported.result.refused.items _
           c.in_ok-coming.ensures.changes c.new-reported.ensures.applied c.new-reported.ensures.refused c.in_ok-take_all.ensures.ok;
       ends = record { settled = c.in_ok-take_all.ensures.settled; came = refl };
-      held_are = rw c.pending-3.ensures.pending at (c.in_ok-held.ensures c.args.changes.items came);
-      once = held_each _ c.pending-3.result.now (R.waiting c.take_all.new.replica) c.in_ok-held.held.items (c.in_ok-held.ensures c.args.changes.items came) c.pending-3.ensures.pending c.pending-3.ensures.once;
+      held = rw c.pending-3.ensures.pending at (c.in_ok-held.ensures K came);
+      once = held_each _ c.pending-3.result.now (R.waiting c.take_all.new.replica) c.in_ok-held.held.items (c.in_ok-held.ensures K came) c.pending-3.ensures.pending c.pending-3.ensures.once;
     }
-
-pub returns-clause-kept : goal.returns-clause-kept
-returns-clause-kept g c =
-    let R = g.R.Replica in
-    kept_new g.K.Keeper.keeps c.args.keeper.now (R.applied c.args.replica.now) (R.waiting c.args.replica.now) c.args.changes.items _
-    (Run-begun g.K.Keeper.keeps c.args.keeper.now (R.applied c.args.replica.now) (R.waiting c.args.replica.now) c.args.changes.items c.in_ok-coming.coming.changes.items c.new-reported.result.applied.items c.new-reported.result.refused.items _
-    c.in_ok-coming.ensures.changes c.new-reported.ensures.applied c.new-reported.ensures.refused c.in_ok-take_all.ensures.ok)

@@ -1,6 +1,4 @@
-use Rattle.std.proofs.Common.{inl, inr, sym, subst, ◌∙◌, List, Bool}
-use Rattle.tp_change.specs.declared.parts.ChangeParts.{ChangeParts}
-use Rattle.tp_receive.specs.Intake.{Run, Stopped, intake}
+use Rattle.tp_receive.proofs.Common.{inl, inr, sym, subst, ◌∙◌, List, Bool, ChangeParts, Run, Stops, intake, receiver}
 use Rattle.tp_receive.proofs.TurnLaws.{Run-then}
 use Rattle.tp_receive.proofs.ComingLaws.{slots_behind}
 use Rattle.tp_receive.proofs.TakingLaws.{stops_on}
@@ -31,8 +29,8 @@ returns-in_err-take-clause-err g c =
     (elim c.if-slot.branch [ then-slot w ↦ inl (w.if-slot.true, w.reserved-is) | else-slot w ↦ inr (w.if-slot.false, w.reserved-is) ]) in
     stops_on g.K.Keeper.keeps g.K.Keeper.refuses _ _ c.take.new.keeper (R.applied c.take.new.replica) (R.waiting c.take.new.replica) c.from_residual-in_err-take.result c.in_err-take.field-0.0
     c.loop-change.invariant.run
-    (subst (λ (P : List (ChangeParts × Bool)). Stopped g.K.Keeper.keeps g.K.Keeper.refuses
+    (subst (λ (P : List (ChangeParts × Bool)). Stops g.K.Keeper.keeps g.K.Keeper.refuses
     (intake c.loop-change.keeper (R.applied c.loop-change.replica) (R.waiting c.loop-change.replica) P c.loop-change.reported.applied.items c.loop-change.reported.refused.items)
-    c.in_err-take.field-0.0 c.take.new.keeper (R.applied c.take.new.replica) (R.waiting c.take.new.replica))
+    c.in_err-take.field-0.0 (receiver c.take.new.keeper (R.applied c.take.new.replica) (R.waiting c.take.new.replica)))
     (sym c.in-Some.ensures.steps.0) (c.in_err-take.ensures.err c.in-Some.slot c.next.new.self.rest.items few))
     c.from_residual-in_err-take.ensures.1

@@ -1,8 +1,4 @@
-use Rattle.std.proofs.Common.{◌≡◌}
-use Rattle.tp_receive.specs.Delivery.{slots}
-use Rattle.tp_receive.specs.Receiving.{AllWait}
-use Rattle.tp_receive.specs.Intake.{Run, intake}
-use Rattle.tp_receive.specs.Lacking.{KnowsLack}
+use Rattle.tp_receive.proofs.Common.{◌≡◌, slots, AllWait, Run, intake, KnowsLack}
 use Rattle.tp_receive.proofs.intake.take_all.Given as goal
 
 abbrev pub invariant-loop-change : goal.invariant-loop-change

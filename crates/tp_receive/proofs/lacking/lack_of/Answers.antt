@@ -1,7 +1,4 @@
-use Rattle.std.proofs.Common.{◌∙◌, sym, subst}
-use Rattle.std.proofs.lemmas.Option.{slice_get-get_or}
-use Rattle.tp_list.specs.Members.{In}
-use Rattle.tp_list.proofs.Members.{In-slice_get}
+use Rattle.tp_receive.proofs.Common.{◌∙◌, sym, subst, slice_get-get_or, In, In-slice_get}
 use Rattle.tp_receive.proofs.lacking.lack_of.Goals as goal
 
 pub returns-then-not-contains : goal.returns-then-not-contains

@@ -11,6 +11,6 @@ loop-i-preserved g c =
     let there = slice_get_there W i small in
     record {
       all = AllWait-more (g.R.Replica.applied c.args.replica.now) W i there.0 small (sym (get_or_from_slice_get W i there.0 there.0 there.1))
-          (sym (c.in_ok-waits_at.ensures.ok there.0 there.1) ∙ c.if-not-branch.false) c.loop-i.invariant.all;
+          (sym (c.waits_at.ensures.waits there.0 there.1) ∙ c.if-not-waits_at.false) c.loop-i.invariant.all;
       knows = c.waits_at.ensures.knows;
     }

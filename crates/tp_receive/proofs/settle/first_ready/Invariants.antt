@@ -1,6 +1,4 @@
-use Rattle.std.proofs.Common.{take}
-use Rattle.tp_receive.specs.Receiving.{AllWait}
-use Rattle.tp_receive.specs.Lacking.{KnowsLack}
+use Rattle.tp_receive.proofs.Common.{take, AllWait, KnowsLack}
 use Rattle.tp_receive.proofs.settle.first_ready.Given as goal
 
 abbrev pub invariant-loop-i : goal.invariant-loop-i

@@ -1,16 +1,7 @@
-use Rattle.std.proofs.Common.{◌∙◌, refl}
-use Rattle.tp_receive.specs.Intake.{intake}
+use Rattle.std.proofs.Common.{◌∙◌}
 use Rattle.tp_receive.proofs.TurnLaws.{Run-one, Run-then}
-use Rattle.tp_receive.proofs.TakingLaws.{stops_for_memory, stops_later, stops_on}
+use Rattle.tp_receive.proofs.TakingLaws.{stops_on}
 use Rattle.tp_receive.proofs.settle.settle.Goals as goal
-
-pub returns-in_err-i-clause-err : goal.returns-in_err-i-clause-err
-returns-in_err-i-clause-err g c P =
-    let R = g.R.Replica in
-    let here = intake c.loop-i.keeper (R.applied c.loop-i.replica) (R.waiting c.loop-i.replica) P c.loop-i.reported.applied.items c.loop-i.reported.refused.items in
-    stops_later g.K.Keeper.keeps g.K.Keeper.refuses _ here c.loop-i.keeper (R.applied c.loop-i.replica) (R.waiting c.loop-i.replica) c.from_residual.result (c.loop-i.invariant.run P)
-    (stops_for_memory g.K.Keeper.keeps g.K.Keeper.refuses here c.loop-i.keeper (R.applied c.loop-i.replica) (R.waiting c.loop-i.replica) c.from_residual.result c.in_err-i.field-0.0
-    c.in_err-i.ensures.err refl refl refl c.from_residual.ensures.1)
 
 pub loop-i-preserved : goal.loop-i-preserved
 loop-i-preserved g c = record {
@@ -24,4 +15,4 @@ pub returns-in_err-known-clause-err : goal.returns-in_err-known-clause-err
 returns-in_err-known-clause-err g c P =
     let R = g.R.Replica in
     stops_on g.K.Keeper.keeps g.K.Keeper.refuses _ _ c.settle_next.new.keeper (R.applied c.settle_next.new.replica) (R.waiting c.settle_next.new.replica)
-    c.from_residual-in_err-known.result c.in_err-known.field-0.0 (c.loop-i.invariant.run P) (c.in_err-known.ensures.err P) c.from_residual-in_err-known.ensures.1
+    c.from_residual.result c.in_err-known.field-0.0 (c.loop-i.invariant.run P) (c.in_err-known.ensures.err P) c.from_residual.ensures.1

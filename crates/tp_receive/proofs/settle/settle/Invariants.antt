@@ -1,8 +1,4 @@
-use Rattle.std.proofs.Common.{◌≡◌, List, Bool, length, take}
-use Rattle.tp_change.specs.declared.parts.ChangeParts.{ChangeParts}
-use Rattle.tp_receive.specs.Intake.{Run, intake}
-use Rattle.tp_receive.specs.Receiving.{AllWait}
-use Rattle.tp_receive.specs.Lacking.{KnowsLack}
+use Rattle.tp_receive.proofs.Common.{◌≡◌, List, Bool, length, take, ChangeParts, Run, intake, AllWait, KnowsLack}
 use Rattle.tp_receive.proofs.settle.settle.Given as goal
 
 abbrev pub invariant-loop-i : goal.invariant-loop-i

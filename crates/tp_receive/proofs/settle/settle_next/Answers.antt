@@ -1,7 +1,4 @@
-use Rattle.std.proofs.Common.{ap, sym, subst, ◌∙◌}
-use Rattle.tp_opid.specs.declared.hash.Hash.{Hash}
-use Rattle.tp_change.specs.ChangeHash.{hash_of}
-use Rattle.tp_receive.specs.Lacking.{GainsOnly}
+use Rattle.tp_receive.proofs.Common.{ap, sym, subst, ◌∙◌, Hash, hash_of, GainsOnly}
 use Rattle.tp_receive.proofs.WaitLaws.{slice_get_there}
 use Rattle.tp_receive.proofs.LackingLaws.{entry_within, knows_behind, read_at}
 use Rattle.tp_receive.proofs.settle.settle_next.Goals as goal

@@ -1,12 +1,6 @@
-use Rattle.std.proofs.Common.{inr, List, ◌∷◌, ◌∙◌, subst, sym}
-use Rattle.std.proofs.lemmas.Slice.Zip.{AllZip-long}
-use Rattle.tp_opid.specs.declared.hash.Hash.{Hash}
-use Rattle.tp_change.specs.declared.parts.ChangeParts.{ChangeParts}
-use Rattle.tp_change.specs.ChangeHash.{hash_of}
-use Rattle.tp_receive.specs.Intake.{intake}
-use Rattle.tp_receive.specs.Lacking.{GainsOnly, KnowsApart, KnowsLack, Lacks}
+use Rattle.tp_receive.proofs.Common.{inr, List, ◌∷◌, ◌∙◌, subst, sym, Hash, ChangeParts, hash_of, intake, GainsOnly, KnowsApart, KnowsLack, Lacks, AllZip-long}
 use Rattle.tp_receive.proofs.TurnLaws.{Run-none, Run-one, Run-turn}
-use Rattle.tp_receive.proofs.TakingLaws.{OnOk-map, came, meets_entered, meets_refused, meets_held, next_comes, Stopped-trying, stops_later, stops_on, turn_unreported, wait_held}
+use Rattle.tp_receive.proofs.TakingLaws.{OnOk-map, came, meets_entered, meets_refused, meets_held, next_comes, Stops-trying, stops_later, stops_on, turn_unreported, wait_held}
 use Rattle.tp_receive.proofs.LackingLaws.{gains_last}
 use Rattle.tp_receive.proofs.take.take.Goals as goal
 
@@ -21,7 +15,7 @@ returns-in_err-admit-clause-err g c slot P few =
     let begun = intake k C W ((c.args.change, slot) ∷ P) t r in
     stops_on g.K.Keeper.keeps g.K.Keeper.refuses begun begun c.admit.new.keeper (R.applied c.admit.new.replica) (R.waiting c.admit.new.replica) c.from_residual.result c.in_err-admit.field-0.0
     (Run-none g.K.Keeper.keeps begun)
-    (Stopped-trying g.K.Keeper.keeps g.K.Keeper.refuses begun c.args.change (intake k C W P t r) c.in_err-admit.field-0.0 c.admit.new.keeper (R.applied c.admit.new.replica) (R.waiting c.admit.new.replica)
+    (Stops-trying g.K.Keeper.keeps g.K.Keeper.refuses begun c.args.change (intake k C W P t r) c.in_err-admit.field-0.0 c.admit.new.keeper (R.applied c.admit.new.replica) (R.waiting c.admit.new.replica)
     (inr (next_comes k C W P t r c.args.change slot c.requires.settled)) c.in_err-admit.ensures.stays c.admit.ensures.waiting c.in_err-admit.ensures.err)
     c.from_residual.ensures.1
 

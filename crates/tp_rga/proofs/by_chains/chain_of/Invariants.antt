@@ -1,6 +1,7 @@
+use Rattle.tp_list.specs.Traces.{Trace}
 use Rattle.tp_opid.specs.declared.op_id.Place.TheVariants.{After}
 use Rattle.tp_opid.specs.Tree.{HasReference}
-use Rattle.tp_rga.specs.Order.{Leads}
+use Rattle.tp_rga.specs.Order.{Descends}
 use Rattle.tp_rga.proofs.ByChains.{rank}
 use Rattle.tp_rga.proofs.by_chains.chain_of.Given as goal
 
@@ -8,7 +9,7 @@ use Rattle.tp_rga.proofs.by_chains.chain_of.Given as goal
 abbrev pub invariant-loop-place : goal.invariant-loop-place
 invariant-loop-place l = record {
   there : HasReference l.inserts l.place;
-  leads : Leads l.inserts l.place l.chain.items (After l.id);
+  leads : Trace (Descends l.inserts) l.place l.chain.items (After l.id);
 }
 
 -- each reference is smaller

@@ -2,4 +2,4 @@ use Rattle.tp_session.proofs.SessionLaws.{done_last}
 use Rattle.tp_session.proofs.laws.done_is_said_last.Goals as goal
 
 pub returns : goal.returns
-returns g c = done_last g.H.Host.receives g.H.Host.generates
+returns g c = done_last g.H.Host.steps

@@ -2,8 +2,11 @@ use Rattle.std.proofs.Common.{◌≡◌, inl, inr, subst}
 use Rattle.std.proofs.KnownBytes.{Keeps-refl}
 use Rattle.tp_simulate.specs.declared.error.SimError.TheVariants as refusal
 use Rattle.tp_simulate.specs.SimError.{IsOutside}
-use Rattle.tp_simulate.proofs.ScriptLaws.{finished_part, finished_prints, going_ended, going_line_part, going_more, going_part, going_stops, no_line}
+use Rattle.tp_simulate.proofs.ScriptLaws.{finished_part, finished_prints, going_begins, going_ended, going_line_part, going_more, going_part, going_stops, no_line}
 use Rattle.tp_simulate.proofs.simulating.simulate.Goals as goal
+
+pub loop-number-init : goal.loop-number-init
+loop-number-init g c = going_begins _ c.array_len-len.ensures.bytes _ _ _ c.new.ensures c.new-2.ensures.items
 
 pub loop-number-preserved : goal.loop-number-preserved
 loop-number-preserved g c =

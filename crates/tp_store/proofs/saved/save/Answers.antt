@@ -1,7 +1,7 @@
 use Rattle.std.proofs.Common.{List, ap, subst, ◌∙◌}
 use Rattle.tp_opid.specs.declared.doc_id.DocId.{DocId}
 use Rattle.tp_change.specs.declared.parts.ChangeParts.{ChangeParts}
-use Rattle.tp_change.specs.Limits.{IsBytes}
+use Rattle.tp_list.specs.Bytes.{IsBytes}
 use Rattle.tp_store.specs.Saved.{saved}
 use Rattle.tp_store.proofs.WholeFile.{written}
 use Rattle.tp_store.proofs.saved.save.Goals as goal
@@ -17,7 +17,7 @@ returns-clause-bytes g c =
           ∙ ap (λ (i : DocId). saved i C) c.id-id.ensures
           ∙ ap (λ (l : List ChangeParts). saved c.args.document.now.id l) c.changes-changes.ensures.changes;
       can = record {
-        identifier = subst (λ (i : DocId). IsBytes 16 i.0) c.id-id.ensures c.id_len-bytes.ensures;
+        identifier = subst (λ (i : DocId). IsBytes 16 i.0) c.id-id.ensures c.array_len-bytes.ensures.bytes;
         sound = c.changes-changes.ensures.sound;
         limits = c.changes-changes.ensures.limits;
         few = c.changes-changes.ensures.few;

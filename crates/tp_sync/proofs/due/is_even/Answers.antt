@@ -1,10 +1,4 @@
-use Rattle.std.proofs.Common.{◌≡◌, ◌∙◌, List, Some, ap, sym}
-use Rattle.std.specs.List.{list_any}
-use Rattle.tp_opid.specs.declared.hash.Hash.{Hash}
-use Rattle.tp_change.specs.declared.parts.ChangeParts.{ChangeParts}
-use Rattle.tp_graph.specs.Heads.{heads}
-use Rattle.tp_graph.specs.Named.{has}
-use Rattle.tp_sync.specs.State.{SyncParts}
+use Rattle.tp_sync.proofs.Common.{◌≡◌, ◌∙◌, List, Some, ap, sym, list_any, Hash, ChangeParts, heads, has, SyncParts}
 use Rattle.tp_sync.proofs.LoadLaws.{even_is, not_any}
 use Rattle.tp_sync.proofs.due.is_even.Goals as goal
 

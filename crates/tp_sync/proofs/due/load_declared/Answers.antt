@@ -1,10 +1,4 @@
-use Rattle.std.proofs.Common.{◌≡◌, ◌∙◌, List, Bool, length, cond, drop, filter, nat_lt, ap, sym}
-use Rattle.std.specs.List.{list_any}
-use Rattle.tp_change.specs.declared.parts.ChangeParts.{ChangeParts}
-use Rattle.tp_graph.specs.Marks.{pick}
-use Rattle.tp_graph.specs.Since.{marks_since}
-use Rattle.tp_sync.specs.State.{SyncParts}
-use Rattle.tp_sync.specs.Due.{begins_at, due, take_due}
+use Rattle.tp_sync.proofs.Common.{◌≡◌, ◌∙◌, List, Bool, length, cond, drop, filter, nat_lt, ap, sym, list_any, ChangeParts, pick, marks_since, SyncParts, begins_at, due, take_due}
 use Rattle.tp_sync.proofs.LoadLaws.{AreMarks, are_marks, again_by, begins_by, carried_by}
 use Rattle.tp_sync.proofs.due.load_declared.Goals as goal
 

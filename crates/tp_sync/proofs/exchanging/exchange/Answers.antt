@@ -1,8 +1,5 @@
-use Rattle.std.proofs.Common.{◌≡◌, ◌∙◌, sym}
+use Rattle.tp_sync.proofs.Common.{◌≡◌, ◌∙◌, sym, SyncError, Stops, OtherDocument}
 use Rattle.tp_opid.proofs.Orders.{same_doc-apart, same_doc-same}
-use Rattle.tp_sync.specs.declared.error.SyncError.{SyncError}
-use Rattle.tp_sync.specs.declared.error.SyncError.TheVariants.{OtherDocument}
-use Rattle.tp_sync.specs.Exchange.{Stops}
 use Rattle.tp_sync.proofs.ExchangeLaws.{if_err, only_other, stops_not_other}
 use Rattle.tp_sync.proofs.exchanging.exchange.Goals as goal
 

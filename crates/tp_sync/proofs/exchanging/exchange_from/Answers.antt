@@ -1,8 +1,5 @@
-use Rattle.std.proofs.Common.{inr, subst}
-use Rattle.tp_sync.specs.declared.error.SyncError.{SyncError}
-use Rattle.tp_sync.specs.declared.exchanging.Exchanged.{Exchanged}
-use Rattle.tp_sync.specs.State.{SyncParts, fresh}
-use Rattle.tp_sync.specs.Exchange.{Exchanges, Passes, Replies, ReplyFails, Stops, side}
+use Rattle.tp_sync.proofs.Common.{inr, subst, SyncError, Exchanged, SyncParts, fresh, Exchanges, Passes, ReplyFails, Stops, side}
+use Rattle.tp_sync.specs.Exchange.{Replies}
 use Rattle.tp_sync.proofs.ExchangeLaws.{if_err, if_ok}
 use Rattle.tp_sync.proofs.exchanging.exchange_from.Goals as goal
 
@@ -14,8 +11,8 @@ returns-in-Ok-clause-ok g c =
     let first : Passes (side a fresh) c.speak.new.ours (side b fresh) asked c.in-Ok._begun.applied =
     subst (λ (s : SyncParts). Passes (side a s) c.speak.new.ours (side b fresh) asked c.in-Ok._begun.applied) c.requires.ours
     (subst (λ (t : SyncParts). Passes (side a c.args.ours.now) c.speak.new.ours (side b t) asked c.in-Ok._begun.applied) c.requires.theirs c.in-Ok.ensures.passes) in
-    if_ok (λ (r : Exchanged). Replies (side a c.speak.new.ours) asked c.reply.new.a c.reply.new.b r.into_a r.into_b r.cut)
-    (λ (r : Exchanged). Exchanges a b c.reply.new.a c.reply.new.b r.into_a r.into_b r.cut)
+    if_ok (λ (r : Exchanged). Replies (side a c.speak.new.ours) asked c.reply.new.a c.reply.new.b r)
+    (λ (r : Exchanged). Exchanges a b c.reply.new.a c.reply.new.b r)
     c.reply.result (λ r w. record { told = c.speak.new.ours; asked = asked; begun = c.in-Ok._begun.applied; first = first; replies = w }) c.reply.ensures.ok
 
 pub returns-in-Ok-clause-err : goal.returns-in-Ok-clause-err

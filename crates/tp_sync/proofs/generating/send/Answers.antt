@@ -1,12 +1,6 @@
-use Rattle.std.proofs.Common.{◌≡◌, ◌≤◌, ◌∙◌, List, length, sym, subst}
-use Rattle.tp_list.specs.Members.{In}
-use Rattle.tp_list.specs.Rising.{IsRising}
-use Rattle.tp_opid.specs.declared.hash.Hash.{Hash}
-use Rattle.tp_opid.specs.Order.{hash_cmp}
-use Rattle.tp_change.specs.declared.parts.ChangeParts.{ChangeParts}
+use Rattle.tp_sync.proofs.Common.{◌≡◌, ◌≤◌, ◌∙◌, List, length, sym, subst, In, IsRising, Hash, hash_cmp, ChangeParts, MAX_CHANGES, MAX_HASHES, MAX_KNOWN}
 use Rattle.tp_graph.specs.Heads as head
 use Rattle.tp_graph.proofs.HeadsLaws.{heads_rise}
-use Rattle.tp_sync.specs.declared.limits.TheConstants.{MAX_CHANGES, MAX_HASHES, MAX_KNOWN}
 use Rattle.tp_sync.proofs.KnownLaws.{known_few, known_rises}
 use Rattle.tp_sync.proofs.TakeLaws.{carried-In, carried_few}
 use Rattle.tp_sync.proofs.WantLaws.{wanted_few, wanted_rises}

@@ -1,11 +1,4 @@
-use Rattle.std.proofs.Common.{◌≡◌, ◌≤◌, ◌<◌, ◌+◌, ◌-◌, ◌*◌, ◌∙◌, Vec, Global, List, Some, length, ap, sym, subst, refl, arith}
-use Rattle.std.specs.List.{slice_get}
-use Rattle.std.proofs.lemmas.Option.{slice_get_read}
-use Rattle.tp_list.specs.Rising.{put, rising}
-use Rattle.tp_opid.specs.declared.hash.Hash.{Hash}
-use Rattle.tp_opid.specs.Order.{hash_cmp}
-use Rattle.tp_change.specs.declared.parts.ChangeParts.{ChangeParts}
-use Rattle.tp_sync.specs.Known.{powers_before_end}
+use Rattle.tp_sync.proofs.Common.{◌≡◌, ◌≤◌, ◌<◌, ◌+◌, ◌-◌, ◌*◌, ◌∙◌, Vec, Global, List, Some, length, ap, sym, subst, refl, arith, slice_get, put, rising, Hash, hash_cmp, ChangeParts, slice_get_read, powers_before_end}
 use Rattle.tp_sync.proofs.KnownLaws.{KnownSoFar, so_far-begins, so_far-past, so_far-positive, so_far-rises, so_far-small, so_far-there}
 use Rattle.tp_sync.proofs.known.known.Goals.{then-back-applied+in_ok-put, else-back-applied}
 use Rattle.tp_sync.proofs.known.known.Goals as goal

@@ -1,7 +1,4 @@
-use Rattle.std.proofs.Common.{◌∙◌, ◌++◌, ap, List}
-use Rattle.tp_opid.specs.declared.hash.Hash.{Hash}
-use Rattle.tp_graph.specs.Heads.{heads}
-use Rattle.tp_graph.specs.Named.{has_all}
+use Rattle.tp_sync.proofs.Common.{◌∙◌, ◌++◌, ap, List, Hash, heads, has_all}
 use Rattle.tp_sync.proofs.KnownLaws.{has_all-declared}
 use Rattle.tp_sync.proofs.laws.what_is_declared_is_there.Goals as goal
 

@@ -1,8 +1,4 @@
-use Rattle.std.proofs.Common.{◌≡◌, ◌∙◌, ◌++◌, ap, List, Option}
-use Rattle.std.specs.Option.{option_map}
-use Rattle.tp_opid.specs.declared.hash.Hash.{Hash}
-use Rattle.tp_sync.specs.State.{declared}
-use Rattle.tp_sync.specs.Due.{due_of}
+use Rattle.tp_sync.proofs.Common.{◌≡◌, ◌∙◌, ◌++◌, ap, List, Option, Hash, declared, due_of, option_map}
 use Rattle.tp_sync.proofs.laws.what_was_sent_stays_due.Goals as goal
 
 pub returns : goal.returns

@@ -1,7 +1,4 @@
-use Rattle.std.proofs.Common.{◌≡◌, ◌<◌, ◌-◌, ◌+◌, ℕ, length, drop, sym, subst, arith}
-use Rattle.std.specs.List.{insert}
-use Rattle.tp_list.specs.Rising.{IsBelowAll, put}
-use Rattle.tp_opid.specs.Order.{hash_cmp}
+use Rattle.tp_sync.proofs.Common.{◌≡◌, ◌<◌, ◌-◌, ◌+◌, ℕ, length, drop, sym, subst, arith, IsBelowAll, put, hash_cmp, insert}
 use Rattle.tp_sync.proofs.WantLaws.{put_at_index, put_again, put_first}
 use Rattle.tp_sync.proofs.wanting.index_for.Goals as goal
 

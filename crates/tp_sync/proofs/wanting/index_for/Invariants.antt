@@ -1,6 +1,4 @@
-use Rattle.std.proofs.Common.{◌-◌, drop, length}
-use Rattle.tp_list.specs.Rising.{IsBelowAll}
-use Rattle.tp_opid.specs.Order.{hash_cmp}
+use Rattle.tp_sync.proofs.Common.{◌-◌, drop, length, IsBelowAll, hash_cmp}
 use Rattle.tp_sync.proofs.wanting.index_for.Given as goal
 
 abbrev pub invariant-loop-passed : goal.invariant-loop-passed

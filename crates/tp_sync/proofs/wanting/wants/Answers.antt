@@ -1,11 +1,4 @@
-use Rattle.std.proofs.Common.{◌∙◌, ◌++◌, List, take, filter, ap}
-use Rattle.std.specs.List.{flat_map}
-use Rattle.tp_list.specs.Rising.{rising}
-use Rattle.tp_opid.specs.declared.hash.Hash.{Hash}
-use Rattle.tp_opid.specs.Order.{hash_cmp}
-use Rattle.tp_change.specs.declared.parts.ChangeParts.{ChangeParts}
-use Rattle.tp_sync.specs.declared.limits.TheConstants.{MAX_HASHES}
-use Rattle.tp_sync.specs.Wanting.{is_absent}
+use Rattle.tp_sync.proofs.Common.{◌∙◌, ◌++◌, List, take, filter, ap, flat_map, rising, Hash, hash_cmp, ChangeParts, MAX_HASHES, is_absent}
 use Rattle.tp_sync.proofs.WantLaws.{wanted_is}
 use Rattle.tp_sync.proofs.wanting.wants.Goals as goal
 

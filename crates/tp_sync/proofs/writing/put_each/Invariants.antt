@@ -1,6 +1,4 @@
-use Rattle.std.proofs.Common.{◌≡◌, ◌++◌, take}
-use Rattle.std.specs.List.{flat_map}
-use Rattle.tp_opid.specs.declared.hash.Hash.{Hash}
+use Rattle.tp_sync.proofs.Common.{◌≡◌, ◌++◌, take, flat_map, Hash}
 use Rattle.tp_sync.proofs.writing.put_each.Given as goal
 
 abbrev pub invariant-loop-hash : goal.invariant-loop-hash

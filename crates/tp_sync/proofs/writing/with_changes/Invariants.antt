@@ -1,6 +1,4 @@
-use Rattle.std.proofs.Common.{◌≡◌, ◌++◌, take}
-use Rattle.std.specs.List.{flat_map}
-use Rattle.tp_sync.specs.Spelling.{entry}
+use Rattle.tp_sync.proofs.Common.{◌≡◌, ◌++◌, take, flat_map, entry}
 use Rattle.tp_sync.proofs.writing.with_changes.Given as goal
 
 abbrev pub invariant-loop-change : goal.invariant-loop-change

@@ -1,10 +1,6 @@
-use Rattle.std.proofs.Common.{◌≡◌, ◌<◌, ◌≤◌, ◌∙◌, ap, ℕ, List, Some, cond, subst, arith}
-use Rattle.std.specs.Map.{lookup}
-use Rattle.std.specs.Option.{unwrap_or}
-use Rattle.tp_opid.specs.declared.actor.Actor.{Actor}
+use Rattle.tp_document.proofs.Common.{◌≡◌, ◌<◌, ◌≤◌, ◌∙◌, ap, ℕ, List, Some, cond, subst, arith, Actor, end_at, lookup, unwrap_or}
 use Rattle.tp_opid.specs.Same.{same_actor}
 use Rattle.tp_opid.specs.Order.{actor_cmp}
-use Rattle.tp_document.specs.History.{end_at}
 use Rattle.tp_document.proofs.ClockLaws.{noted, not_noted}
 use Rattle.tp_document.proofs.clock.Clock.note.Goals as goal
 

@@ -1,8 +1,6 @@
-use Rattle.std.proofs.Common.{◌≡◌, ◌∙◌, ap, List, Bool, ◌||◌, cond, true, false, refl}
-use Rattle.tp_opid.specs.declared.op_id.OpId.{OpId}
+use Rattle.tp_document.proofs.Common.{◌≡◌, ◌∙◌, ap, List, Bool, ◌||◌, cond, true, false, refl, OpId, is_one_of}
 use Rattle.tp_opid.specs.Same.{id_eq}
 use Rattle.tp_opid.specs.Order.{id_cmp}
-use Rattle.tp_document.specs.History.{is_one_of}
 use Rattle.tp_document.proofs.clock.Targets.add.Goals as goal
 
 either : (a b : Bool) → cond a true b ≡ (a || b)

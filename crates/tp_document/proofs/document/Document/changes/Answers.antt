@@ -1,7 +1,4 @@
-use Rattle.std.proofs.Common.{subst}
-use Rattle.tp_document.specs.DocState.{DocState, AllChanges}
-use Rattle.std.proofs.Common.{◌≤◌, length}
-use Rattle.tp_graph.specs.Fit.{most_changes}
+use Rattle.tp_document.proofs.Common.{subst, ◌≤◌, length, DocState, AllChanges, most_changes}
 use Rattle.tp_document.proofs.document.Document.changes.Goals as goal
 
 pub returns-clause-limits : goal.returns-clause-limits

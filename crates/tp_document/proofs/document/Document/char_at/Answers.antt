@@ -1,7 +1,5 @@
-use Rattle.tp_document.specs.DocState.{DocState}
-use Rattle.tp_document.specs.Showing.{HasCharAt}
+use Rattle.tp_document.proofs.Common.{subst, DocState, HasCharAt}
 use Rattle.tp_document.proofs.ShowingLaws.{Holds-char}
-use Rattle.std.proofs.Common.{subst}
 use Rattle.tp_document.proofs.document.Document.char_at.Goals as goal
 
 pub returns : goal.returns

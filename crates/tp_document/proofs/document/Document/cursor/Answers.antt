@@ -1,6 +1,4 @@
-use Rattle.std.proofs.Common.{Some, None, subst, refl}
-use Rattle.tp_document.specs.DocState.{DocState}
-use Rattle.tp_document.specs.Showing.{HasElementAt}
+use Rattle.tp_document.proofs.Common.{Some, None, subst, refl, DocState, HasElementAt}
 use Rattle.tp_document.proofs.ShowingLaws.{Holds-element}
 use Rattle.tp_document.proofs.document.Document.cursor.Goals as goal
 

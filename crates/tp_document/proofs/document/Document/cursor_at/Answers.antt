@@ -1,7 +1,4 @@
-use Rattle.std.proofs.Common.{Some, None, inr, subst, refl}
-use Rattle.tp_graph.specs.Past.{past}
-use Rattle.tp_document.specs.DocState.{DocState}
-use Rattle.tp_document.specs.Showing.{HasElementAt}
+use Rattle.tp_document.proofs.Common.{Some, None, inr, subst, refl, past, DocState, HasElementAt}
 use Rattle.tp_document.proofs.PastElements.{past-element}
 use Rattle.tp_document.proofs.document.Document.cursor_at.Goals as goal
 

@@ -1,6 +1,4 @@
-use Rattle.std.proofs.Common.{Some, None, subst, refl}
-use Rattle.tp_document.specs.DocState.{DocState}
-use Rattle.tp_document.specs.Showing.{HasPosition}
+use Rattle.tp_document.proofs.Common.{Some, None, subst, refl, DocState, HasPosition}
 use Rattle.tp_document.proofs.ShowingLaws.{Holds-position}
 use Rattle.tp_document.proofs.document.Document.cursor_position.Goals as goal
 

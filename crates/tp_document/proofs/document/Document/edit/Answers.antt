@@ -1,10 +1,5 @@
-use Rattle.std.proofs.Common.{◌≡◌, List, [], ◌∷◌, ◌++◌, Option, subst, sym, ap, ◌∙◌}
+use Rattle.tp_document.proofs.Common.{◌≡◌, List, [], ◌∷◌, ◌++◌, Option, subst, sym, ap, ◌∙◌, chars, ChangeParts, IsTextOf, asking, Edited, all_spliced, AsksNothing}
 use Rattle.std.specs.Prelude.{MatchOption}
-use Rattle.std.specs.Str.{chars}
-use Rattle.tp_change.specs.declared.parts.ChangeParts.{ChangeParts}
-use Rattle.tp_edit.specs.Splices.{all_spliced}
-use Rattle.tp_text.specs.Text.{IsTextOf}
-use Rattle.tp_document.specs.Editing.{asking, AsksNothing, Edited}
 use Rattle.tp_document.proofs.EditFits.{edit_text, nothing_spliced}
 use Rattle.tp_document.proofs.document.Document.edit.Goals as goal
 
@@ -14,7 +9,7 @@ returns-in-Ok-clause-text g c = λ t text.
     let asked = asking c.args.actor c.args.splices.now c.args.time (chars c.args.message.now) in
     let edited : Edited C asked c.in-Ok-Some.change =
     subst (λ (o : Option ChangeParts). MatchOption o (AsksNothing C asked) (λ x. Edited C asked x)) c.in-Ok-Some.field-0-is c.in-Ok-Some.ensures in
-    let after : c.enter.new.self.applied ≡ C ++ c.in-Ok-Some.change ∷ [] = c.enter.ensures.applied ∙ ap (λ (D : List ChangeParts). D ++ c.in-Ok-Some.change ∷ []) c.in-Ok.ensures.applied in
+    let after : c.enter.new.self.applied ≡ C ++ c.in-Ok-Some.change ∷ [] = c.enter.ensures.applied ∙ ap (λ (D : List ChangeParts). D ++ c.in-Ok-Some.change ∷ []) c.in-Ok.ensures.stays.applied in
     subst (λ (D : List ChangeParts). IsTextOf D (all_spliced t c.args.splices.now)) (sym after)
     (edit_text C asked c.in-Ok-Some.change t c.changes-count.ensures.sound edited text)
 

@@ -1,8 +1,4 @@
-use Rattle.std.proofs.Common.{◌≡◌, ◌≤◌, None, subst, sym, ap, ◌∙◌}
-use Rattle.tp_change.specs.Operations.{op_count}
-use Rattle.tp_change.proofs.OpsLaws.{length-ops_of}
-use Rattle.tp_graph.specs.Fit.{cause}
-use Rattle.tp_document.specs.DocState.{DocState, Holds}
+use Rattle.tp_document.proofs.Common.{◌≡◌, ◌≤◌, None, subst, sym, ap, ◌∙◌, op_count, length-ops_of, cause, DocState, Holds}
 use Rattle.tp_document.proofs.SoundText.{Holds-applies, Holds-push}
 use Rattle.tp_document.proofs.document.Document.enter.Goals as goal
 

@@ -1,11 +1,4 @@
-use Rattle.std.proofs.Common.{◌≡◌, ◌<◌, ◌≤◌, ap, sym, ◌∙◌, subst, List, length, IfOk}
-use Rattle.tp_list.specs.Members.{In}
-use Rattle.tp_change.specs.declared.parts.ChangeParts.{ChangeParts}
-use Rattle.tp_graph.specs.Fit.{most_changes}
-use Rattle.tp_graph.specs.Past.{past}
-use Rattle.tp_graph.specs.Sound.{Sound}
-use Rattle.tp_graph.proofs.SoundLaws.{sound_pasts}
-use Rattle.tp_document.specs.DocState.{DocState}
+use Rattle.tp_document.proofs.Common.{◌≡◌, ◌<◌, ◌≤◌, ap, sym, ◌∙◌, subst, List, length, IfOk, In, ChangeParts, most_changes, past, Sound, sound_pasts, DocState, HasJust}
 use Rattle.tp_document.proofs.ForkLaws.{past_of_places, few_in_past}
 use Rattle.tp_document.proofs.ClockLaws.{past_places-within}
 use Rattle.tp_document.proofs.document.Document.fork_at.Goals as goal
@@ -33,12 +26,12 @@ document_at-requires-clause-few g c =
     subst (λ (l : List ChangeParts). length l ≤ most_changes) (sym (past_of_places c.changes.result.now C c.places.result.now c.in-Ok.past H same c.places.ensures c.in-Ok.ensures.places))
     (few_in_past C H c.self.invariant.few)
 
-pub returns-in-Ok-clause-applied : goal.returns-in-Ok-clause-applied
-returns-in-Ok-clause-applied g c =
+pub returns-in-Ok-clause-ok : goal.returns-in-Ok-clause-ok
+returns-in-Ok-clause-ok g c =
     let C = c.self.inside.graph.applied in
     let H = c.args.hashes.now in
     let same : c.changes.result.now ≡ C = c.changes.ensures.changes ∙ sym (ap (λ (d : DocState). d.applied) c.self.view_is) in
-    subst (λ P. IfOk c.document_at.result (λ d. d.applied ≡ P))
-    (past_of_places c.changes.result.now C c.places.result.now c.in-Ok.past H same c.places.ensures c.in-Ok.ensures.places
-    ∙ ap (λ (d : DocState). past d.applied H) c.self.view_is)
-    c.document_at.ensures.applied
+    subst (λ (s : DocState). IfOk c.document_at.result (λ d. HasJust s.id (past s.applied H) d)) c.self.view_is
+    (subst (λ P. IfOk c.document_at.result (λ d. HasJust c.self.inside.id P d))
+    (past_of_places c.changes.result.now C c.places.result.now c.in-Ok.past H same c.places.ensures c.in-Ok.ensures.places)
+    c.document_at.ensures.ok)

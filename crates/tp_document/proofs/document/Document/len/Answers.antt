@@ -1,7 +1,5 @@
-use Rattle.tp_document.specs.DocState.{DocState}
-use Rattle.tp_document.specs.Showing.{HasLength}
+use Rattle.tp_document.proofs.Common.{subst, DocState, HasLength}
 use Rattle.tp_document.proofs.ShowingLaws.{Holds-length}
-use Rattle.std.proofs.Common.{subst}
 use Rattle.tp_document.proofs.document.Document.len.Goals as goal
 
 pub returns : goal.returns

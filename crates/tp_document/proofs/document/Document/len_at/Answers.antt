@@ -1,7 +1,4 @@
-use Rattle.std.proofs.Common.{subst}
-use Rattle.tp_graph.specs.Past.{past}
-use Rattle.tp_document.specs.DocState.{DocState}
-use Rattle.tp_document.specs.Showing.{HasLength}
+use Rattle.tp_document.proofs.Common.{subst, past, DocState, HasLength}
 use Rattle.tp_document.proofs.PastElements.{past-length}
 use Rattle.tp_document.proofs.document.Document.len_at.Goals as goal
 

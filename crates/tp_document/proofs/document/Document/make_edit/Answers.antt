@@ -1,8 +1,4 @@
-use Rattle.std.proofs.Common.{Ok, subst, sym}
-use Rattle.std.specs.Str.{chars}
-use Rattle.tp_change.specs.declared.parts.ChangeParts.{ChangeParts}
-use Rattle.tp_document.specs.DocState.{DocState}
-use Rattle.tp_document.specs.Editing.{asking, IsRefused, AsksNothing, Edited, AreInRange}
+use Rattle.tp_document.proofs.Common.{Ok, subst, sym, chars, ChangeParts, DocState, asking, Edited, AreInRange, IsRefused, AsksNothing}
 use Rattle.tp_document.specs.Making.{IsAllowed, IsWithinSize}
 use Rattle.tp_document.proofs.EditFits.{edit_enters}
 use Rattle.tp_document.proofs.document.Document.make_edit.Goals as goal

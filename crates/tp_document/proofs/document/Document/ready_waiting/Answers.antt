@@ -1,10 +1,5 @@
-use Rattle.std.proofs.Common.{◌≡◌, ◌≤◌, Some, ap, subst, ◌∙◌}
-use Rattle.std.specs.List.{slice_get}
+use Rattle.tp_document.proofs.Common.{◌≡◌, ◌≤◌, Some, ap, subst, ◌∙◌, slice_get, ChangeParts, hash_of, op_count, DocState}
 use Rattle.std.proofs.lemmas.Option.{get_or_from_slice_get}
-use Rattle.tp_change.specs.declared.parts.ChangeParts.{ChangeParts}
-use Rattle.tp_change.specs.ChangeHash.{hash_of}
-use Rattle.tp_change.specs.Operations.{op_count}
-use Rattle.tp_document.specs.DocState.{DocState}
 use Rattle.tp_receive.proofs.TakingLaws.{OnOk-map}
 use Rattle.tp_document.proofs.document.Document.ready_waiting.Goals as goal
 

@@ -1,8 +1,4 @@
-use Rattle.std.proofs.Common.{subst}
-use Rattle.std.specs.Str.{chars}
-use Rattle.std.specs.String.{string_bytes}
-use Rattle.tp_text.specs.Text.{IsTextOf}
-use Rattle.tp_document.specs.DocState.{DocState}
+use Rattle.tp_document.proofs.Common.{subst, chars, string_bytes, IsTextOf, DocState}
 use Rattle.tp_document.proofs.ShowingLaws.{Holds-bytes}
 use Rattle.tp_document.proofs.document.Document.text.Goals as goal
 

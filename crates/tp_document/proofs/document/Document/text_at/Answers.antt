@@ -1,9 +1,4 @@
-use Rattle.std.proofs.Common.{subst}
-use Rattle.std.specs.Str.{chars}
-use Rattle.std.specs.String.{string_bytes}
-use Rattle.tp_text.specs.Text.{IsTextOf}
-use Rattle.tp_graph.specs.Past.{past}
-use Rattle.tp_document.specs.DocState.{DocState}
+use Rattle.tp_document.proofs.Common.{subst, chars, string_bytes, IsTextOf, past, DocState}
 use Rattle.tp_document.proofs.PastElements.{past-bytes}
 use Rattle.tp_document.proofs.document.Document.text_at.Goals as goal
 

@@ -1,17 +1,13 @@
-use Rattle.std.proofs.Common.{true, ◌||◌, Err, ap, sym, subst, ◌∙◌}
-use Rattle.tp_document.specs.declared.error.DocError.{DocError}
-use Rattle.tp_document.specs.Applying.{IsOtherAlone, MergesPart}
+use Rattle.std.proofs.Common.{Bool, false, ap, sym, subst, ◌∙◌, ◌||◌}
 use Rattle.tp_document.specs.Merging.{absent}
-use Rattle.tp_receive.specs.declared.intake.Applied.{Applied}
-use Rattle.tp_peer.specs.declared.error.PeerError.{PeerError}
-use Rattle.tp_peer.specs.declared.error.PeerError.TheVariants.{JournalFailed}
-use Rattle.tp_peer.specs.Appending.{AppendsRecord, RefusesRecord}
+use Rattle.tp_receive.specs.Outcome.{Done}
 use Rattle.tp_peer.specs.PeerData.{PeerData, peer_data}
-use Rattle.tp_peer.specs.PeerError.{refusal_of_document}
-use Rattle.tp_peer.specs.PeerStep.{Merge, Merged, Merges, PeerStep, Refused, RefusesMerge}
+use Rattle.tp_peer.specs.PeerError.{refusal_of_document, is_failed}
+use Rattle.tp_peer.specs.declared.error.PeerError.{PeerError}
+use Rattle.tp_peer.specs.PeerStep.{Call, Merge, Merged, PeerStep, Refused, Reply, Runs}
 use Rattle.tp_peer.specs.Taking.{report_of}
 use Rattle.tp_peer.proofs.StepLaws.{either_stopped, keeping_leaves_peer, none_stopped, runs_keep, step_runs, step_stopped}
-use Rattle.tp_peer.proofs.TakingLaws.{merge_refused, merge_stopped, took_all}
+use Rattle.tp_peer.proofs.TakingLaws.{merge_refused, took}
 use Rattle.tp_peer.proofs.peer.Peer.merge.Goals as goal
 use Rattle.tp_peer.proofs.peer.Peer.merge.Goals.{then-self-via-then-self, then-self-via-else-self+then-other}
 
@@ -31,37 +27,27 @@ invariant_of-self g c =
     let new = c.merge_with.new in
     let p : PeerData = peer_data s.actor s.document s.links.known s.appender s.stopped in
     let q : PeerData = peer_data o.actor o.document o.links.known o.appender o.stopped in
+    let reply : Reply = Merged (report_of c.in-Ok.applied) in
     let p' : PeerData = peer_data s.actor new.self s.links.known new.keeper s.stopped in
-    let done : Merges p q (report_of c.in-Ok.applied) p' =
-    (c.in-Ok.ensures.other, took_all s.actor s.document new.self s.links.known s.appender new.keeper s.stopped (absent s.document.applied o.document.applied) c.in-Ok.applied c.in-Ok.ensures.id c.in-Ok.ensures.space c.in-Ok.ensures.ok) in
-    keeping_leaves_peer p (Merge q) (Merged (report_of c.in-Ok.applied)) p' c.self.invariant (runs_keep p (Merge q) (Merged (report_of c.in-Ok.applied)) p' c.if-self.false done)
+    let done : Runs p (Merge q) reply p' =
+    (c.in-Ok.ensures.outcome.0, took s.actor s.document new.self s.links.known s.appender new.keeper s.stopped (absent s.document.applied o.document.applied) (Done (report_of c.in-Ok.applied)) c.in-Ok.ensures.id c.in-Ok.ensures.outcome.1) in
+    keeping_leaves_peer p (Merge q) reply p' c.self.invariant (runs_keep p (Merge q) reply p' c.if-self.false done)
 
-pub invariant_of-self-in-NotKept : goal.invariant_of-self-in-NotKept
-invariant_of-self-in-NotKept g c =
+pub invariant_of-self-in-Err : goal.invariant_of-self-in-Err
+invariant_of-self-in-Err g c =
     let s = c.self.inside in
     let o = c.other.inside in
     let new = c.merge_with.new in
     let p : PeerData = peer_data s.actor s.document s.links.known s.appender s.stopped in
     let q : PeerData = peer_data o.actor o.document o.links.known o.appender o.stopped in
-    let K = absent s.document.applied o.document.applied in
-    let p' : PeerData = peer_data s.actor new.self s.links.known new.keeper true in
-    let refused : RefusesMerge p q JournalFailed p' =
-    merge_stopped s.actor s.document new.self s.links.known s.appender new.keeper s.stopped q c.in-Err.ensures.id
-    (subst (λ (e : DocError). IsOtherAlone {T = Applied} (Err e) s.document.id o.document.id) c.in-NotKept.is c.in-Err.ensures.other)
-    (subst (λ (e : DocError). MergesPart AppendsRecord RefusesRecord s.appender new.keeper K s.document new.self e) c.in-NotKept.is c.in-Err.ensures.err) in
-    keeping_leaves_peer p (Merge q) (Refused JournalFailed) p' c.self.invariant (runs_keep p (Merge q) (Refused JournalFailed) p' c.if-self.false refused)
-
-pub invariant_of-self-in_default : goal.invariant_of-self-in_default
-invariant_of-self-in_default g c =
-    let s = c.self.inside in
-    let o = c.other.inside in
-    let new = c.merge_with.new in
-    let p : PeerData = peer_data s.actor s.document s.links.known s.appender s.stopped in
-    let q : PeerData = peer_data o.actor o.document o.links.known o.appender o.stopped in
-    let p' : PeerData = peer_data s.actor new.self s.links.known new.keeper s.stopped in
-    let refused : RefusesMerge p q (refusal_of_document c.in-Err.error) p' =
-    merge_refused s.actor s.document new.self s.links.known s.appender new.keeper s.stopped q c.in-Err.error c.in-Err.ensures.id c.in_default.not-NotKept c.in-Err.ensures.other c.in-Err.ensures.err in
-    keeping_leaves_peer p (Merge q) (Refused (refusal_of_document c.in-Err.error)) p' c.self.invariant (runs_keep p (Merge q) (Refused (refusal_of_document c.in-Err.error)) p' c.if-self.false refused)
+    let reply : Reply = Refused c.from-error.result in
+    let p' : PeerData = peer_data s.actor new.self s.links.known new.keeper c.is_failed-self-inside.result in
+    let refused : Runs p (Merge q) reply p' =
+    subst (λ (b : Bool). Runs (peer_data s.actor s.document s.links.known s.appender b) (Merge q) reply p') (sym c.if-self.false)
+    (subst (λ (b : Bool). Runs (peer_data s.actor s.document s.links.known s.appender false) (Merge q) reply (peer_data s.actor new.self s.links.known new.keeper b)) (sym c.is_failed-self-inside.ensures)
+    (subst (λ (e : PeerError). Runs (peer_data s.actor s.document s.links.known s.appender false) (Merge q) (Refused e) (peer_data s.actor new.self s.links.known new.keeper (is_failed e))) (sym c.from-error.ensures)
+    (merge_refused s.actor s.document new.self s.links.known s.appender new.keeper q c.in-Err.error c.in-Err.ensures.id c.in-Err.ensures.space c.in-Err.ensures.outcome))) in
+    keeping_leaves_peer p (Merge q) reply p' c.self.invariant (runs_keep p (Merge q) reply p' c.if-self.false refused)
 
 pub returns-in-Ok : goal.returns-in-Ok
 returns-in-Ok g c =
@@ -70,43 +56,26 @@ returns-in-Ok g c =
     let new = c.merge_with.new in
     let p : PeerData = peer_data s.actor s.document s.links.known s.appender s.stopped in
     let q : PeerData = peer_data o.actor o.document o.links.known o.appender o.stopped in
+    let reply : Reply = Merged (report_of c.in-Ok.applied) in
     let p' : PeerData = peer_data s.actor new.self s.links.known new.keeper s.stopped in
-    let done : Merges p q (report_of c.in-Ok.applied) p' =
-    (c.in-Ok.ensures.other, took_all s.actor s.document new.self s.links.known s.appender new.keeper s.stopped (absent s.document.applied o.document.applied) c.in-Ok.applied c.in-Ok.ensures.id c.in-Ok.ensures.space c.in-Ok.ensures.ok) in
-    let step : PeerStep p (Merge q) (Merged (report_of c.in-Ok.applied)) p' = step_runs p (Merge q) (Merged (report_of c.in-Ok.applied)) p' (none_stopped s.stopped o.stopped c.if-self.false c.if-other.false) done in
-    let seen : PeerStep c.args.self.now (Merge c.args.other.now) (Merged (report_of c.in-Ok.applied)) p' =
-    subst (λ (x : PeerData). PeerStep x (Merge c.args.other.now) (Merged (report_of c.in-Ok.applied)) p') c.self.view_is (subst (λ (y : PeerData). PeerStep p (Merge y) (Merged (report_of c.in-Ok.applied)) p') c.other.view_is step) in
-    seen
+    let done : Runs p (Merge q) reply p' =
+    (c.in-Ok.ensures.outcome.0, took s.actor s.document new.self s.links.known s.appender new.keeper s.stopped (absent s.document.applied o.document.applied) (Done (report_of c.in-Ok.applied)) c.in-Ok.ensures.id c.in-Ok.ensures.outcome.1) in
+    subst (λ (x : PeerData). PeerStep x (Merge c.args.other.now) reply p') c.self.view_is
+    (subst (λ (y : PeerData). PeerStep p (Merge y) reply p') c.other.view_is (step_runs p (Merge q) reply p' (none_stopped s.stopped o.stopped c.if-self.false c.if-other.false) done))
 
-pub returns-in-NotKept : goal.returns-in-NotKept
-returns-in-NotKept g c =
+pub returns-in-Err : goal.returns-in-Err
+returns-in-Err g c =
     let s = c.self.inside in
     let o = c.other.inside in
     let new = c.merge_with.new in
     let p : PeerData = peer_data s.actor s.document s.links.known s.appender s.stopped in
     let q : PeerData = peer_data o.actor o.document o.links.known o.appender o.stopped in
-    let K = absent s.document.applied o.document.applied in
-    let p' : PeerData = peer_data s.actor new.self s.links.known new.keeper true in
-    let refused : RefusesMerge p q JournalFailed p' =
-    merge_stopped s.actor s.document new.self s.links.known s.appender new.keeper s.stopped q c.in-Err.ensures.id
-    (subst (λ (e : DocError). IsOtherAlone {T = Applied} (Err e) s.document.id o.document.id) c.in-NotKept.is c.in-Err.ensures.other)
-    (subst (λ (e : DocError). MergesPart AppendsRecord RefusesRecord s.appender new.keeper K s.document new.self e) c.in-NotKept.is c.in-Err.ensures.err) in
-    let step : PeerStep p (Merge q) (Refused JournalFailed) p' = step_runs p (Merge q) (Refused JournalFailed) p' (none_stopped s.stopped o.stopped c.if-self.false c.if-other.false) refused in
-    let seen : PeerStep c.args.self.now (Merge c.args.other.now) (Refused JournalFailed) p' =
-    subst (λ (x : PeerData). PeerStep x (Merge c.args.other.now) (Refused JournalFailed) p') c.self.view_is (subst (λ (y : PeerData). PeerStep p (Merge y) (Refused JournalFailed) p') c.other.view_is step) in
-    seen
-
-pub returns-in_default : goal.returns-in_default
-returns-in_default g c =
-    let s = c.self.inside in
-    let o = c.other.inside in
-    let new = c.merge_with.new in
-    let p : PeerData = peer_data s.actor s.document s.links.known s.appender s.stopped in
-    let q : PeerData = peer_data o.actor o.document o.links.known o.appender o.stopped in
-    let p' : PeerData = peer_data s.actor new.self s.links.known new.keeper s.stopped in
-    let refused : RefusesMerge p q (refusal_of_document c.in-Err.error) p' =
-    merge_refused s.actor s.document new.self s.links.known s.appender new.keeper s.stopped q c.in-Err.error c.in-Err.ensures.id c.in_default.not-NotKept c.in-Err.ensures.other c.in-Err.ensures.err in
-    let step : PeerStep p (Merge q) (Refused (refusal_of_document c.in-Err.error)) p' = step_runs p (Merge q) (Refused (refusal_of_document c.in-Err.error)) p' (none_stopped s.stopped o.stopped c.if-self.false c.if-other.false) refused in
-    let seen : PeerStep c.args.self.now (Merge c.args.other.now) (Refused (refusal_of_document c.in-Err.error)) p' =
-    subst (λ (x : PeerData). PeerStep x (Merge c.args.other.now) (Refused (refusal_of_document c.in-Err.error)) p') c.self.view_is (subst (λ (y : PeerData). PeerStep p (Merge y) (Refused (refusal_of_document c.in-Err.error)) p') c.other.view_is step) in
-    subst (λ (e : PeerError). PeerStep c.args.self.now (Merge c.args.other.now) (Refused e) p') (sym c.from.ensures) seen
+    let reply : Reply = Refused c.from-error.result in
+    let p' : PeerData = peer_data s.actor new.self s.links.known new.keeper c.is_failed-self-inside.result in
+    let refused : Runs p (Merge q) reply p' =
+    subst (λ (b : Bool). Runs (peer_data s.actor s.document s.links.known s.appender b) (Merge q) reply p') (sym c.if-self.false)
+    (subst (λ (b : Bool). Runs (peer_data s.actor s.document s.links.known s.appender false) (Merge q) reply (peer_data s.actor new.self s.links.known new.keeper b)) (sym c.is_failed-self-inside.ensures)
+    (subst (λ (e : PeerError). Runs (peer_data s.actor s.document s.links.known s.appender false) (Merge q) (Refused e) (peer_data s.actor new.self s.links.known new.keeper (is_failed e))) (sym c.from-error.ensures)
+    (merge_refused s.actor s.document new.self s.links.known s.appender new.keeper q c.in-Err.error c.in-Err.ensures.id c.in-Err.ensures.space c.in-Err.ensures.outcome))) in
+    subst (λ (x : PeerData). PeerStep x (Merge c.args.other.now) reply p') c.self.view_is
+    (subst (λ (y : PeerData). PeerStep p (Merge y) reply p') c.other.view_is (step_runs p (Merge q) reply p' (none_stopped s.stopped o.stopped c.if-self.false c.if-other.false) refused))

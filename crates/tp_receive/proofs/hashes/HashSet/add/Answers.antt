@@ -1,8 +1,6 @@
-use Rattle.std.proofs.Common.{◌≡◌, ◌∙◌, ap, List, Bool, ◌||◌, cond, true, false, refl}
-use Rattle.tp_opid.specs.declared.hash.Hash.{Hash}
+use Rattle.tp_receive.proofs.Common.{◌≡◌, ◌∙◌, ap, List, Bool, ◌||◌, cond, true, false, refl, Hash, has_hash}
 use Rattle.tp_opid.specs.Same.{same_hash}
 use Rattle.tp_opid.specs.Order.{hash_cmp}
-use Rattle.tp_receive.specs.HashSets.{has_hash}
 use Rattle.tp_receive.proofs.hashes.HashSet.add.Goals as goal
 
 either : (a b : Bool) → cond a true b ≡ (a || b)

@@ -1,7 +1,4 @@
-use Rattle.std.proofs.Common.{◌∙◌, None, arith, ap, sym, length}
-use Rattle.std.proofs.lemmas.List.{length-set}
-use Rattle.tp_opid.specs.Same.{same_hash}
-use Rattle.tp_receive.specs.Lacking.{Lacks, LacksApart}
+use Rattle.tp_receive.proofs.Common.{◌∙◌, None, arith, ap, sym, length, same_hash, Lacks, LacksApart, length-set}
 use Rattle.tp_receive.proofs.LackingLaws.{apart_of, entry_there, halfway_more, halfway_stays, halfway_end}
 use Rattle.tp_receive.proofs.lacking.Lacking.forget_alike.Goals as goal
 use Rattle.tp_receive.proofs.lacking.Lacking.forget_alike.Goals.{then-is_one, else-is_one}

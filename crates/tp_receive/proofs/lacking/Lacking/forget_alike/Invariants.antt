@@ -1,6 +1,4 @@
-use Rattle.std.proofs.Common.{◌≡◌, List, length}
-use Rattle.tp_change.specs.declared.parts.ChangeParts.{ChangeParts}
-use Rattle.tp_receive.specs.Lacking.{KnowsLack, Lacks, LacksApart}
+use Rattle.tp_receive.proofs.Common.{◌≡◌, List, length, ChangeParts, KnowsLack, Lacks, LacksApart}
 use Rattle.tp_receive.proofs.LackingLaws.{IsHalfway}
 use Rattle.tp_receive.proofs.lacking.Lacking.forget_alike.Given as goal
 

@@ -1,6 +1,4 @@
-use Rattle.std.proofs.Common.{◌≡◌, ◌≤◌, List, length}
-use Rattle.tp_change.specs.declared.parts.ChangeParts.{ChangeParts}
-use Rattle.tp_receive.specs.Lacking.{GainsOnly, KnowsApart, Lacks, LacksApart}
+use Rattle.tp_receive.proofs.Common.{◌≡◌, ◌≤◌, List, length, ChangeParts, GainsOnly, KnowsApart, Lacks, LacksApart}
 use Rattle.tp_receive.proofs.LackingLaws.{AreKnown, IsHalfway}
 use Rattle.tp_receive.proofs.lacking.Lacking.forget_lacked.Given as goal
 

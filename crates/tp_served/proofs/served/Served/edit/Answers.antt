@@ -1,23 +1,14 @@
-use Rattle.std.proofs.Common.{◌∙◌, ap}
-use Rattle.atomic_table.specs.declared.badge.Badge.{Badge}
-use Rattle.tp_served.specs.Seats.{SeatData, missed_by}
-use Rattle.tp_served.specs.Rule.{ViewState}
-use Rattle.tp_served.specs.Sitting.{seat_of}
-use Rattle.tp_served.proofs.TokenLaws.{seat_at, shows_turn}
+use Rattle.std.proofs.Common.{refl, sym, subst}
+use Rattle.std.specs.Str.{chars}
+use Rattle.tp_peer.specs.PeerStep.{Edit, Reply}
+use Rattle.tp_served.specs.Seats.{Shows}
 use Rattle.tp_served.proofs.served.Served.edit.Goals as goal
 
-pub invariant_of-seat : goal.invariant_of-seat
-invariant_of-seat g c =
-    let t = seat_of c.seat.inside.badge.views in
-    let views = ap (λ (b : Badge ViewState). b.views) c.replace-badge.ensures.value ∙ c.seat.invariant.alone in
-    let turn = c.wait-turn.ensures.taken t views in
-    let ends = c.edit_on-badge.ensures.ends (missed_by turn.0 t) turn.1 in
-    seat_at _ _ _ ends.state ends.alone (ends.shows.number ∙ c.seat.invariant.number)
+pub call-reply-requires-clause-link : goal.call-reply-requires-clause-link
+call-reply-requires-clause-link g c = λ m other. refl
+
+pub into_made-requires : goal.into_made-requires
+into_made-requires g c = (c.args.splices.now, c.args.time, chars c.args.message.now, (c.call-reply.new.seat.state.before, c.call-reply.new.seat.state.after, c.call-reply.ensures.shows.step))
 
 pub returns-clause-shows : goal.returns-clause-shows
-returns-clause-shows g c =
-    let t = seat_of c.seat.inside.badge.views in
-    let views = ap (λ (b : Badge ViewState). b.views) c.replace-badge.ensures.value ∙ c.seat.invariant.alone in
-    let turn = c.wait-turn.ensures.taken t views in
-    let ends = c.edit_on-badge.ensures.ends (missed_by turn.0 t) turn.1 in
-    shows_turn t c.args.seat.now.state turn.0 _ _ c.edit_on-badge.result.0.views (ap (λ (s : SeatData). s.state) c.seat.view_is) ends
+returns-clause-shows g c = subst (λ (r : Reply). Shows c.args.seat.now.state (Edit c.args.splices.now c.args.time (chars c.args.message.now)) r c.call-reply.new.seat.state) (sym c.into_made.ensures) c.call-reply.ensures.shows

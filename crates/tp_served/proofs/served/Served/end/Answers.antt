@@ -1,7 +1,7 @@
 use Rattle.std.proofs.Common.{[], ◌∷◌, ◌++◌, ap, sym, ◌∙◌, subst}
 use mathlib.Core.Option as maybe
 use Rattle.tp_peer.specs.PeerData.{PeerData}
-use Rattle.tp_served.specs.Seats.{HeldPeer, ServedData, states_of}
+use Rattle.tp_served.specs.Seats.{ServedData, states_of}
 use Rattle.tp_served.specs.Steps.{Token}
 use Rattle.tp_served.specs.Calls.{Closes}
 use Rattle.tp_served.proofs.RuleLaws.{closes_at, not_idle}
@@ -13,13 +13,13 @@ pub unreachable-requires : goal.unreachable-requires
 unreachable-requires g c =
     let final = closes_at _ _ _ _ (states_of (c.args.seats.items ++ c.args.last ∷ [])) _ _ (ap (λ (m : Token). m.0) c.join_all-joined.ensures.joined)
     (length_states (c.args.seats.items ++ c.args.last ∷ []) ∙ (c.requires.all ∙ sym (ap (λ (s : ServedData). s.count) c.self.view_is))) c.close_with-closed.ensures.values.2 in
-    not_idle final.0 (maybe.some-injective _ _ (sym final.1 ∙ c.take-held.ensures.value) ∙ c.in-None.is)
+    not_idle final.0 (maybe.some-injective _ _ (sym final.1 ∙ c.take-peer.ensures.value) ∙ c.in-None.is)
 
 pub returns : goal.returns
 returns g c =
     let states = states_of (c.args.seats.items ++ c.args.last ∷ []) in
     let final = closes_at _ _ _ _ states _ _ (ap (λ (m : Token). m.0) c.join_all-joined.ensures.joined)
     (length_states (c.args.seats.items ++ c.args.last ∷ []) ∙ (c.requires.all ∙ sym (ap (λ (s : ServedData). s.count) c.self.view_is))) c.close_with-closed.ensures.values.2 in
-    let same = some_same final.0 c.in-Some.held (maybe.some-injective _ _ (sym final.1 ∙ c.take-held.ensures.value) ∙ c.in-Some.is) in
-    subst (λ (p : PeerData). Closes c.args.self.opened c.args.self.count states p) (ap (λ (h : HeldPeer). h.peer) same ∙ sym c.into_peer.ensures)
-    (subst (λ (s : ServedData). Closes s.opened s.count states final.0.peer) c.self.view_is final.2)
+    let same = some_same final.0 c.in-Some.peer (maybe.some-injective _ _ (sym final.1 ∙ c.take-peer.ensures.value) ∙ c.in-Some.is) in
+    subst (λ (p : PeerData). Closes c.args.self.opened c.args.self.count states p) same
+    (subst (λ (s : ServedData). Closes s.opened s.count states final.0) c.self.view_is final.2)

@@ -1,23 +1,13 @@
-use Rattle.std.proofs.Common.{◌∙◌, ap}
-use Rattle.atomic_table.specs.declared.badge.Badge.{Badge}
-use Rattle.tp_served.specs.Seats.{SeatData, missed_by}
-use Rattle.tp_served.specs.Rule.{ViewState}
-use Rattle.tp_served.specs.Sitting.{seat_of}
-use Rattle.tp_served.proofs.TokenLaws.{seat_at, shows_turn}
+use Rattle.std.proofs.Common.{refl, inl, sym, subst}
+use Rattle.tp_peer.specs.PeerStep.{Read, Reply}
+use Rattle.tp_served.specs.Seats.{Shows}
 use Rattle.tp_served.proofs.served.Served.read.Goals as goal
 
-pub invariant_of-seat : goal.invariant_of-seat
-invariant_of-seat g c =
-    let t = seat_of c.seat.inside.badge.views in
-    let views = ap (λ (b : Badge ViewState). b.views) c.replace-badge.ensures.value ∙ c.seat.invariant.alone in
-    let turn = c.wait-turn.ensures.taken t views in
-    let ends = c.read_on-badge.ensures.ends (missed_by turn.0 t) turn.1 in
-    seat_at _ _ _ ends.state ends.alone (ends.shows.number ∙ c.seat.invariant.number)
+pub call-reply-requires-clause-link : goal.call-reply-requires-clause-link
+call-reply-requires-clause-link g c = λ m other. refl
+
+pub into_text-requires : goal.into_text-requires
+into_text-requires g c = inl (c.call-reply.new.seat.state.before, c.call-reply.new.seat.state.after, c.call-reply.ensures.shows.step)
 
 pub returns-clause-shows : goal.returns-clause-shows
-returns-clause-shows g c =
-    let t = seat_of c.seat.inside.badge.views in
-    let views = ap (λ (b : Badge ViewState). b.views) c.replace-badge.ensures.value ∙ c.seat.invariant.alone in
-    let turn = c.wait-turn.ensures.taken t views in
-    let ends = c.read_on-badge.ensures.ends (missed_by turn.0 t) turn.1 in
-    shows_turn t c.args.seat.now.state turn.0 _ _ c.read_on-badge.result.0.views (ap (λ (s : SeatData). s.state) c.seat.view_is) ends
+returns-clause-shows g c = subst (λ (r : Reply). Shows c.args.seat.now.state Read r c.call-reply.new.seat.state) (sym c.into_text.ensures) c.call-reply.ensures.shows

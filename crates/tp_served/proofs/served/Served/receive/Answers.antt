@@ -1,28 +1,14 @@
-use Rattle.std.proofs.Common.{◌∙◌, ap, sym, subst}
-use Rattle.atomic_table.specs.declared.badge.Badge.{Badge}
-use Rattle.tp_peer.specs.declared.exchanged.Received.{Received as ReceivedOf}
-use Rattle.tp_peer.specs.PeerStep.{Receive, Received as Reported, replied}
-use Rattle.tp_peer.specs.Taking.{report_of}
-use Rattle.tp_served.specs.Seats.{SeatData, Shows, missed_by}
-use Rattle.tp_served.specs.Rule.{ViewState}
-use Rattle.tp_served.specs.Sitting.{seat_of}
-use Rattle.tp_served.proofs.TokenLaws.{seat_at, shows_turn}
+use Rattle.std.proofs.Common.{ne_eqb, ◌∙◌, sym, subst}
+use Rattle.tp_peer.specs.Calls.{reply_of}
+use Rattle.tp_peer.specs.PeerStep.{Receive, Reply}
+use Rattle.tp_served.specs.Seats.{Shows}
 use Rattle.tp_served.proofs.served.Served.receive.Goals as goal
 
-pub invariant_of-seat : goal.invariant_of-seat
-invariant_of-seat g c =
-    let t = seat_of c.seat.inside.badge.views in
-    let views = ap (λ (b : Badge ViewState). b.views) c.replace-badge.ensures.value ∙ c.seat.invariant.alone in
-    let turn = c.wait-turn.ensures.taken t views in
-    let ends = c.receive_on-badge.ensures.ends (missed_by turn.0 t) turn.1 in
-    seat_at _ _ _ ends.state ends.alone (ends.shows.number ∙ c.seat.invariant.number)
+pub call-reply-requires-clause-link : goal.call-reply-requires-clause-link
+call-reply-requires-clause-link g c = λ m other. ne_eqb c.number.result m (λ e. other (sym e ∙ c.number.ensures))
+
+pub into_received-requires : goal.into_received-requires
+into_received-requires g c = (c.number.result, c.args.bytes.now, (c.call-reply.new.seat.state.before, c.call-reply.new.seat.state.after, c.call-reply.ensures.shows.step))
 
 pub returns-clause-shows : goal.returns-clause-shows
-returns-clause-shows g c =
-    let t = seat_of c.seat.inside.badge.views in
-    let views = ap (λ (b : Badge ViewState). b.views) c.replace-badge.ensures.value ∙ c.seat.invariant.alone in
-    let turn = c.wait-turn.ensures.taken t views in
-    let ends = c.receive_on-badge.ensures.ends (missed_by turn.0 t) turn.1 in
-    let number = sym c.seat.invariant.number ∙ ap (λ (s : SeatData). s.state.number) c.seat.view_is in
-    subst (λ k. Shows c.args.seat.now.state (Receive k c.args.bytes.now) (replied (λ (r : ReceivedOf). Reported (report_of r.applied) r.same_heads) c.receive_on-badge.result.1) (seat_of c.receive_on-badge.result.0.views)) number
-    (shows_turn t c.args.seat.now.state turn.0 (Receive c.seat.inside.number c.args.bytes.now) _ c.receive_on-badge.result.0.views (ap (λ (s : SeatData). s.state) c.seat.view_is) ends)
+returns-clause-shows g c = subst (λ (r : Reply). Shows c.args.seat.now.state (Receive c.args.seat.now.state.number c.args.bytes.now) r c.call-reply.new.seat.state) (sym c.into_received.ensures) (subst (λ n. Shows c.args.seat.now.state (Receive n c.args.bytes.now) (reply_of c.call-reply.result) c.call-reply.new.seat.state) c.number.ensures c.call-reply.ensures.shows)

@@ -1,30 +1,15 @@
-use Rattle.std.proofs.Common.{◌∙◌, ap}
+use Rattle.std.proofs.Common.{refl, ◌∙◌, ap, sym, subst}
 use Rattle.std.specs.Str.{chars}
-use Rattle.atomic_table.specs.declared.badge.Badge.{Badge}
-use Rattle.tp_peer.specs.PeerStep.{Edit, Made}
-use Rattle.tp_served.specs.Seats.{SeatData}
-use Rattle.tp_served.specs.ServedError.{answered}
-use Rattle.tp_served.specs.Rule.{ViewState}
-use Rattle.tp_served.specs.Sitting.{seat_of}
-use Rattle.tp_served.proofs.TokenLaws.{seat_at, tries_turn}
+use Rattle.tp_peer.specs.PeerStep.{Edit}
+use Rattle.tp_served.specs.Calls.{Tries}
+use Rattle.tp_served.specs.ServedError.{Answer, Replied}
 use Rattle.tp_served.proofs.served.Served.try_edit.Goals as goal
 
-pub edit_on-badge-requires-clause-turn : goal.edit_on-badge-requires-clause-turn
-edit_on-badge-requires-clause-turn g c =
-    let t = seat_of c.seat.inside.badge.views in
-    let views = ap (λ (b : Badge ViewState). b.views) c.replace-badge.ensures.value ∙ c.seat.invariant.alone in
-    (t, c.in-Ok.ensures.taken.1 t views, c.seat.invariant.number)
+pub try_call-requires-clause-link : goal.try_call-requires-clause-link
+try_call-requires-clause-link g c = λ m other. refl
 
-pub invariant_of-seat : goal.invariant_of-seat
-invariant_of-seat g c =
-    let t = seat_of c.seat.inside.badge.views in
-    let views = ap (λ (b : Badge ViewState). b.views) c.replace-badge.ensures.value ∙ c.seat.invariant.alone in
-    let ends = c.edit_on-badge.ensures.ends t (c.in-Ok.ensures.taken.1 t views) in
-    seat_at _ _ _ ends.state ends.alone (ends.shows.number ∙ c.seat.invariant.number)
+pub into_made-requires : goal.into_made-requires
+into_made-requires g c = (c.args.splices.now, c.args.time, chars c.args.message.now, (c.try_call.new.seat.state.before, c.try_call.new.seat.state.after, c.in-Some.ensures.tries.0.step))
 
-pub returns-in-Ok-clause-tries : goal.returns-in-Ok-clause-tries
-returns-in-Ok-clause-tries g c =
-    let t = seat_of c.seat.inside.badge.views in
-    let views = ap (λ (b : Badge ViewState). b.views) c.replace-badge.ensures.value ∙ c.seat.invariant.alone in
-    let ends = c.edit_on-badge.ensures.ends t (c.in-Ok.ensures.taken.1 t views) in
-    tries_turn t c.args.seat.now.state (Edit c.args.splices.now c.args.time (chars c.args.message.now)) _ (answered (λ x. Made x) c.of_peer.result) c.edit_on-badge.result.0.views (ap (λ (s : SeatData). s.state) c.seat.view_is) (c.of_peer.ensures (λ x. Made x)) ends
+pub returns-in-Some-clause-tries : goal.returns-in-Some-clause-tries
+returns-in-Some-clause-tries g c = subst (λ (a : Answer). Tries c.args.seat.now.state (Edit c.args.splices.now c.args.time (chars c.args.message.now)) a c.try_call.new.seat.state) (sym (c.of_peer.ensures _ ∙ ap Replied c.into_made.ensures)) c.in-Some.ensures.tries

@@ -1,23 +1,43 @@
-use Rattle.std.proofs.Common.{Result, sym, ap, subst, ◌∙◌, arith}
-use Rattle.std.proofs.lemmas.Result.{err_from_is_err_and}
-use Rattle.tp_sync.specs.declared.error.SyncError.{SyncError}
-use Rattle.tp_sync.specs.Gives.{FailsWith}
-use Rattle.tp_sync.specs.Lists.{parts_in}
-use Rattle.tp_sync.specs.Message.{MessageParts}
-use Rattle.tp_sync.specs.Reading.{message_at}
+use Rattle.tp_sync.proofs.Common.{◌≡◌, ◌-◌, take, drop, length, Result, Ok, sym, ap, subst, ◌∙◌, refl, arith, err_from_is_err_and, SyncError, FailsWith, MessageParts, message_at, reads}
+use Rattle.std.proofs.lemmas.List.{drop_all, take_rest}
+use Rattle.tp_sync.proofs.ReaderLaws.{fails_by, fails_of_answers, taken_on}
 use Rattle.tp_sync.proofs.WholeMessage.{message_takes, message_again}
 use Rattle.tp_sync.proofs.message.Message.decode.Goals as goal
 
-pub returns-in_err-lists-clause-only : goal.returns-in_err-lists-clause-only
-returns-in_err-lists-clause-only c = λ m is e.
+pub returns-in_err-reader-clause-only : goal.returns-in_err-reader-clause-only
+returns-in_err-reader-clause-only c = λ m is e.
     let p = err_from_is_err_and c.from_residual.result c.from_residual.ensures.1 in
-    rw (p.1, p.2) (subst (λ (r : Result MessageParts SyncError). FailsWith c.in_err-lists.field-0.0 r) (ap message_at e ∙ message_again m is) c.in_err-lists.ensures)
+    let fails : FailsWith c.in_err-reader.field-0.0 (message_at c.args.bytes.now) = fails_by c.in_err-reader.field-0.0 (message_at c.args.bytes.now) (c.in_err-reader.ensures.every c.args.bytes.now refl) in
+    rw (p.1, p.2) (subst (λ (r : Result MessageParts SyncError). FailsWith c.in_err-reader.field-0.0 r) (ap message_at e ∙ message_again m is) fails)
 
-pub invariant_of-result : goal.invariant_of-result
-invariant_of-result c = (message_takes c.args.bytes.now (parts_in c.in_ok-lists.lists) (λ i. omega (arith, c.type_inv.bytes i)) c.in_ok-lists.ensures).0
+pub returns-in_err-at-clause-exact : goal.returns-in_err-at-clause-exact
+returns-in_err-at-clause-exact c =
+    let p = err_from_is_err_and c.from_residual-in_err-at.result c.from_residual-in_err-at.ensures.1 in
+    rw (p.1, p.2)
+    (fails_of_answers c.loop-reader.reader c.take.new.self c.args.bytes.now (take (length c.args.bytes.now - c.loop-reader.at) (drop c.loop-reader.at c.args.bytes.now)) c.loop-reader.at c.in_err-at.field-0.0 (take_rest c.args.bytes.now c.loop-reader.at) c.loop-reader.invariant.0 c.in_err-at.ensures.answers c.loop-reader.invariant.1)
+
+pub returns-in_err-at-clause-only : goal.returns-in_err-at-clause-only
+returns-in_err-at-clause-only c = λ m is e.
+    let p = err_from_is_err_and c.from_residual-in_err-at.result c.from_residual-in_err-at.ensures.1 in
+    rw (p.1, p.2)
+    (subst (λ (r : Result MessageParts SyncError). FailsWith c.in_err-at.field-0.0 r) (ap message_at e ∙ message_again m is)
+    (fails_of_answers c.loop-reader.reader c.take.new.self c.args.bytes.now (take (length c.args.bytes.now - c.loop-reader.at) (drop c.loop-reader.at c.args.bytes.now)) c.loop-reader.at c.in_err-at.field-0.0 (take_rest c.args.bytes.now c.loop-reader.at) c.loop-reader.invariant.0 c.in_err-at.ensures.answers c.loop-reader.invariant.1))
+
+pub loop-reader-preserved : goal.loop-reader-preserved
+loop-reader-preserved c =
+    let taken = c.in_ok-at.ensures.answers in (
+      omega (arith, taken.left, c.loop-reader.invariant.0),
+      taken_on c.loop-reader.reader c.take.new.self c.args.bytes.now (take (length c.args.bytes.now - c.loop-reader.at) (drop c.loop-reader.at c.args.bytes.now)) c.loop-reader.at c.in_ok-at.field-0 (take_rest c.args.bytes.now c.loop-reader.at) taken c.loop-reader.invariant.1,
+    )
 
 pub returns-clause-found : goal.returns-clause-found
-returns-clause-found c = message_takes c.args.bytes.now (parts_in c.in_ok-lists.lists) (λ i. omega (arith, c.type_inv.bytes i)) c.in_ok-lists.ensures
+returns-clause-found c =
+    let none : c.loop-reader.reader.left ≡ 0 = c.whole.ensures.taken (sym c.whole.ensures.exact ∙ c.loop-reader-test.false) in
+    let read : message_at c.args.bytes.now ≡ Ok c.finish.result = sym c.loop-reader.invariant.1 ∙ ap (reads c.loop-reader.reader) (drop_all c.loop-reader.at c.args.bytes.now (omega (arith, none, c.loop-reader.invariant.0))) ∙ c.finish.ensures.exact in
+    message_takes c.args.bytes.now c.finish.result (λ i. omega (arith, c.type_inv.bytes i)) read
 
 pub returns-clause-only : goal.returns-clause-only
-returns-clause-only c = λ m is e. sym (ap message_at e ∙ message_again m is) ∙ c.in_ok-lists.ensures
+returns-clause-only c = λ m is e.
+    let none : c.loop-reader.reader.left ≡ 0 = c.whole.ensures.taken (sym c.whole.ensures.exact ∙ c.loop-reader-test.false) in
+    let read : message_at c.args.bytes.now ≡ Ok c.finish.result = sym c.loop-reader.invariant.1 ∙ ap (reads c.loop-reader.reader) (drop_all c.loop-reader.at c.args.bytes.now (omega (arith, none, c.loop-reader.invariant.0))) ∙ c.finish.ensures.exact in
+    sym (ap message_at e ∙ message_again m is) ∙ read

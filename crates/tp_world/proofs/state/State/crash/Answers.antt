@@ -1,7 +1,9 @@
 use Rattle.std.proofs.Common.{Option, sym, subst}
 use Rattle.tp_headline.specs.Event as events
 use Rattle.tp_world.specs.declared.event.Call.{Call}
+use Rattle.tp_headline.specs.Refusing.{MayHappen}
 use Rattle.tp_world.specs.Judging.{Meets}
+use Rattle.tp_world.specs.Making.{IsWould}
 use Rattle.tp_world.specs.States.{world_of}
 use Rattle.tp_world.specs.Told.{during_of, reply_of}
 use Rattle.tp_world.proofs.state.State.crash.Goals as goal
@@ -13,3 +15,13 @@ returns-in-None c =
 pub returns-in-Some : goal.returns-in-Some
 returns-in-Some c =
     subst (λ (d : Option Call). Meets (world_of c.args.self.now) (events.Crash c.args.n (during_of d) c.args.kept c.args.actor) (reply_of c.crash_during.result) (world_of c.crash_during.new.self)) (sym c.in-Some.is) c.crash_during.ensures
+
+pub crash_between-requires-clause-may : goal.crash_between-requires-clause-may
+crash_between-requires-clause-may c = subst (λ (d : Option Call). MayHappen (world_of c.args.self.now) (events.Crash c.args.n (during_of d) c.args.kept c.args.actor)) c.in-None.is c.requires.may
+
+pub crash_during-requires-clause-may : goal.crash_during-requires-clause-may
+crash_during-requires-clause-may c = subst (λ (d : Option Call). MayHappen (world_of c.args.self.now) (events.Crash c.args.n (during_of d) c.args.kept c.args.actor)) c.in-Some.is c.requires.may
+
+pub crash_during-requires-clause-change : goal.crash_during-requires-clause-change
+crash_during-requires-clause-change c =
+    subst (λ (d : Option Call). IsWould (world_of c.args.self.now) (events.Crash c.args.n (during_of d) c.args.kept c.args.actor) c.args.change) c.in-Some.is c.requires.change

@@ -3,7 +3,7 @@ use Rattle.tp_opid.specs.declared.actor.Actor.{Actor}
 use Rattle.tp_headline.specs.Event as events
 use Rattle.tp_world.specs.Told.{reply_of}
 use Rattle.tp_world.specs.States.{world_of}
-use Rattle.tp_world.proofs.Happenings.{crash_between_meets, room_for}
+use Rattle.tp_world.proofs.Happenings.{between_meets, room_for}
 use Rattle.tp_world.proofs.JudgeLaws.{there_below}
 use Rattle.tp_world.proofs.state.State.crash_between.Goals as goal
 
@@ -15,5 +15,5 @@ push_reserved-requires c = room_for c.reserve.result c.is_err.result _ _ c.is_er
 
 pub returns : goal.returns
 returns c =
-    crash_between_meets (world_of c.args.self.now) c.args.n c.args.kept c.args.actor c.reopen_at-opened.result c.reopen_at-opened.new.members.items c.push_reserved.new.self.items (reply_of c.crash_reply.result)
-    c.requires.carried c.reopen_at-opened.ensures (c.push_reserved.ensures.items ∙ ap (λ (l : List Actor). l ++ c.args.actor ∷ []) c.reserve.ensures.items) c.crash_reply.ensures
+    between_meets (world_of c.args.self.now) c.args.n c.args.kept c.args.actor c.reopen_at-opened.new.members.items c.push_reserved.new.self.items (reply_of c.reopen_at-opened.result) c.requires.carried
+    c.reopen_at-opened.ensures (c.push_reserved.ensures.items ∙ ap (λ (l : List Actor). l ++ c.args.actor ∷ []) c.reserve.ensures.items)

@@ -1,24 +1,29 @@
 use Rattle.std.proofs.Common.{sym, subst}
-use Rattle.tp_world.specs.Told.{event_of, reply_of}
-use Rattle.tp_world.specs.States.{world_of}
+use Rattle.tp_headline.specs.Refusing.{MayHappen}
 use Rattle.tp_world.specs.declared.event.Event.{Event}
 use Rattle.tp_world.specs.Judging.{Meets}
+use Rattle.tp_world.specs.Making.{IsWould}
+use Rattle.tp_world.specs.States.{world_of}
+use Rattle.tp_world.specs.Told.{event_of, reply_of}
 use Rattle.tp_world.proofs.state.State.happen.Goals as goal
 
-pub returns-in-Edit : goal.returns-in-Edit
-returns-in-Edit c = subst (λ (x : Event). Meets (world_of c.args.self.now) (event_of x) (reply_of c.edit.result) (world_of c.edit.new.self)) (sym c.in-Edit.is) c.edit.ensures
+pub fork-requires : goal.fork-requires
+fork-requires c = subst (λ (x : Event). MayHappen (world_of c.args.self.now) (event_of x)) c.in-Fork.is c.requires.may
 
-pub returns-in-Merge : goal.returns-in-Merge
-returns-in-Merge c = subst (λ (x : Event). Meets (world_of c.args.self.now) (event_of x) (reply_of c.merge.result) (world_of c.merge.new.self)) (sym c.in-Merge.is) c.merge.ensures
+pub call-requires-clause-may : goal.call-requires-clause-may
+call-requires-clause-may c = subst (λ (x : Event). MayHappen (world_of c.args.self.now) (event_of x)) c.in-Call.is c.requires.may
 
-pub returns-in-Send : goal.returns-in-Send
-returns-in-Send c = subst (λ (x : Event). Meets (world_of c.args.self.now) (event_of x) (reply_of c.send.result) (world_of c.send.new.self)) (sym c.in-Send.is) c.send.ensures
+pub call-requires-clause-change : goal.call-requires-clause-change
+call-requires-clause-change c = subst (λ (x : Event). IsWould (world_of c.args.self.now) (event_of x) c.args.change) c.in-Call.is c.requires.change
+
+pub crash-requires-clause-may : goal.crash-requires-clause-may
+crash-requires-clause-may c = subst (λ (x : Event). MayHappen (world_of c.args.self.now) (event_of x)) c.in-Crash.is c.requires.may
+
+pub crash-requires-clause-change : goal.crash-requires-clause-change
+crash-requires-clause-change c = subst (λ (x : Event). IsWould (world_of c.args.self.now) (event_of x) c.args.change) c.in-Crash.is c.requires.change
+
+pub returns-in-Call : goal.returns-in-Call
+returns-in-Call c = subst (λ (x : Event). Meets (world_of c.args.self.now) (event_of x) (reply_of c.call.result) (world_of c.call.new.self)) (sym c.in-Call.is) c.call.ensures
 
 pub returns-in-Crash : goal.returns-in-Crash
 returns-in-Crash c = subst (λ (x : Event). Meets (world_of c.args.self.now) (event_of x) (reply_of c.crash.result) (world_of c.crash.new.self)) (sym c.in-Crash.is) c.crash.ensures
-
-pub returns-in-Deliver : goal.returns-in-Deliver
-returns-in-Deliver c = subst (λ (x : Event). Meets (world_of c.args.self.now) (event_of x) (reply_of c.deliver.result) (world_of c.deliver.new.self)) (sym c.in-Deliver.is) c.deliver.ensures
-
-pub returns-in-DeliverBytes : goal.returns-in-DeliverBytes
-returns-in-DeliverBytes c = subst (λ (x : Event). Meets (world_of c.args.self.now) (event_of x) (reply_of c.deliver_bytes.result) (world_of c.deliver_bytes.new.self)) (sym c.in-DeliverBytes.is) c.deliver_bytes.ensures

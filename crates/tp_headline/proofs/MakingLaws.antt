@@ -1,0 +1,244 @@
+-- What calls make, and what they make of a peer of a world.
+use Rattle.std.proofs.Common.{◌≡◌, ◌⊎◌, inl, inr, ℕ, List, [], ◌∷◌, ◌++◌, drop, length, cond, Bool, true, false, Option, Some, refl, sym, ap, ◌∙◌, subst, append-nil}
+use Rattle.std.proofs.Math.Seq.{drop-append_seam}
+use Rattle.tp_list.specs.Members.{In, AllIn}
+use Rattle.tp_list.proofs.Members.{In-append, In-left, In-right, In-slice_get}
+use Rattle.tp_list.proofs.Tests.{never, not_true}
+use Rattle.tp_opid.specs.declared.doc_id.DocId.{DocId}
+use Rattle.tp_opid.specs.Same.{same_actor}
+use Rattle.tp_opid.proofs.Orders.{same_actor-same}
+use Rattle.tp_change.specs.declared.parts.ChangeParts.{ChangeParts}
+use Rattle.tp_change.specs.ChangeHash.{hash_of}
+use Rattle.tp_change.specs.Limits.{IsChange}
+use Rattle.tp_document.specs.Editing.{Asked, Edited, asking}
+use Rattle.tp_document.specs.Merging.{absent}
+use Rattle.tp_document.proofs.EditFits.{edit_determined}
+use Rattle.tp_graph.specs.Named.{has}
+use Rattle.tp_graph.specs.Sound.{Sound}
+use Rattle.tp_graph.proofs.KeptLaws.{Fits-from_cause}
+use Rattle.tp_graph.proofs.NamedLaws.{has-In, In-has}
+use Rattle.tp_graph.proofs.SetLaws.{Fits-whole}
+use Rattle.tp_graph.proofs.SoundLaws.{Sound-push}
+use Rattle.tp_journal.specs.Layout.{journal, records_of}
+use Rattle.tp_journal.specs.Recovery.{IsHistory}
+use Rattle.tp_journal.proofs.CutLaws.{journal-append}
+use Rattle.tp_peer.specs.Laws.{came, changes_in, changes_of}
+use Rattle.tp_peer.specs.PeerData.{PeerData}
+use Rattle.tp_peer.specs.PeerStep as peer
+use Rattle.tp_peer.proofs.KeepingLaws.{history_grows}
+use Rattle.tp_headline.specs.Call.{Call, Alone, Merge, Deliver}
+use Rattle.tp_headline.specs.Calling.{IsAlone, IsCall, made_by}
+use Rattle.tp_headline.specs.Carried.{Carried, IsCarried}
+use Rattle.tp_headline.specs.Crashing.{MayEnter}
+use Rattle.tp_headline.specs.Event.{Event, called_in}
+use Rattle.tp_headline.specs.Refusing.{IsEditAt, IsEditOf, WouldEdit}
+use Rattle.tp_headline.specs.World.{Entry, World, HasEntry, HasPeer, gained, with_made, with_peer}
+use Rattle.tp_headline.proofs.CallLaws.{Enters}
+use Rattle.tp_headline.proofs.Lasting.{Carries, Grows}
+use Rattle.tp_headline.proofs.PeerMoves.{AreBy, Moves, moves_grow, peer_changes}
+
+-- ---- edits
+
+-- A change of an edit is what the edit asks for, under the peer's actor.
+record IsAsked (p : PeerData) (c : ChangeParts) : Type 0 where
+  asked : Asked
+  who : asked.actor ≡ p.actor
+  edited : Edited p.applied asked c
+
+asked_of : (p : PeerData) (made : peer.Call) (c : ChangeParts) → IsEditOf p made c → IsAsked p c
+asked_of p (peer.Edit ss time message) c edited = record { asked = asking p.actor ss time message; who = refl; edited = edited }
+asked_of p made c edited = absurd edited
+
+-- an edit makes one change alone
+pub one_edit : (w : World) (n : ℕ) (made : peer.Call) (c d : ChangeParts) → Carried w → IsEditAt w n made c → IsEditAt w n made d → c ≡ d
+one_edit w n made c d h e f =
+    let same : f.peer ≡ e.peer = let is : Some f.peer ≡ Some e.peer = sym f.stands ∙ e.stands in cc in
+    one made e.peer (h.peers n e.peer e.stands).history.sound e.edited (subst (λ (q : PeerData). IsEditOf q made d) same f.edited) where
+      one : (made : peer.Call) (p : PeerData) → Sound p.applied → IsEditOf p made c → IsEditOf p made d → c ≡ d
+      one (peer.Edit ss time message) p sound x y = edit_determined p.applied (asking p.actor ss time message) c d sound x y
+      one made p sound x y = absurd x
+
+-- the change of an edit wasn't made before
+pub edit_is_new : (w : World) (n : ℕ) (made : peer.Call) (c : ChangeParts) → Carried w → IsEditAt w n made c → In c w.made → ⊥
+edit_is_new w n made c h e i =
+    let p = e.peer in
+    let a = asked_of p made c e.edited in
+    let q = h.peers n p e.stands in
+    let there : In c p.applied = (q.live e.runs).own c i (a.edited.edit.actor ∙ a.who) in
+    never (In-has p.applied c (hash_of c) there refl) (Fits-from_cause p.applied c a.edited.enters).new
+
+-- an edit is no merge and no delivery
+pub edit_alone : (w : World) (n : ℕ) (named : Call) (made : peer.Call) (c : ChangeParts) → IsCall w named made → IsEditAt w n made c → named ≡ Alone made
+edit_alone w n (Alone own) made c is e = ap Alone (sym is.0)
+edit_alone w n (Merge from) made c is e = absurd (subst (λ m. IsEditOf e.peer m c) is.2 e.edited)
+edit_alone w n (Deliver entry) made c is e = absurd (subst (λ m. IsEditOf e.peer m c) is.2 e.edited)
+
+-- the call of an event is one
+pub one_named : (m n : ℕ) (a b : Call) → (let o : Option (ℕ × Call) = Some (m, a) in o) ≡ Some (n, b) → (m ≡ n) × (a ≡ b)
+one_named m n a b e =
+    let pair : (let x : ℕ × Call = (m, a) in x) ≡ (n, b) = cc in
+    (ap (λ (x : ℕ × Call). x.0) pair, ap (λ (x : ℕ × Call). x.1) pair)
+
+pub one_call : (m n : ℕ) (a b : peer.Call) → (let o : Option (ℕ × Call) = Some (m, Alone a) in o) ≡ Some (n, Alone b) → (m ≡ n) × (a ≡ b)
+one_call m n a b e = let one = one_named m n (Alone a) (Alone b) e in (one.0, let same = one.1 in cc)
+
+pub would_edit : (w : World) (e : Event) (n : ℕ) (named : Call) (made : peer.Call) (c : ChangeParts) → called_in e ≡ Some (n, named) → IsCall w named made → IsEditAt w n made c → WouldEdit w e c
+would_edit w e n named made c called is edit =
+    record { number = n; made = made; called = called ∙ ap (λ (x : Call). Some (n, x)) (edit_alone w n named made c is edit); edit = edit }
+
+-- ---- what is made
+
+-- Of the new changes these were made: they fit all that was made, by the peer alone, and the others were made before.
+pub record Makes (w : World) (p : PeerData) (new made : List ChangeParts) : Type 0 where
+  pub sound : Sound (w.made ++ made)
+  pub by : AreBy p made
+  pub all : AllIn new (w.made ++ made)
+  pub own : AllIn made new
+
+-- nothing is made where all was made before
+pub makes_none : (w : World) (p : PeerData) (new : List ChangeParts) → Carried w → AllIn new w.made → Makes w p new []
+makes_none w p new h old = record {
+  sound = subst Sound (sym (append-nil w.made)) h.sound;
+  by = record { runs = λ c i. absurd i; actor = λ c i. absurd i; limits = λ c i. absurd i };
+  all = λ c i. In-left c w.made [] (old c i);
+  own = λ c i. absurd i;
+}
+
+-- The change of an edit fits all that was made, where no other that was made has its hash.
+edit_is_sound : (w : World) (n : ℕ) (made : peer.Call) (c : ChangeParts) → Carried w → (e : IsEditAt w n made c) → IsAsked e.peer c → ((d : ChangeParts) → In d w.made → hash_of d ≡ hash_of c → d ≡ c)
+    → Sound (w.made ++ c ∷ [])
+edit_is_sound w n made c h e a apart =
+    let p = e.peer in
+    let q = h.peers n p e.stands in
+    let live = q.live e.runs in
+    let fits = Fits-from_cause p.applied c a.edited.enters in
+    let actor : c.actor ≡ p.actor = a.edited.edit.actor ∙ a.who in
+    let own : (d : ChangeParts) → In d w.made → same_actor d.actor c.actor ≡ true → In d p.applied = λ d i same. live.own d i (same_actor-same d.actor c.actor same ∙ actor) in
+    let new : has w.made (hash_of c) ≡ false = not_true (has w.made (hash_of c)) (λ t.
+    let d = has-In w.made (hash_of c) t in
+    let there : In c p.applied = live.own c (subst (λ x. In x w.made) (apart d.0 d.1 d.2) d.1) actor in
+    never (In-has p.applied c (hash_of c) there refl) fits.new) in
+    Sound-push w.made c h.sound (Fits-whole p.applied w.made c q.history.sound h.sound q.applied own fits new)
+
+makes_edit : (w : World) (n : ℕ) (made : peer.Call) (c : ChangeParts) → Carried w → (e : IsEditAt w n made c) → ((d : ChangeParts) → In d w.made → hash_of d ≡ hash_of c → d ≡ c)
+    → Makes w e.peer (c ∷ []) (c ∷ [])
+makes_edit w n made c h e apart =
+    let a = asked_of e.peer made c e.edited in
+    record {
+      sound = edit_is_sound w n made c h e a apart;
+      by = record {
+        runs = λ d i. e.runs;
+        actor = λ d i. elim i [ inl is ↦ ap (λ (x : ChangeParts). x.actor) is ∙ a.edited.edit.actor ∙ a.who | inr none ↦ absurd none ];
+        limits = λ d i. elim i [ inl is ↦ subst IsChange (sym is) a.edited.limits | inr none ↦ absurd none ];
+      };
+      all = λ d i. In-right d w.made (c ∷ []) i;
+      own = λ d i. i;
+    }
+
+-- one change is whole or it isn't
+pub one_cut : (c : ChangeParts) (whole others : List ChangeParts) → c ∷ [] ≡ whole ++ others → (whole ≡ []) ⊎ (whole ≡ c ∷ [])
+one_cut c [] others e = inl refl
+one_cut c (d ∷ []) others e = inr cc
+one_cut c (d ∷ f ∷ ds) others e = absurd cc
+
+pub nothing_left : (whole others : List ChangeParts) → [] ≡ whole ++ others → whole ≡ []
+nothing_left [] others e = refl
+nothing_left (c ∷ whole) others e = absurd cc
+
+-- what a call makes by the first of the changes that it may enter, where no other that was made has the hash of an edit's
+pub makes : (w : World) (n : ℕ) (p : PeerData) (made : peer.Call) (new whole others : List ChangeParts) → Carried w → HasPeer w n p → p.stopped ≡ false → MayEnter p made new → new ≡ whole ++ others
+    → AllIn (p.waiting ++ came p made) w.made
+    → ((c : ChangeParts) → whole ≡ c ∷ [] → IsEditAt w n made c → (d : ChangeParts) → In d w.made → hash_of d ≡ hash_of c → d ≡ c) → Makes w p whole (made_by made whole)
+makes w n p (peer.Edit ss time message) new whole others h stands runs (inl none) split came apart =
+    subst (λ l. Makes w p l l) (sym (nothing_left whole others (sym none ∙ split))) (makes_none w p [] h (λ c i. absurd i))
+makes w n p (peer.Edit ss time message) new whole others h stands runs (inr one) split came apart =
+    let c = one.0 in
+    let e : IsEditAt w n (peer.Edit ss time message) c = record { peer = p; stands = stands; runs = runs; edited = one.1 } in
+    elim (one_cut c whole others (sym one.2 ∙ split)) [
+      | inl none ↦ subst (λ l. Makes w p l l) (sym none) (makes_none w p [] h (λ d i. absurd i))
+      | inr is ↦ subst (λ l. Makes w p l l) (sym is) (makes_edit w n (peer.Edit ss time message) c h e (apart c is e))
+    ]
+makes w n p made new whole others h stands runs enters split came apart =
+    makes_none w p whole h (λ c i. came c (enters c (subst (λ l. In c l) (sym split) (In-left c whole others i))))
+
+-- ---- what comes
+
+absent_step : (b : Bool) (C D : List ChangeParts) (d c : ChangeParts) → (In c (absent C D) → In c D) → In c (cond b (absent C D) (d ∷ absent C D)) → In c (d ∷ D)
+absent_step true C D d c rest i = inr (rest i)
+absent_step false C D d c rest (inl is) = inl is
+absent_step false C D d c rest (inr i) = inr (rest i)
+
+-- what is absent is of the list
+absent-In : (C D : List ChangeParts) → AllIn (absent C D) D
+absent-In C [] c i = i
+absent-In C (d ∷ D) c i = absent_step (has C (hash_of d)) C D d c (absent-In C D c) i
+
+-- what comes by a call was made, where what bytes of any origin carry was
+comes : (w : World) (named : Call) (made : peer.Call) (p : PeerData) → Carried w → IsCall w named made
+    → ((link : ℕ) (bytes : List ℕ) → named ≡ Alone (peer.Receive link bytes) → AllIn (changes_in bytes) w.made) → AllIn (came p made) w.made
+comes w (Alone own) made p h is brought = subst (λ (m : peer.Call). AllIn (came p m) w.made) (sym is.0) (own_comes own is.1 (λ link bytes e. brought link bytes (ap Alone e))) where
+  own_comes : (own : peer.Call) → IsAlone own → ((link : ℕ) (bytes : List ℕ) → own ≡ peer.Receive link bytes → AllIn (changes_in bytes) w.made) → AllIn (came p own) w.made
+  own_comes (peer.Merge other) alone brings = absurd alone
+  own_comes (peer.Receive link bytes) alone brings = brings link bytes refl
+  own_comes own alone brings = λ c i. absurd i
+comes w (Merge from) made p h is brought =
+    subst (λ (m : peer.Call). AllIn (came p m) w.made) (sym is.2) (λ c i. (h.peers from is.0 is.1).applied c (absent-In p.applied is.0.applied c i))
+comes w (Deliver entry) made p h is brought =
+    let m = h.wire is.0 (In-slice_get w.wire entry is.0 is.1) in
+    subst (λ (x : peer.Call). AllIn (came p x) w.made) (sym is.2) (λ c i. m.carries c (subst (λ l. In c l) (ap changes_of m.reads) i))
+
+-- and so was what waits
+pub all_was_made : (w : World) (named : Call) (made : peer.Call) (p : PeerData) → Carried w → IsCarried w p → IsCall w named made
+    → ((link : ℕ) (bytes : List ℕ) → named ≡ Alone (peer.Receive link bytes) → AllIn (changes_in bytes) w.made) → AllIn (p.waiting ++ came p made) w.made
+all_was_made w named made p h q is brought c i = elim (In-append c p.waiting (came p made) i) [ inl waits ↦ q.waiting c waits | inr new ↦ comes w named made p h is brought c new ]
+
+-- ---- the peer afterwards
+
+-- changes that were made were entered
+enters_is_carried : (w w' : World) (p : PeerData) (call : peer.Call) (answer : peer.Reply) (p' : PeerData) (made : List ChangeParts) (e : Enters p call answer p') → Grows w w' → w'.made ≡ w.made ++ made → Makes w p e.new made
+    → AllIn (p.waiting ++ came p call) w.made → p.stopped ≡ false → IsCarried w p → IsCarried w' p'
+enters_is_carried w w' p call answer p' made e grows is m came runs q =
+    let live = q.live runs in
+    record {
+      id = e.id ∙ q.id ∙ sym grows.id;
+      history = subst IsHistory (sym e.applied) (history_grows e.new p.applied q.history e.fits e.limits);
+      applied = λ c i. subst (λ l. In c l) (sym is) (elim (In-append c p.applied e.new (subst (λ l. In c l) e.applied i)) [
+        | inl old ↦ In-left c w.made made (q.applied c old)
+        | inr new ↦ m.all c new
+      ]);
+      waiting = λ c i. subst (λ l. In c l) (sym is) (In-left c w.made made (came c (e.waits c i)));
+      used = subst (λ a. In a w'.used) (sym e.actor) (grows.used p.actor q.used);
+      quiet = e.failures ∙ q.quiet;
+      live = λ on. record {
+        journal =
+            e.journal ∙ ap (λ l. l ++ records_of e.new) live.journal ∙ sym (journal-append p.id p.applied e.new)
+            ∙ ap (λ C. journal p.id C) (sym e.applied) ∙ ap (λ (i : DocId). journal i p'.applied) (sym e.id);
+        own = λ c i by. subst (λ l. In c l) (sym e.applied) (elim (In-append c w.made made (subst (λ l. In c l) is i)) [
+          | inl old ↦ In-left c p.applied e.new (live.own c old (by ∙ e.actor))
+          | inr fresh ↦ In-right c p.applied e.new (m.own c fresh)
+        ]);
+      };
+      dead = λ stopped. never stopped (e.stopped ∙ runs);
+    }
+
+pub gained_new : (p : PeerData) (call : peer.Call) (answer : peer.Reply) (p' : PeerData) (e : Enters p call answer p') → gained p p' ≡ e.new
+gained_new p call answer p' e = ap (drop (length p.applied)) e.applied ∙ drop-append_seam p.applied e.new
+
+-- a call of a running peer
+pub peer_enters : (w : World) (n : ℕ) (p : PeerData) (call : peer.Call) (answer : peer.Reply) (p' : PeerData) → Carried w → HasPeer w n p → p.stopped ≡ false → (e : Enters p call answer p') → AllIn (p.waiting ++ came p call) w.made
+    → Makes w p e.new (made_by call e.new) → Carries w (with_made (with_peer w n p') (made_by call (gained p p')))
+peer_enters w n p call answer p' h stands runs e came m =
+    let made = made_by call e.new in
+    let w' = with_made (with_peer w n p') made in
+    let moves : Moves w w' n p' made = record { id = refl; peers = refl; made = refl; used = λ a i. i; wire = refl; reads = refl } in
+    subst (λ l. Carries w (with_made (with_peer w n p') (made_by call l))) (sym (gained_new p call answer p' e))
+    (peer_changes w w' n p p' made (record {
+      old = h;
+      stands = stands;
+      moves = moves;
+      begins = (e.new, e.applied);
+      sound = m.sound;
+      by = m.by;
+      carried = enters_is_carried w w' p call answer p' made e (moves_grow w w' n p' made moves) refl m came runs (h.peers n p stands);
+      life = λ on. inl (runs, e.actor);
+    }))

@@ -1,0 +1,7 @@
+-- Lists of bytes.
+use Rattle.std.specs.Prelude.{◌≡◌, ℕ, ◌<◌, List, length, slice_index}
+
+-- the list is n bytes
+pub record IsBytes (n : ℕ) (bytes : List ℕ) : Type 0 where
+  pub count : length bytes ≡ n
+  pub each : (i : ℕ) → slice_index bytes i < 256

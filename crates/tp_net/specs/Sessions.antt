@@ -1,0 +1,47 @@
+-- Sessions on a seat, one after another, and what they came to.
+use Rattle.std.specs.Prelude.{◌≡◌, ◌⊎◌, ℕ, ◌+◌, ◌-◌, ◌^◌, min, List, [], ◌∷◌, length, Result, Ok, Err}
+use Rattle.tp_list.specs.Traces.{Trace}
+use Rattle.tp_opid.specs.declared.doc_id.DocId.{DocId}
+use Rattle.tp_peer.specs.PeerStep.{Reply}
+use Rattle.tp_served.specs.Seats.{SeatData, SeatState, Shows}
+use Rattle.tp_session.specs.declared.error.NetError.{NetError}
+use Rattle.tp_session.specs.declared.error.NetError.TheVariants.{Io}
+use Rattle.tp_session.specs.declared.session.Role.{Role}
+use Rattle.tp_session.specs.declared.session.Role.TheVariants.{Server}
+use Rattle.tp_session.specs.HostCalls.{HostCall, on}
+use Rattle.tp_session.specs.SessionData.{begun}
+use Rattle.tp_net.specs.Transcript.{Traffic}
+use Rattle.tp_net.specs.RunSession.{IsHeld}
+
+-- A call of a session was one turn of the seat, on the link with the seat's number.
+abbrev pub TakesTurn : SeatState → HostCall → Reply → SeatState → Type 0
+TakesTurn t call reply t' = Shows t (on t.number call) reply t'
+
+-- One whole session was held on the seat, as the side with the role about the document, over some traffic.
+abbrev pub Holds : Role → DocId → SeatState → Result ℕ NetError → SeatState → Type 0
+Holds role id t answer t' = (w : Traffic) × IsHeld TakesTurn (begun role id) t w answer t'
+
+-- The seat's own changes grew by so many, and n is their number, up to 2^64 - 1.
+pub record Enters (n : ℕ) (t t' : SeatState) : Type 0 where
+  pub more : ℕ
+  pub grown : length t'.mine ≡ length t.mine + more
+  pub told : n ≡ min more (2 ^ 64 - 1)
+
+-- Over a connection a session was held, and where it ended well it answered how many changes the seat entered; or there
+-- was no connection to be had, and the seat stayed.
+abbrev pub Meets : Role → DocId → SeatState → Result ℕ NetError → SeatState → Type 0
+Meets role id t (Ok n) t' = Holds role id t (Ok n) t' × Enters n t t'
+Meets role id t (Err e) t' = Holds role id t (Err e) t' ⊎ ((e ≡ Io) × (t' ≡ t))
+
+-- The seat stayed at its served peer, and some sessions led it from the one to the other, each as the server.
+pub record Sits (id : DocId) (s s' : SeatData) : Type 0 where
+  pub served : s'.served ≡ s.served
+  pub answers : List (Result ℕ NetError)
+  pub sessions : Trace (Holds Server id) s.state answers s'.state
+
+-- the same of all seats, in their order
+abbrev pub AllSit : DocId → List SeatData → List SeatData → Type 0
+AllSit id [] [] = Unit {0}
+AllSit id [] (s' ∷ seats') = ⊥
+AllSit id (s ∷ seats) [] = ⊥
+AllSit id (s ∷ seats) (s' ∷ seats') = Sits id s s' × AllSit id seats seats'

@@ -1,0 +1,119 @@
+-- A reply has the form of its call.
+use Rattle.std.proofs.Common.{◌≡◌, ◌⊎◌, inl, inr, ℕ, List, Bool, false, Option, Some, None, Result, Ok, Err, String, Global, refl, sym, ap, subst}
+use Rattle.std.specs.Prelude.{IfOk}
+use Rattle.tp_edit.specs.declared.splice.Splice.{Splice}
+use Rattle.tp_edit.specs.Splices.{all_spliced}
+use Rattle.tp_opid.specs.declared.hash.Hash.{Hash}
+use Rattle.tp_opid.specs.declared.actor.Actor.{Actor}
+use Rattle.tp_text.specs.Text.{IsTextOf}
+use Rattle.tp_document.specs.declared.error.DocError.{DocError}
+use Rattle.tp_document.specs.declared.error.DocError.TheVariants as doc
+use Rattle.tp_document.specs.DocState.{DocState}
+use Rattle.tp_document.specs.Editing.{DoesSplices, asking}
+use Rattle.tp_document.proofs.EditFits.{edit_text, nothing_spliced}
+use Rattle.tp_sync.specs.State.{SyncParts}
+use Rattle.tp_peer.specs.declared.call.Call.{Call}
+use Rattle.tp_peer.specs.declared.call.Call.TheVariants as call
+use Rattle.tp_peer.specs.declared.call.Reply.{Reply}
+use Rattle.tp_peer.specs.declared.call.Reply.TheVariants as reply
+use Rattle.tp_peer.specs.declared.error.PeerError.{PeerError}
+use Rattle.tp_peer.specs.declared.error.PeerError.TheVariants.{Stopped, TooManyLinks, Sync, OutOfMemory}
+use Rattle.tp_peer.specs.declared.exchanged.Outgoing.{Outgoing}
+use Rattle.tp_peer.specs.declared.exchanged.Received.{Received}
+use Rattle.tp_peer.specs.Appending.{JournalState}
+use Rattle.tp_peer.specs.Calls.{IsReplyTo, call_of, reply_of}
+use Rattle.tp_peer.specs.PeerData.{IsPeer, PeerData, peer_data}
+use Rattle.tp_peer.specs.PeerError.{is_failed, refusal_of_document}
+use Rattle.tp_peer.specs.PeerStep as step
+use Rattle.tp_peer.specs.PeerStep.{PeerStep, RefusesGenerate, Runs, needs_stopped, replied}
+use Rattle.tp_peer.proofs.StepLaws.{step_cases}
+
+-- no call of the enum needs another peer
+pub needs_itself : (p : PeerData) (x : Call) → needs_stopped p (call_of x) ≡ p.stopped
+needs_itself p (call.Edit splices time message) = refl
+needs_itself p (call.Receive link bytes) = refl
+needs_itself p (call.Generate link) = refl
+needs_itself p (call.Forget link) = refl
+needs_itself p call.Read = refl
+needs_itself p (call.ReadAt hashes) = refl
+
+-- neither a refusal for a stop nor what a running peer may reply
+never : {A : Type 0} (p p' : PeerData) (made : step.Call) (r : step.Reply) → PeerStep p made r p' → (r ≡ step.Refused Stopped → ⊥) → (Runs p made r p' → ⊥) → A
+never p p' made r s stopped runs = elim (step_cases p made r p' s) [ inl is ↦ absurd (stopped is.0) | inr is ↦ absurd (runs is.1) ]
+
+pub made_or_refused : (r : Reply) → (splices : List Splice) × (time : ℕ) × (message : List ℕ) × IsReplyTo (step.Edit splices time message) (reply_of r)
+    → ((made : Option Hash) × (r ≡ reply.Made made)) ⊎ ((error : PeerError) × (r ≡ reply.Refused error))
+made_or_refused (reply.Made x) h = inl (x, refl)
+made_or_refused (reply.Received x) h = never h.3.0 h.3.1 (step.Edit h.0 h.1 h.2) (reply_of (reply.Received x)) h.3.2 (λ e. cc) (λ runs. runs)
+made_or_refused (reply.Generated x) h = never h.3.0 h.3.1 (step.Edit h.0 h.1 h.2) (reply_of (reply.Generated x)) h.3.2 (λ e. cc) (λ runs. runs)
+made_or_refused reply.Forgotten h = never h.3.0 h.3.1 (step.Edit h.0 h.1 h.2) (reply_of reply.Forgotten) h.3.2 (λ e. cc) (λ runs. runs)
+made_or_refused (reply.Text x) h = never h.3.0 h.3.1 (step.Edit h.0 h.1 h.2) (reply_of (reply.Text x)) h.3.2 (λ e. cc) (λ runs. runs)
+made_or_refused (reply.Refused x) h = inr (x, refl)
+
+pub received_or_refused : (r : Reply) → (link : ℕ) × (bytes : List ℕ) × IsReplyTo (step.Receive link bytes) (reply_of r)
+    → ((received : Received) × (r ≡ reply.Received received)) ⊎ ((error : PeerError) × (r ≡ reply.Refused error))
+received_or_refused (reply.Made x) h = never h.2.0 h.2.1 (step.Receive h.0 h.1) (reply_of (reply.Made x)) h.2.2 (λ e. cc) (λ runs. runs)
+received_or_refused (reply.Received x) h = inl (x, refl)
+received_or_refused (reply.Generated x) h = never h.2.0 h.2.1 (step.Receive h.0 h.1) (reply_of (reply.Generated x)) h.2.2 (λ e. cc) (λ runs. runs)
+received_or_refused reply.Forgotten h = never h.2.0 h.2.1 (step.Receive h.0 h.1) (reply_of reply.Forgotten) h.2.2 (λ e. cc) (λ runs. runs)
+received_or_refused (reply.Text x) h = never h.2.0 h.2.1 (step.Receive h.0 h.1) (reply_of (reply.Text x)) h.2.2 (λ e. cc) (λ runs. runs)
+received_or_refused (reply.Refused x) h = inr (x, refl)
+
+pub generated_or_refused : (r : Reply) → (link : ℕ) × IsReplyTo (step.Generate link) (reply_of r)
+    → ((sent : Option Outgoing) × (r ≡ reply.Generated sent)) ⊎ ((error : PeerError) × (r ≡ reply.Refused error))
+generated_or_refused (reply.Made x) h = never h.1.0 h.1.1 (step.Generate h.0) (reply_of (reply.Made x)) h.1.2 (λ e. cc) (λ runs. runs)
+generated_or_refused (reply.Received x) h = never h.1.0 h.1.1 (step.Generate h.0) (reply_of (reply.Received x)) h.1.2 (λ e. cc) (λ runs. runs)
+generated_or_refused (reply.Generated x) h = inl (x, refl)
+generated_or_refused reply.Forgotten h = never h.1.0 h.1.1 (step.Generate h.0) (reply_of reply.Forgotten) h.1.2 (λ e. cc) (λ runs. runs)
+generated_or_refused (reply.Text x) h = never h.1.0 h.1.1 (step.Generate h.0) (reply_of (reply.Text x)) h.1.2 (λ e. cc) (λ runs. runs)
+generated_or_refused (reply.Refused x) h = inr (x, refl)
+
+pub forgotten_or_refused : (r : Reply) → (link : ℕ) × IsReplyTo (step.Forget link) (reply_of r)
+    → ((r ≡ reply.Forgotten)) ⊎ ((error : PeerError) × (r ≡ reply.Refused error))
+forgotten_or_refused (reply.Made x) h = never h.1.0 h.1.1 (step.Forget h.0) (reply_of (reply.Made x)) h.1.2 (λ e. cc) (λ runs. runs)
+forgotten_or_refused (reply.Received x) h = never h.1.0 h.1.1 (step.Forget h.0) (reply_of (reply.Received x)) h.1.2 (λ e. cc) (λ runs. runs)
+forgotten_or_refused (reply.Generated x) h = never h.1.0 h.1.1 (step.Forget h.0) (reply_of (reply.Generated x)) h.1.2 (λ e. cc) (λ runs. runs)
+forgotten_or_refused reply.Forgotten h = inl refl
+forgotten_or_refused (reply.Text x) h = never h.1.0 h.1.1 (step.Forget h.0) (reply_of (reply.Text x)) h.1.2 (λ e. cc) (λ runs. runs)
+forgotten_or_refused (reply.Refused x) h = inr (x, refl)
+
+pub text_or_refused : (r : Reply) → IsReplyTo step.Read (reply_of r) ⊎ ((hashes : List Hash) × IsReplyTo (step.ReadAt hashes) (reply_of r))
+    → ((text : String Global) × (r ≡ reply.Text text)) ⊎ ((error : PeerError) × (r ≡ reply.Refused error))
+text_or_refused (reply.Made x) (inl h) = never h.0 h.1 step.Read (reply_of (reply.Made x)) h.2 (λ e. cc) (λ runs. runs)
+text_or_refused (reply.Made x) (inr h) = never h.1.0 h.1.1 (step.ReadAt h.0) (reply_of (reply.Made x)) h.1.2 (λ e. cc) (λ runs. runs)
+text_or_refused (reply.Received x) (inl h) = never h.0 h.1 step.Read (reply_of (reply.Received x)) h.2 (λ e. cc) (λ runs. runs)
+text_or_refused (reply.Received x) (inr h) = never h.1.0 h.1.1 (step.ReadAt h.0) (reply_of (reply.Received x)) h.1.2 (λ e. cc) (λ runs. runs)
+text_or_refused (reply.Generated x) (inl h) = never h.0 h.1 step.Read (reply_of (reply.Generated x)) h.2 (λ e. cc) (λ runs. runs)
+text_or_refused (reply.Generated x) (inr h) = never h.1.0 h.1.1 (step.ReadAt h.0) (reply_of (reply.Generated x)) h.1.2 (λ e. cc) (λ runs. runs)
+text_or_refused reply.Forgotten (inl h) = never h.0 h.1 step.Read (reply_of reply.Forgotten) h.2 (λ e. cc) (λ runs. runs)
+text_or_refused reply.Forgotten (inr h) = never h.1.0 h.1.1 (step.ReadAt h.0) (reply_of reply.Forgotten) h.1.2 (λ e. cc) (λ runs. runs)
+text_or_refused (reply.Text x) h = inl (x, refl)
+text_or_refused (reply.Refused x) h = inr (x, refl)
+
+-- a refused generate doesn't stop the peer
+pub generate_goes_on : (a : Actor) (d : DocState) (L L' : List (ℕ × SyncParts)) (k : JournalState) (link : ℕ) (e : PeerError) → RefusesGenerate (peer_data a d L k false) link e (peer_data a d L' k false)
+    → RefusesGenerate (peer_data a d L k false) link e (peer_data a d L' k (is_failed e))
+generate_goes_on a d L L' k link TooManyLinks h = h
+generate_goes_on a d L L' k link (Sync e) h = h
+generate_goes_on a d L L' k link OutOfMemory h = h
+generate_goes_on a d L L' k link _ h = absurd h
+
+-- nor does a refused read
+pub text_goes_on : (e : DocError) → (e ≡ doc.UnknownHead) ⊎ (e ≡ doc.OutOfMemory) → is_failed (refusal_of_document e) ≡ false
+text_goes_on e (inl is) = subst (λ (x : DocError). is_failed (refusal_of_document x) ≡ false) (sym is) refl
+text_goes_on e (inr is) = subst (λ (x : DocError). is_failed (refusal_of_document x) ≡ false) (sym is) refl
+
+-- an edit that was made does its splices
+pub edit_does : (r : Result (Option Hash) PeerError) (p p' : PeerData) (splices : List Splice) (time : ℕ) (message : List ℕ) → IsPeer p → PeerStep p (step.Edit splices time message) (replied step.Made r) p'
+    → IfOk r (λ made. DoesSplices p.applied p'.applied splices)
+edit_does (Err e) p p' splices time message peer s = tt
+edit_does (Ok None) p p' splices time message peer s = λ t text.
+    elim (step_cases p (step.Edit splices time message) (step.Made None) p' s) [
+      | inl is ↦ let wrong = is.0 in absurd cc
+      | inr runs ↦ subst (λ (q : PeerData). IsTextOf q.applied (all_spliced t splices)) (sym runs.1.1) (subst (IsTextOf p.applied) (sym (nothing_spliced splices t runs.1.0.1)) text)
+    ]
+edit_does (Ok (Some h)) p p' splices time message peer s = λ t text.
+    elim (step_cases p (step.Edit splices time message) (step.Made (Some h)) p' s) [
+      | inl is ↦ let wrong = is.0 in absurd cc
+      | inr runs ↦ subst (λ (q : PeerData). IsTextOf q.applied (all_spliced t splices)) (sym runs.1.3) (edit_text p.applied (asking p.actor splices time message) runs.1.0 t peer.history.sound runs.1.1 text)
+    ]

@@ -1,0 +1,38 @@
+-- The calls and replies of the program, as the relation has them.
+use Rattle.std.specs.Prelude.{Bool, false}
+use Rattle.std.specs.Str.{chars}
+use Rattle.std.specs.String.{string_bytes}
+use Rattle.tp_peer.specs.declared.call.Call.{Call}
+use Rattle.tp_peer.specs.declared.call.Call.TheVariants as call
+use Rattle.tp_peer.specs.declared.call.Reply.{Reply}
+use Rattle.tp_peer.specs.declared.call.Reply.TheVariants as reply
+use Rattle.tp_peer.specs.PeerData.{PeerData}
+use Rattle.tp_peer.specs.PeerError.{is_failed}
+use Rattle.tp_peer.specs.PeerStep as step
+use Rattle.tp_peer.specs.Sent.{sent_of}
+use Rattle.tp_peer.specs.Taking.{report_of}
+
+abbrev pub call_of : Call → step.Call
+call_of (call.Edit splices time message) = step.Edit splices.now time (chars message.now)
+call_of (call.Receive link bytes) = step.Receive link.0 bytes.now
+call_of (call.Generate link) = step.Generate link.0
+call_of (call.Forget link) = step.Forget link.0
+call_of call.Read = step.Read
+call_of (call.ReadAt hashes) = step.ReadAt hashes.now
+
+abbrev pub reply_of : Reply → step.Reply
+reply_of (reply.Made made) = step.Made made
+reply_of (reply.Received received) = step.Received (report_of received.applied) received.same_heads
+reply_of (reply.Generated sent) = step.Generated (sent_of sent)
+reply_of reply.Forgotten = step.Forgotten
+reply_of (reply.Text text) = step.Text (chars (string_bytes text))
+reply_of (reply.Refused error) = step.Refused error
+
+-- Some peer replies so to the call.
+abbrev pub IsReplyTo : step.Call → step.Reply → Type 0
+IsReplyTo call reply = (p : PeerData) × (p' : PeerData) × step.PeerStep p call reply p'
+
+-- the reply says that the device of the journal failed
+abbrev pub fails : step.Reply → Bool
+fails (step.Refused error) = is_failed error
+fails _ = false

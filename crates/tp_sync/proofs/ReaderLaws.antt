@@ -1,0 +1,211 @@
+-- What the calls of a reader make of its state.
+use Rattle.tp_sync.proofs.Common.{◌≡◌, inl, inr, ℕ, ◌+◌, ◌-◌, ◌<◌, ◌≤◌, List, [], ◌∷◌, ◌++◌, length, take, drop, true, Result, Ok, Err, refl, sym, ap, subst, ◌∙◌, append_assoc, append-nil, arith, length-append, take-append-drop, nil_from_length, AreBytes, MAX_BYTES, SyncError, OutOfMemory, Stage, Version, Whole, Failed, MessageParts, IsMessage, is_whole, need, Steps, ReaderState, FailsWith, length-take-le, Moves, Stands, Refuses, Takes}
+use Rattle.std.proofs.lemmas.List.{drop-drop, length-drop, take_all}
+use Rattle.tp_codec.specs.Reading.{fail, give}
+use Rattle.tp_codec.proofs.Fields.{AreBytes-append, AreBytes-take}
+use Rattle.tp_sync.specs.Reading.{ended, message_at, parts_at}
+use Rattle.tp_sync.specs.Stages.{changes_from, heads_from, known_from, rest_at, wants_from}
+use Rattle.tp_sync.specs.ReaderState.{Answers, IsLed, IsReader, reads}
+use Rattle.tp_sync.proofs.JudgeLaws.{moves_fault, stands_held, stands_open, stands_whole}
+use Rattle.tp_sync.proofs.WholeMessage.{message_takes}
+
+-- ---- at first
+
+abbrev pub nothing : MessageParts
+nothing = record { version = 0; heads = []; wants = []; known = []; changes = [] }
+
+abbrev pub begun : ℕ → ReaderState
+begun total = record { stage = Version; parts = nothing; held = []; left = total }
+
+pub begun_reads : (total : ℕ) (bytes : List ℕ) → reads (begun total) bytes ≡ message_at bytes
+unfolding reads message_at parts_at rest_at heads_from wants_from known_from changes_from
+begun_reads total bytes = refl
+
+pub begun_is : (total : ℕ) → 1 ≤ total → IsReader (begun total)
+begun_is total le = record {
+  few = omega arith;
+  stands = (omega arith, omega (arith, le), omega arith);
+  led = record { bytes = []; small = λ i. omega arith; same = λ rest len. sym (begun_reads total rest) };
+}
+
+-- ---- bytes that are taken
+
+-- all of a piece that ends within a field
+pub part_taken : (s t : ReaderState) (piece : List ℕ) → t.stage ≡ s.stage → t.parts ≡ s.parts → t.held ≡ s.held ++ piece → t.left + length piece ≡ s.left → 0 < s.left → Takes s piece (length piece) t
+unfolding reads
+part_taken s t piece same-stage same-parts more left some =
+    let all : take (length piece) piece ≡ piece = take_all (length piece) piece (omega arith) in
+    record {
+      few = omega arith;
+      left = left;
+      same = λ rest.
+          let bytes : s.held ++ (take (length piece) piece ++ rest) ≡ t.held ++ rest = ap (λ (p : List ℕ). s.held ++ (p ++ rest)) all ∙ sym (append_assoc s.held piece rest) ∙ ap (λ (h : List ℕ). h ++ rest) (sym more) in
+          ap (λ (b : List ℕ). ended (rest_at s.stage s.parts b)) bytes
+          ∙ ap (λ (x : Stage). ended (rest_at x s.parts (t.held ++ rest))) (sym same-stage)
+          ∙ ap (λ (x : MessageParts). ended (rest_at t.stage x (t.held ++ rest))) (sym same-parts);
+      some = λ e. inl (nil_from_length piece e);
+      whole = λ e. absurd (omega (arith, e, some));
+    }
+
+-- the rest of a field
+pub field_taken : (s t : ReaderState) (piece : List ℕ) (count : ℕ) → count ≤ length piece → t.left + count ≡ s.left → 0 < count → t.held ≡ []
+    → Steps s.stage s.parts (s.held ++ take count piece) (Ok t.stage) t.parts → Takes s piece count t
+unfolding reads
+field_taken s t piece count few left some none steps = record {
+  few = few;
+  left = left;
+  same = λ rest.
+      ap (λ (b : List ℕ). ended (rest_at s.stage s.parts b)) (sym (append_assoc s.held (take count piece) rest))
+      ∙ ap (λ r. ended r) (steps rest)
+      ∙ ap (λ (h : List ℕ). ended (rest_at t.stage t.parts (h ++ rest))) (sym none);
+  some = λ e. absurd (omega (arith, e, some));
+  whole = λ e. absurd (omega (arith, e, left, some));
+}
+
+-- nothing behind a whole message
+pub whole_taken : (s : ReaderState) (piece : List ℕ) → is_whole s.stage ≡ true → s.left ≡ 0 → Takes s piece 0 s
+unfolding reads
+whole_taken s piece w none = record {
+  few = omega arith;
+  left = omega arith;
+  same = λ rest. refl;
+  some = λ e. inr none;
+  whole = λ e. w;
+}
+
+-- ---- refusals
+
+pub field_refused : (s t : ReaderState) (piece : List ℕ) (count : ℕ) (e : SyncError) → count ≤ length piece → t.left + count ≡ s.left → t.stage ≡ Failed e
+    → ((rest : List ℕ) → length rest ≡ t.left → ended (rest_at s.stage s.parts ((s.held ++ take count piece) ++ rest)) ≡ Err e) → Refuses s piece e t
+unfolding reads
+field_refused s t piece count e few left stays every = record {
+  count = count;
+  few = few;
+  left = left;
+  every = λ rest len. ap (λ (b : List ℕ). ended (rest_at s.stage s.parts b)) (sym (append_assoc s.held (take count piece) rest)) ∙ every rest len;
+  stays = stays;
+}
+
+failed_at : (e : SyncError) (m : MessageParts) (bytes : List ℕ) → ended (rest_at (Failed e) m bytes) ≡ Err e
+unfolding rest_at fail ended
+failed_at e m bytes = refl
+
+failed_reads : (s : ReaderState) (e : SyncError) → s.stage ≡ Failed e → (bytes : List ℕ) → reads s bytes ≡ Err e
+unfolding reads
+failed_reads s e failed bytes = ap (λ (x : Stage). ended (rest_at x s.parts (s.held ++ bytes))) failed ∙ failed_at e s.parts (s.held ++ bytes)
+
+pub refused_again : (s : ReaderState) (piece : List ℕ) (e : SyncError) → s.stage ≡ Failed e → Refuses s piece e s
+refused_again s piece e failed = record {
+  count = 0;
+  few = omega arith;
+  left = omega arith;
+  every = λ rest len. failed_reads s e failed (take 0 piece ++ rest);
+  stays = failed;
+}
+
+pub answers_refusal : (s : ReaderState) (piece : List ℕ) (e : SyncError) (t : ReaderState) → (e ≡ OutOfMemory → ⊥) → Refuses s piece e t → Answers s piece (Err e) t
+answers_refusal s piece OutOfMemory t apart r = absurd (apart refl)
+answers_refusal s piece e t apart r = r
+
+pub answers_again : (s : ReaderState) (piece : List ℕ) (e : SyncError) → s.stage ≡ Failed e → Answers s piece (Err e) s
+answers_again s piece OutOfMemory failed = refl
+answers_again s piece e failed = refused_again s piece e failed
+
+-- ---- what holds of every reader
+
+led_on : (s t : ReaderState) (piece : List ℕ) (count : ℕ) → IsLed s → AreBytes piece → count ≤ length piece → t.left + count ≡ s.left
+    → ((rest : List ℕ) → length rest ≡ t.left → reads s (take count piece ++ rest) ≡ reads t rest) → IsLed t
+led_on s t piece count led fits few left same = record {
+  bytes = led.bytes ++ take count piece;
+  small = AreBytes-append led.bytes (take count piece) led.small (AreBytes-take count piece fits);
+  same = λ rest len.
+      ap message_at (append_assoc led.bytes (take count piece) rest)
+      ∙ led.same (take count piece ++ rest) (length-append (take count piece) rest ∙ omega (arith, length-take-le count piece few, len, left))
+      ∙ same rest len;
+}
+
+pub reader_on : (s t : ReaderState) (piece : List ℕ) (count : ℕ) → IsReader s → AreBytes piece → Takes s piece count t → length t.held ≤ MAX_BYTES → Stands t.stage (length t.held) t.left → IsReader t
+reader_on s t piece count is fits takes few stands = record {
+  few = few;
+  stands = stands;
+  led = led_on s t piece count is.led fits takes.few takes.left (λ rest len. takes.same rest);
+}
+
+pub reader_refused : (s t : ReaderState) (piece : List ℕ) (e : SyncError) → IsReader s → AreBytes piece → Refuses s piece e t → length t.held ≤ MAX_BYTES → IsReader t
+reader_refused s t piece e is fits refuses few = record {
+  few = few;
+  stands = subst (λ (x : Stage). Stands x (length t.held) t.left) (sym refuses.stays) tt;
+  led = led_on s t piece refuses.count is.led fits refuses.few refuses.left (λ rest len. refuses.every rest len ∙ sym (failed_reads t e refuses.stays rest));
+}
+
+-- ---- a call
+
+-- a field comes next
+abbrev pub IsOpen : ReaderState → Type 0
+IsOpen s = (s.stage ≡ Whole → ⊥) × ((e : SyncError) → s.stage ≡ Failed e → ⊥)
+
+pub part_read : (s t : ReaderState) (piece : List ℕ) → IsReader s → AreBytes piece → IsOpen s → length piece < need s.stage - length s.held
+    → t.stage ≡ s.stage → t.parts ≡ s.parts → t.held ≡ s.held ++ piece → t.left ≡ s.left - length piece → Takes s piece (length piece) t × IsReader t
+part_read s t piece is fits (w, f) lt same-stage same-parts more less =
+    let o = stands_open s.stage (length s.held) s.left is.stands w f in
+    let held : length t.held ≡ length s.held + length piece = ap length more ∙ length-append s.held piece in
+    let needs : need t.stage ≡ need s.stage = ap need same-stage in
+    let taken = part_taken s t piece same-stage same-parts more (omega (arith, o.1, lt, less)) (omega (arith, o.0, o.1)) in
+    (taken, reader_on s t piece (length piece) is fits taken (omega (arith, held, lt, o.2)) (stands_held t.stage (length t.held) t.left (omega (arith, held, needs, lt)) (omega (arith, held, needs, o.1, less, lt)) (omega (arith, needs, o.2))))
+
+pub field_read : (s t : ReaderState) (piece last : List ℕ) (count : ℕ) → IsReader s → AreBytes piece → IsOpen s → count ≡ need s.stage - length s.held → count ≤ length piece → last ≡ take count piece
+    → t.left ≡ s.left - count → t.held ≡ [] → Moves s.stage s.parts (s.held ++ last) t.left (Ok t.stage) t.parts → Takes s piece count t × IsReader t
+field_read s t piece last count is fits (w, f) size few end less none moves =
+    let o = stands_open s.stage (length s.held) s.left is.stands w f in
+    let held : length t.held ≡ 0 = ap length none in
+    let steps : Steps s.stage s.parts (s.held ++ take count piece) (Ok t.stage) t.parts = subst (λ (l : List ℕ). Steps s.stage s.parts (s.held ++ l) (Ok t.stage) t.parts) end moves.0 in
+    let taken = field_taken s t piece count few (omega (arith, o.0, o.1, size, less)) (omega (arith, o.0, size)) none steps in
+    (taken, reader_on s t piece count is fits taken (omega (arith, held)) (subst (λ (n : ℕ). Stands t.stage n t.left) (sym held) moves.1))
+
+pub field_failed : (s t : ReaderState) (piece last : List ℕ) (count : ℕ) (e : SyncError) (after : MessageParts) → IsReader s → AreBytes piece → IsOpen s → count ≡ need s.stage - length s.held → count ≤ length piece → last ≡ take count piece
+    → t.left ≡ s.left - count → t.stage ≡ Failed e → length t.held ≤ length s.held → (e ≡ OutOfMemory → ⊥) → Moves s.stage s.parts (s.held ++ last) t.left (Err e) after → Refuses s piece e t × IsReader t
+field_failed s t piece last count e after is fits (w, f) size few end less failed short apart moves =
+    let o = stands_open s.stage (length s.held) s.left is.stands w f in
+    let every : (rest : List ℕ) → length rest ≡ t.left → ended (rest_at s.stage s.parts ((s.held ++ take count piece) ++ rest)) ≡ Err e = subst (λ (l : List ℕ). (rest : List ℕ) → length rest ≡ t.left → ended (rest_at s.stage s.parts ((s.held ++ l) ++ rest)) ≡ Err e) end (moves_fault s.stage s.parts (s.held ++ last) t.left e after apart moves) in
+    let refused = field_refused s t piece count e few (omega (arith, o.0, o.1, size, less)) failed every in
+    (refused, reader_refused s t piece e is fits refused (omega (arith, short, is.few)))
+
+-- ---- all of the bytes
+
+pub taken_on : (s t : ReaderState) (bytes piece : List ℕ) (at count : ℕ) → piece ≡ drop at bytes → Takes s piece count t → reads s (drop at bytes) ≡ message_at bytes → reads t (drop (at + count) bytes) ≡ message_at bytes
+taken_on s t bytes piece at count is taken so_far =
+    let rest : drop count piece ≡ drop (at + count) bytes = ap (λ (p : List ℕ). drop count p) is ∙ drop-drop count at bytes in
+    ap (reads t) (sym rest) ∙ sym (taken.same (drop count piece)) ∙ ap (reads s) (take-append-drop count piece ∙ is) ∙ so_far
+
+pub refused_on : (s t : ReaderState) (bytes piece : List ℕ) (at : ℕ) (e : SyncError) → piece ≡ drop at bytes → at + s.left ≡ length bytes → Refuses s piece e t → reads s (drop at bytes) ≡ message_at bytes → message_at bytes ≡ Err e
+refused_on s t bytes piece at e is size refused so_far =
+    let whole : length piece ≡ s.left = ap length is ∙ length-drop at bytes ∙ omega (arith, size) in
+    let rest : length (drop refused.count piece) ≡ t.left = length-drop refused.count piece ∙ omega (arith, whole, refused.left) in
+    sym so_far ∙ ap (reads s) (sym (take-append-drop refused.count piece ∙ is)) ∙ refused.every (drop refused.count piece) rest
+
+pub fails_of_answers : (s t : ReaderState) (bytes piece : List ℕ) (at : ℕ) (e : SyncError) → piece ≡ drop at bytes → at + s.left ≡ length bytes → Answers s piece (Err e) t → reads s (drop at bytes) ≡ message_at bytes → FailsWith e (message_at bytes)
+fails_of_answers s t bytes piece at OutOfMemory is size a so_far = tt
+fails_of_answers s t bytes piece at e is size a so_far = refused_on s t bytes piece at e is size a so_far
+
+pub fails_by : {X : Type 0} (e : SyncError) (r : Result X SyncError) → r ≡ Err e → FailsWith e r
+fails_by OutOfMemory r h = tt
+fails_by e r h = h
+
+-- ---- the end
+
+whole_at : (m : MessageParts) (held : List ℕ) → length held ≡ 0 → ended (rest_at Whole m (held ++ [])) ≡ Ok m
+unfolding rest_at give ended
+whole_at m [] e = refl
+whole_at m (b ∷ held) e = absurd (omega (arith, e))
+
+pub whole_reads : (s : ReaderState) → IsReader s → is_whole s.stage ≡ true → reads s [] ≡ Ok s.parts
+unfolding reads
+whole_reads s is w =
+    let t = stands_whole s.stage (length s.held) s.left w is.stands in
+    ap (λ (x : Stage). ended (rest_at x s.parts (s.held ++ []))) t.0 ∙ whole_at s.parts s.held t.1
+
+pub whole_is_message : (s : ReaderState) → IsReader s → is_whole s.stage ≡ true → IsMessage s.parts
+whole_is_message s is w =
+    let t = stands_whole s.stage (length s.held) s.left w is.stands in
+    let read : message_at (is.led.bytes ++ []) ≡ Ok s.parts = is.led.same [] (sym t.2) ∙ whole_reads s is w in
+    (message_takes (is.led.bytes ++ []) s.parts (subst AreBytes (sym (append-nil is.led.bytes)) is.led.small) read).0

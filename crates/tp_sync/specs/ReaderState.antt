@@ -1,0 +1,58 @@
+-- What contracts see of a reader of messages: how far it has come, and what its calls answer.
+use Rattle.std.specs.Prelude.{◌≡◌, ◌⊎◌, ℕ, ◌+◌, ◌<◌, ◌≤◌, List, [], ◌++◌, length, take, slice_index, Result, Ok, Err, true}
+use Rattle.tp_change.specs.declared.limits.TheConstants.{MAX_BYTES}
+use Rattle.tp_sync.specs.declared.error.SyncError.{SyncError}
+use Rattle.tp_sync.specs.declared.error.SyncError.TheVariants.{OutOfMemory}
+use Rattle.tp_sync.specs.declared.stages.Stage.{Stage}
+use Rattle.tp_sync.specs.declared.stages.Stage.TheVariants.{Failed}
+use Rattle.tp_sync.specs.Message.{MessageParts}
+use Rattle.tp_sync.specs.Reading.{message_at, ended}
+use Rattle.tp_sync.specs.Stages.{is_whole, rest_at}
+use Rattle.tp_sync.specs.Steps.{Stands}
+
+-- What comes next, the parts that were read, the bytes of a field that isn't whole yet, and how many bytes are left.
+pub record ReaderState : Type 0 where
+  pub stage : Stage
+  pub parts : MessageParts
+  pub held : List ℕ
+  pub left : ℕ
+
+-- the message that all bytes are, or the first fault, where these are the bytes that weren't taken yet
+unfoldable pub reads : ReaderState → List ℕ → Result MessageParts SyncError
+reads s bytes = ended (rest_at s.stage s.parts (s.held ++ bytes))
+
+-- So many bytes of the piece were taken: with whatever follows them the message stays the same.
+pub record Takes (s : ReaderState) (piece : List ℕ) (count : ℕ) (t : ReaderState) : Type 0 where
+  pub few : count ≤ length piece
+  pub left : t.left + count ≡ s.left
+  pub same : (rest : List ℕ) → reads s (take count piece ++ rest) ≡ reads t rest
+  -- none only where there are none
+  pub some : count ≡ 0 → (piece ≡ []) ⊎ (s.left ≡ 0)
+  -- once all were taken, only of a whole message
+  pub whole : s.left ≡ 0 → is_whole s.stage ≡ true
+
+-- The message was refused, since it is with whatever follows some of the bytes.
+pub record Refuses (s : ReaderState) (piece : List ℕ) (e : SyncError) (t : ReaderState) : Type 0 where
+  pub count : ℕ
+  pub few : count ≤ length piece
+  pub left : t.left + count ≡ s.left
+  pub every : (rest : List ℕ) → length rest ≡ t.left → reads s (take count piece ++ rest) ≡ Err e
+  pub stays : t.stage ≡ Failed e
+
+-- what is answered for a piece, and the state afterwards
+abbrev pub Answers : ReaderState → List ℕ → Result ℕ SyncError → ReaderState → Type 0
+Answers s piece (Ok count) t = Takes s piece count t
+Answers s piece (Err OutOfMemory) t = t ≡ s
+Answers s piece (Err e) t = Refuses s piece e t
+
+-- some bytes led to the state: with those that are left they are the message that is still read
+pub record IsLed (s : ReaderState) : Type 0 where
+  pub bytes : List ℕ
+  pub small : (i : ℕ) → slice_index bytes i < 256
+  pub same : (rest : List ℕ) → length rest ≡ s.left → message_at (bytes ++ rest) ≡ reads s rest
+
+-- what holds of every reader
+pub record IsReader (s : ReaderState) : Type 0 where
+  pub few : length s.held ≤ MAX_BYTES
+  pub stands : Stands s.stage (length s.held) s.left
+  pub led : IsLed s
