@@ -1,16 +1,16 @@
 //! A server and its clients as runs of the program, in threads of one process.
 
-use crate::disk::{Disk, OverDisk};
+use crate::disk::{Disk as Device, OverDisk};
 use crate::runs::{
     Place, Ran, all_read, begin, copy_all, insert, serve, sync, sync_beside_silence, sync_once,
 };
 use crate::strangers::{Answered, Pace, UNKNOWN, first_other};
 use std::net::{Net, SocketAddr};
-use std::rt::Files;
 use std::sync::Wait;
 use std::test::Fail;
 use std::thread::{Threads, join};
 use std::time::Clock;
+use tp_shell::Disk;
 
 // Ann serves her journal to two clients, one after the other: Ben brings a change, and Cat gets it. Then all three read one
 // text.
@@ -135,7 +135,7 @@ impl Told {
 }
 
 // Ida's session with the server, once it listens, then Joe's and Kim's.
-fn synced<R: Files + Net + Threads + Wait + Clock + AllocGlobal + Sync>(
+fn synced<R: Disk + Net + Threads + Wait + Clock + AllocGlobal + Sync>(
     rt: &R,
     place: &Place,
 ) -> (Ran, Ran, Ran)
@@ -155,9 +155,9 @@ where
 #[test]
 fn a_journal_fails_while_it_is_served(rt: HostRuntime) -> Result<(), Fail> {
     let rows = [
-        (Disk::new(1, 0, 9), "ida hal\n"),
-        (Disk::new(1, 40, 9), "ida hal\n"),
-        (Disk::new(9, 0, 1), "ida hal joe\n"),
+        (Device::new(1, 0, 9), "ida hal\n"),
+        (Device::new(1, 40, 9), "ida hal\n"),
+        (Device::new(9, 0, 1), "ida hal joe\n"),
     ];
     assert!(rt; begin(&rt, "first", "hal", &[]));
     for (disk, text) in rows {

@@ -3,15 +3,14 @@
 use crate::patience::Patience;
 use crate::strangers::{connected, is_silent_until};
 use std::alloc::Global;
-use std::fs;
 use std::net::{Ipv4Addr, Net, OpenListener, SocketAddr, TcpListener};
-use std::rt::Files;
 use std::sync::Wait;
 use std::sync::atomic::{AtomicBool, Ordering};
 use std::test::Fail;
 use std::thread::{Threads, join};
 use std::time::Clock;
 use tp_online::run_words_on;
+use tp_shell::Disk;
 
 // The key of each journal that is begun.
 const DOCUMENT: &str = "0000000000000000000000000000000000000000000000000000000000000000";
@@ -42,7 +41,7 @@ impl Ran {
 }
 
 /// A run with these words, of which the first is the program's name.
-pub fn run<R: Files + Net + Threads + Wait + AllocGlobal + Sync>(rt: &R, words: &[&str]) -> Ran
+pub fn run<R: Disk + Net + Threads + Wait + AllocGlobal + Sync>(rt: &R, words: &[&str]) -> Ran
 where
     R::File: Send,
     R::Stream: Send,
@@ -54,7 +53,7 @@ where
 }
 
 /// Inserts the text at the place in the file's document.
-pub fn insert<R: Files + Net + Threads + Wait + AllocGlobal + Sync>(
+pub fn insert<R: Disk + Net + Threads + Wait + AllocGlobal + Sync>(
     rt: &R,
     file: &str,
     at: &str,
@@ -71,16 +70,19 @@ where
 }
 
 /// Copies a file. Whether that was done.
-pub fn copy_all<R: Files>(rt: &R, file: &str, copies: &[&str]) -> bool {
+pub fn copy_all<R: Disk>(rt: &R, file: &str, copies: &[&str]) -> bool {
+    let Ok(bytes) = rt.read(file) else {
+        return false;
+    };
     let mut is_done = true;
     for copy in copies {
-        is_done = is_done && fs::copy(rt, file, copy).is_ok();
+        is_done = is_done && rt.replace(copy, bytes.as_slice()).is_ok();
     }
     is_done
 }
 
 /// Makes a journal with the text, and copies of it. Whether that was done.
-pub fn begin<R: Files + Net + Threads + Wait + AllocGlobal + Sync>(
+pub fn begin<R: Disk + Net + Threads + Wait + AllocGlobal + Sync>(
     rt: &R,
     file: &str,
     text: &str,
@@ -95,7 +97,7 @@ where
 }
 
 /// Whether each of the files has the text.
-pub fn all_read<R: Files + Net + Threads + Wait + AllocGlobal + Sync>(
+pub fn all_read<R: Disk + Net + Threads + Wait + AllocGlobal + Sync>(
     rt: &R,
     files: &[&str],
     text: &str,
@@ -112,7 +114,7 @@ where
 }
 
 /// A server of the file's journal at the address, for so many sessions.
-pub fn serve<R: Files + Net + Threads + Wait + AllocGlobal + Sync>(
+pub fn serve<R: Disk + Net + Threads + Wait + AllocGlobal + Sync>(
     rt: &R,
     file: &str,
     addr: &str,
@@ -129,7 +131,7 @@ where
 }
 
 /// One session with the server at the address, as a client.
-pub fn sync_once<R: Files + Net + Threads + Wait + AllocGlobal + Sync>(
+pub fn sync_once<R: Disk + Net + Threads + Wait + AllocGlobal + Sync>(
     rt: &R,
     file: &str,
     addr: &str,
@@ -142,7 +144,7 @@ where
 }
 
 /// The same, once the server listens: till then a client can't connect, and is refused.
-pub fn sync<R: Files + Net + Threads + Wait + Clock + AllocGlobal + Sync>(
+pub fn sync<R: Disk + Net + Threads + Wait + Clock + AllocGlobal + Sync>(
     rt: &R,
     file: &str,
     addr: &str,
@@ -163,7 +165,7 @@ where
 
 /// A client that says nothing, and one beside it with the file's journal until that is done: whether the first was silent
 /// so long, and what the other was told.
-pub fn sync_beside_silence<R: Files + Net + Threads + Wait + Clock + AllocGlobal + Sync>(
+pub fn sync_beside_silence<R: Disk + Net + Threads + Wait + Clock + AllocGlobal + Sync>(
     rt: &R,
     file: &str,
     place: &Place,
