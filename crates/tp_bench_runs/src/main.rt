@@ -2,7 +2,9 @@
 #![tactic(auto)]
 
 mod codec;
+mod copying;
 mod graphs;
+mod messages;
 mod receiving;
 mod sequences;
 mod serving;
@@ -17,6 +19,7 @@ use std::rt::{Clock, Env, Files};
 use std::sync::Wait;
 use std::thread::Threads;
 use tp_bench_measure::{Load, Task};
+use tp_journal::Lockable;
 use tp_posindex::BlockSequence;
 use tp_rga::PlainSequence;
 
@@ -26,7 +29,10 @@ fn main(rt: HostRuntime) -> anyhow::Result<()> {
 
 fn run<R: Threads + Wait + Sync + Env + Files + Clock + Print + AllocGlobal>(
     rt: &R,
-) -> anyhow::Result<()> {
+) -> anyhow::Result<()>
+where
+    R::File: Lockable,
+{
     let words: Vec<String> = env::args(rt)?.collect(rt.alloc())?;
     run_named(rt, words.get(1).map(|word| word.as_str()).unwrap_or(""))
 }
@@ -36,11 +42,15 @@ fn run<R: Threads + Wait + Sync + Env + Files + Clock + Print + AllocGlobal>(
 fn run_named<R: Threads + Wait + Sync + Files + Clock + Print + AllocGlobal>(
     rt: &R,
     name: &str,
-) -> anyhow::Result<()> {
+) -> anyhow::Result<()>
+where
+    R::File: Lockable,
+{
     match name {
         "codec" => codec::run(rt),
         "apply" => receiving::run_list(rt),
         "reverse" => receiving::run_reverse(rt),
+        "copies" => copying::run(rt),
         "journal-append" => store::run_append(rt),
         "journal-recover" => store::run_recover(rt),
         "saved" => store::run_saved(rt),
@@ -80,6 +90,8 @@ fn run_peers<R: Threads + Wait + Sync + Files + Clock + Print + AllocGlobal>(
         "ring" => syncing::run_ring(rt),
         "catch-up" => syncing::run_catch_up(rt),
         "idle" => syncing::run_idle(rt),
+        "message-whole" => messages::run_whole(rt),
+        "message-parts" => messages::run_parts(rt),
         _ => run_others(rt, name),
     }
 }

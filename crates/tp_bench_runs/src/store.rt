@@ -6,7 +6,7 @@ use std::rt::{Clock, Files};
 use tp_bench_measure::{Branch, Stopwatch, report_memory};
 use tp_change::Change;
 use tp_document::Document;
-use tp_journal::{FileJournal, Journal, header, put_record, record, recover};
+use tp_journal::{FileJournal, Journal, Lockable, header, put_record, record, recover};
 use tp_opid::DocId;
 use tp_posindex::BlockSequence;
 use tp_store::{load, save};
@@ -65,7 +65,10 @@ fn append_tenths<R: Clock + Print + AllocGlobal, J: Journal>(
 }
 
 /// 100,000 records of one character, appended to a file one by one.
-pub fn run_append<R: Files + Clock + Print + AllocGlobal>(rt: &R) -> anyhow::Result<()> {
+pub fn run_append<R: Files + Clock + Print + AllocGlobal>(rt: &R) -> anyhow::Result<()>
+where
+    R::File: Lockable,
+{
     let mut journal = FileJournal::at(rt, rt.alloc(), PATH, true)?;
     journal.cut(0)?;
     append_tenths(rt, &mut journal)?;

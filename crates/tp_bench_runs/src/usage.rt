@@ -8,6 +8,7 @@ Runs a benchmark and prints what it took:
   codec           decoding and encoding changes, beside the digest of the same bytes
   apply           applying a chain of 100,000 changes to a document as one list
   reverse         applying a chain of 1,024 changes in order, and the last first
+  copies          forking a document of 100,000 changes, and reading its text at the half of them
   journal-append  appending 100,000 records to a journal in a file
   journal-recover recovering journals of up to 100,000 records
   saved           saving and loading a document of 100,000 changes
@@ -38,6 +39,11 @@ Makes changes of one character, and passes messages as bytes until nobody has an
   ring      20 peers, each linked to two, 10 rounds of a change each
   catch-up  a peer without changes, and one with 100,000
   idle      a message where there is nothing to say, with 1,000 to 100,000 changes
+
+Sends a session a message of 16 megabytes in pieces of 7 bytes:
+
+  message-whole  which takes the frame once it is whole
+  message-parts  which takes its parts as they come
 
 Makes calls on a peer, and as many on a served one by 1, 2 and 4 threads:
 

@@ -18,7 +18,7 @@ use Rattle.clap.specs.declared.parser.matches.ArgMatches.{ArgMatches}
 use Rattle.clap.specs.declared.parser.matches.Found.{Found}
 use Rattle.clap.specs.declared.parser.matches.ArgMatches.TheViews.{out-ArgMatches}
 use Rattle.clap.specs.declared.error.Error.{Error}
-use Rattle.tp_command_line.specs.CommandLine.{numbers, textpeer_app}
+use Rattle.tp_command_line.specs.CommandLine.{few, numbers, textpeer_app}
 use Rattle.tp_command_line.specs.LineError.{FailsAs, parser_fault}
 use Rattle.tp_command_line.specs.declared.command.Command.{Command}
 use Rattle.tp_command_line.specs.declared.error.LineError.{LineError}
@@ -35,6 +35,12 @@ value_of id rows has = (has.value, has.first)
 pub number_of : (id : Text) (rows : List Row) → HasFirst id rows → parser_named id ≡ numbers → (n : ℕ) × HasNumber id rows n
 number_of id rows has is =
     let taken : Accepts false numbers has.value = accepts-Accepts false numbers has.value (ap (λ p. accepts false p has.value) (sym is) ∙ has.taken) in
+    (digits_value 10 (without_leading_plus has.value), (has.value, has.one, record { digits = taken.0; small = taken.1; value = refl }))
+
+-- so it is of a number of few
+pub few_of : (id : Text) (rows : List Row) → HasFirst id rows → parser_named id ≡ few → (n : ℕ) × HasNumber id rows n
+few_of id rows has is =
+    let taken : Accepts false few has.value = accepts-Accepts false few has.value (ap (λ p. accepts false p has.value) (sym is) ∙ has.taken) in
     (digits_value 10 (without_leading_plus has.value), (has.value, has.one, record { digits = taken.0; small = taken.1; value = refl }))
 
 -- a text that is known was given

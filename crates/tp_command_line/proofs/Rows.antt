@@ -17,7 +17,7 @@ use Rattle.clap.specs.declared.builder.value_parser.ValueParser.{ValueParser}
 use Rattle.clap.specs.declared.builder.value_parser.ValueParser.TheVariants as parser
 use Rattle.clap.specs.declared.parser.matches.ValueSource.{ValueSource}
 use Rattle.clap.specs.declared.parser.matches.ValueSource.TheVariants.{DefaultValue}
-use Rattle.tp_command_line.specs.CommandLine.{numbers}
+use Rattle.tp_command_line.specs.CommandLine.{few, numbers}
 
 -- the arguments whose values are numbers
 abbrev pub is_numeric : Text → Bool
@@ -25,7 +25,7 @@ is_numeric id = list_any (λ n. bytes_eq n id) (codes "AT" ∷ codes "at" ∷ co
 
 -- what reads the values of an argument
 abbrev pub parser_named : Text → ValueParser
-parser_named id = if is_numeric id then numbers else parser.String
+parser_named id = if is_numeric id then numbers else if bytes_eq (codes "workers") id then few else parser.String
 
 -- the argument takes each of the values
 abbrev pub AllTaken : Text → List Text → Type 0

@@ -81,7 +81,7 @@ show_of_name path name rows (Save file out) is log of = other_name (codes "save"
 show_of_name path name rows (Load saved file) is log of = other_name (codes "load") refl (sym of.0 ∙ is)
 show_of_name path name rows (Show shown) is log of = let same : Some shown.now ≡ Some path = sym of.1 ∙ log in (shown, refl, cc)
 show_of_name path name rows (Simulate script) is log of = other_name (codes "simulate") refl (sym of.0 ∙ is)
-show_of_name path name rows (Serve file addr sessions key) is log of = other_name (codes "serve") refl (sym of.0 ∙ is)
+show_of_name path name rows (Serve file addr sessions workers key) is log of = other_name (codes "serve") refl (sym of.0 ∙ is)
 show_of_name path name rows (Sync file addr key) is log of = other_name (codes "sync") refl (sym of.0 ∙ is)
 
 -- words that ask to show a path give that

@@ -14,7 +14,7 @@ use Rattle.clap.specs.declared.builder.action.ArgAction.TheVariants.{Append, Set
 use Rattle.clap.specs.declared.builder.value_parser.Reading.TheVariants.{AsWritten}
 use Rattle.clap.specs.declared.builder.value_parser.ValueParser.{ValueParser}
 use Rattle.clap.specs.declared.builder.value_parser.ValueParser.TheVariants.{String}
-use Rattle.tp_command_line.specs.CommandLine.{file_rule, key_rule, mandatory, message_rule, numbers, numeric, option_rule, required_rule, several, textpeer_app, time_rule}
+use Rattle.tp_command_line.specs.CommandLine.{few, file_rule, key_rule, mandatory, message_rule, numbers, numeric, option_rule, required_rule, sessions_rule, several, textpeer_app, time_rule, workers_rule}
 use Rattle.tp_command_line.specs.Values.{IsUse, shape_named}
 use Rattle.tp_command_line.proofs.Rows.{AllTaken, HasFirst, has_default, or_else_none, parser_named, values_taken, with_values_filled, without_filled}
 use Rattle.tp_command_line.proofs.Words.{Fills}
@@ -95,8 +95,11 @@ script_sound = single_sound String (placed 1 (required_rule (codes "SCRIPT"))) r
 addr_sound : IsSound (placed 2 (required_rule (codes "ADDR")))
 addr_sound = single_sound String (placed 2 (required_rule (codes "ADDR"))) refl refl refl
 
-sessions_sound : IsSound (placed 2 (mandatory (numeric (option_rule (codes "sessions")))))
-sessions_sound = single_sound numbers (placed 2 (mandatory (numeric (option_rule (codes "sessions"))))) refl refl refl
+sessions_sound : IsSound (placed 2 sessions_rule)
+sessions_sound = single_sound numbers (placed 2 sessions_rule) refl refl refl
+
+workers_sound : IsSound (placed 2 workers_rule)
+workers_sound = single_sound few (placed 2 workers_rule) refl refl refl
 
 heads_sound : (i : ℕ) (required : Bool) → IsSound (placed i (record (several (codes "HASH")) { required = required }))
 heads_sound i required = record { fills = many_fills (placed i (record (several (codes "HASH")) { required = required })) refl; defaults = refl; reading = refl }
@@ -146,7 +149,7 @@ all_sound = (
                       (
                         (script_sound, (help_sound, tt)),
                         (
-                          (file_sound, (addr_sound, (sessions_sound, (key_sound, (help_sound, tt))))),
+                          (file_sound, (addr_sound, (sessions_sound, (workers_sound, (key_sound, (help_sound, tt)))))),
                           ((file_sound, (addr_sound, (key_sound, (help_sound, tt)))), tt),
                         ),
                       ),

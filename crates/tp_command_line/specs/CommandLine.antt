@@ -44,6 +44,18 @@ file_rule = required_rule (codes "FILE")
 abbrev pub key_rule : Rule
 key_rule = option_rule (codes "key")
 
+-- how many sessions a server holds at once: 1 to 64
+abbrev pub few : ValueParser
+few = Unsigned 1 64
+
+-- a server holds the most that there may be where `--sessions` is left out
+abbrev pub sessions_rule : Rule
+sessions_rule = record (numeric (option_rule (codes "sessions"))) { defaults = codes "18446744073709551615" ∷ [] }
+
+-- two at once where `--workers` is left out
+abbrev pub workers_rule : Rule
+workers_rule = record (option_rule (codes "workers")) { parser = Some few; defaults = codes "2" ∷ [] }
+
 -- the time is 0 where it is left out
 abbrev pub time_rule : Rule
 time_rule = record (numeric (option_rule (codes "time"))) { defaults = codes "0" ∷ [] }
@@ -118,9 +130,9 @@ simulate_shape = with_rules (codes "simulate") (required_rule (codes "SCRIPT") �
 abbrev pub serve_at_shape : Shape
 serve_at_shape = with_rules (codes "serve") (file_rule ∷ required_rule (codes "ADDR") ∷ [])
 
--- the same, and `--sessions N [--key HEX]`
+-- the same, and `[--sessions N] [--workers N] [--key HEX]`
 abbrev pub serve_shape : Shape
-serve_shape = with_rules (codes "serve") (serve_at_shape.rules ++ mandatory (numeric (option_rule (codes "sessions"))) ∷ key_rule ∷ [])
+serve_shape = with_rules (codes "serve") (serve_at_shape.rules ++ sessions_rule ∷ workers_rule ∷ key_rule ∷ [])
 
 -- `sync FILE ADDR [--key HEX]`
 abbrev pub sync_shape : Shape

@@ -40,8 +40,9 @@ IsCommandOf name rows (Load saved file) = (name ≡ codes "load") × HasText (co
     × HasText (codes "FILE") rows file
 IsCommandOf name rows (Show log) = (name ≡ codes "show") × HasText (codes "LOG") rows log
 IsCommandOf name rows (Simulate script) = (name ≡ codes "simulate") × HasText (codes "SCRIPT") rows script
-IsCommandOf name rows (Serve file addr sessions key) = (name ≡ codes "serve") × HasText (codes "FILE") rows file
-    × HasText (codes "ADDR") rows addr × HasNumber (codes "sessions") rows sessions × HasKey rows key
+IsCommandOf name rows (Serve file addr sessions workers key) = (name ≡ codes "serve") × HasText (codes "FILE") rows file
+    × HasText (codes "ADDR") rows addr × HasNumber (codes "sessions") rows sessions
+    × HasNumber (codes "workers") rows workers × HasKey rows key
 IsCommandOf name rows (Sync file addr key) = (name ≡ codes "sync") × HasText (codes "FILE") rows file
     × HasText (codes "ADDR") rows addr × HasKey rows key
 

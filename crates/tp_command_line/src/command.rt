@@ -98,8 +98,10 @@ pub enum Command<'a> {
         file: &'a str,
         /// The address that is listened on.
         addr: &'a str,
-        /// How many sessions are held.
+        /// How many sessions are held; 2^64 - 1, which is for ever, where none is given.
         sessions: u64,
+        /// How many sessions are held at once: 1 to 64, and 2 where none is given.
+        workers: u64,
         /// The key of the generator of random numbers, where it is given.
         key: Option<&'a str>,
     },

@@ -2,10 +2,11 @@
 
 ghost use Rattle.std.specs.Prelude.{◌≡◌, IfOk, [], false, codes};
 ghost use Rattle.clap.specs.Words.{App, Shape, app_of, rule_of, with_subcommand};
-ghost use Rattle.tp_command_line.specs.CommandLine.{mandatory, message_rule, numeric, option_rule, required_rule, several, time_rule};
+ghost use Rattle.tp_command_line.specs.CommandLine.{mandatory, message_rule, numeric, option_rule, required_rule, several, sessions_rule, time_rule, workers_rule};
 ghost use Rattle.tp_command_line.specs.CommandLine.{IsLeaf, bare_app, files_app, journals_app, textpeer_app, with_rules};
 ghost use Rattle.tp_command_line.specs.CommandLine.{cursor_shape, edit_at_shape, edit_shape, graph_shape, heads_shape, load_shape, log_shape, merge_shape, new_shape, save_shape, serve_at_shape, serve_shape, show_shape, simulate_shape, sync_shape, text_shape};
 
+use clap::builder::ValueParser;
 use clap::{Arg, ArgAction, Command, value_parser};
 use std::alloc::{AllocError, Global};
 
@@ -175,6 +176,37 @@ fn time<'a>(alloc: Global) -> Arg<'a>
     option(alloc, "time", "N", "the time of the change")
         .value_parser(value_parser!(u64))
         .default_value("0")
+}
+
+// How many sessions a server holds.
+fn sessions<'a>(alloc: Global) -> Arg<'a>
+    ensures rule { rule_of result ≡ sessions_rule }
+    ensures local { result.global ≡ false }
+{
+    option(
+        alloc,
+        "sessions",
+        "N",
+        "how many sessions are held; then it ends. If left out it serves until it is ended",
+    )
+    .value_parser(value_parser!(u64))
+    .default_value("18446744073709551615")
+    .hide_default_value(true)
+}
+
+// How many sessions a server holds at once.
+fn workers<'a>(alloc: Global) -> Arg<'a>
+    ensures rule { rule_of result ≡ workers_rule }
+    ensures local { result.global ≡ false }
+{
+    option(
+        alloc,
+        "workers",
+        "N",
+        "how many sessions are held at once, 1 to 64",
+    )
+    .value_parser(ValueParser::unsigned(1, 64))
+    .default_value("2")
 }
 
 fn message<'a>(alloc: Global) -> Arg<'a>
@@ -394,8 +426,8 @@ fn serve_at<'a>(alloc: Global) -> Result<Command<'a>, AllocError>
     named(
         alloc,
         "serve",
-        "Serves a journal: prints the port once it listens, then holds as many sessions as said, two at a time",
-        "Example:\n  textpeer serve notes.journal 127.0.0.1:7000 --sessions 2",
+        "Serves a journal: prints the port once it listens, then holds sessions until it is ended",
+        "Example:\n  textpeer serve notes.journal 127.0.0.1:7000",
     )
     .arg(journal(alloc))?
     .arg(address(
@@ -408,11 +440,8 @@ fn serve_command<'a>(alloc: Global) -> Result<Command<'a>, AllocError>
     ensures { IfOk result (IsLeaf serve_shape) }
 {
     serve_at(alloc)?
-        .arg(count(
-            alloc,
-            "sessions",
-            "how many sessions are held; then it ends",
-        ))?
+        .arg(sessions(alloc))?
+        .arg(workers(alloc))?
         .arg(key(alloc))
 }
 

@@ -60,6 +60,20 @@ fn edit_of<'a>(found: &ArgMatches<'a>) -> Command<'a>
     }
 }
 
+// The serving that `serve` asks for.
+fn serve_of<'a>(found: &ArgMatches<'a>) -> Command<'a>
+    requires { IsUse (codes "serve") (rows_of (found_of found.now)) }
+    ensures { IsCommandOf (codes "serve") (rows_of (found_of found.now)) result }
+{
+    Command::Serve {
+        file: text_of(found, "FILE"),
+        addr: text_of(found, "ADDR"),
+        sessions: number_of(found, "sessions"),
+        workers: number_of(found, "workers"),
+        key: key_of(found),
+    }
+}
+
 /// The command of a subcommand that was met, with what was found for it.
 pub(crate) fn command_of<'a>(
     alloc: Global,
@@ -112,12 +126,7 @@ pub(crate) fn command_of<'a>(
         "simulate" => Ok(Command::Simulate {
             script: text_of(found, "SCRIPT"),
         }),
-        "serve" => Ok(Command::Serve {
-            file: text_of(found, "FILE"),
-            addr: text_of(found, "ADDR"),
-            sessions: number_of(found, "sessions"),
-            key: key_of(found),
-        }),
+        "serve" => Ok(serve_of(found)),
         "sync" => Ok(Command::Sync {
             file: text_of(found, "FILE"),
             addr: text_of(found, "ADDR"),

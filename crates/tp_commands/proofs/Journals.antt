@@ -22,7 +22,7 @@ pub edits_of : (k : JournalState) (actor : Actor) (p p' : PeerData) (splice : Sp
     → EditsJournal k.content actor splice time message made after
 unfolding PeerStep
 edits_of k actor p p' splice time message None after is step kept =
-    let done : AsksNothing is.applied (asking actor (splice ∷ []) time message) × (p' ≡ opened is.id actor is.applied k.failures) =
+    let done : AsksNothing is.applied (asking actor (splice ∷ []) time message) × (p' ≡ opened is.id actor is.applied k.device) =
     subst (λ (q : PeerData). PeerStep q (Edit (splice ∷ []) time message) (Made None) p') is.is step in
     record {
       id = is.id;
@@ -34,7 +34,7 @@ edits_of k actor p p' splice time message None after is step kept =
     }
 edits_of k actor p p' splice time message (Some h) after is step kept =
     let done : (c : ChangeParts) × Edited is.applied (asking actor (splice ∷ []) time message) c × (h ≡ hash_of c)
-    × (p' ≡ entered (opened is.id actor is.applied k.failures) c) =
+    × (p' ≡ entered (opened is.id actor is.applied k.device) c) =
     subst (λ (q : PeerData). PeerStep q (Edit (splice ∷ []) time message) (Made (Some h)) p') is.is step in
     let c = done.0 in
     record {

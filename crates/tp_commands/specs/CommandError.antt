@@ -2,6 +2,8 @@
 use Rattle.std.specs.Prelude.{◌≡◌, ◌⊎◌, ℕ}
 use Rattle.tp_document.specs.declared.error.DocError.{DocError}
 use Rattle.tp_document.specs.declared.error.DocError.TheVariants as doc
+use Rattle.tp_journal.specs.declared.opening.OpenError.{OpenError}
+use Rattle.tp_journal.specs.declared.opening.OpenError.TheVariants as open_error
 use Rattle.tp_peer.specs.declared.error.PeerError.{PeerError}
 use Rattle.tp_peer.specs.declared.error.PeerError.TheVariants as peer
 use Rattle.tp_journal.specs.declared.error.JournalError.{JournalError}
@@ -9,7 +11,7 @@ use Rattle.tp_journal.specs.declared.error.JournalError.TheVariants as journal
 use Rattle.tp_store.specs.declared.error.StoreError.{StoreError}
 use Rattle.tp_store.specs.declared.error.StoreError.TheVariants as store
 use Rattle.tp_commands.specs.declared.error.CommandError.{CommandError}
-use Rattle.tp_commands.specs.declared.error.CommandError.TheVariants.{Io, OutOfMemory, Peer, Doc, Store}
+use Rattle.tp_commands.specs.declared.error.CommandError.TheVariants.{Io, OutOfMemory, Peer, Doc, Store, Busy}
 
 -- the number of a refusal
 abbrev pub code_of : CommandError → ℕ
@@ -18,6 +20,7 @@ code_of OutOfMemory = 2
 code_of (Peer e) = 3
 code_of (Doc e) = 4
 code_of (Store e) = 5
+code_of Busy = 6
 
 -- a file or a stream failed, or a growth was refused
 abbrev pub IsOfSystem : CommandError → Type 0
@@ -30,6 +33,11 @@ refusal_of_peer e = Peer e
 abbrev pub refusal_of_document : DocError → CommandError
 refusal_of_document doc.OutOfMemory = OutOfMemory
 refusal_of_document e = Doc e
+
+abbrev pub refusal_of_opening : OpenError → CommandError
+refusal_of_opening open_error.Busy = Busy
+refusal_of_opening open_error.Io = Io
+refusal_of_opening open_error.OutOfMemory = OutOfMemory
 
 abbrev pub refusal_of_journal : JournalError → CommandError
 refusal_of_journal journal.Io = Io

@@ -1,13 +1,15 @@
 //! What is done to a journal.
 
-ghost use Rattle.std.specs.Prelude.{◌≡◌, [], length, IfOk, OnOk};
+ghost use Rattle.std.specs.Prelude.{◌≡◌, [], length, IfOk, IfErr, OnOk};
 ghost use Rattle.std.specs.Str.{chars};
+ghost use Rattle.tp_journal.specs.Journal.{no_device};
 ghost use Rattle.tp_journal.specs.Layout.{journal as journal_bytes};
 ghost use Rattle.tp_peer.specs.Opening.{IsUnused, Reopens};
 ghost use Rattle.tp_peer.specs.Appending.{journal_state};
 ghost use Rattle.tp_peer.specs.PeerStep.{PeerStep, Merge, Merged};
 ghost use Rattle.tp_peer.specs.Taking.{Report};
 ghost use Rattle.tp_commands.specs.Editing.{EditsJournal, TakesJournal};
+ghost use Rattle.tp_commands.specs.Refusing.{IsUnbegun, IsUnedited, IsUnmerged, IsUnopened, RefusesCall};
 
 use crate::error::CommandError;
 use std::alloc::Global;
@@ -25,6 +27,8 @@ pub fn begin<J: Journal>(
 ) -> Result<J, CommandError>
     ensures unused { OnOk result (IsUnused (J.content journal)) }
     ensures begun { IfOk result (λ j. J.content j ≡ journal_bytes id []) }
+    ensures err { IfErr result
+        (λ e. IsUnbegun (journal_state (J.content journal) (J.device journal)) id e) }
 {
     match Peer::create(alloc, journal, id, actor) {
         Ok(peer) => Ok(peer.stop()),
@@ -42,8 +46,11 @@ pub fn edit<J: Journal>(
     time: u64,
     message: &str,
 ) -> Result<(J, Option<Hash>), CommandError>
-    ensures { IfOk result (λ r. EditsJournal (J.content journal) actor splice.entry time
+    ensures edits { IfOk result (λ r. EditsJournal (J.content journal) actor splice.entry time
         (chars message.now) r.1 (J.content r.0)) }
+    ensures err { IfErr result
+        (λ e. IsUnedited (journal_state (J.content journal) (J.device journal)) actor splice.entry
+        time (chars message.now) e) }
 {
     match Peer::reopen(alloc, journal, actor) {
         Ok(mut peer) => {
@@ -60,8 +67,10 @@ pub fn edit<J: Journal>(
 
 /// A peer on the journal.
 pub fn reopen<J: Journal>(alloc: Global, journal: J, actor: Actor) -> Result<Peer<J>, CommandError>
-    ensures { IfOk result
-        (λ p. Reopens (journal_state (J.content journal) (J.failures journal)) actor p) }
+    ensures ok { IfOk result
+        (λ p. Reopens (journal_state (J.content journal) (J.device journal)) actor p) }
+    ensures err { IfErr result
+        (λ e. IsUnopened (journal_state (J.content journal) (J.device journal)) actor e) }
 {
     match Peer::reopen(alloc, journal, actor) {
         Ok(peer) => Ok(peer),
@@ -74,9 +83,10 @@ fn merge_from<J: Journal>(
     peer: &mut Peer<J>,
     other: Peer<MemJournal>,
 ) -> Result<usize, CommandError>
-    ensures { IfOk result (λ count. (report : Report)
+    ensures ok { IfOk result (λ count. (report : Report)
         × PeerStep peer.old (Merge other) (Merged report) peer.new
         × (count ≡ length report.applied)) }
+    ensures err { IfErr result (λ e. RefusesCall peer.old (Merge other) e) }
 {
     let merged = peer.merge(&other);
     drop(other);
@@ -94,7 +104,8 @@ pub fn merge<J: Journal>(
     other: Vec<u8>,
     actor: Actor,
 ) -> Result<(J, usize), CommandError>
-    ensures { IfOk result (λ r. TakesJournal peer other.items actor r.1 (J.content r.0)) }
+    ensures takes { IfOk result (λ r. TakesJournal peer other.items actor r.1 (J.content r.0)) }
+    ensures err { IfErr result (λ e. IsUnmerged peer (journal_state other.items no_device) actor e) }
 {
     match reopen(alloc, MemJournal::new(other), actor) {
         Ok(other) => {

@@ -2,13 +2,13 @@
 
 ghost use Rattle.std.specs.Prelude.{◌≡◌};
 ghost use Rattle.tp_commands.specs.declared.error.CommandError.TheVariants.{OutOfMemory};
-ghost use Rattle.tp_commands.specs.CommandError.{code_of, IsOfSystem, refusal_of_bytes, refusal_of_document, refusal_of_journal, refusal_of_peer};
+ghost use Rattle.tp_commands.specs.CommandError.{code_of, IsOfSystem, refusal_of_bytes, refusal_of_document, refusal_of_journal, refusal_of_opening, refusal_of_peer};
 
 use std::alloc::{AllocError, AllocFailed};
 use std::io;
 use std::io::ErrorKind;
 use tp_document::DocError;
-use tp_journal::JournalError;
+use tp_journal::{JournalError, OpenError};
 use tp_peer::PeerError;
 use tp_store::StoreError;
 
@@ -25,6 +25,8 @@ pub enum CommandError {
     Doc(DocError),
     /// The bytes of a saved file or a journal were refused. It is never `Io` or `OutOfMemory`.
     Store(StoreError),
+    /// Another has the journal open.
+    Busy,
 }
 
 impl CommandError {
@@ -38,6 +40,7 @@ impl CommandError {
             CommandError::Peer(_) => 3,
             CommandError::Doc(_) => 4,
             CommandError::Store(_) => 5,
+            CommandError::Busy => 6,
         }
     }
 }
@@ -87,6 +90,18 @@ impl From<DocError> for CommandError {
         match error {
             DocError::OutOfMemory => CommandError::OutOfMemory,
             error => CommandError::Doc(error),
+        }
+    }
+}
+
+impl From<OpenError> for CommandError {
+    ghost from_gives = { λ error e. e ≡ refusal_of_opening error };
+
+    fn from(error: OpenError) -> CommandError {
+        match error {
+            OpenError::Busy => CommandError::Busy,
+            OpenError::Io => CommandError::Io,
+            OpenError::OutOfMemory => CommandError::OutOfMemory,
         }
     }
 }

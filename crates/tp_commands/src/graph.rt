@@ -1,10 +1,11 @@
 //! The changes of a document as a graph, in DOT, the language of Graphviz.
 
-ghost use Rattle.std.specs.Prelude.{◌≡◌, ◌++◌, IfOk, OnOk, take};
+ghost use Rattle.std.specs.Prelude.{◌≡◌, ◌++◌, IfOk, IfErr, IsOkUnless, OnOk, take};
 ghost use Rattle.std.specs.List.{flat_map};
 ghost use Rattle.std.specs.String.{string_bytes};
 ghost use Rattle.hex.specs.Hex.{encode_lower};
 ghost use Rattle.tp_change.specs.ChangeHash.{hash_of};
+ghost use Rattle.tp_commands.specs.Refusing.{IsUnread};
 ghost use Rattle.tp_commands.specs.Graph.{IsChangeGraph, border_of, change_part as part_of_change, edge_line as line_of_edge, graph_of, is_head as is_head_of, label_char, label_of, node_line as line_of_node, node_name as name_of_node, node_text as text_of_node};
 
 use crate::error::CommandError;
@@ -30,7 +31,8 @@ fn border(is_head: bool) -> &'static str
 
 // The name of the node of the change with the hash.
 fn node_name(alloc: Global, hash: &Hash) -> Result<String, CommandError>
-    ensures { IfOk result (λ n. string_bytes n ≡ name_of_node hash.now) }
+    ensures ok { IfOk result (λ n. string_bytes n ≡ name_of_node hash.now) }
+    ensures err { IsOkUnless result CommandError.OutOfMemory }
 {
     let digits = digits(hash.to_text(alloc))?;
     Ok(format!(in alloc; "\"{digits}\"")?)
@@ -45,7 +47,8 @@ fn first_digits(alloc: Global, hash: &Hash) -> Result<String, AllocError>
 
 // What is shown in the node of a change.
 fn node_text(alloc: Global, change: &Change) -> Result<String, CommandError>
-    ensures { IfOk result (λ t. string_bytes t ≡ text_of_node change.now) }
+    ensures ok { IfOk result (λ t. string_bytes t ≡ text_of_node change.now) }
+    ensures err { IsOkUnless result CommandError.OutOfMemory }
 {
     let hash = first_digits(alloc, &change.hash())?;
     let time = change.time();
@@ -81,7 +84,8 @@ fn label(alloc: Global, text: &str) -> Result<String, AllocError>
 
 // The line of the node of a change.
 fn node_line(alloc: Global, document: &Text, change: &Change) -> Result<String, CommandError>
-    ensures { IfOk result (λ l. string_bytes l ≡ line_of_node document.now.applied change.now) }
+    ensures ok { IfOk result (λ l. string_bytes l ≡ line_of_node document.now.applied change.now) }
+    ensures err { IsOkUnless result CommandError.OutOfMemory }
 {
     let hash = change.hash();
     let name = node_name(alloc, &hash)?;
@@ -92,7 +96,8 @@ fn node_line(alloc: Global, document: &Text, change: &Change) -> Result<String, 
 
 // The line of the edge from a change to one that it depends on.
 fn edge_line(alloc: Global, from: &Hash, to: &Hash) -> Result<String, CommandError>
-    ensures { IfOk result (λ l. string_bytes l ≡ line_of_edge from.now to.now) }
+    ensures ok { IfOk result (λ l. string_bytes l ≡ line_of_edge from.now to.now) }
+    ensures err { IsOkUnless result CommandError.OutOfMemory }
 {
     let from = node_name(alloc, from)?;
     let to = node_name(alloc, to)?;
@@ -101,8 +106,9 @@ fn edge_line(alloc: Global, from: &Hash, to: &Hash) -> Result<String, CommandErr
 
 // A line for each change that a change depends on.
 fn edge_lines(alloc: Global, change: &Change) -> Result<String, CommandError>
-    ensures { IfOk result (λ lines. string_bytes lines
+    ensures ok { IfOk result (λ lines. string_bytes lines
         ≡ flat_map (line_of_edge (hash_of change.now)) change.now.deps) }
+    ensures err { IsOkUnless result CommandError.OutOfMemory }
 {
     let from = change.hash();
     let deps = change.deps();
@@ -115,7 +121,8 @@ fn edge_lines(alloc: Global, change: &Change) -> Result<String, CommandError>
 
 // The lines of a change: its node and its edges.
 fn change_part(alloc: Global, document: &Text, change: &Change) -> Result<String, CommandError>
-    ensures { IfOk result (λ l. string_bytes l ≡ part_of_change document.now.applied change.now) }
+    ensures ok { IfOk result (λ l. string_bytes l ≡ part_of_change document.now.applied change.now) }
+    ensures err { IsOkUnless result CommandError.OutOfMemory }
 {
     let mut lines = node_line(alloc, document, change)?;
     lines.push_str(edge_lines(alloc, change)?.as_str())?;
@@ -124,8 +131,9 @@ fn change_part(alloc: Global, document: &Text, change: &Change) -> Result<String
 
 // The lines of each change.
 fn change_parts(alloc: Global, document: &Text) -> Result<String, CommandError>
-    ensures { IfOk result (λ lines. string_bytes lines
+    ensures ok { IfOk result (λ lines. string_bytes lines
         ≡ flat_map (part_of_change document.now.applied) document.now.applied) }
+    ensures err { IsOkUnless result CommandError.OutOfMemory }
 {
     let changes = document.changes();
     let mut lines = String::new(alloc);
@@ -137,7 +145,8 @@ fn change_parts(alloc: Global, document: &Text) -> Result<String, CommandError>
 
 // The graph of a document's changes.
 fn graph(alloc: Global, document: &Text) -> Result<String, CommandError>
-    ensures { IfOk result (λ g. string_bytes g ≡ graph_of document.now.applied) }
+    ensures ok { IfOk result (λ g. string_bytes g ≡ graph_of document.now.applied) }
+    ensures err { IsOkUnless result CommandError.OutOfMemory }
 {
     let opening = "digraph changes {\n  rankdir=BT;\n  node [shape=box, fontname=monospace];\n";
     let mut lines = String::from_str(alloc, opening)?;
@@ -154,7 +163,8 @@ fn graph(alloc: Global, document: &Text) -> Result<String, CommandError>
 ///
 /// One pass over the changes, their characters and their dependencies; whether a change is a head is searched by halves.
 pub fn graph_lines(alloc: Global, journal: &[u8]) -> Result<String, CommandError>
-    ensures { IfOk result (λ lines. IsChangeGraph journal.now (string_bytes lines)) }
+    ensures lines { IfOk result (λ lines. IsChangeGraph journal.now (string_bytes lines)) }
+    ensures err { IfErr result (λ e. IsUnread journal.now e) }
 {
     let document = document_in(alloc, journal)?;
     let lines = graph(alloc, &document);

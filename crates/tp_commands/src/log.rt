@@ -1,10 +1,11 @@
 //! The changes of a document, a line each.
 
-ghost use Rattle.std.specs.Prelude.{◌≡◌, ◌≤◌, ◌++◌, IfOk, OnOk};
+ghost use Rattle.std.specs.Prelude.{◌≡◌, ◌≤◌, ◌++◌, IfOk, IfErr, IsOkUnless, OnOk};
 ghost use Rattle.std.specs.List.{flat_map};
 ghost use Rattle.std.specs.Str.{chars};
 ghost use Rattle.std.specs.String.{string_bytes};
 ghost use Rattle.tp_change.specs.Operations.{count_in};
+ghost use Rattle.tp_commands.specs.Refusing.{IsUnread};
 ghost use Rattle.tp_commands.specs.Log.{AreChangeLines, change_line as line_of_change, delete_count, deleted_count, escaped, fields_part, inserted_count, message_part};
 
 use crate::error::CommandError;
@@ -79,7 +80,8 @@ pub(crate) fn put_message(line: &mut String, message: &str) -> Result<(), AllocE
 
 // What the line of a change begins with.
 fn fields(alloc: Global, change: &Change) -> Result<String, CommandError>
-    ensures { IfOk result (λ l. string_bytes l ≡ fields_part change.now) }
+    ensures ok { IfOk result (λ l. string_bytes l ≡ fields_part change.now) }
+    ensures err { IsOkUnless result CommandError.OutOfMemory }
 {
     let hash = digits(change.hash().to_text(alloc))?;
     let actor = digits(change.actor().to_text(alloc))?;
@@ -92,7 +94,8 @@ fn fields(alloc: Global, change: &Change) -> Result<String, CommandError>
 
 // The line of a change.
 fn change_line(alloc: Global, change: &Change) -> Result<String, CommandError>
-    ensures { IfOk result (λ l. string_bytes l ≡ line_of_change change.now) }
+    ensures ok { IfOk result (λ l. string_bytes l ≡ line_of_change change.now) }
+    ensures err { IsOkUnless result CommandError.OutOfMemory }
 {
     let mut line = fields(alloc, change)?;
     put_message(&mut line, change.message())?;
@@ -102,7 +105,8 @@ fn change_line(alloc: Global, change: &Change) -> Result<String, CommandError>
 
 // A line for each change.
 fn change_lines(alloc: Global, changes: &[Change]) -> Result<String, CommandError>
-    ensures { IfOk result (λ lines. string_bytes lines ≡ flat_map line_of_change changes.now) }
+    ensures lines { IfOk result (λ lines. string_bytes lines ≡ flat_map line_of_change changes.now) }
+    ensures err { IsOkUnless result CommandError.OutOfMemory }
 {
     let mut lines = String::new(alloc);
     for change in changes {
@@ -115,7 +119,8 @@ fn change_lines(alloc: Global, changes: &[Change]) -> Result<String, CommandErro
 /// time, `+` and how many characters it inserts, `-` and how many it deletes, and its message if it has one, with control
 /// characters escaped.
 pub fn log_lines(alloc: Global, journal: &[u8]) -> Result<String, CommandError>
-    ensures { IfOk result (λ lines. AreChangeLines journal.now (string_bytes lines)) }
+    ensures lines { IfOk result (λ lines. AreChangeLines journal.now (string_bytes lines)) }
+    ensures err { IfErr result (λ e. IsUnread journal.now e) }
 {
     let document = document_in(alloc, journal)?;
     let lines = change_lines(alloc, document.changes());

@@ -1,6 +1,6 @@
 //! What is read of the bytes of a journal or of a saved file, as the text to print.
 
-ghost use Rattle.std.specs.Prelude.{◌≡◌, ◌⊎◌, ℕ, Some, Ok, IfOk, IfErr};
+ghost use Rattle.std.specs.Prelude.{◌≡◌, ◌⊎◌, ℕ, Some, None, Ok, IfOk, IfErr, IsOkUnless, false};
 ghost use Rattle.std.specs.List.{flat_map};
 ghost use Rattle.std.specs.Str.{chars};
 ghost use Rattle.std.specs.String.{string_bytes};
@@ -9,10 +9,10 @@ ghost use Rattle.tp_opid.specs.declared.op_id.OpId.{OpId};
 ghost use Rattle.tp_document.specs.Showing.{HasElementAt, HasPosition};
 ghost use Rattle.tp_graph.specs.Past.{past};
 ghost use Rattle.tp_text.specs.Text.{IsTextOf};
-ghost use Rattle.tp_journal.specs.Refusals.{IsRefusal};
 ghost use Rattle.tp_journal.specs.Recovery.{Recovers};
-ghost use Rattle.tp_store.specs.declared.error.StoreError.{StoreError as StoreFault};
-ghost use Rattle.tp_commands.specs.CommandError.{refusal_of_bytes};
+ghost use Rattle.tp_document.specs.declared.error.DocError.TheVariants as doc;
+ghost use Rattle.tp_graph.specs.Named.{has_all};
+ghost use Rattle.tp_commands.specs.Refusing.{HasNoPosition, HasNoText, IsUnread};
 ghost use Rattle.tp_commands.specs.Reading.{AreHeadLines, IsCursorLine, IsTextLine, Saves, changes_at, hash_line as line_of_hash, line as line_of};
 
 use crate::error::CommandError;
@@ -29,8 +29,7 @@ pub(crate) type Text = Document<PeerSequence>;
 /// The document of a journal's bytes, as `recover` gives it.
 pub(crate) fn document_in(alloc: Global, journal: &[u8]) -> Result<Text, CommandError>
     ensures ok { IfOk result (λ d. (keep : ℕ) × Recovers journal.now d.id d.applied keep) }
-    ensures err { IfErr result (λ e. (e ≡ CommandError.OutOfMemory)
-        ⊎ ((fault : StoreFault) × (e ≡ refusal_of_bytes fault) × IsRefusal journal.now fault)) }
+    ensures err { IfErr result (λ e. IsUnread journal.now e) }
 {
     match recover(alloc, journal) {
         Ok(recovered) => Ok(recovered.document),
@@ -48,8 +47,10 @@ fn line(mut text: String) -> Result<String, AllocError>
 
 // The text of a document: as it is now, or at the heads where any are given.
 fn text_in(document: &Text, heads: &[Hash]) -> Result<String, DocError>
-    ensures { IfOk result (λ text. IsTextOf (changes_at document.now.applied heads.now)
+    ensures text { IfOk result (λ text. IsTextOf (changes_at document.now.applied heads.now)
         (chars (string_bytes text))) }
+    ensures err { IfErr result (λ e. (e ≡ doc.OutOfMemory)
+        ⊎ ((e ≡ doc.UnknownHead) × (has_all document.now.applied heads.now ≡ false))) }
 {
     if heads.is_empty() {
         document.text()
@@ -60,7 +61,8 @@ fn text_in(document: &Text, heads: &[Hash]) -> Result<String, DocError>
 
 /// The text of a journal's bytes and a newline: as it is now, or at the heads where any are given.
 pub fn text_line(alloc: Global, journal: &[u8], heads: &[Hash]) -> Result<String, CommandError>
-    ensures { IfOk result (λ l. IsTextLine journal.now heads.now (string_bytes l)) }
+    ensures text { IfOk result (λ l. IsTextLine journal.now heads.now (string_bytes l)) }
+    ensures err { IfErr result (λ e. HasNoText journal.now heads.now e) }
 {
     let document = document_in(alloc, journal)?;
     let text = text_in(&document, heads);
@@ -70,7 +72,8 @@ pub fn text_line(alloc: Global, journal: &[u8], heads: &[Hash]) -> Result<String
 
 // Hexadecimal digits that were made, which is refused for want of memory alone.
 pub(crate) fn digits(made: Result<String, HexError>) -> Result<String, CommandError>
-    ensures { IfOk result (λ text. made ≡ Ok text) }
+    ensures ok { IfOk result (λ text. made ≡ Ok text) }
+    ensures err { IsOkUnless result CommandError.OutOfMemory }
 {
     match made {
         Ok(text) => Ok(text),
@@ -80,21 +83,24 @@ pub(crate) fn digits(made: Result<String, HexError>) -> Result<String, CommandEr
 
 /// The identifier in hexadecimal digits, and a newline.
 pub fn id_line(alloc: Global, id: &DocId) -> Result<String, CommandError>
-    ensures { IfOk result (λ l. string_bytes l ≡ line_of (encode_lower id.now.0)) }
+    ensures line { IfOk result (λ l. string_bytes l ≡ line_of (encode_lower id.now.0)) }
+    ensures err { IsOkUnless result CommandError.OutOfMemory }
 {
     Ok(line(digits(id.to_text(alloc))?)?)
 }
 
 /// The hash in hexadecimal digits, and a newline.
 pub fn hash_line(alloc: Global, hash: &Hash) -> Result<String, CommandError>
-    ensures { IfOk result (λ l. string_bytes l ≡ line_of_hash hash.now) }
+    ensures line { IfOk result (λ l. string_bytes l ≡ line_of_hash hash.now) }
+    ensures err { IsOkUnless result CommandError.OutOfMemory }
 {
     Ok(line(digits(hash.to_text(alloc))?)?)
 }
 
 // A line for each hash.
 fn hash_lines(alloc: Global, hashes: &[Hash]) -> Result<String, CommandError>
-    ensures { IfOk result (λ lines. string_bytes lines ≡ flat_map line_of_hash hashes.now) }
+    ensures lines { IfOk result (λ lines. string_bytes lines ≡ flat_map line_of_hash hashes.now) }
+    ensures err { IsOkUnless result CommandError.OutOfMemory }
 {
     let mut lines = String::new(alloc);
     for hash in hashes {
@@ -105,7 +111,8 @@ fn hash_lines(alloc: Global, hashes: &[Hash]) -> Result<String, CommandError>
 
 /// The heads of a journal's bytes, rising, a line each.
 pub fn head_lines(alloc: Global, journal: &[u8]) -> Result<String, CommandError>
-    ensures { IfOk result (λ lines. AreHeadLines journal.now (string_bytes lines)) }
+    ensures lines { IfOk result (λ lines. AreHeadLines journal.now (string_bytes lines)) }
+    ensures err { IfErr result (λ e. IsUnread journal.now e) }
 {
     let document = document_in(alloc, journal)?;
     let lines = hash_lines(alloc, document.heads());
@@ -115,9 +122,15 @@ pub fn head_lines(alloc: Global, journal: &[u8]) -> Result<String, CommandError>
 
 // Where the character at a position of the text at the heads stands now.
 fn position_in(document: &Text, at: usize, heads: &[Hash]) -> Result<usize, DocError>
-    ensures { IfOk result (λ position. (element : OpId)
+    ensures ok { IfOk result (λ position. (element : OpId)
         × HasElementAt (past document.now.applied heads.now) at (Some element)
         × HasPosition document.now.applied element (Some position)) }
+    ensures err { IfErr result (λ e. (e ≡ doc.OutOfMemory)
+        ⊎ (((e ≡ doc.UnknownHead) × (has_all document.now.applied heads.now ≡ false))
+        ⊎ (((e ≡ doc.OutOfRange) × HasElementAt (past document.now.applied heads.now) at None)
+        ⊎ ((e ≡ doc.UnknownElement) × ((element : OpId)
+        × HasElementAt (past document.now.applied heads.now) at (Some element)
+        × HasPosition document.now.applied element None))))) }
 {
     let cursor = document.cursor_at(at, heads)?;
     document.cursor_position(&cursor)
@@ -130,7 +143,8 @@ pub fn cursor_line(
     at: usize,
     heads: &[Hash],
 ) -> Result<String, CommandError>
-    ensures { IfOk result (λ l. IsCursorLine journal.now at heads.now (string_bytes l)) }
+    ensures line { IfOk result (λ l. IsCursorLine journal.now at heads.now (string_bytes l)) }
+    ensures err { IfErr result (λ e. HasNoPosition journal.now at heads.now e) }
 {
     let document = document_in(alloc, journal)?;
     let position = position_in(&document, at, heads);
@@ -141,7 +155,8 @@ pub fn cursor_line(
 
 /// The saved file of a journal's document.
 pub fn saved(alloc: Global, journal: &[u8]) -> Result<Vec<u8>, CommandError>
-    ensures { IfOk result (λ bytes. Saves journal.now bytes.items) }
+    ensures saves { IfOk result (λ bytes. Saves journal.now bytes.items) }
+    ensures err { IfErr result (λ e. IsUnread journal.now e) }
 {
     let document = document_in(alloc, journal)?;
     let bytes = save(alloc, &document);

@@ -1,8 +1,6 @@
 -- Receiving from another document.
-use Rattle.tp_document.proofs.Common.{◌≡◌, Result, Ok, Err, DocId, HasOutcome, DocError, OutOfRange, CounterLimit, TooManyOps, TooManyHeads, UnknownHead, UnknownElement, PendingFull, HashTaken, OutOfMemory, OtherDocument, TooLong, Full, NotKept, receiving, HasMergeOutcome}
+use Rattle.tp_document.proofs.Common.{◌≡◌, Result, Ok, Err, DocId, HasOutcome, DocError, OutOfRange, CounterLimit, TooManyOps, TooManyHeads, UnknownHead, UnknownElement, PendingFull, HashTaken, OutOfMemory, OtherDocument, TooLong, Full, NotKept, receiving, HasMergeOutcome, Outcome, Receiver}
 use Rattle.tp_receive.specs.declared.intake.Applied.{Applied}
-use Rattle.tp_receive.specs.Intake.{Receiver}
-use Rattle.tp_receive.specs.Outcome.{Outcome}
 
 -- What is received of a document with the same identifier is merged.
 pub merged_so : {S : Type 0} (a b : DocId) (s t : Receiver S) (r : Result Applied DocError) (P : Outcome → Type 0) → a ≡ b → HasOutcome receiving r P → HasMergeOutcome a b s t r P

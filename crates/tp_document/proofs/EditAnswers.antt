@@ -1,8 +1,6 @@
 -- What an edit answers, exit by exit.
-use Rattle.tp_document.proofs.Common.{◌≡◌, ℕ, zero, suc, ◌+◌, ◌<◌, ◌≤◌, List, length, refl, sym, ap, ◌∙◌, subst, arith, length-map, Hash, OpId, Insert, ChangeParts, next_counter, shown, chars_of, count_by, AllInRange, total_count, records_of, visible_ids, Holds, Asked, AreInRange, IsEdit, Splice, DocError, OutOfRange, CounterLimit, TooManyOps, TooManyHeads, UnknownHead, UnknownElement, PendingFull, HashTaken, OutOfMemory, OtherDocument, TooLong, Full, NotKept, IsRefused}
+use Rattle.tp_document.proofs.Common.{◌≡◌, ℕ, zero, suc, ◌+◌, ◌<◌, ◌≤◌, List, length, refl, sym, ap, ◌∙◌, subst, arith, length-map, Hash, OpId, Insert, ChangeParts, next_counter, shown, chars_of, count_by, AllInRange, total_count, records_of, visible_ids, Holds, Asked, AreInRange, IsEdit, Splice, DocError, OutOfRange, CounterLimit, TooManyOps, TooManyHeads, UnknownHead, UnknownElement, PendingFull, HashTaken, OutOfMemory, OtherDocument, TooLong, Full, NotKept, IsRefused, AsksSome, IsBad, parts_made}
 use Rattle.tp_graph.specs.Heads as head
-use Rattle.tp_document.specs.Editing.{AsksSome}
-use Rattle.tp_document.specs.Making.{IsBad, parts_made}
 use Rattle.tp_document.proofs.ShowingLaws.{Holds-text}
 
 -- the length that the sequence knows is that of the text

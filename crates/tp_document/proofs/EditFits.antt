@@ -1,14 +1,8 @@
 -- The change of an edit fits behind the changes that it is made of, and does the splices.
-use Rattle.tp_document.proofs.Common.{take, drop, get_or, add-one, drop-cons, ◌≡◌, ℕ, ◌+◌, ◌<◌, ◌≤◌, ◌==◌, List, [], ◌∷◌, ◌++◌, length, false, ◌&&◌, cond, Some, None, refl, sym, ap, ◌∙◌, subst, arith, nat_tests, length-map, Actor, Hash, Insert, ChangeParts, hash_of, inserts_in, inserts, deletes_in, deletes, next_counter, IsInOrder, shown, chars_of, IsTextOf, has_all, past, defect, or_full, most_changes, count_by, Sound, Fits-at, deps_first, AllInRange, total_count, records_of, visible_ids, Asked, AreInRange, IsEdit, Edited, inserts_tree, take-append-drop, same_actor-same, Record, ops_from, order_exists, one_order, inserts-push, deletes-push, has, Fits, defect-from_Fits, Sound-push, past-heads, Splice, all_spliced, Fits-from_cause}
-use Rattle.std.proofs.lemmas.List.{length-take-le}
-use Rattle.tp_change.specs.Elements.{refers}
+use Rattle.tp_document.proofs.Common.{take, drop, get_or, add-one, drop-cons, ◌≡◌, ℕ, ◌+◌, ◌<◌, ◌≤◌, ◌==◌, List, [], ◌∷◌, ◌++◌, length, false, ◌&&◌, cond, Some, None, refl, sym, ap, ◌∙◌, subst, arith, nat_tests, length-map, Actor, Hash, Insert, ChangeParts, hash_of, inserts_in, inserts, deletes_in, deletes, next_counter, IsInOrder, shown, chars_of, IsTextOf, has_all, past, defect, or_full, most_changes, count_by, Sound, Fits-at, deps_first, AllInRange, total_count, records_of, visible_ids, Asked, AreInRange, IsEdit, Edited, inserts_tree, take-append-drop, same_actor-same, Record, ops_from, order_exists, one_order, inserts-push, deletes-push, has, Fits, defect-from_Fits, Sound-push, past-heads, Splice, all_spliced, Fits-from_cause, length-take-le, refers, clashes, not_true, has_all-heads, seqs_run, inserted, spliced}
 use Rattle.tp_change.specs.Operations.{ops_of}
 use Rattle.tp_graph.specs.declared.error.GraphError.TheVariants.{Full}
-use Rattle.tp_graph.specs.Fit.{cause, clashes}
-use Rattle.tp_list.proofs.Tests.{not_true}
-use Rattle.tp_graph.proofs.HeadsLaws.{has_all-heads}
-use Rattle.tp_graph.proofs.CountLaws.{seqs_run}
-use Rattle.tp_edit.specs.Splices.{inserted, spliced}
+use Rattle.tp_graph.specs.Fit.{cause}
 use Rattle.tp_edit.specs.EditLaw.{IsReady, DoesItsSplices, ops_of_edit}
 use Rattle.tp_edit.proofs.Edited.{edit_law}
 use Rattle.tp_document.proofs.SoundText.{AllUnder-inserts, targets_there}
@@ -138,10 +132,8 @@ same_parts c d a s n t m h r =
     ap (λ x. made_of d.actor d.seq d.start d.time d.message x c.records) h ∙ ap (λ x. made_of d.actor d.seq d.start d.time d.message d.deps x) r in
     one ∙ two ∙ three ∙ four
 
-pub edit_determined : (C : List ChangeParts) (asked : Asked) (c d : ChangeParts) → Sound C → Edited C asked c → Edited C asked d → c ≡ d
-edit_determined C asked c d s x y =
-    let e = x.edit in
-    let f = y.edit in
+pub edit_determined : (C : List ChangeParts) (asked : Asked) (c d : ChangeParts) → Sound C → IsEdit C asked c → IsEdit C asked d → c ≡ d
+edit_determined C asked c d s e f =
     let same = one_order (inserts C) e.elements f.elements (inserts_tree C s) e.order f.order in
     same_parts c d (e.actor ∙ sym f.actor) (e.seq ∙ sym f.seq) (e.start ∙ sym f.start) (e.time ∙ sym f.time) (e.message ∙ sym f.message) (e.deps ∙ sym f.deps)
     (e.records ∙ ap (λ L. records_of asked.actor (next_counter C) (visible_ids (deletes C) L) asked.splices) same ∙ sym f.records)

@@ -1,24 +1,15 @@
 -- The change of an edit is within the limits of changes.
-use Rattle.tp_document.proofs.Common.{◌≡◌, ℕ, ◌+◌, ◌<◌, ◌≤◌, ◌^◌, inl, inr, List, [], ◌∷◌, length, not, refl, sym, ap, ◌∙◌, subst, arith, length-map, In, Actor, Hash, OpId, Insert, Op, ChangeParts, inserts_in, inserts, deletes, next_counter, ops_of, is_removed, shown, IsInOrder, Numbered-ops_of, Numbered, length-ops_of, Sound, inserts-In, AllInRange, total_count, records_of, visible_ids, AllChanges, Asked, IsEdit, AllByRecursion, all_scalars, IsRecord, IsChange, In-filter}
-use Rattle.std.specs.Prelude.{encode_utf8_all}
-use Rattle.std.specs.List.{flat_map}
+use Rattle.tp_document.proofs.Common.{◌≡◌, ℕ, ◌+◌, ◌<◌, ◌≤◌, ◌^◌, inl, inr, List, [], ◌∷◌, length, not, refl, sym, ap, ◌∙◌, subst, arith, length-map, In, Actor, Hash, OpId, Insert, Op, ChangeParts, inserts_in, inserts, deletes, next_counter, ops_of, is_removed, shown, IsInOrder, Numbered-ops_of, Numbered, length-ops_of, Sound, inserts-In, AllInRange, total_count, records_of, visible_ids, AllChanges, Asked, IsEdit, AllByRecursion, all_scalars, IsRecord, IsChange, In-filter, flat_map, IsActor, IsHash, heads-In, heads_rise, one-next_counter, ids_of, HasCounters, encode_utf8_all, hash_cmp, IsTypedAsk}
 use Rattle.tp_list.specs.Rising.{IsRising}
-use Rattle.tp_opid.specs.Order.{hash_cmp}
 use Rattle.tp_change.specs.declared.op.Op.TheVariants as op_of
-use Rattle.tp_change.specs.Limits.{IsActor, IsHash}
 use Rattle.tp_change.specs.Operations.{op_count}
 use Rattle.tp_change.specs.Operations as operations
 use Rattle.tp_change.specs.Spelling.{spelling, spelling_of_message, spelling_of_deps, spelling_of_record}
 use Rattle.tp_change.proofs.SpellingLaws.{hash_of_is}
 use Rattle.tp_change.proofs.WholeChange.{length-spelling}
 use Rattle.tp_graph.specs.Heads as head
-use Rattle.tp_graph.proofs.HeadsLaws.{heads-In, heads_rise}
-use Rattle.tp_change.proofs.ElementLaws.{one-next_counter}
-use Rattle.tp_edit.specs.EditRecords.{ids_of}
 use Rattle.tp_edit.specs.EditLimits.{AllIds, AllTexts}
 use Rattle.tp_edit.proofs.RecordLimits.{count_of-records_of, some_record, records_of-IsRecord, AllTexts-size}
-use Rattle.tp_document.specs.Editing.{HasCounters}
-use Rattle.tp_document.specs.Making.{IsTypedAsk}
 use Rattle.tp_document.proofs.SoundText.{actor_of}
 use Rattle.tp_document.proofs.EditFits.{range_of}
 

@@ -2,7 +2,7 @@
 use Rattle.tp_document.proofs.Common.{take, drop, get_or, add-one, drop-cons, ◌≡◌, ℕ, suc, ◌+◌, ◌<◌, ◌≤◌, ◌==◌, List, [], ◌∷◌, ◌++◌, length, false, ◌||◌, cond, Option, Some, None, sym, ap, ◌∙◌, subst, arith, nat_tests, length-append, slice_get, Hash, ChangeParts, past, past_places, defect, or_full, most_changes, Sound, Fits-at, changes_at, take-append-drop, length-past, defect-from_Fits, with_change}
 use Rattle.tp_graph.specs.declared.error.GraphError.TheVariants.{Full}
 use Rattle.tp_graph.specs.Fit.{cause}
-use Rattle.tp_document.proofs.ClockLaws.{changes_at-append, changes_at-past}
+use Rattle.tp_document.proofs.ChangePlaces.{changes_at-append, changes_at-past}
 
 -- each change of a sound list enters behind those before it
 mid_enters : (A : List ChangeParts) (x : ChangeParts) (B : List ChangeParts) → Sound (A ++ x ∷ B) → length (A ++ x ∷ B) ≤ most_changes → cause A x ≡ None

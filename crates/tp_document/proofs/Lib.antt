@@ -9,6 +9,6 @@ pub mod MergeLaws
 pub mod ApplyLaws
 pub mod EndLaws
 pub mod PastElements
-pub mod ClockLaws
+pub mod ChangePlaces
 pub mod SnapshotLaws
 pub mod TextLaws

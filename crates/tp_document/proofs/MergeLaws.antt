@@ -1,9 +1,5 @@
 -- What is absent from a document: none of it has to wait.
-use Rattle.tp_list.proofs.Members.{In-last}
-use Rattle.tp_document.proofs.Common.{◌≡◌, ℕ, ◌+◌, ◌≤◌, inl, inr, List, [], ◌∷◌, ◌++◌, length, true, false, cond, refl, sym, ap, ◌∙◌, subst, arith, append_assoc, nat_lt, truth, nat_tests, Hash, ChangeParts, hash_of, has_all, Sound, Fits-at, has, absent}
-use Rattle.tp_list.proofs.Tests.{or_cases}
-use Rattle.tp_opid.specs.Same.{same_hash}
-use Rattle.tp_opid.proofs.Orders.{same_hash-same}
+use Rattle.tp_document.proofs.Common.{◌≡◌, ℕ, ◌+◌, ◌≤◌, inl, inr, List, [], ◌∷◌, ◌++◌, length, true, false, cond, refl, sym, ap, ◌∙◌, subst, arith, append_assoc, nat_lt, truth, nat_tests, Hash, ChangeParts, hash_of, has_all, Sound, Fits-at, has, absent, In-last, or_cases, same_hash, same_hash-same}
 use Rattle.tp_graph.specs.GraphState.{most_waiting}
 use Rattle.tp_graph.proofs.NamedLaws.{has-append, has-left, has_all-In, In-has_all, In-has}
 use Rattle.tp_receive.specs.Delivery.{delivery, with_slots, slots, is_full}

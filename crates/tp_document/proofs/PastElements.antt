@@ -1,12 +1,6 @@
 -- The elements and the deletes of a past, among those of the whole.
-use Rattle.tp_document.proofs.Common.{◌≡◌, ℕ, suc, ◌+◌, ◌<◌, ◌≤◌, ◌||◌, inl, inr, List, [], ◌∷◌, length, take, true, None, Some, nat_lt, map, position, refl, ap, ◌∙◌, subst, arith, slice_get, option_map, chars, nat_tests, In, Actor, Hash, OpId, Insert, id_eq, Op, ChangeParts, id_of, ops_of, inserts_in, inserts, deletes_in, deletes, IsInOrder, shown, shown_before, In-append, Numbered-ops_of, Numbered, length-ops_of, past, most_changes, Sound, past-In, sound_pasts, inserts-In, chars_of, IsTextOf, Holds, HasElementAt, HasLength, HasPosition, end_at, end_of, AreEnds, shown_by, inserts_tree, SameMembers, IsOwnId, In-left, In-right, In-filter, order_of_set, shown_of_set, length-past, In-inserts, has_op, inserts_by, deletes_by}
-use Rattle.std.specs.Prelude.{Option, encode_utf8_all}
+use Rattle.tp_document.proofs.Common.{◌≡◌, ℕ, suc, ◌+◌, ◌<◌, ◌≤◌, ◌||◌, inl, inr, List, [], ◌∷◌, length, take, true, None, Some, nat_lt, map, position, refl, ap, ◌∙◌, subst, arith, slice_get, option_map, chars, nat_tests, In, Actor, Hash, OpId, Insert, id_eq, Op, ChangeParts, id_of, ops_of, inserts_in, inserts, deletes_in, deletes, IsInOrder, shown, shown_before, In-append, Numbered-ops_of, Numbered, length-ops_of, past, most_changes, Sound, past-In, sound_pasts, inserts-In, chars_of, IsTextOf, Holds, HasElementAt, HasLength, HasPosition, end_at, end_of, IsClockOf, shown_by, inserts_tree, SameMembers, IsOwnId, In-left, In-right, In-filter, order_of_set, shown_of_set, length-past, In-inserts, has_op, inserts_by, deletes_by, op_id, SameMembers-sym, filter-In, order_of_part, Option, encode_utf8_all, IsTree, IsTree-same}
 use Rattle.tp_change.specs.declared.op.Op.TheVariants as op_of
-use Rattle.tp_change.specs.OpIds.{op_id}
-use Rattle.tp_opid.specs.Tree.{IsTree}
-use Rattle.tp_opid.proofs.Trees.{IsTree-same}
-use Rattle.tp_list.proofs.Members.{SameMembers-sym, filter-In}
-use Rattle.tp_rga.proofs.OneOrder.{order_of_part}
 use Rattle.tp_document.proofs.ShowingLaws.{Holds-bytes, Holds-element, Holds-length}
 use Rattle.tp_document.proofs.EndLaws.{below_end, in_past}
 
@@ -70,18 +64,18 @@ deletes-In (d ∷ C) r i =
 
 -- ---- what a clock keeps
 
-kept_test : (K : List (Actor × ℕ)) (P : List ChangeParts) (id : OpId) → AreEnds K P → id.counter < end_of P id.actor → has_op K id ≡ true
+kept_test : (K : List (Actor × ℕ)) (P : List ChangeParts) (id : OpId) → IsClockOf K P → id.counter < end_of P id.actor → has_op K id ≡ true
 kept_test K P id ends lt = let e : end_at K id.actor ≡ end_of P id.actor = ends id.actor in below id.counter (end_at K id.actor) (end_of P id.actor) e lt where
   below : (k m n : ℕ) → m ≡ n → k < n → nat_lt k m ≡ true
   below k m n e lt = grind (arith, nat_tests)
 
-test_kept : (K : List (Actor × ℕ)) (P : List ChangeParts) (id : OpId) → AreEnds K P → has_op K id ≡ true → id.counter < end_of P id.actor
+test_kept : (K : List (Actor × ℕ)) (P : List ChangeParts) (id : OpId) → IsClockOf K P → has_op K id ≡ true → id.counter < end_of P id.actor
 test_kept K P id ends t = let e : end_at K id.actor ≡ end_of P id.actor = ends id.actor in below id.counter (end_at K id.actor) (end_of P id.actor) e t where
   below : (k m n : ℕ) → m ≡ n → nat_lt k m ≡ true → k < n
   below k m n e t = grind (arith, nat_tests)
 
 -- the inserts of the past are those below the ends
-pub inserts_of_past : (C : List ChangeParts) (H : List Hash) (K : List (Actor × ℕ)) → Sound C → AreEnds K (past C H) → SameMembers (inserts_by K (inserts C)) (inserts (past C H))
+pub inserts_of_past : (C : List ChangeParts) (H : List Hash) (K : List (Actor × ℕ)) → Sound C → IsClockOf K (past C H) → SameMembers (inserts_by K (inserts C)) (inserts (past C H))
 inserts_of_past C H K s ends = record {
   there = λ e i.
       let w = In-filter (λ (x : Insert). has_op K x.id) (inserts C) e i in
@@ -96,7 +90,7 @@ inserts_of_past C H K s ends = record {
 }
 
 -- and so are its deletes
-pub deletes_of_past : (C : List ChangeParts) (H : List Hash) (K : List (Actor × ℕ)) → Sound C → AreEnds K (past C H) → SameMembers (deletes_by K (deletes C)) (deletes (past C H))
+pub deletes_of_past : (C : List ChangeParts) (H : List Hash) (K : List (Actor × ℕ)) → Sound C → IsClockOf K (past C H) → SameMembers (deletes_by K (deletes C)) (deletes (past C H))
 deletes_of_past C H K s ends = record {
   there = λ r i.
       let w = In-filter (λ (x : OpId × OpId). has_op K x.1) (deletes C) r i in
@@ -113,7 +107,7 @@ deletes_of_past C H K s ends = record {
 -- ---- what the document holds of a past
 
 -- the elements of the past stand in order as they do in the whole
-pub order_of_past : (C : List ChangeParts) (H : List Hash) (K : List (Actor × ℕ)) (L : List Insert) → Sound C → AreEnds K (past C H) → IsInOrder (inserts C) L → IsInOrder (inserts (past C H)) (inserts_by K L)
+pub order_of_past : (C : List ChangeParts) (H : List Hash) (K : List (Actor × ℕ)) (L : List Insert) → Sound C → IsClockOf K (past C H) → IsInOrder (inserts C) L → IsInOrder (inserts (past C H)) (inserts_by K L)
 order_of_past C H K L s ends order =
     let P = past C H in
     let same = inserts_of_past C H K s ends in
@@ -121,7 +115,7 @@ order_of_past C H K L s ends order =
     order_of_set (inserts_by K (inserts C)) (inserts P) (inserts_by K L) same
     (order_of_part (inserts C) L (λ (x : Insert). has_op K x.id) (inserts_tree C s) part order)
 
-pub Holds-past : (C : List ChangeParts) (L : List Insert) (R : List (OpId × OpId)) (H : List Hash) (K : List (Actor × ℕ)) → Holds C L R → AreEnds K (past C H) → Holds (past C H) (inserts_by K L) (deletes (past C H))
+pub Holds-past : (C : List ChangeParts) (L : List Insert) (R : List (OpId × OpId)) (H : List Hash) (K : List (Actor × ℕ)) → Holds C L R → IsClockOf K (past C H) → Holds (past C H) (inserts_by K L) (deletes (past C H))
 Holds-past C L R H K h ends = record {
   sound = sound_pasts C h.sound H;
   limits = λ c i. h.limits c (past-In C H c i);
@@ -133,24 +127,24 @@ Holds-past C L R H K h ends = record {
   within m n a b = omega arith
 
 -- what is shown of the elements of the past
-pub shown_of_past : (C : List ChangeParts) (L : List Insert) (R : List (OpId × OpId)) (H : List Hash) (K : List (Actor × ℕ)) → Holds C L R → AreEnds K (past C H) → shown_by K R L ≡ shown (deletes (past C H)) (inserts_by K L)
+pub shown_of_past : (C : List ChangeParts) (L : List Insert) (R : List (OpId × OpId)) (H : List Hash) (K : List (Actor × ℕ)) → Holds C L R → IsClockOf K (past C H) → shown_by K R L ≡ shown (deletes (past C H)) (inserts_by K L)
 shown_of_past C L R H K h ends =
     ap (λ Q. shown (deletes_by K Q) (inserts_by K L)) h.deletes
     ∙ shown_of_set (deletes_by K (deletes C)) (deletes (past C H)) (inserts_by K L) (deletes_of_past C H K h.sound ends)
 
-pub past-bytes : (C : List ChangeParts) (L : List Insert) (R : List (OpId × OpId)) (H : List Hash) (K : List (Actor × ℕ)) (bytes : List ℕ) → Holds C L R → AreEnds K (past C H)
+pub past-bytes : (C : List ChangeParts) (L : List Insert) (R : List (OpId × OpId)) (H : List Hash) (K : List (Actor × ℕ)) (bytes : List ℕ) → Holds C L R → IsClockOf K (past C H)
     → bytes ≡ encode_utf8_all (chars_of (shown_by K R L)) → IsTextOf (past C H) (chars bytes)
 past-bytes C L R H K bytes h ends e =
     Holds-bytes (past C H) (inserts_by K L) (deletes (past C H)) bytes (Holds-past C L R H K h ends)
     (e ∙ ap (λ l. encode_utf8_all (chars_of l)) (shown_of_past C L R H K h ends))
 
-pub past-element : (C : List ChangeParts) (L : List Insert) (R : List (OpId × OpId)) (H : List Hash) (K : List (Actor × ℕ)) (at : ℕ) (o : Option OpId) → Holds C L R → AreEnds K (past C H)
+pub past-element : (C : List ChangeParts) (L : List Insert) (R : List (OpId × OpId)) (H : List Hash) (K : List (Actor × ℕ)) (at : ℕ) (o : Option OpId) → Holds C L R → IsClockOf K (past C H)
     → o ≡ option_map (λ (e : Insert). e.id) (slice_get (shown_by K R L) at) → HasElementAt (past C H) at o
 past-element C L R H K at o h ends e =
     Holds-element (past C H) (inserts_by K L) (deletes (past C H)) at o (Holds-past C L R H K h ends)
     (e ∙ ap (λ l. option_map (λ (x : Insert). x.id) (slice_get l at)) (shown_of_past C L R H K h ends))
 
-pub past-length : (C : List ChangeParts) (L : List Insert) (R : List (OpId × OpId)) (H : List Hash) (K : List (Actor × ℕ)) (n : ℕ) → Holds C L R → AreEnds K (past C H)
+pub past-length : (C : List ChangeParts) (L : List Insert) (R : List (OpId × OpId)) (H : List Hash) (K : List (Actor × ℕ)) (n : ℕ) → Holds C L R → IsClockOf K (past C H)
     → n ≡ length (shown_by K R L) → HasLength (past C H) n
 past-length C L R H K n h ends e =
     Holds-length (past C H) (inserts_by K L) (deletes (past C H)) n (Holds-past C L R H K h ends) (e ∙ ap length (shown_of_past C L R H K h ends))
@@ -159,7 +153,7 @@ before_of_set : (D Q : List (OpId × OpId)) (M : List Insert) (o : Option ℕ) �
 before_of_set D Q M None same = refl
 before_of_set D Q M (Some i) same = ap (λ l. Some (length l)) (shown_of_set D Q (take i M) same)
 
-pub past-position : (C : List ChangeParts) (L : List Insert) (R : List (OpId × OpId)) (H : List Hash) (K : List (Actor × ℕ)) (x : OpId) (o : Option ℕ) → Holds C L R → AreEnds K (past C H)
+pub past-position : (C : List ChangeParts) (L : List Insert) (R : List (OpId × OpId)) (H : List Hash) (K : List (Actor × ℕ)) (x : OpId) (o : Option ℕ) → Holds C L R → IsClockOf K (past C H)
     → o ≡ shown_before (deletes_by K R) (inserts_by K L) x → HasPosition (past C H) x o
 past-position C L R H K x o h ends e =
     let M = inserts_by K L in (

@@ -1,14 +1,9 @@
 -- The text that a document shows.
-use Rattle.tp_document.proofs.Common.{◌≡◌, ℕ, ◌+◌, inl, inr, List, [], ◌∷◌, ◌++◌, length, Bool, true, false, not, ◌&&◌, cond, Option, refl, sym, ap, ◌∙◌, subst, slice_get, option_map, chars, length-map, In, Actor, OpId, Insert, ChangeParts, id_of, inserts_in, inserts, deletes, is_removed, shown, shown_before, In-append, chars_of, IsTextOf, inserts-In, Sound, Holds, AllChanges, HasLength, HasElementAt, HasPosition, inserts_tree, AllByRecursion, all_scalars, Record, ops_from, IsRecord, one_order, HasCharAt}
-use Rattle.std.specs.Prelude.{encode_utf8_all}
-use Rattle.std.proofs.lemmas.Str.{chars-encodes}
-use Rattle.std.proofs.lemmas.Option.{slice_get-map}
-use Rattle.tp_list.proofs.Tests.{both_right}
+use Rattle.tp_document.proofs.Common.{◌≡◌, ℕ, ◌+◌, inl, inr, List, [], ◌∷◌, ◌++◌, length, Bool, true, false, not, ◌&&◌, cond, Option, refl, sym, ap, ◌∙◌, subst, slice_get, option_map, chars, length-map, In, Actor, OpId, Insert, ChangeParts, id_of, inserts_in, inserts, deletes, is_removed, shown, shown_before, In-append, chars_of, IsTextOf, inserts-In, Sound, Holds, AllChanges, HasLength, HasElementAt, HasPosition, inserts_tree, AllByRecursion, all_scalars, Record, ops_from, IsRecord, one_order, HasCharAt, slice_get-map, both_right, run, deletes_from, inserts_in-append, encode_utf8_all, chars-encodes}
 use Rattle.tp_opid.specs.declared.op_id.Place.{Place}
 use Rattle.tp_opid.specs.declared.op_id.Place.TheVariants.{After}
 use Rattle.tp_change.specs.declared.record.Record.TheVariants as record_of
-use Rattle.tp_change.specs.Operations.{run, deletes_from, ops_of}
-use Rattle.tp_change.proofs.ElementLaws.{inserts_in-append}
+use Rattle.tp_change.specs.Operations.{ops_of}
 use Rattle.tp_graph.proofs.InsertLaws.{inserts_in-deletes_from}
 
 -- ---- characters are Unicode scalar values

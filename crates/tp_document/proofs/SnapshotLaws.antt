@@ -1,14 +1,8 @@
 -- What a snapshot shows, element by element.
-use Rattle.tp_document.proofs.Common.{◌≡◌, ℕ, suc, zero, ◌+◌, ◌-◌, ◌<◌, inl, inr, List, [], ◌∷◌, ◌++◌, length, take, drop, get_or, Bool, true, false, not, ◌||◌, ◌&&◌, cond, Option, Some, None, position, refl, sym, ap, ◌∙◌, arith, append-nil, drop-cons, slice_get, option_map, take_more, length-append, Actor, OpId, Insert, id_eq, is_removed, shown, shown_before, chars_of, shown_by, id_eq-same, has_op, AreTargets, is_one_of, inserts_by, deletes_by}
-use Rattle.std.specs.Prelude.{encode_utf8, encode_utf8_all}
-use Rattle.std.proofs.lemmas.List.{map-append}
+use Rattle.tp_document.proofs.Common.{◌≡◌, ℕ, suc, zero, ◌+◌, ◌-◌, ◌<◌, inl, inr, List, [], ◌∷◌, ◌++◌, length, take, drop, get_or, Bool, true, false, not, ◌||◌, ◌&&◌, cond, Option, Some, None, position, refl, sym, ap, ◌∙◌, arith, append-nil, drop-cons, slice_get, option_map, take_more, length-append, Actor, OpId, Insert, id_eq, is_removed, shown, shown_before, chars_of, shown_by, id_eq-same, has_op, AreTargets, is_one_of, inserts_by, deletes_by, map-append, slice_get_cases, element_of, or_right, encode_utf8, encode_utf8_all, encodes-append}
 use Rattle.std.proofs.lemmas.List.Elements.{filter-append}
-use Rattle.std.proofs.lemmas.Option.{slice_get_cases}
-use Rattle.std.proofs.lemmas.Str.{encodes-append}
 use Rattle.tp_rga.specs.declared.element.Element.{Element}
-use Rattle.tp_rga.specs.Shown.{element_of}
 use Rattle.tp_rga.proofs.Lookups.{position-cons}
-use Rattle.tp_list.proofs.Tests.{or_right}
 
 -- whether an element is shown
 abbrev is_shown : List (Actor × ℕ) → List (OpId × OpId) → Insert → Bool
@@ -81,49 +75,29 @@ shown_more K R L k e lt is =
     let more : take (k + 1) L ≡ take k L ++ e ∷ [] = take_more L k e lt ∙ ap (λ x. take k L ++ x ∷ []) is in
     ap (shown_by K R) more ∙ shown_append K R (take k L) (e ∷ []) ∙ ap (λ l. shown_by K R (take k L) ++ l) (shown_first K R e [])
 
-bytes_more : (K : List (Actor × ℕ)) (R : List (OpId × OpId)) (L : List Insert) (k : ℕ) (e : Insert) → k < length L → get_or L k e ≡ e → bytes_by K R (take (k + 1) L) ≡ bytes_by K R (take k L) ++ encode_utf8_all (chars_of (cond (is_shown K R e) (e ∷ []) []))
-bytes_more K R L k e lt is =
-    ap (λ l. encode_utf8_all (chars_of l)) (shown_more K R L k e lt is)
-    ∙ ap encode_utf8_all (map-append (λ (x : Insert). x.ch) (shown_by K R (take k L)) (cond (is_shown K R e) (e ∷ []) []))
-    ∙ encodes-append (chars_of (shown_by K R (take k L))) (chars_of (cond (is_shown K R e) (e ∷ []) []))
+-- an element that is shown comes behind those before it, and another adds nothing
+shown_next : (K : List (Actor × ℕ)) (R : List (OpId × OpId)) (T : List OpId) (L : List Insert) (k : ℕ) (x : Element) (b : Bool) → AreTargets T K R → Some x ≡ option_map (element_of R) (slice_get L k)
+    → tested K T x ≡ b → (e : Insert) × (x ≡ element_of R e) × (shown_by K R (take (k + 1) L) ≡ shown_by K R (take k L) ++ cond b (e ∷ []) [])
+shown_next K R T L k x b targets h t =
+    let p = at_place R L k x h in
+    (p.0, p.3, shown_more K R L k p.0 p.1 p.2 ∙ ap (λ t. shown_by K R (take k L) ++ cond t (p.0 ∷ []) []) (test_at K R T x p.0 b targets p.3 t))
 
--- an element that is shown adds its character
+pub hidden_by : (K : List (Actor × ℕ)) (R : List (OpId × OpId)) (T : List OpId) (L : List Insert) (k : ℕ) (x : Element) → AreTargets T K R → Some x ≡ option_map (element_of R) (slice_get L k)
+    → tested K T x ≡ false → shown_by K R (take (k + 1) L) ≡ shown_by K R (take k L)
+hidden_by K R T L k x targets h t = (shown_next K R T L k x false targets h t).2 ∙ append-nil (shown_by K R (take k L))
+
 pub bytes_by-shown : (K : List (Actor × ℕ)) (R : List (OpId × OpId)) (T : List OpId) (L : List Insert) (k : ℕ) (x : Element) → AreTargets T K R → Some x ≡ option_map (element_of R) (slice_get L k)
     → tested K T x ≡ true → bytes_by K R (take (k + 1) L) ≡ bytes_by K R (take k L) ++ encode_utf8 x.ch
 bytes_by-shown K R T L k x targets h t =
-    let p = at_place R L k x h in
-    bytes_more K R L k p.0 p.1 p.2
-    ∙ ap (λ b. bytes_by K R (take k L) ++ encode_utf8_all (chars_of (cond b (p.0 ∷ []) []))) (test_at K R T x p.0 true targets p.3 t)
-    ∙ ap (λ l. bytes_by K R (take k L) ++ l) (append-nil (encode_utf8 p.0.ch) ∙ ap (λ (y : Element). encode_utf8 y.ch) (sym p.3))
+    let p = shown_next K R T L k x true targets h t in
+    ap (λ l. encode_utf8_all (chars_of l)) p.2
+    ∙ ap encode_utf8_all (map-append (λ (y : Insert). y.ch) (shown_by K R (take k L)) (p.0 ∷ []))
+    ∙ encodes-append (chars_of (shown_by K R (take k L))) (chars_of (p.0 ∷ []))
+    ∙ ap (λ l. bytes_by K R (take k L) ++ l) (append-nil (encode_utf8 p.0.ch) ∙ ap (λ (y : Element). encode_utf8 y.ch) (sym p.1))
 
--- another adds none
-pub bytes_by-hidden : (K : List (Actor × ℕ)) (R : List (OpId × OpId)) (T : List OpId) (L : List Insert) (k : ℕ) (x : Element) → AreTargets T K R → Some x ≡ option_map (element_of R) (slice_get L k)
-    → tested K T x ≡ false → bytes_by K R (take (k + 1) L) ≡ bytes_by K R (take k L)
-bytes_by-hidden K R T L k x targets h t =
-    let p = at_place R L k x h in
-    bytes_more K R L k p.0 p.1 p.2
-    ∙ ap (λ b. bytes_by K R (take k L) ++ encode_utf8_all (chars_of (cond b (p.0 ∷ []) []))) (test_at K R T x p.0 false targets p.3 t)
-    ∙ append-nil (bytes_by K R (take k L))
-
--- ---- how many are shown
-
--- an element that is shown is one more
 pub length_by-shown : (K : List (Actor × ℕ)) (R : List (OpId × OpId)) (T : List OpId) (L : List Insert) (k : ℕ) (x : Element) → AreTargets T K R → Some x ≡ option_map (element_of R) (slice_get L k)
     → tested K T x ≡ true → length (shown_by K R (take (k + 1) L)) ≡ length (shown_by K R (take k L)) + 1
-length_by-shown K R T L k x targets h t =
-    let p = at_place R L k x h in
-    ap length (shown_more K R L k p.0 p.1 p.2)
-    ∙ ap (λ b. length (shown_by K R (take k L) ++ cond b (p.0 ∷ []) [])) (test_at K R T x p.0 true targets p.3 t)
-    ∙ length-append (shown_by K R (take k L)) (p.0 ∷ [])
-
--- another isn't
-pub length_by-hidden : (K : List (Actor × ℕ)) (R : List (OpId × OpId)) (T : List OpId) (L : List Insert) (k : ℕ) (x : Element) → AreTargets T K R → Some x ≡ option_map (element_of R) (slice_get L k)
-    → tested K T x ≡ false → length (shown_by K R (take (k + 1) L)) ≡ length (shown_by K R (take k L))
-length_by-hidden K R T L k x targets h t =
-    let p = at_place R L k x h in
-    ap length (shown_more K R L k p.0 p.1 p.2)
-    ∙ ap (λ b. length (shown_by K R (take k L) ++ cond b (p.0 ∷ []) [])) (test_at K R T x p.0 false targets p.3 t)
-    ∙ ap length (append-nil (shown_by K R (take k L)))
+length_by-shown K R T L k x targets h t = let p = shown_next K R T L k x true targets h t in ap length p.2 ∙ length-append (shown_by K R (take k L)) (p.0 ∷ [])
 
 -- ---- how many are shown before an element
 

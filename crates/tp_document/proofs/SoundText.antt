@@ -1,17 +1,12 @@
 -- The elements of sound changes: they are a tree, the next counter stands above them, and the operations of a change
 -- that fits may come.
-use Rattle.tp_document.proofs.Common.{◌≡◌, ℕ, ◌+◌, ◌≤◌, ◌==◌, inl, inr, List, [], ◌∷◌, ◌++◌, length, Bool, true, false, Option, Some, None, refl, sym, ap, ◌∙◌, subst, arith, append_assoc, length-append, nat_tests, In, Actor, OpId, Insert, same_actor, id_eq, Op, ChangeParts, id_of, ops_of, inserts_in, inserts, deletes_in, deletes, next_counter, IsInOrder, In-append, Numbered-ops_of, Numbered, length-ops_of, inserts-In, past, defect, or_full, most_changes, Sound, truth, past-In, inserts_tree, Holds, id_eq-same, IsChange, In-left, inserts-push, deletes-push, In-inserts, inserts-more, next_counter-above, Fits, Sound-push, own_past, Fits-from_cause}
-use Rattle.tp_opid.proofs.Orders.{same_actor-apart}
+use Rattle.tp_document.proofs.Common.{◌≡◌, ℕ, ◌+◌, ◌≤◌, ◌==◌, inl, inr, List, [], ◌∷◌, ◌++◌, length, Bool, true, false, Option, Some, None, refl, sym, ap, ◌∙◌, subst, arith, append_assoc, length-append, nat_tests, In, Actor, OpId, Insert, same_actor, id_eq, Op, ChangeParts, id_of, ops_of, inserts_in, inserts, deletes_in, deletes, next_counter, IsInOrder, In-append, Numbered-ops_of, Numbered, length-ops_of, inserts-In, past, defect, or_full, most_changes, Sound, truth, past-In, inserts_tree, Holds, id_eq-same, IsChange, In-left, inserts-push, deletes-push, In-inserts, inserts-more, next_counter-above, Fits, Sound-push, own_past, Fits-from_cause, same_actor-apart, element, sound-induct, IsThere, IsThere-grow}
 use Rattle.tp_change.specs.declared.op.Op.TheVariants as op_of
-use Rattle.tp_change.specs.Elements.{element}
-use Rattle.tp_opid.specs.Tree.{IsThere}
-use Rattle.tp_opid.proofs.Trees.{IsThere-grow}
 use Rattle.tp_text.specs.Applying.{CanApply, Extends, AllUnder}
 use Rattle.tp_text.proofs.Applied.{CanApply-same}
 use Rattle.tp_text.proofs.Numbered.{IsFresh, IsFresh-under, CanApply-refers, AllUnder-ops, AllUnder-up}
 use Rattle.tp_graph.specs.declared.error.GraphError.{GraphError}
 use Rattle.tp_graph.specs.Fit.{cause}
-use Rattle.tp_graph.proofs.SoundLaws.{sound-induct}
 
 -- ---- the next counter
 

@@ -1,6 +1,6 @@
 -- What receiving does to a document.
-use Rattle.std.specs.Prelude.{◌≡◌, ◌≢◌, Option, IsSomeAnd, Result, Ok, Err}
-use Rattle.tp_opid.specs.declared.doc_id.DocId.{DocId}
+use Rattle.std.specs.Prelude.{◌≡◌, ◌≢◌, IsSomeAnd, Result, Ok, Err}
+use Rattle.tp_document.specs.Common.{DocId}
 use Rattle.tp_receive.specs.declared.intake.Applied.{Applied}
 use Rattle.tp_receive.specs.declared.keeper.NoKeeper.{NoKeeper}
 use Rattle.tp_receive.specs.Intake.{Receiver, receiver}

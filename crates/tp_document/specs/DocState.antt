@@ -1,6 +1,7 @@
 -- What contracts see of a document, and what it keeps.
 use Rattle.std.specs.Prelude.{◌≡◌, ℕ, ◌≤◌, List, [], length, Option, Some}
-use Rattle.tp_document.specs.Common.{In, Hash, OpId, Insert, ChangeParts, hash_of, inserts, deletes, IsChange, IsInOrder, most_changes, Sound, DocId, op_count}
+use Rattle.tp_document.specs.Common.{In, Hash, OpId, Insert, ChangeParts, hash_of, inserts, deletes, IsChange, IsInOrder, most_changes, Sound, DocId}
+use Rattle.tp_change.specs.Operations.{op_count}
 
 -- Its identifier; the changes that are applied, in the order in which they entered; those that wait, in the order in
 -- which they came; the hash of the change for whose entry room was made, if there is one; and how many operations the

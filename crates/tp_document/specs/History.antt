@@ -1,28 +1,8 @@
 -- The operations of a part of the changes, given by counters: of each actor the part has those below one number.
-use Rattle.std.specs.Prelude.{◌≡◌, ℕ, ◌+◌, List, [], ◌∷◌, Bool, cond, nat_lt, filter, Option, Some, None}
-use Rattle.tp_document.specs.Common.{slice_get, Actor, OpId, Insert, ChangeParts, shown, op_count, later}
-use Rattle.std.specs.List.{list_any}
-use Rattle.std.specs.Map.{lookup}
-use Rattle.std.specs.Option.{unwrap_or}
-use Rattle.tp_opid.specs.Same.{same_actor, id_eq}
-use Rattle.tp_rga.specs.Shown.{is_removed}
-
--- one more than the greatest counter that the actor has in the changes, or 0 where it made none
-abbrev pub end_of : List ChangeParts → Actor → ℕ
-end_of [] a = 0
-end_of (c ∷ C) a = cond (same_actor c.actor a) (later (c.start + op_count c) (end_of C a)) (end_of C a)
-
--- what a map with these entries has at the actor, or 0
-abbrev pub end_at : List (Actor × ℕ) → Actor → ℕ
-end_at entries a = unwrap_or (lookup (same_actor a) entries) 0
-
--- whether the operation has a counter below what the map has at its actor
-abbrev pub has_op : List (Actor × ℕ) → OpId → Bool
-has_op entries id = nat_lt id.counter (end_at entries id.actor)
-
--- The map has the ends of the changes.
-abbrev pub AreEnds : List (Actor × ℕ) → List ChangeParts → Type 0
-AreEnds entries C = (a : Actor) → end_at entries a ≡ end_of C a
+use Rattle.std.specs.Prelude.{◌≡◌, ℕ, ◌+◌, List, [], ◌∷◌, Bool, filter, Option, Some, None}
+use Rattle.tp_document.specs.Common.{slice_get, Actor, OpId, Insert, ChangeParts, shown, list_any, is_removed}
+use Rattle.tp_opid.specs.Same.{id_eq}
+use Rattle.tp_graph.specs.Clocks.{has_op}
 
 -- the change before the others, where there is one
 abbrev pub with_change : Option ChangeParts → List ChangeParts → List ChangeParts

@@ -1,9 +1,7 @@
 -- What the steps of an edit answer.
 use Rattle.std.specs.Prelude.{◌≡◌, ℕ, ◌<◌, ◌≤◌, ◌^◌, List, length, Bool, true, false, Result, Ok, Err, encode_utf8_all}
-use Rattle.tp_document.specs.Common.{MAX_BYTES, IsChange, Actor, hash_of, has, most_changes, Hash, OpId, ChangeParts, spelling, AllInRange, total_count, records_of, all_scalars, MAX_OPS, MAX_MESSAGE_BYTES, Splice}
-use Rattle.tp_change.specs.Limits.{IsActor}
+use Rattle.tp_document.specs.Common.{MAX_BYTES, IsChange, Actor, hash_of, has, most_changes, Hash, OpId, ChangeParts, spelling, AllInRange, total_count, records_of, all_scalars, MAX_OPS, MAX_MESSAGE_BYTES, Splice, IsActor, AllScalars}
 use Rattle.tp_document.specs.Editing.{Asked, asking, AsksNothing, IsRefused, IsEdit, HasCounters, HasSize}
-use Rattle.tp_edit.specs.Splices.{AllScalars}
 use Rattle.tp_document.specs.declared.error.DocError.{DocError}
 use Rattle.tp_document.specs.declared.error.DocError.TheVariants.{OutOfRange, TooManyOps, HashTaken, OutOfMemory, TooLong, Full}
 

@@ -1,8 +1,7 @@
 //! The document: applied changes with the elements that they insert, and changes that wait.
 
 ghost use Rattle.std.specs.Prelude.{◌≡◌, ◌↔◌, ◌<◌, ◌≤◌, [], ◌∷◌, ◌++◌, length, map, false, None, Some, is_ok, if◌then◌else◌, MatchOption, IfOk, IfErr, IsOkUnless, OnOk, OnErr};
-ghost use Rattle.tp_document.specs.Common.{slice_get, chars, In, IsTextOf, cause, most_changes, Sound, hash_of, ChangeParts, string_bytes};
-ghost use Rattle.std.specs.List.{remove};
+ghost use Rattle.tp_document.specs.Common.{slice_get, chars, In, IsTextOf, cause, most_changes, Sound, hash_of, ChangeParts, string_bytes, remove};
 ghost use Rattle.tp_list.specs.Rising.{IsRising};
 ghost use Rattle.tp_opid.specs.declared.hash.Hash.{Hash as HashOf};
 ghost use Rattle.tp_opid.specs.Order.{hash_cmp};

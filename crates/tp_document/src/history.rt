@@ -1,19 +1,18 @@
 //! The text as it was: what the past of hashes shows.
 
 ghost use Rattle.std.specs.Prelude.{◌≡◌, ◌↔◌, ◌⊎◌, ◌&&◌, ℕ, not, false, length, Some, None, Err, IfOk, IfErr, encode_utf8_all};
-ghost use Rattle.tp_document.specs.Common.{slice_get, chars, IsTextOf, option_map, string_bytes, past, shown_before};
-ghost use Rattle.tp_text.specs.Text.{chars_of};
+ghost use Rattle.tp_document.specs.Common.{slice_get, chars, IsTextOf, option_map, string_bytes, past, shown_before, chars_of};
 ghost use Rattle.tp_graph.specs.Named as named;
-ghost use Rattle.tp_graph.specs.Since.{past_places};
-ghost use Rattle.tp_document.specs.History.{has_op, is_one_of, shown_by, deletes_by, inserts_by, AreEnds, AreTargets};
+ghost use Rattle.tp_graph.specs.Clocks.{has_op, IsClockOf};
+ghost use Rattle.tp_document.specs.History.{is_one_of, shown_by, deletes_by, inserts_by, AreTargets};
 ghost use Rattle.tp_document.specs.Showing.{HasElementAt, HasLength, HasPosition};
 
-use crate::clock::{Clock, Targets, clock_of, targets_of};
 use crate::cursor::Cursor;
 use crate::document::Document;
 use crate::error::DocError;
+use crate::targets::{Targets, targets_of};
 use std::alloc::{AllocError, Global};
-use tp_graph::{Graph, GraphError, Past};
+use tp_graph::{Clock, Graph, GraphError};
 use tp_opid::{Hash, OpId};
 use tp_rga::{Element, Sequence};
 
@@ -34,37 +33,36 @@ impl Snapshot {
     }
 }
 
-// The past of the hashes as places.
-fn past_of(graph: &Graph, heads: &[Hash]) -> Result<Past, DocError>
-    ensures places { IfOk result (λ places. places ≡ past_places graph.now.applied heads.now) }
+// The operations of the past of the hashes.
+fn clock_of(graph: &Graph, heads: &[Hash]) -> Result<Clock, DocError>
+    ensures clock { IfOk result (λ clock. IsClockOf clock (past graph.now.applied heads.now)) }
     ensures unknown { (result ≡ Err DocError.UnknownHead)
         ↔ (named.has_all graph.now.applied heads.now ≡ false) }
     ensures err { IfErr result
         (λ error. (error ≡ DocError.UnknownHead) ⊎ (error ≡ DocError.OutOfMemory)) }
 {
-    match graph.past(heads) {
-        Ok(past) => Ok(past),
+    match graph.clock(heads) {
+        Ok(clock) => Ok(clock),
         Err(GraphError::UnknownHead) => Err(DocError::UnknownHead),
         Err(_) => Err(DocError::OutOfMemory),
     }
 }
 
-// What the past of the hashes shows: one walk over the changes of the past, and one over all deletes.
+// What the past of the hashes shows: one walk over all deletes.
 fn snapshot_at<S: Sequence>(
     alloc: Global,
     graph: &Graph,
     sequence: &S,
     heads: &[Hash],
 ) -> Result<Snapshot, DocError>
-    ensures ends { IfOk result (λ s. AreEnds s.clock (past graph.now.applied heads.now)) }
+    ensures ends { IfOk result (λ s. IsClockOf s.clock (past graph.now.applied heads.now)) }
     ensures targets { IfOk result (λ s. AreTargets s.targets s.clock (S.removals sequence.now)) }
     ensures unknown { (result ≡ Err DocError.UnknownHead)
         ↔ (named.has_all graph.now.applied heads.now ≡ false) }
     ensures err { IfErr result
         (λ error. (error ≡ DocError.UnknownHead) ⊎ (error ≡ DocError.OutOfMemory)) }
 {
-    let past = past_of(graph, heads)?;
-    let clock = clock_of(alloc, graph.changes(), past.places())?;
+    let clock = clock_of(graph, heads)?;
     let targets = targets_of(alloc, &clock, sequence.deletes())?;
     Ok(Snapshot { clock, targets })
 }
@@ -156,9 +154,10 @@ impl<S: Sequence> Document<S> {
     /// come in any order and more than once, and no hash gives the empty text. A hash that no applied change has is
     /// refused as `UnknownHead`, and the only other refusal is `OutOfMemory`.
     ///
-    /// Nothing is rebuilt: one walk over the changes, one over all deletes, and one over the elements, deleted ones
-    /// among them. Each takes a look-up among the actors of the past, and an element that is deleted now one more
-    /// among those that the past deletes.
+    /// Nothing is rebuilt, and no change is walked over: the past is asked for the last change of each actor, as often as
+    /// the logarithm of the number of its changes ([`Graph::clock`](tp_graph::Graph::clock)); then comes one walk over all
+    /// deletes, and one over the elements, deleted ones among them. Each takes a look-up among the actors, and an element
+    /// that is deleted now one more among those that the past deletes.
     pub fn text_at(&self, heads: &[Hash]) -> Result<String, DocError>
         ensures text { IfOk result
             (λ t. IsTextOf (past self.now.applied heads.now) (chars (string_bytes t))) }

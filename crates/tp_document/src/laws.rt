@@ -1,8 +1,7 @@
 //! Laws of documents: public functions whose contract is the law and whose body is empty.
 
 ghost use Rattle.std.specs.Prelude.{◌≡◌, ◌↔◌, ◌++◌, ℕ, true, List};
-ghost use Rattle.tp_document.specs.Common.{ChangeParts, hash_of, In, Hash, Sound, IsTextOf, has_all, past};
-ghost use Rattle.tp_list.specs.Members.{SameMembers};
+ghost use Rattle.tp_document.specs.Common.{ChangeParts, hash_of, In, Hash, Sound, IsTextOf, has_all, past, SameMembers};
 ghost use Rattle.tp_graph.specs.Heads.{heads};
 ghost use Rattle.tp_document.specs.Editing.{Asked, Edited};
 

@@ -6,7 +6,6 @@
 #![tactic(auto)]
 
 mod applying;
-mod clock;
 mod cursor;
 mod document;
 mod editing;
@@ -17,6 +16,7 @@ mod laws;
 mod making;
 mod merging;
 mod replica;
+mod targets;
 
 pub use cursor::Cursor;
 pub use document::Document;

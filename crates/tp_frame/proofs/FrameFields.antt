@@ -1,5 +1,5 @@
 -- The fields of a frame: what is read is spelled so, what is spelled is read again, and a fault stays.
-use Rattle.std.proofs.Common.{◌≡◌, ℕ, zero, suc, ◌-◌, ◌^◌, ◌<◌, ◌≤◌, Bool, true, false, cond, eqb, ltb, leb, List, [], ◌∷◌, ◌++◌, length, Result, Ok, Err, refl, sym, ap, subst, append-nil, arith, eqb-true, eq-eqb, ltb-true, lt-ltb, le-leb, leb-true}
+use Rattle.std.proofs.Common.{◌≡◌, ℕ, zero, suc, ◌+◌, ◌-◌, ◌^◌, ◌<◌, ◌≤◌, Bool, true, false, cond, eqb, ltb, leb, List, [], ◌∷◌, ◌++◌, length, Result, Ok, Err, refl, sym, ap, subst, ◌∙◌, append_assoc, append-nil, arith, eqb-true, eq-eqb, ltb-true, lt-ltb, le-leb, leb-true}
 use Rattle.std.specs.Int.{w32, to_be_bytes}
 use Rattle.tp_codec.specs.Prefix.{byte_at, bytes_at, number_at}
 use Rattle.tp_codec.specs.Reading.{Reads, give, and_then, or_fail, require}
@@ -8,59 +8,107 @@ use Rattle.tp_frame.specs.declared.error.FrameError.{FrameError}
 use Rattle.tp_frame.specs.declared.error.FrameError.TheVariants.{TooLong, BadKind, BadHello}
 use Rattle.tp_frame.specs.declared.frame.Frame.{Frame}
 use Rattle.tp_frame.specs.declared.frame.Frame.TheVariants.{Hello, Sync, Done, Refusal}
+use Rattle.tp_frame.specs.declared.reading.Head.{Head}
 use Rattle.tp_frame.specs.declared.reading.NoFrame.{NoFrame}
 use Rattle.tp_frame.specs.declared.reading.NoFrame.TheVariants.{Missing, Fault}
 use Rattle.tp_frame.specs.Frame.{Body, body_of, body_len, spelling_of_body, spelling, IsTyped, IsFrame}
-use Rattle.tp_frame.specs.Reading.{body_at, hello_of, done_of, refusal_of, frame_behind, judged, frame_at}
+use Rattle.tp_frame.specs.Reading.{head_at, body_at, hello_of, done_of, refusal_of, frame_behind, judged, frame_at}
+
+-- ---- the head
+
+abbrev headed : ℕ → ℕ → Head
+headed kind len = record { kind = kind; len = len }
+
+-- the bytes before the content: the length of the body and the kind
+abbrev pub spelling_of_head : Head → List ℕ
+spelling_of_head h = to_be_bytes w32 (h.len + 1) ++ h.kind ∷ []
+
+-- what stands behind the length
+abbrev kind_behind : ℕ → Reads NoFrame Head
+kind_behind len = and_then (or_fail Missing byte_at) (λ kind. and_then (require (ltb kind 4) (Fault BadKind)) (λ _. give (headed kind (len - 1))))
+
+abbrev spell_kind : Head → List ℕ
+spell_kind h = (h.kind ∷ []) ++ []
+
+abbrev KindFits : ℕ → Head → Type 0
+KindFits len h = (h.kind < 256) × ((ltb h.kind 4 ≡ true) × (h ≡ headed h.kind (len - 1)))
+
+kind_field : (len : ℕ) → IsField Missing (kind_behind len) spell_kind (KindFits len)
+kind_field len =
+    then_field Missing (or_fail Missing byte_at) (λ kind. and_then (require (ltb kind 4) (Fault BadKind)) (λ _. give (headed kind (len - 1)))) (λ b. b ∷ []) (λ b. b < 256)
+    (λ (h : Head). h.kind) (λ _. []) (λ kind h. (ltb kind 4 ≡ true) × (h ≡ headed kind (len - 1)))
+    (byte_field Missing)
+    (λ kind lt. require_field Missing (ltb kind 4) (Fault BadKind) (give (headed kind (len - 1))) (λ _. []) (λ h. h ≡ headed kind (len - 1)) (λ _. give_field Missing (headed kind (len - 1))))
+    (λ kind h fit. ap (λ (x : Head). x.kind) fit.1)
+
+abbrev LenFits : ℕ → Head → Type 0
+LenFits len h = (leb len 16777216 ≡ true) × ((leb 1 len ≡ true) × KindFits len h)
+
+len_is : (len : ℕ) (h : Head) → LenFits len h → h.len + 1 ≡ len
+len_is len h fit =
+    let some : 1 ≤ len = leb-true 1 len fit.1.0 in
+    let same : h.len ≡ len - 1 = ap (λ (x : Head). x.len) fit.1.1.1.1 in
+    omega arith
+
+-- a known kind, and a length within the limit
+pub record IsHead (h : Head) : Type 0 where
+  pub kind : h.kind < 4
+  pub size : h.len + 1 ≤ 16777216
+
+head_is : (h : Head) → LenFits (h.len + 1) h → IsHead h
+head_is h fit = record { kind = ltb-true h.kind 4 fit.1.1.1.0; size = leb-true (h.len + 1) 16777216 fit.0 }
+
+head_fits : (h : Head) → IsHead h → LenFits (h.len + 1) h
+head_fits h is =
+    let same : headed h.kind (h.len + 1 - 1) ≡ h = ap (λ (n : ℕ). headed h.kind n) (let e : h.len + 1 - 1 ≡ h.len = omega arith in e) in
+    (le-leb (h.len + 1) 16777216 is.size, (le-leb 1 (h.len + 1) (omega arith), (omega (arith, is.kind), (lt-ltb h.kind 4 is.kind, sym same))))
+
+pub head_field : IsField Missing head_at spelling_of_head IsHead
+unfolding head_at
+head_field =
+    as_field Missing head_at (λ h. to_be_bytes w32 (h.len + 1) ++ spell_kind h) spelling_of_head (λ h. (h.len + 1 < 2 ^ 32) × LenFits (h.len + 1) h) IsHead
+    (then_field Missing (or_fail Missing (number_at w32))
+    (λ len. and_then (require (leb len 16777216) (Fault TooLong)) (λ _. and_then (require (leb 1 len) (Fault BadKind)) (λ _. kind_behind len)))
+    (to_be_bytes w32) (λ n. n < 2 ^ 32) (λ (h : Head). h.len + 1) spell_kind LenFits
+    (number_field Missing w32 (2 ^ 32) wide32)
+    (λ len lt. require_field Missing (leb len 16777216) (Fault TooLong) (and_then (require (leb 1 len) (Fault BadKind)) (λ _. kind_behind len)) spell_kind (λ h. (leb 1 len ≡ true) × KindFits len h)
+    (λ _. require_field Missing (leb 1 len) (Fault BadKind) (kind_behind len) spell_kind (KindFits len) (λ _. kind_field len)))
+    len_is)
+    (λ h fit. refl)
+    (λ h fit. head_is h fit.1)
+    (λ h is. (omega (arith, is.size), head_fits h is))
 
 -- ---- the body
 
-abbrev made : ℕ → List ℕ → Body
+abbrev pub made : ℕ → List ℕ → Body
 made kind content = record { kind = kind; content = content }
 
--- what stands behind the kind
-abbrev content_behind : ℕ → ℕ → Reads NoFrame Body
-content_behind len kind = and_then (or_fail Missing (bytes_at (len - 1))) (λ content. give (made kind content))
+-- the head that a body has
+abbrev head_of : Body → Head
+head_of b = headed b.kind (length b.content)
+
+-- what stands behind the head
+abbrev content_behind : Head → Reads NoFrame Body
+content_behind h = and_then (or_fail Missing (bytes_at h.len)) (λ content. give (made h.kind content))
 
 abbrev spell_content : Body → List ℕ
 spell_content b = b.content ++ []
 
-abbrev ContentFits : ℕ → ℕ → Body → Type 0
-ContentFits len kind b = AreSoMany (len - 1) b.content × (b ≡ made kind b.content)
+abbrev ContentFits : Head → Body → Type 0
+ContentFits h b = AreSoMany h.len b.content × (b ≡ made h.kind b.content)
 
-content_field : (len kind : ℕ) → IsField Missing (content_behind len kind) spell_content (ContentFits len kind)
-content_field len kind =
-    then_field Missing (or_fail Missing (bytes_at (len - 1))) (λ content. give (made kind content)) (λ c. c) (AreSoMany (len - 1))
-    (λ (b : Body). b.content) (λ _. []) (λ content b. b ≡ made kind content)
-    (bytes_field Missing (len - 1))
-    (λ content fit. give_field Missing (made kind content))
+content_field : (h : Head) → IsField Missing (content_behind h) spell_content (ContentFits h)
+content_field h =
+    then_field Missing (or_fail Missing (bytes_at h.len)) (λ content. give (made h.kind content)) (λ c. c) (AreSoMany h.len)
+    (λ (b : Body). b.content) (λ _. []) (λ content b. b ≡ made h.kind content)
+    (bytes_field Missing h.len)
+    (λ content fit. give_field Missing (made h.kind content))
     (λ content b e. ap (λ (x : Body). x.content) e)
 
--- the kind, and what stands behind it
-abbrev kind_behind : ℕ → Reads NoFrame Body
-kind_behind len = and_then (or_fail Missing byte_at) (λ kind. and_then (require (ltb kind 4) (Fault BadKind)) (λ _. content_behind len kind))
-
-abbrev spell_kind : Body → List ℕ
-spell_kind b = (b.kind ∷ []) ++ spell_content b
-
-abbrev KindFits : ℕ → Body → Type 0
-KindFits len b = (b.kind < 256) × ((ltb b.kind 4 ≡ true) × ContentFits len b.kind b)
-
-kind_field : (len : ℕ) → IsField Missing (kind_behind len) spell_kind (KindFits len)
-kind_field len =
-    then_field Missing (or_fail Missing byte_at) (λ kind. and_then (require (ltb kind 4) (Fault BadKind)) (λ _. content_behind len kind)) (λ b. b ∷ []) (λ b. b < 256)
-    (λ (b : Body). b.kind) spell_content (λ kind b. (ltb kind 4 ≡ true) × ContentFits len kind b)
-    (byte_field Missing)
-    (λ kind lt. require_field Missing (ltb kind 4) (Fault BadKind) (content_behind len kind) spell_content (ContentFits len kind) (λ _. content_field len kind))
-    (λ kind b fit. ap (λ (x : Body). x.kind) fit.1.1)
-
-abbrev LenFits : ℕ → Body → Type 0
-LenFits len b = (leb len 16777216 ≡ true) × ((leb 1 len ≡ true) × KindFits len b)
-
-len_is : (len : ℕ) (b : Body) → LenFits len b → body_len b ≡ len
-len_is len b fit =
-    let some : 1 ≤ len = leb-true 1 len fit.1.0 in
-    omega (arith, fit.1.1.1.1.0.count)
+head_of_content : (h : Head) (b : Body) → ContentFits h b → head_of b ≡ h
+head_of_content h b fit =
+    let kind : b.kind ≡ h.kind = ap (λ (x : Body). x.kind) fit.1 in
+    ap (λ (k : ℕ). headed k (length b.content)) kind ∙ ap (λ (n : ℕ). headed h.kind n) fit.0.count
 
 -- a body of a known kind, of bytes, and within the limit
 pub record IsBody (b : Body) : Type 0 where
@@ -68,31 +116,14 @@ pub record IsBody (b : Body) : Type 0 where
   pub content : AreBytes b.content
   pub size : body_len b ≤ 16777216
 
-body_is : (b : Body) → LenFits (body_len b) b → IsBody b
-body_is b fit = record {
-  kind = ltb-true b.kind 4 fit.1.1.1.0;
-  content = fit.1.1.1.1.0.each;
-  size = leb-true (body_len b) 16777216 fit.0;
-}
-
-body_fits : (b : Body) → IsBody b → LenFits (body_len b) b
-body_fits b is =
-    (le-leb (body_len b) 16777216 is.size, (le-leb 1 (body_len b) (omega arith), (omega (arith, is.kind), (lt-ltb b.kind 4 is.kind, (record { count = omega arith; each = is.content }, refl)))))
-
 pub body_field : IsField Missing body_at spelling_of_body IsBody
 unfolding body_at
 body_field =
-    as_field Missing body_at (λ b. to_be_bytes w32 (body_len b) ++ spell_kind b) spelling_of_body (λ b. (body_len b < 2 ^ 32) × LenFits (body_len b) b) IsBody
-    (then_field Missing (or_fail Missing (number_at w32))
-    (λ len. and_then (require (leb len 16777216) (Fault TooLong)) (λ _. and_then (require (leb 1 len) (Fault BadKind)) (λ _. kind_behind len)))
-    (to_be_bytes w32) (λ n. n < 2 ^ 32) body_len spell_kind LenFits
-    (number_field Missing w32 (2 ^ 32) wide32)
-    (λ len lt. require_field Missing (leb len 16777216) (Fault TooLong) (and_then (require (leb 1 len) (Fault BadKind)) (λ _. kind_behind len)) spell_kind (λ b. (leb 1 len ≡ true) × KindFits len b)
-    (λ _. require_field Missing (leb 1 len) (Fault BadKind) (kind_behind len) spell_kind (KindFits len) (λ _. kind_field len)))
-    len_is)
-    (λ b fit. ap (λ (c : List ℕ). to_be_bytes w32 (body_len b) ++ b.kind ∷ c) (append-nil b.content))
-    (λ b fit. body_is b fit.1)
-    (λ b is. (omega (arith, is.size), body_fits b is))
+    as_field Missing body_at (λ b. spelling_of_head (head_of b) ++ spell_content b) spelling_of_body (λ b. IsHead (head_of b) × ContentFits (head_of b) b) IsBody
+    (then_field Missing head_at content_behind spelling_of_head IsHead head_of spell_content ContentFits head_field (λ h fit. content_field h) head_of_content)
+    (λ b fit. ap (λ (c : List ℕ). spelling_of_head (head_of b) ++ c) (append-nil b.content) ∙ append_assoc (to_be_bytes w32 (body_len b)) (b.kind ∷ []) b.content)
+    (λ b fit. record { kind = fit.0.kind; content = fit.1.0.each; size = fit.0.size })
+    (λ b is. (record { kind = is.kind; size = is.size }, (record { count = refl; each = is.content }, refl)))
 
 -- ---- the frame
 
@@ -106,7 +137,7 @@ judged_field (Err e) =
     (λ f fit. refl) (λ f fit. absurd fit) (λ f fit. absurd cc)
 
 -- A frame that stands behind a kind has that kind and content, and is typed where the content is bytes.
-abbrev StandsBehind : ℕ → List ℕ → Frame → Type 0
+abbrev pub StandsBehind : ℕ → List ℕ → Frame → Type 0
 StandsBehind kind content f = (body_of f ≡ made kind content) × (AreBytes content → IsTyped f)
 
 is_ok_of : (kind : ℕ) (content : List ℕ) (g f : Frame) → (let r : Result Frame FrameError = Ok g in r) ≡ Ok f → StandsBehind kind content g → StandsBehind kind content f
@@ -129,7 +160,7 @@ refusal_stands [] f e = absurd cc
 refusal_stands (code ∷ []) f e = is_ok_of 3 (code ∷ []) (Refusal code) f e (refl, λ fits. fits 0)
 refusal_stands (code ∷ b ∷ bytes) f e = absurd cc
 
-stands : (kind : ℕ) (content : List ℕ) (f : Frame) → frame_behind kind content ≡ Ok f → StandsBehind kind content f
+pub stands : (kind : ℕ) (content : List ℕ) (f : Frame) → frame_behind kind content ≡ Ok f → StandsBehind kind content f
 stands zero content f e = hello_stands content f e
 stands (suc zero) content f e = is_ok_of 1 content (Sync content) f e (refl, λ fits. fits)
 stands (suc (suc zero)) content f e = done_stands content f e

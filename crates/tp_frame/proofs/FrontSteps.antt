@@ -1,5 +1,5 @@
 -- What a framer's buffer has at its front, and what it answers.
-use Rattle.std.proofs.Common.{◌≡◌, ℕ, ◌+◌, ◌≤◌, List, ◌++◌, length, take, drop, Result, Ok, Err, refl, ap, arith, length-append}
+use Rattle.std.proofs.Common.{◌≡◌, ℕ, ◌+◌, ◌≤◌, List, length, take, drop, Result, Ok, Err, refl, ap, arith, length-append}
 use Rattle.std.proofs.lemmas.List.{take_at, drop_at}
 use Rattle.tp_codec.specs.Reading.{and_next, and_then, give, fail}
 use Rattle.tp_codec.proofs.Fields.{AreBytes}
@@ -8,9 +8,9 @@ use Rattle.tp_frame.specs.declared.frame.Frame.{Frame}
 use Rattle.tp_frame.specs.declared.frame.Frame.TheVariants.{Sync}
 use Rattle.tp_frame.specs.declared.reading.NoFrame.{NoFrame}
 use Rattle.tp_frame.specs.declared.reading.NoFrame.TheVariants.{Fault}
-use Rattle.tp_frame.specs.Frame.{Body, spelling_of_body, spelling, IsFrame}
+use Rattle.tp_frame.specs.Frame.{Body, spelling_of_body}
 use Rattle.tp_frame.specs.Reading.{body_at, frame_behind, judged, frame_at}
-use Rattle.tp_frame.proofs.FrameFields.{body_field, frame_field}
+use Rattle.tp_frame.proofs.FrameFields.{body_field}
 
 -- where a body stands
 record IsCut (bytes : List ℕ) (b : Body) (back : List ℕ) : Type 0 where
@@ -37,13 +37,6 @@ read_is : (bytes : List ℕ) (b : Body) (rest : List ℕ) (f : Frame) → body_a
 unfolding judged give
 read_is bytes b rest f e r = judged_is bytes b rest (Ok f) e r
 
-pub sync_front : (bytes : List ℕ) (b : Body) (rest : List ℕ) → AreBytes bytes → body_at bytes ≡ Ok (b, rest) → b.kind ≡ 1
-    → (5 + length b.content ≤ length bytes) × (frame_at bytes ≡ Ok (Sync (drop 5 (take (5 + length b.content) bytes)), drop (5 + length b.content) bytes))
-sync_front bytes b rest fits e kind =
-    let cut = cut_is bytes b rest fits e in
-    let behind : frame_behind b.kind b.content ≡ Ok (Sync b.content) = rw kind refl in
-    (cut.within, rw (cut.content, cut.behind) (read_is bytes b rest (Sync b.content) e behind))
-
 pub other_front : (bytes : List ℕ) (b : Body) (rest : List ℕ) (f : Frame) → AreBytes bytes → body_at bytes ≡ Ok (b, rest) → frame_behind b.kind b.content ≡ Ok f
     → (5 + length b.content ≤ length bytes) × (frame_at bytes ≡ Ok (f, drop (5 + length b.content) bytes))
 other_front bytes b rest f fits e behind =
@@ -59,6 +52,8 @@ pub none_is : (bytes : List ℕ) (d : NoFrame) → body_at bytes ≡ Err d → f
 unfolding frame_at and_then and_next
 none_is bytes d e = rw e refl
 
--- a frame that is taken from the front
-pub taken_is : (held : List ℕ) (f : Frame) (rest : List ℕ) → AreBytes held → frame_at held ≡ Ok (f, rest) → IsFrame f × (held ≡ spelling f ++ rest)
-taken_is held f rest fits e = let t = frame_field.takes held f rest fits e in (t.1, t.0)
+-- a body that is a sync frame
+pub sync_read : (bytes : List ℕ) (b : Body) (rest : List ℕ) → body_at bytes ≡ Ok (b, rest) → b.kind ≡ 1 → frame_at bytes ≡ Ok (Sync b.content, rest)
+sync_read bytes b rest e kind =
+    let behind : frame_behind b.kind b.content ≡ Ok (Sync b.content) = rw kind refl in
+    read_is bytes b rest (Sync b.content) e behind

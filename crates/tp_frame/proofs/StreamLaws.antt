@@ -15,11 +15,11 @@ use Rattle.tp_frame.specs.Reading.{frame_at, IsRest, ShowsFault}
 use Rattle.tp_frame.specs.Stream.{BeginsWith, Frames, Step, Fed, Gave, fed_in, given_in, Makes}
 use Rattle.tp_frame.proofs.FrameFields.{frame_field}
 
-AreBytes-begin : (xs ys : List ℕ) → AreBytes (xs ++ ys) → AreBytes xs
+pub AreBytes-begin : (xs ys : List ℕ) → AreBytes (xs ++ ys) → AreBytes xs
 AreBytes-begin xs ys fits = rw (← take_at xs ys (length xs) refl) (AreBytes-take (length xs) (xs ++ ys) fits)
 
 -- a frame and then what begins with frames
-begins_on : (f : Frame) (bytes rest : List ℕ) (frames : List Frame) (held : List ℕ) → IsFrame f → bytes ≡ spelling f ++ rest → BeginsWith rest frames held → BeginsWith bytes (f ∷ frames) held
+pub begins_on : (f : Frame) (bytes rest : List ℕ) (frames : List Frame) (held : List ℕ) → IsFrame f → bytes ≡ spelling f ++ rest → BeginsWith rest frames held → BeginsWith bytes (f ∷ frames) held
 begins_on f bytes rest frames held is e b = record {
   each = (is, b.each);
   spelled = e ∙ ap (λ (r : List ℕ). spelling f ++ r) b.spelled ∙ sym (append_assoc (spelling f) (flat_map spelling frames) held) ∙ ap (λ (r : List ℕ). r ++ held) (sym (flat_map-cons spelling f frames));

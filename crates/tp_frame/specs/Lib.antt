@@ -1,6 +1,9 @@
 pub mod FrameError
 pub mod Frame
 pub mod Reading
-pub mod Fronts
+pub mod Openings
 pub mod Gives
 pub mod Stream
+pub mod PartState
+pub mod Parts
+pub mod Joining

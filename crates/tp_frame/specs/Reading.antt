@@ -9,20 +9,27 @@ use Rattle.tp_frame.specs.declared.error.FrameError.{FrameError}
 use Rattle.tp_frame.specs.declared.error.FrameError.TheVariants.{TooLong, BadKind, BadHello}
 use Rattle.tp_frame.specs.declared.frame.Frame.{Frame}
 use Rattle.tp_frame.specs.declared.frame.Frame.TheVariants.{Hello, Sync, Done, Refusal}
+use Rattle.tp_frame.specs.declared.reading.Head.{Head}
 use Rattle.tp_frame.specs.declared.reading.NoFrame.{NoFrame}
 use Rattle.tp_frame.specs.declared.reading.NoFrame.TheVariants.{Missing, Fault}
 use Rattle.tp_frame.specs.Frame.{Body}
 
--- a whole body: not empty, within the limit, and of a known kind
-unfoldable pub body_at : Reads NoFrame Body
-body_at = do
+-- the length of a body that is not empty and within the limit, and a known kind
+unfoldable pub head_at : Reads NoFrame Head
+head_at = do
   len ← or_fail Missing (number_at w32)
   require (nat_le len MAX_BODY) (Fault TooLong)
   require (nat_le 1 len) (Fault BadKind)
   kind ← or_fail Missing byte_at
   require (nat_lt kind 4) (Fault BadKind)
-  content ← or_fail Missing (bytes_at (len - 1))
-  give (record { kind = kind; content = content })
+  give (record { kind = kind; len = len - 1 })
+
+-- a whole body
+unfoldable pub body_at : Reads NoFrame Body
+body_at = do
+  head ← head_at
+  content ← or_fail Missing (bytes_at head.len)
+  give (record { kind = head.kind; content = content })
 
 -- a version and the 16 bytes of a document
 abbrev pub hello_of : List ℕ → Result Frame FrameError

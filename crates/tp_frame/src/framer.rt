@@ -7,23 +7,23 @@ ghost use Rattle.tp_frame.specs.Stream.{Answers};
 
 use crate::error::FrameError;
 use crate::frame::Frame;
-use crate::limits::HEADER_LEN;
-use crate::reading::{Front, NoFrame, front_of};
-use bytes::BytesMut;
+use crate::joining::Joiner;
 use std::alloc::Global;
 use std::marker::Model;
 
-/// Takes a stream of bytes in whatever pieces it comes, and gives its frames.
+/// Takes a stream of bytes in whatever pieces it comes, and gives its frames: the parts of a
+/// [`PartFramer`](crate::PartFramer), joined.
 ///
-/// Contracts see the bytes held: those that were fed and stand in no frame that was given. So much memory is kept and
-/// no more than what growing by doubling asks for: a length takes none before its bytes are there.
+/// Contracts see the bytes that were fed and stand in no frame that was given. They are held, but for those of a frame
+/// that is refused, which are only counted. So much memory is kept and no more than what growing by doubling asks for: a
+/// length takes none before its bytes are there.
 pub struct Framer {
-    buffer: BytesMut,
+    joiner: Joiner,
 }
 
 impl Drop for Framer {
     fn drop(self) {
-        let Framer { buffer: _ } = self;
+        let Framer { joiner: _ } = self;
     }
 }
 
@@ -32,7 +32,11 @@ impl Model for Framer {
 
     ghost Value = { List ℕ };
 
-    ghost view = { λ f. f.buffer.items };
+    ghost use Rattle.tp_frame.specs.Joining.{IsJoined};
+
+    ghost view = { λ f. f.joiner.came.bytes };
+
+    ghost invariant = { λ f. IsJoined f.joiner };
 }
 
 impl Framer {
@@ -41,7 +45,7 @@ impl Framer {
         ensures { result ≡ [] }
     {
         Framer {
-            buffer: BytesMut::new(alloc),
+            joiner: Joiner::new(alloc),
         }
     }
 
@@ -53,16 +57,15 @@ impl Framer {
         ensures err { OnErr result (self.new ≡ self.old) }
         ensures memory { IsOkUnless result OutOfMemory }
     {
-        self.buffer.extend_from_slice(bytes)?;
-        Ok(())
+        self.joiner.feed(bytes)
     }
 
     /// The next frame, or `None` where it isn't whole yet and shows no fault.
     ///
     /// `TooLong` for a length past 16,777,216, and `BadKind` for a length of 0, once the 4 bytes of the length are
     /// there; `BadKind` for a kind past 3 once its byte is there; and once the body is whole, `BadHello` for a hello of
-    /// another length than 18, and `BadKind` for a done of another length than 1 and a refusal of another than 2. The
-    /// frame stays where it was then, so every later call answers the same. `OutOfMemory` is answered at a whole sync
+    /// another length than 18, and `BadKind` for a done of another length than 1 and a refusal of another than 2. Every
+    /// later call answers the same then. `OutOfMemory` is answered at a whole sync
     /// frame alone, and changes nothing.
     ///
     /// No byte of a body is copied, but for a hello's document: the bytes of a sync frame are a part of the framer's
@@ -72,19 +75,6 @@ impl Framer {
             (λ f. IsFrame f × (self.old ≡ spelling f ++ self.new))) }
         ensures exact { Answers self.old result self.new }
     {
-        let held = self.buffer.as_slice();
-        match front_of(held) {
-            Ok(Front::Sync { len }) => {
-                let mut body = self.buffer.freeze_to(len)?;
-                body.advance(HEADER_LEN);
-                Ok(Some(Frame::Sync(body)))
-            }
-            Ok(Front::Other { frame, len }) => {
-                self.buffer.advance(len);
-                Ok(Some(frame))
-            }
-            Err(NoFrame::Missing) => Ok(None),
-            Err(NoFrame::Fault(e)) => Err(e),
-        }
+        self.joiner.next()
     }
 }

@@ -1,13 +1,17 @@
 //! Laws of frames and streams, each as a function that does nothing and whose contract is the law.
 //!
-//! By the contracts of [`Framer`](crate::Framer) and [`write_frame`](crate::write_frame) they are laws of what these
-//! give: each call of a framer is one step of [`frames_of_any_run`], or changes nothing.
+//! By the contracts of [`Framer`](crate::Framer), [`PartFramer`](crate::PartFramer) and
+//! [`write_frame`](crate::write_frame) they are laws of what these give: each call of a framer is one step of
+//! [`frames_of_any_run`], and of a framer of parts one of [`parts_of_any_run`], or changes nothing.
 
-ghost use Rattle.std.specs.Prelude.{◌≡◌, ◌↔◌, ℕ, ◌<◌, List, [], ◌++◌, length, slice_index, Ok};
+ghost use Rattle.std.specs.Prelude.{◌≡◌, ◌↔◌, ℕ, ◌<◌, List, [], ◌++◌, length, slice_index, Option, None, Result, Ok, Err};
 ghost use Rattle.tp_list.specs.Traces.{Trace};
 ghost use Rattle.tp_frame.specs.declared.error.FrameError.{FrameError};
 ghost use Rattle.tp_frame.specs.declared.frame.Frame.{Frame};
+ghost use Rattle.tp_frame.specs.declared.parts.Part.{Part};
 ghost use Rattle.tp_frame.specs.Frame.{spelling, IsFrame};
+ghost use Rattle.tp_frame.specs.PartState.{PartState};
+ghost use Rattle.tp_frame.specs.Parts.{Led, at_first, with_more, PartAnswers, Parts, PartStep, all_fed, all_given, PartsLead};
 ghost use Rattle.tp_frame.specs.Reading.{frame_at, IsRest, ShowsFault};
 ghost use Rattle.tp_frame.specs.Stream.{BeginsWith, Frames, Step, fed_in, given_in, Makes};
 
@@ -48,4 +52,25 @@ pub fn a_fault_stays()
     ensures barred { (bytes more : List ℕ) (e : FrameError) (f : Frame) (rest : List ℕ)
         → ((i : ℕ) → slice_index bytes i < 256) → ShowsFault bytes e → IsFrame f
         → bytes ++ more ≡ spelling f ++ rest → ⊥ }
+{}
+
+/// Whatever the cuts of the stream: the parts given, with the pieces of each sync frame joined, are the frames that the
+/// stream begins with, followed by the sync frame that hasn't ended. Where `next` answered `None` they are all frames of
+/// the stream.
+pub fn parts_of_any_run()
+    ensures so_far { (steps : List PartStep) (led : Led) →
+        ((i : ℕ) → slice_index (all_fed steps) i < 256) → PartsLead at_first steps led
+        → (frames : List Frame) × Parts (all_given steps) frames led.opened
+        × BeginsWith (all_fed steps) frames led.came }
+    ensures all { (steps : List PartStep) (led : Led) →
+        ((i : ℕ) → slice_index (all_fed steps) i < 256) → PartsLead at_first steps led → IsRest led.came
+        → (frames : List Frame) × Parts (all_given steps) frames led.opened
+        × Frames (all_fed steps) frames led.came }
+{}
+
+/// A fault that was answered is answered by every later `next`, whatever is fed.
+pub fn a_refusal_is_answered_again()
+    ensures { (led : Led) (more : List ℕ) (e : FrameError) (answer : Result (Option Part) FrameError)
+        (s : PartState) → ((i : ℕ) → slice_index led.came i < 256) → led.opened ≡ None
+        → ShowsFault led.came e → PartAnswers (with_more led more) answer s → answer ≡ Err e }
 {}

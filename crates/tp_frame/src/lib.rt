@@ -8,8 +8,11 @@
 mod error;
 mod frame;
 mod framer;
+mod history;
+mod joining;
 pub mod laws;
 mod limits;
+mod parts;
 mod reading;
 mod writing;
 
@@ -17,4 +20,5 @@ pub use error::FrameError;
 pub use frame::Frame;
 pub use framer::Framer;
 pub use limits::MAX_BODY;
+pub use parts::{Part, PartFramer};
 pub use writing::write_frame;

@@ -1,17 +1,17 @@
-//! Reading the frame that stands at the front of bytes.
+//! Reading what stands at the front of bytes.
 //!
 //! Nothing here takes memory or makes a copy, but for the 16 bytes of a hello's document.
-#![tactic(auto, unfolding(tp_codec::specs::Reading::or_fail, tp_codec::specs::Reading::found_or, tp_codec::specs::Reading::and_then, tp_codec::specs::Reading::and_next, tp_codec::specs::Reading::give, tp_codec::specs::Reading::require, tp_codec::specs::Reading::passed, crate::specs::Reading::body_at))]
+#![tactic(auto, unfolding(tp_codec::specs::Reading::or_fail, tp_codec::specs::Reading::found_or, tp_codec::specs::Reading::and_then, tp_codec::specs::Reading::and_next, tp_codec::specs::Reading::give, tp_codec::specs::Reading::require, tp_codec::specs::Reading::passed, crate::specs::Reading::head_at))]
 
-ghost use Rattle.std.specs.Prelude.{◌≡◌, ℕ, ◌<◌, slice_index, Err, IfOk, IfErr, IsOkUnless};
+ghost use Rattle.std.specs.Prelude.{◌≡◌, ℕ, ◌<◌, ◌≤◌, length, slice_index, Err, IfOk, IfErr, IsOkUnless};
 ghost use Rattle.std.specs.Int.{w32};
 ghost use Rattle.tp_codec.specs.Prefix.{byte_at, bytes_at, number_at};
 ghost use Rattle.tp_codec.specs.Reading.{or_fail};
 ghost use Rattle.tp_frame.specs.declared.reading.NoFrame.TheVariants.{Missing, Fault};
 ghost use Rattle.tp_frame.specs.declared.error.FrameError.TheVariants.{BadKind, BadHello, OutOfMemory};
 ghost use Rattle.tp_frame.specs.Gives.{Is};
-ghost use Rattle.tp_frame.specs.Reading.{body_at, hello_of, done_of, refusal_of, frame_behind, frame_at};
-ghost use Rattle.tp_frame.specs.Fronts.{seen, IsFront};
+ghost use Rattle.tp_frame.specs.Openings.{right_len, fault_of, IsOpening};
+ghost use Rattle.tp_frame.specs.Reading.{head_at, hello_of, done_of, refusal_of, frame_behind, frame_at};
 
 use crate::error::FrameError;
 use crate::frame::Frame;
@@ -28,20 +28,22 @@ pub(crate) enum NoFrame {
     Fault(FrameError),
 }
 
-/// The body of a frame, borrowed: its kind, and what stands behind that.
+/// What comes before the content of a frame: its kind, and how many bytes the content has.
 #[derive(Clone, Copy)]
-pub(crate) struct SeenBody<'a> {
+pub(crate) struct Head {
     kind: u8,
-    content: &'a [u8],
+    len: usize,
 }
 
-/// The frame at the front, and how many bytes it has.
+/// What is at the front, as soon as its length and its kind say it.
 #[derive(Drop)]
-pub(crate) enum Front {
-    /// The bytes behind the kind are those of a sync frame, and are left where they are.
+pub(crate) enum Opening {
+    /// A sync frame, with so many bytes after its kind, which needn't be there yet.
     Sync { len: usize },
-    /// Any other frame.
-    Other { frame: Frame, len: usize },
+    /// Any other frame, whole, and how many bytes it has.
+    Whole { frame: Frame, len: usize },
+    /// A frame of a wrong length for its kind: it is refused once that many more bytes came.
+    Refused { left: usize, error: FrameError },
 }
 
 fn u32_of(reader: &mut Reader<'_>) -> Result<u32, NoFrame>
@@ -76,9 +78,9 @@ fn bytes_of<'a>(reader: &mut Reader<'a>, count: usize) -> Result<&'a [u8], NoFra
     }
 }
 
-// The next body, behind its length. The length is judged once it is whole, and the kind before the rest is there.
-fn body_of<'a>(reader: &mut Reader<'a>) -> Result<SeenBody<'a>, NoFrame>
-    ensures found { Is (λ b. (seen b, reader.new)) result (body_at reader.old) }
+// The next head. The length is judged once it is whole, and the kind before the rest is there.
+fn head_of(reader: &mut Reader<'_>) -> Result<Head, NoFrame>
+    ensures found { Is (λ h. (h, reader.new)) result (head_at reader.old) }
     ensures err { IfErr result (λ e. e ≡ Fault OutOfMemory → ⊥) }
 {
     let len = u32_of(reader)? as usize;
@@ -92,8 +94,7 @@ fn body_of<'a>(reader: &mut Reader<'a>) -> Result<SeenBody<'a>, NoFrame>
     if kind >= 4 {
         return Err(NoFrame::Fault(FrameError::BadKind));
     }
-    let content = bytes_of(reader, len - 1)?;
-    Ok(SeenBody { kind, content })
+    Ok(Head { kind, len: len - 1 })
 }
 
 // The hello that stands behind its kind.
@@ -150,20 +151,54 @@ fn frame_of(kind: u8, content: &[u8]) -> Result<Frame, FrameError>
     }
 }
 
-/// The frame at the front of the bytes, or why none is read.
-pub(crate) fn front_of(bytes: &[u8]) -> Result<Front, NoFrame>
-    ensures found { IfOk result (λ front. IsFront bytes.now front) }
+// How many bytes come after a kind, but for a sync frame's.
+fn right_len(kind: u8) -> usize
+    requires { kind ≡ 1 → ⊥ }
+    ensures len { result ≡ right_len kind }
+    ensures small { result ≤ 17 }
+{
+    match kind {
+        0 => 17,
+        2 => 0,
+        _ => 1,
+    }
+}
+
+// The fault of a frame of a kind, where another number of bytes comes after it.
+fn fault_of(kind: u8) -> FrameError
+    ensures { result ≡ fault_of kind }
+{
+    match kind {
+        0 => FrameError::BadHello,
+        _ => FrameError::BadKind,
+    }
+}
+
+/// What is at the front of the bytes, or why nothing is known of it yet. The content of a sync frame and of a frame of
+/// a wrong length isn't waited for; so at most 21 bytes are waited with.
+pub(crate) fn opening_of(bytes: &[u8]) -> Result<Opening, NoFrame>
+    ensures found { IfOk result (λ opening. IsOpening bytes.now opening) }
     ensures err { IfErr result (λ e. (frame_at bytes.now ≡ Err e) × (e ≡ Fault OutOfMemory → ⊥)) }
+    ensures missing { result ≡ Err Missing → length bytes.now ≤ 21 }
     ensures bytes { (i : ℕ) → slice_index bytes.now i < 256 }
 {
     let mut reader = Reader::new(bytes);
-    let body = body_of(&mut reader)?;
-    let len = HEADER_LEN + body.content.len();
-    if body.kind == 1 {
-        return Ok(Front::Sync { len });
+    let head = head_of(&mut reader)?;
+    if head.kind == 1 {
+        return Ok(Opening::Sync { len: head.len });
     }
-    match frame_of(body.kind, body.content) {
-        Ok(frame) => Ok(Front::Other { frame, len }),
+    if head.len != right_len(head.kind) {
+        return Ok(Opening::Refused {
+            left: head.len.saturating_sub(reader.len()),
+            error: fault_of(head.kind),
+        });
+    }
+    let content = bytes_of(&mut reader, head.len)?;
+    match frame_of(head.kind, content) {
+        Ok(frame) => Ok(Opening::Whole {
+            frame,
+            len: HEADER_LEN + head.len,
+        }),
         Err(e) => Err(NoFrame::Fault(e)),
     }
 }

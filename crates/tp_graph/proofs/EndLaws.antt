@@ -1,5 +1,5 @@
 -- The next counter of a past is that of the changes that are named: what they depend on ends before they start.
-use Rattle.std.proofs.Common.{◌≡◌, ◌⊎◌, length-append, ℕ, suc, zero, ◌+◌, ◌<◌, ◌≤◌, inl, inr, List, [], ◌∷◌, ◌++◌, length, true, false, ◌||◌, cond, Some, None, drop, get_or, refl, sym, ap, ◌∙◌, subst, arith, add-one, drop-cons}
+use Rattle.std.proofs.Common.{◌≡◌, ◌⊎◌, length-append, ℕ, suc, zero, ◌+◌, ◌<◌, ◌≤◌, inl, inr, List, [], ◌∷◌, ◌++◌, length, true, false, ◌||◌, cond, Some, drop, get_or, refl, sym, ap, ◌∙◌, subst, arith, add-one, drop-cons}
 use Rattle.std.specs.List.{slice_get}
 use Rattle.std.proofs.lemmas.List.{drop_all}
 use Rattle.std.proofs.lemmas.Option.{slice_get_within, get_or_from_slice_get}
@@ -26,7 +26,7 @@ use Rattle.tp_graph.proofs.NamedLaws.{names-In, In-has, has-In, has_all-In}
 use Rattle.tp_graph.proofs.PastLaws.{past-In, past-named, with_reached-In}
 use Rattle.tp_graph.proofs.SoundLaws.{Fits-at, hashes_apart}
 use Rattle.tp_graph.proofs.MarksLaws.{hashes_once}
-use Rattle.tp_graph.proofs.PlacesLaws.{at_push, place_from-low, has-from_place}
+use Rattle.tp_graph.proofs.PlacesLaws.{at_push, place_from-low}
 
 -- ---- by place
 
@@ -90,9 +90,6 @@ end_lacking (c ∷ C) h e =
       | true ↦ λ f. cc
       | false ↦ λ f. end_lacking C h f
     ] e
-
-pub end_without_place : (C : List ChangeParts) (h : Hash) → None ≡ place_from 0 C h → 0 ≡ end_named C h
-end_without_place C h e = end_lacking C h (has-from_place C h e)
 
 end_there : (C : List ChangeParts) (d : ChangeParts) → HashesOnce C → In d C → end_named C (hash_of d) ≡ d.start + op_count d
 end_there [] d o i = absurd i

@@ -17,6 +17,7 @@ pub mod WaitingLaws
 pub mod OwnLaws
 pub mod ListedLaws
 pub mod ExtentLaws
+pub mod ClockLaws
 pub mod EndLaws
 pub mod ClashLaws
 pub mod LawRules

@@ -1,19 +1,27 @@
 -- Laws of the places that are listed by actor.
-use Rattle.std.proofs.Common.{◌≡◌, ℕ, ◌+◌, ◌<◌, ◌≤◌, List, [], ◌∷◌, ◌++◌, length, Bool, true, false, cond, Option, Some, None, refl, sym, ap, ◌∙◌, arith, append-nil}
+use Rattle.std.proofs.Common.{◌≡◌, ◌⊎◌, inl, inr, ℕ, suc, zero, ◌+◌, ◌<◌, ◌≤◌, List, [], ◌∷◌, ◌++◌, length, take, drop, map, get_or, subst, Bool, true, false, cond, Option, Some, None, refl, sym, ap, ◌∙◌, arith, append-nil}
 use Rattle.std.specs.Ordering.{is_eq, nat_cmp}
 use Rattle.std.specs.Cmp.{nat_cmp_is}
 use Rattle.std.specs.List.{slice_get}
+use Rattle.std.specs.Map.{keys_of, lookup, values_of}
+use Rattle.std.proofs.lemmas.List.{take-append-drop}
+use Rattle.std.proofs.lemmas.Map.Entries.{place_from_lookup}
 use Rattle.std.specs.declared.cmp.Ordering.TheVariants.{Equal}
 use Rattle.std.proofs.lemmas.Map.Lookups.{exact_unsigned}
 use Rattle.std.proofs.lemmas.Map.Views.{tells_apart}
+use Rattle.tp_list.specs.Members.{AllIn, In}
+use Rattle.tp_list.proofs.Members.{In-append, In-get_or, In-last, In-left, In-slice_get}
 use Rattle.tp_opid.specs.declared.actor.Actor.{Actor}
 use Rattle.tp_opid.specs.Same.{same_actor}
-use Rattle.tp_opid.proofs.Orders.{same_actor-same}
+use Rattle.tp_opid.proofs.Orders.{same_actor-itself, same_actor-same}
 use Rattle.tp_change.specs.declared.parts.ChangeParts.{ChangeParts}
 use Rattle.tp_graph.specs.declared.by_actor.ByActor.{ByActor}
-use Rattle.tp_graph.specs.ByActor.{actor_word, listed_places, place_by, place_if_by, places_of, AreBelow}
+use Rattle.tp_graph.specs.ByActor.{actor_word, listed_places, place_by, place_if_by, places_of, list_or_none, AreBelow, HasActorAt, IsByActor}
 use Rattle.tp_graph.specs.Places.{noted_word}
+use Rattle.tp_graph.specs.Sound.{Sound}
+use Rattle.tp_graph.proofs.OwnLaws.{own_there}
 use Rattle.tp_graph.proofs.PlacesLaws.{at_left}
+use Rattle.tp_graph.proofs.SoundLaws.{Sound-prefix}
 
 -- ---- one more change
 
@@ -89,3 +97,84 @@ listed-note C c old new lists b a p free none notes at mine =
       by false t =
           let P : List ℕ = place_by C (noted_word old (actor_word a)) a in
           ap (λ ps. ps ++ places_of lists a) (append-nil P) ∙ sym (append-nil (P ++ places_of lists a))
+
+-- ---- the actors of all changes
+
+-- one noted place more had its turn
+pub noted_more : (C : List ChangeParts) (p q : ℕ) (s t : List ℕ) (old new : List Actor) → s ≡ q ∷ t → AllIn old new → HasActorAt C q new → In p s ⊎ HasActorAt C p old → In p t ⊎ HasActorAt C p new
+noted_more C p q s t old new next more at (inl left) = elim (subst (In p) next left) [ inl is ↦ inr (subst (λ n. HasActorAt C n new) (sym is) at) | inr later ↦ inl later ]
+noted_more C p q s t old new next more at (inr there) = inr (λ c is. more c.actor (there c is))
+
+pub noted_all : (C : List ChangeParts) (p : ℕ) (s : List ℕ) (actors : List Actor) → s ≡ [] → In p s ⊎ HasActorAt C p actors → HasActorAt C p actors
+noted_all C p s actors none (inl left) = absurd (subst (In p) none left)
+noted_all C p s actors none (inr there) = there
+
+pub listed_more : (a b : Actor) (s t old new : List Actor) → s ≡ b ∷ t → new ≡ old ++ b ∷ [] → In a s ⊎ In a old → In a t ⊎ In a new
+listed_more a b s t old new next grown (inl left) = elim (subst (In a) next left) [
+  | inl is ↦ inr (subst (In a) (sym grown) (subst (λ x. In x (old ++ b ∷ [])) (sym is) (In-last b old)))
+  | inr later ↦ inl later
+]
+listed_more a b s t old new next grown (inr there) = inr (subst (In a) (sym grown) (In-left a old (b ∷ []) there))
+
+pub listed_all : (a : Actor) (s actors : List Actor) → s ≡ [] → In a s ⊎ In a actors → In a actors
+listed_all a s actors none (inl left) = absurd (subst (In a) none left)
+listed_all a s actors none (inr there) = there
+
+In-mapped : {X Y : Type 0} (f : X → Y) (x : X) (xs : List X) → In x xs → In (f x) (map f xs)
+In-mapped f x [] i = absurd i
+In-mapped f x (y ∷ xs) (inl e) = inl (ap f e)
+In-mapped f x (y ∷ xs) (inr i) = inr (In-mapped f x xs i)
+
+-- what a look-up finds has a key, and is a value
+found_entry : {K X : Type 0} (test : K → Bool) (es : List (K × X)) (v : X) → lookup test es ≡ Some v → (k : K) × In k (keys_of es) × In v (values_of es) × (test k ≡ true)
+found_entry {K} {X} test es v e =
+    let w = place_from_lookup test es v e in
+    let i : In (w.1, v) es = In-slice_get es w.0 (w.1, v) w.2 in
+    (w.1, In-mapped (λ (x : K × X). x.0) (w.1, v) es i, In-mapped (λ (x : K × X). x.1) (w.1, v) es i, w.3)
+
+-- where a place is trusted, it is noted, and the change there is the actor's
+trusted_there : (C : List ChangeParts) (entries : List (ℕ × ℕ)) (actors : List Actor) (a : Actor) (o : Option ℕ) (p : ℕ) → noted_word entries (actor_word a) ≡ o
+    → ((q : ℕ) → In q (values_of entries) → HasActorAt C q actors) → In p (place_by C o a) → In a actors
+trusted_there C entries actors a None p is noted i = absurd i
+trusted_there C entries actors a (Some q) p is noted i =
+    let f = found_entry (λ v. is_eq (nat_cmp (actor_word a) v)) entries q is in
+    by (slice_get C q) refl i where
+      by : (o : Option ChangeParts) → slice_get C q ≡ o → In p (place_if_by q o a) → In a actors
+      by None at j = absurd j
+      by (Some d) at j = mine (same_actor d.actor a) refl j where
+        mine : (b : Bool) → same_actor d.actor a ≡ b → In p (cond b (q ∷ []) []) → In a actors
+        mine true t k = subst (λ x. In x actors) (same_actor-same d.actor a t) (noted q (found_entry (λ v. is_eq (nat_cmp (actor_word a) v)) entries q is).2 d at)
+        mine false t k = absurd k
+
+listed_there : (entries : List (Actor × List ℕ)) (actors : List Actor) (a : Actor) (o : Option (List ℕ)) (p : ℕ) → lookup (same_actor a) entries ≡ o → AllIn (keys_of entries) actors → In p (list_or_none o) → In a actors
+listed_there entries actors a None p is listed i = absurd i
+listed_there entries actors a (Some ps) p is listed i =
+    let f = found_entry (same_actor a) entries ps is in
+    subst (λ x. In x actors) (sym (same_actor-same a f.0 f.3)) (listed f.0 f.1)
+
+-- behind all but one stands one at most
+only_one : (C : List ChangeParts) (n : ℕ) (c : ChangeParts) → length C ≤ n + 1 → In c (drop n C) → slice_get C n ≡ Some c
+only_one [] zero c few i = absurd i
+only_one [] (suc n) c few i = absurd i
+only_one (d ∷ []) zero c few (inl e) = ap Some (sym e)
+only_one (d ∷ []) zero c few (inr i) = absurd i
+only_one (d ∷ x ∷ C) zero c few i = absurd (omega arith)
+only_one (d ∷ C) (suc n) c few i = only_one C n c (omega arith) i
+
+pub all_there : (C : List ChangeParts) (b : ByActor) (actors : List Actor) → Sound C → IsByActor C b → ((p : ℕ) → In p (values_of b.firsts.entries) → HasActorAt C p actors)
+    → AllIn (keys_of b.lists.entries) actors → HasActorAt C b.listed actors → (c : ChangeParts) → In c C → In c.actor actors
+all_there C b actors s w noted listed last c i =
+    let n = b.listed in
+    let whole : take n C ++ drop n C ≡ C = take-append-drop n C in
+    elim (In-append c (take n C) (drop n C) (subst (In c) (sym whole) i)) [
+      | inl early ↦
+          let a = c.actor in
+          let ps = listed_places C b a in
+          let j = own_there (take n C) a ps c (Sound-prefix (take n C) (drop n C) (subst Sound (sym whole) s)) (w.own a) early (same_actor-itself a) in
+          let p : ℕ = get_or ps j.0 0 in
+          elim (In-append p (place_by C (noted_word b.firsts.entries (actor_word a)) a) (places_of b.lists.entries a) (In-get_or ps j.0 0 j.1)) [
+            | inl first ↦ trusted_there C b.firsts.entries actors a (noted_word b.firsts.entries (actor_word a)) p refl noted first
+            | inr more ↦ listed_there b.lists.entries actors a (lookup (same_actor a) b.lists.entries) p refl listed more
+          ]
+      | inr late ↦ last c (only_one C n c w.near late)
+    ]

@@ -114,7 +114,7 @@ pub own_within : (C : List ChangeParts) (a : Actor) (ps : List ℕ) (k p : ℕ) 
 own_within C a ps k p o small e = let w = o.each k small in subst (λ q. q < length C) (sym e) (slice_get_within C (get_or ps k 0) w.0 w.1)
 
 -- each of the actor's changes stands at its number
-own_there : (C : List ChangeParts) (a : Actor) (ps : List ℕ) (d : ChangeParts) → Sound C → IsOwn C a ps → In d C → same_actor d.actor a ≡ true
+pub own_there : (C : List ChangeParts) (a : Actor) (ps : List ℕ) (d : ChangeParts) → Sound C → IsOwn C a ps → In d C → same_actor d.actor a ≡ true
     → (k : ℕ) × (k < length ps) × (slice_get C (get_or ps k 0) ≡ Some d)
 own_there C a ps d s o i mine =
     let low : 1 ≤ d.seq = (seqs_run C s).low d i in
@@ -160,7 +160,7 @@ unfolding Within
 Within-first C ps id k d small at h = (omega arith, omega arith)
 
 -- an actor's change ends before its later ones start
-ends_before : (C : List ChangeParts) (a : Actor) (ps : List ℕ) (k l : ℕ) (c d : ChangeParts) → Sound C → IsOwn C a ps → k < l → l < length ps
+pub ends_before : (C : List ChangeParts) (a : Actor) (ps : List ℕ) (k l : ℕ) (c d : ChangeParts) → Sound C → IsOwn C a ps → k < l → l < length ps
     → slice_get C (get_or ps k 0) ≡ Some c → slice_get C (get_or ps l 0) ≡ Some d → c.start + op_count c ≤ d.start
 unfolding InTurn
 ends_before C a ps k l c d s o less small at there =
@@ -176,7 +176,7 @@ ends_before C a ps k l c d s o less small at there =
     let turn = in_turn C s v.0 w.0 (In-slice_get C (get_or ps k 0) v.0 v.1) (In-slice_get C (get_or ps l 0) w.0 w.1) same (omega arith) in
     subst (λ (x : ChangeParts). c.start + op_count c ≤ x.start) last (subst (λ (x : ChangeParts). x.start + op_count x ≤ w.0.start) first turn)
 
-same_at : (C : List ChangeParts) (ps : List ℕ) (k l : ℕ) (c d : ChangeParts) → k ≡ l → slice_get C (get_or ps k 0) ≡ Some c → slice_get C (get_or ps l 0) ≡ Some d → c ≡ d
+pub same_at : (C : List ChangeParts) (ps : List ℕ) (k l : ℕ) (c d : ChangeParts) → k ≡ l → slice_get C (get_or ps k 0) ≡ Some c → slice_get C (get_or ps l 0) ≡ Some d → c ≡ d
 same_at C ps k l c d e f g = let h : Some c ≡ Some d = sym f ∙ ap (λ m. slice_get C (get_or ps m 0)) e ∙ g in cc
 
 -- the change in the middle has ended before the operation

@@ -43,7 +43,7 @@ InPast-from_past (x ∷ C) H c i =
     ]
 
 -- what is reached from a hash whose changes are in the past is there too
-chain_stays : (C : List ChangeParts) (H : List Hash) → DepsFirst C → (n : ℕ) (h : Hash) (c : ChangeParts)
+pub chain_stays : (C : List ChangeParts) (H : List Hash) → DepsFirst C → (n : ℕ) (h : Hash) (c : ChangeParts)
     → ((x : ChangeParts) → In x C → hash_of x ≡ h → In x (past C H)) → Chain C n h (hash_of c) → In c C → In c (past C H)
 chain_stays C H o zero h c f k i = f c i (sym k)
 chain_stays C H o (suc n) h c f k i =

@@ -72,3 +72,7 @@ pub record HasOp (id : OpId) (d : ChangeParts) : Type 0 where
 abbrev pub IsMaker : List ChangeParts → OpId → Option ℕ → Type 0
 IsMaker C id None = (d : ChangeParts) → In d C → HasOp id d → ⊥
 IsMaker C id (Some p) = (p < length C) × ((d : ChangeParts) → In d C → HasOp id d → slice_get C p ≡ Some d)
+
+-- The actor of the change at the place, where there is one, is among these.
+abbrev pub HasActorAt : List ChangeParts → ℕ → List Actor → Type 0
+HasActorAt C p actors = (c : ChangeParts) → slice_get C p ≡ Some c → In c.actor actors

@@ -13,6 +13,7 @@ pub mod Extents
 pub mod Parts
 pub mod Ends
 pub mod ByActor
+pub mod Clocks
 pub mod AppliedState
 pub mod Lists
 pub mod Kept

@@ -2,6 +2,7 @@
 
 ghost use Rattle.std.specs.Prelude.{◌≡◌, ◌<◌, ◌≤◌, List, [], ◌∷◌, ◌++◌, length, slice_index, Some, None, Err, IfOk, IfSome, OnOk, OnErr};
 ghost use Rattle.std.specs.List.{slice_get};
+ghost use Rattle.tp_list.specs.Members.{In};
 ghost use Rattle.tp_opid.specs.declared.hash.Hash.{Hash};
 ghost use Rattle.tp_change.specs.declared.parts.ChangeParts.{ChangeParts};
 ghost use Rattle.tp_change.specs.ChangeHash.{hash_of};
@@ -177,6 +178,14 @@ impl Applied {
         ensures { IsOwn self.now.changes actor.now result }
     {
         self.by_actor.own(self.lists.changes.as_slice(), actor)
+    }
+
+    /// The actors of the changes. Some may come twice.
+    pub(crate) fn actors(&self) -> Result<Vec<Actor>, AllocError>
+        ensures { IfOk result (λ v. (c : ChangeParts) → In c self.now.changes → In c.actor v.items) }
+    {
+        self.by_actor
+            .actors(self.alloc, self.lists.changes.as_slice())
     }
 
     /// How many of the changes the actor made. A look-up.

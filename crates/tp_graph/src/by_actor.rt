@@ -1,11 +1,13 @@
 //! The places of each actor's changes, in the order of their sequence numbers.
 
-ghost use Rattle.std.specs.Prelude.{◌≡◌, ◌≤◌, ◌<◌, ◌+◌, [], ◌∷◌, ◌++◌, List, Some, None, cond, length, true, IfOk, OnOk, OnErr};
+ghost use Rattle.std.specs.Prelude.{◌≡◌, ◌≤◌, ◌<◌, ◌+◌, [], ◌∷◌, ◌++◌, ℕ, List, Some, None, cond, length, true, IfOk, OnOk, OnErr};
 ghost use Rattle.std.specs.List.{slice_get};
+ghost use Rattle.std.specs.Map.{keys_of, values_of};
+ghost use Rattle.tp_list.specs.Members.{AllIn, In};
 ghost use Rattle.tp_opid.specs.declared.actor.Actor.{Actor};
 ghost use Rattle.tp_opid.specs.Same.{same_actor};
 ghost use Rattle.tp_change.specs.declared.parts.ChangeParts.{ChangeParts};
-ghost use Rattle.tp_graph.specs.ByActor.{actor_word, listed_places, option_items, place_by, place_if_by, places_of, AreBelow, IsOwn, IsByActor};
+ghost use Rattle.tp_graph.specs.ByActor.{actor_word, listed_places, option_items, place_by, place_if_by, places_of, AreBelow, HasActorAt, IsOwn, IsByActor};
 ghost use Rattle.tp_graph.specs.Fit.{most_changes};
 ghost use Rattle.tp_graph.specs.Places.{noted_word};
 ghost use Rattle.tp_graph.specs.Sound.{Sound};
@@ -106,6 +108,18 @@ fn trusted(changes: &[Change], noted: Option<u32>, actor: &Actor) -> Option<usiz
     }
 }
 
+// Adds the actor of the change at the place, where there is one.
+fn add_at(changes: &[Change], place: usize, actors: &mut Vec<Actor>) -> Result<(), AllocError>
+    ensures before { OnOk result (AllIn actors.old.items actors.new.items) }
+    ensures at { OnOk result (HasActorAt changes.now place actors.new.items) }
+{
+    if changes.len() <= place {
+        return Ok(());
+    }
+    actors.push(changes[place].actor())?;
+    Ok(())
+}
+
 impl ByActor {
     /// No changes. It takes no memory.
     pub(crate) fn new(alloc: Global) -> ByActor
@@ -163,6 +177,42 @@ impl ByActor {
         } else {
             Own::new(places)
         }
+    }
+
+    // Adds the actors of the changes at the places that are noted.
+    fn add_noted(&self, changes: &[Change], actors: &mut Vec<Actor>) -> Result<(), AllocError>
+        ensures before { OnOk result (AllIn actors.old.items actors.new.items) }
+        ensures noted { OnOk result ((p : ℕ) → In p (values_of self.now.firsts.entries)
+            → HasActorAt changes.now p actors.new.items) }
+    {
+        for place in self.firsts.values() {
+            add_at(changes, *place as usize, actors)?;
+        }
+        Ok(())
+    }
+
+    // Adds the actors that have a list.
+    fn add_listed(&self, actors: &mut Vec<Actor>) -> Result<(), AllocError>
+        ensures before { OnOk result (AllIn actors.old.items actors.new.items) }
+        ensures listed { OnOk result (AllIn (keys_of self.now.lists.entries) actors.new.items) }
+    {
+        for actor in self.lists.keys() {
+            actors.push(*actor)?;
+        }
+        Ok(())
+    }
+
+    /// The actors of the changes. Some may come twice: each that has a list, and each with a noted place.
+    pub(crate) fn actors(&self, alloc: Global, changes: &[Change]) -> Result<Vec<Actor>, AllocError>
+        requires sound { Sound changes.now }
+        requires by_actor { IsByActor changes.now self.now }
+        ensures { IfOk result (λ v. (c : ChangeParts) → In c changes.now → In c.actor v.items) }
+    {
+        let mut actors = Vec::new(alloc);
+        self.add_noted(changes, &mut actors)?;
+        self.add_listed(&mut actors)?;
+        add_at(changes, self.listed, &mut actors)?;
+        Ok(actors)
     }
 
     // Whether no place is noted for the first 4 bytes of the actor, and it has no list.

@@ -40,7 +40,9 @@ impl Applied {
     }
 
     // The numbers and references of the change behind the past of its dependencies; this past, where they are right.
-    fn check_past(&self, change: &Change) -> Result<Part, GraphError>
+    // Such a change starts at `start`.
+    fn check_past(&self, start: u64, change: &Change) -> Result<Part, GraphError>
+        requires { start ≡ made.next_counter (past self.now.changes change.now.deps) }
         ensures answers { Answers result
             (fit.defect_behind (past self.now.changes change.now.deps) change.now) }
         ensures part { IfOk result (λ part. IsPartFor part self.now.changes change.now.deps) }
@@ -49,7 +51,6 @@ impl Applied {
     {
         let _changes = self.changes();
         let part = self.part(change.deps())?;
-        let start = self.start_after(change.deps());
         self.check_behind(&part, start, change)?;
         Ok(part)
     }
@@ -64,7 +65,8 @@ impl Applied {
         change.seq() <= self.count_by(&change.actor())
     }
 
-    /// Why the change can't enter behind the changes, or `OutOfMemory`; the past of its dependencies, where it can.
+    /// Why the change can't enter behind the changes, or `OutOfMemory`; the past of its dependencies, where it can. Where
+    /// these are the heads none of them is looked up, and else each is twice: for where it ends, and for its past.
     #[tactic(auto, unfolding(crate::specs::Fit::defect, crate::specs::Fit::cause))]
     pub(crate) fn judge(&self, change: &Change) -> Result<Part, GraphError>
         ensures answers { Answers result (fit.cause self.now.changes change.now) }
@@ -75,10 +77,11 @@ impl Applied {
         if self.contains(&change.hash()) {
             return Err(GraphError::Known);
         }
-        if !self.has_all(change.deps()) {
-            return Err(GraphError::MissingDeps);
-        }
-        let part = self.check_past(change)?;
+        let start = match self.start_after(change.deps()) {
+            Some(start) => start,
+            None => return Err(GraphError::MissingDeps),
+        };
+        let part = self.check_past(start, change)?;
         if self.clashes(change) {
             return Err(GraphError::SeqClash);
         }

@@ -8,6 +8,8 @@ ghost use Rattle.tp_change.specs.ChangeHash.{hash_of};
 ghost use Rattle.tp_change.specs.Elements as made;
 ghost use Rattle.tp_graph.specs.Named as named;
 ghost use Rattle.tp_graph.specs.Heads as head;
+ghost use Rattle.tp_graph.specs.Clocks.{IsClockOf};
+ghost use Rattle.tp_graph.specs.Past.{past};
 ghost use Rattle.tp_graph.specs.Fit as fit;
 ghost use Rattle.tp_graph.specs.Fit.{cause, most_changes};
 ghost use Rattle.tp_graph.specs.Places.{place_from};
@@ -20,6 +22,7 @@ ghost use Rattle.tp_opid.specs.Order.{hash_cmp};
 ghost use Rattle.tp_opid.specs.declared.hash.Hash.{Hash};
 
 use crate::applied::Applied;
+use crate::clock::Clock;
 use crate::error::GraphError;
 use crate::past::Past;
 use crate::since::has;
@@ -152,11 +155,12 @@ impl Graph {
     /// Whether the change can enter: `Ok`, or why not. `OutOfMemory` comes only where the change isn't known, its
     /// dependencies are all applied, and they aren't the heads: else it takes no memory.
     ///
-    /// Where the dependencies are the heads: a number of comparisons that grows with the logarithm of the number of
-    /// applied changes, for each dependency and each reference, and the records of the changes that are referred to.
-    /// Elsewhere the pasts of the dependencies are joined as well, by what is kept beside their changes: a comparison for
-    /// each actor with changes in them behind the prefix that they share, for each dependency and each reference. Only
-    /// where there are more than 4,096 such actors are the applied changes walked back over, with a byte for each.
+    /// Where the dependencies are the heads none of them is looked up: for each reference a number of comparisons that
+    /// grows with the logarithm of the number of applied changes, and the records of the changes that are referred to.
+    /// Elsewhere each dependency is looked up twice, and the pasts of the dependencies are joined, by what is kept beside
+    /// their changes: a comparison for each actor with changes in them behind the prefix that they share, for each
+    /// dependency and each reference. Only where there are more than 4,096 such actors are the applied changes walked
+    /// back over, with a byte for each.
     pub fn check(&self, change: &Change) -> Result<(), GraphError>
         ensures answers { Answers result (cause self.now.applied change.now) }
         ensures memory { result ≡ Err GraphError.OutOfMemory
@@ -289,6 +293,25 @@ impl Graph {
         }
         let part = self.applied.part(hashes)?;
         Ok(Past::new(self.applied.places_in(&part)?))
+    }
+
+    /// The clock of the past of the hashes, with the refusals of [`past`](Graph::past).
+    ///
+    /// The pasts of the hashes are joined as [`check`](Graph::check) does; then the past is asked for the last change of
+    /// each actor of the applied changes, as often as the logarithm of the number of the actor's changes. No change is
+    /// walked over.
+    pub fn clock(&self, hashes: &[Hash]) -> Result<Clock, GraphError>
+        ensures clock { IfOk result (λ clock. IsClockOf clock (past self.now.applied hashes.now)) }
+        ensures unknown { (result ≡ Err GraphError.UnknownHead)
+            ↔ (named.has_all self.now.applied hashes.now ≡ false) }
+        ensures err { IfErr result
+            (λ error. (error ≡ GraphError.UnknownHead) ⊎ (error ≡ GraphError.OutOfMemory)) }
+    {
+        if self.applied.has_all(hashes) {
+            Ok(self.applied.clock(hashes)?)
+        } else {
+            Err(GraphError::UnknownHead)
+        }
     }
 
     /// The applied changes outside the past of those hashes that are known, in applied order. The only refusal is

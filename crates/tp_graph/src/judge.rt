@@ -1,6 +1,6 @@
 //! What a change has to be behind the changes of its past: its numbers and its references.
 
-ghost use Rattle.std.specs.Prelude.{◌≡◌, ◌+◌, ◌<◌, ◌≤◌, ◌^◌, ◌++◌, ◌||◌, List, length, Some};
+ghost use Rattle.std.specs.Prelude.{◌≡◌, ◌+◌, ◌<◌, ◌≤◌, ◌^◌, ◌++◌, ◌||◌, List, length, Some, true, false, MatchOption};
 ghost use Rattle.std.specs.List.{slice_get};
 ghost use Rattle.tp_change.specs.declared.limits.TheConstants.{COUNTERS_END};
 ghost use Rattle.tp_change.specs.declared.parts.ChangeParts.{ChangeParts};
@@ -13,12 +13,14 @@ ghost use Rattle.tp_graph.specs.ByActor.{IsMaker};
 ghost use Rattle.tp_graph.specs.Covers as cover;
 ghost use Rattle.tp_graph.specs.Ends.{end_named};
 ghost use Rattle.tp_graph.specs.Marked.{IsMarked};
+ghost use Rattle.tp_graph.specs.Named as named;
 ghost use Rattle.tp_graph.specs.Parts.{picked, IsPartOf};
 ghost use Rattle.tp_graph.specs.Past.{past};
 
 use crate::applied::Applied;
 use crate::before::{Before, put};
 use crate::part::Part;
+use crate::walk::same_hashes;
 use tp_change::{Change, MAX_OPS, Record};
 use tp_list::char_count;
 use tp_opid::{Hash, OpId, Place};
@@ -110,27 +112,48 @@ pub(crate) fn later(a: u64, b: u64) -> u64
 }
 
 impl Applied {
-    // One more than the last counter of the change with the hash, or 0 where none has it.
-    fn end_of(&self, hash: &Hash) -> u64
-        ensures { result ≡ end_named self.now.changes hash.now }
+    // One more than the last counter of the change with the hash, where one has it.
+    fn end_of(&self, hash: &Hash) -> Option<u64>
+        ensures { MatchOption result (named.has self.now.changes hash.now ≡ false)
+            (λ end. (named.has self.now.changes hash.now ≡ true)
+            × (end ≡ end_named self.now.changes hash.now)) }
     {
         match self.place(hash) {
-            Some(place) => self.end_at(place),
-            None => 0,
+            Some(place) => Some(self.end_at(place)),
+            None => None,
         }
     }
 
-    /// One more than the greatest counter in the past of the hashes, or 1: that of the changes that have them, since
-    /// what a change depends on ends before it starts. A look-up for each hash.
-    pub(crate) fn start_after(&self, hashes: &[Hash]) -> u64
-        ensures { result ≡ made.next_counter (past self.now.changes hashes.now) }
+    // The same of hashes that aren't the heads.
+    fn start_behind(&self, hashes: &[Hash]) -> Option<u64>
+        ensures { MatchOption result (named.has_all self.now.changes hashes.now ≡ false)
+            (λ start. (named.has_all self.now.changes hashes.now ≡ true)
+            × (start ≡ made.next_counter (past self.now.changes hashes.now))) }
     {
         let _changes = self.changes();
         let mut next = 1;
         for hash in hashes {
-            next = later(next, self.end_of(hash));
+            match self.end_of(hash) {
+                Some(end) => next = later(next, end),
+                None => return None,
+            }
         }
-        next
+        Some(next)
+    }
+
+    /// One more than the greatest counter in the past of the hashes, or 1: that of the changes that have them, since
+    /// what a change depends on ends before it starts. None where no change has one of the hashes. No look-up where they
+    /// are the heads, and else one for each.
+    pub(crate) fn start_after(&self, hashes: &[Hash]) -> Option<u64>
+        ensures { MatchOption result (named.has_all self.now.changes hashes.now ≡ false)
+            (λ start. (named.has_all self.now.changes hashes.now ≡ true)
+            × (start ≡ made.next_counter (past self.now.changes hashes.now))) }
+    {
+        let _changes = self.changes();
+        if same_hashes(hashes, self.heads()) {
+            return Some(self.next_counter());
+        }
+        self.start_behind(hashes)
     }
 
     // The place of the change that has the operation: of its actor's changes the first that ends behind the counter is

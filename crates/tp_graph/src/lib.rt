@@ -9,6 +9,7 @@ mod applied;
 mod before;
 mod by_actor;
 mod check;
+mod clock;
 mod error;
 mod extent;
 mod graph;
@@ -26,6 +27,7 @@ mod pasts;
 mod since;
 mod walk;
 
+pub use clock::Clock;
 pub use error::GraphError;
 pub use graph::{Graph, Rejected};
 pub use limits::{MOST_CHANGES, MOST_WAITING};

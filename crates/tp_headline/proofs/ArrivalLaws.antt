@@ -1,31 +1,8 @@
 -- What a peer of a world holds once it took what came.
-use Rattle.std.proofs.Common.{◌≡◌, ◌⊎◌, inl, inr, ◌<◌, List, [], ◌∷◌, ◌++◌, length, cond, Bool, true, false, Option, None, IsSome, refl, sym, ap, ◌∙◌, subst, append_assoc}
-use Rattle.tp_list.specs.Members.{In, AllIn}
-use Rattle.tp_list.proofs.Members.{In-append, In-left, In-right, In-split}
-use Rattle.tp_list.proofs.Tests.{truth, never, not_true}
-use Rattle.tp_opid.specs.Same.{same_actor}
-use Rattle.tp_opid.proofs.Orders.{same_actor-same}
-use Rattle.tp_change.specs.declared.parts.ChangeParts.{ChangeParts}
-use Rattle.tp_change.specs.ChangeHash.{hash_of}
-use Rattle.tp_document.specs.Merging.{absent}
+use Rattle.tp_headline.proofs.Common.{◌≡◌, ◌⊎◌, inl, inr, ◌<◌, List, [], ◌∷◌, ◌++◌, length, cond, Bool, true, false, Option, None, IsSome, refl, sym, ap, ◌∙◌, subst, append_assoc, In, AllIn, In-append, In-left, In-right, In-split, truth, never, not_true, same_actor, same_actor-same, ChangeParts, hash_of, absent, cause, clashes, most_changes, HashesApart, has, has_all, past, Fits, Sound, cause-from_Fits, has-In, In-has, has_all-more, past-In, Fits-part, past-same, Fits-at, Fits-past, Sound-before, Sound-prefix, hashes_apart, sound_pasts, AppendsRecord, PeerData, Done, Report, at_end, Takes, journal_of, receiver_of, World, Carried, IsCarried}
 use Rattle.tp_graph.specs.declared.error.GraphError.{GraphError}
-use Rattle.tp_graph.specs.Fit.{cause, clashes, most_changes}
-use Rattle.tp_graph.specs.Named.{HashesApart, has, has_all}
-use Rattle.tp_graph.specs.Past.{past}
-use Rattle.tp_graph.specs.Sound.{Fits, Sound}
 use Rattle.tp_graph.proofs.ClashLaws.{clash_of, In-clashes}
-use Rattle.tp_graph.proofs.KeptLaws.{cause-from_Fits}
-use Rattle.tp_graph.proofs.NamedLaws.{has-In, In-has, has_all-more}
-use Rattle.tp_graph.proofs.PastLaws.{past-In}
-use Rattle.tp_graph.proofs.SetLaws.{Fits-part, past-same}
-use Rattle.tp_graph.proofs.SoundLaws.{Fits-at, Fits-past, Sound-before, Sound-prefix, hashes_apart, sound_pasts}
 use Rattle.tp_receive.proofs.ResultLaws.{results}
-use Rattle.tp_peer.specs.Appending.{AppendsRecord}
-use Rattle.tp_peer.specs.PeerData.{PeerData}
-use Rattle.tp_receive.specs.Outcome.{Done, Report, at_end}
-use Rattle.tp_peer.specs.Taking.{Takes, journal_of, receiver_of}
-use Rattle.tp_headline.specs.World.{World}
-use Rattle.tp_headline.specs.Carried.{Carried, IsCarried}
 
 -- ---- what was made fits wherever its dependencies are
 

@@ -1,50 +1,18 @@
 -- What merges and messages bring.
-use Rattle.std.proofs.Common.{◌≡◌, ◌⊎◌, inl, inr, ℕ, List, [], ◌∷◌, ◌++◌, ◌<◌, length, Bool, true, false, Option, Some, None, Ok, refl, sym, ap, ◌∙◌, subst}
-use Rattle.std.specs.List.{slice_get}
+use Rattle.tp_headline.proofs.Common.{◌≡◌, ◌⊎◌, inl, inr, ℕ, List, [], ◌∷◌, ◌++◌, ◌<◌, length, Bool, true, false, Option, Some, refl, sym, ap, ◌∙◌, subst, slice_get, In, AllIn, In-append, filter-In, truth, Hash, ChangeParts, hash_of, absent, most_changes, heads, has_all, Sound, has_all-heads, In-has_all, has-In, has_all-In, NoTwins, Sound-prefix, hashes_apart, Begins, changes_in, changes_of, known_of, PeerData, Report, message_at, all_carried, message_again, Alone, Deliver, Merge, after_call, Carried, Event, Call, Next, Answered, Reply, Wire, reply_to, GoesOn, Entry, World, HasEntry, HasPeer}
 use Rattle.std.specs.Option.{option_map}
-use Rattle.tp_list.specs.Members.{In, AllIn}
-use Rattle.tp_list.proofs.Members.{In-append, filter-In}
-use Rattle.tp_list.proofs.Tests.{truth}
-use Rattle.tp_opid.specs.declared.hash.Hash.{Hash}
-use Rattle.tp_change.specs.declared.parts.ChangeParts.{ChangeParts}
-use Rattle.tp_change.specs.ChangeHash.{hash_of}
-use Rattle.tp_document.specs.Merging.{absent}
-use Rattle.tp_graph.specs.Fit.{most_changes}
-use Rattle.tp_graph.specs.Heads.{heads}
-use Rattle.tp_graph.specs.Named.{has_all}
-use Rattle.tp_graph.specs.Sound.{Sound}
-use Rattle.tp_graph.proofs.HeadsLaws.{has_all-heads}
-use Rattle.tp_graph.proofs.NamedLaws.{In-has_all, has-In, has_all-In}
-use Rattle.tp_graph.proofs.SetLaws.{NoTwins}
-use Rattle.tp_graph.proofs.SoundLaws.{Sound-prefix, hashes_apart}
-use Rattle.tp_receive.specs.Receiving.{Begins}
-use Rattle.tp_peer.specs.Laws.{changes_in, changes_of}
-use Rattle.tp_peer.specs.Links.{known_of}
-use Rattle.tp_peer.specs.PeerData.{PeerData}
-use Rattle.tp_peer.specs.PeerStep as peer
-use Rattle.tp_receive.specs.Outcome.{Report}
 use Rattle.tp_sync.specs.Due.{carried, due_of, is_due, leaves_out}
-use Rattle.tp_sync.specs.Reading.{message_at}
 use Rattle.tp_sync.specs.State.{declared}
-use Rattle.tp_sync.proofs.TakeLaws.{all_carried}
 use Rattle.tp_sync.proofs.UnionLaws.{not_due_held}
-use Rattle.tp_sync.proofs.WholeMessage.{message_again}
 use Rattle.tp_headline.specs.Arriving.{HoldsAll, HoldsReady}
-use Rattle.tp_headline.specs.Call.{Alone, Deliver, Merge}
-use Rattle.tp_headline.specs.Calling.{Steps, after_call}
-use Rattle.tp_headline.specs.Carried.{Carried}
-use Rattle.tp_headline.specs.Event.{Event, Call}
-use Rattle.tp_headline.specs.Happening.{Next}
-use Rattle.tp_headline.specs.Reply.{Answered, Reply, Wire, reply_to}
-use Rattle.tp_headline.specs.Running.{GoesOn}
-use Rattle.tp_headline.specs.World.{Entry, World, HasEntry, HasPeer}
 use Rattle.tp_headline.proofs.ArrivalLaws.{absent_or_there, all_arrive, takes_ready}
 use Rattle.tp_headline.proofs.CallLaws.{runs_of_steps}
 use Rattle.tp_headline.proofs.EventLaws.{goes_on_carries, next_carries}
 use Rattle.tp_headline.proofs.FollowLaws.{did, same_peer, stands_after}
 use Rattle.tp_headline.proofs.Lasting.{begins-In, lasts_on}
 use Rattle.tp_headline.proofs.MakingLaws.{all_was_made}
-use Rattle.tp_headline.proofs.PlaceLaws.{slice_get-last}
+use Rattle.tp_graph.proofs.PlacesLaws.{at_last}
+use Rattle.tp_peer.specs.PeerStep as peer
 
 -- ---- merges
 
@@ -61,7 +29,7 @@ merge_brings w into from report w' other h there next =
     let p' = c.after in
     let q = h.peers into p c.stands in
     let o = h.peers from source c.is.1 in
-    let steps = subst (λ m. Steps p m (peer.Merged report) p') c.is.2 d.steps in
+    let steps = subst (λ m. peer.PeerStep p m (peer.Merged report) p') c.is.2 d.steps in
     let t = runs_of_steps p (peer.Merge source) (peer.Merged report) p' steps (λ e. cc) in
     let K = absent p.applied source.applied in
     let taken = takes_ready w p K report p' h q (all_was_made w (Merge from) (peer.Merge source) p h q (source, c.is.1, refl) (λ link bytes e. absurd cc)) t.1 in
@@ -90,7 +58,7 @@ delivery_brings w n to report same w' e h there next =
     let p' = c.after in
     let q = h.peers to p c.stands in
     let made = peer.Receive found.sender found.bytes in
-    let steps = subst (λ m. Steps p m (peer.Received report same) p') c.is.2 d.steps in
+    let steps = subst (λ m. peer.PeerStep p m (peer.Received report same) p') c.is.2 d.steps in
     let t = runs_of_steps p made (peer.Received report same) p' steps (λ x. cc) in
     let K = t.message.changes in
     let is : changes_in found.bytes ≡ K = ap changes_of t.decodes.reads in
@@ -123,11 +91,11 @@ message_stands w from to n m p there (inr does) =
     let sent = wire_of (length w.wire) n c.answer c.replied in
     let message = sent.0 in
     let answer = peer.Generated (Some message) in
-    let steps = subst (λ a. Steps c.before (peer.Generate to) a c.after) sent.1 (subst (λ x. Steps c.before x c.answer c.after) c.is.0 c.steps) in
+    let steps = subst (λ a. peer.PeerStep c.before (peer.Generate to) a c.after) sent.1 (subst (λ x. peer.PeerStep c.before x c.answer c.after) c.is.0 c.steps) in
     let runs = runs_of_steps c.before (peer.Generate to) answer c.after steps (λ e. cc) in
     let entry : Entry = record { sender = from; bytes = message.0 } in
-    let wire : m.wire ≡ w.wire ++ entry ∷ [] = ap (λ (y : World). y.wire) (c.left ∙ ap (λ a. after_call w from c.before c.made a c.after) sent.1) in
-    let stands : slice_get m.wire n ≡ Some entry = ap (λ k. slice_get m.wire k) sent.2 ∙ ap (λ l. slice_get l (length w.wire)) wire ∙ slice_get-last w.wire entry in
+    let wire : m.wire ≡ w.wire ++ entry ∷ [] = ap (λ (y : World). y.wire) (c.left ∙ ap (λ a. after_call w from (c.before, c.after) c.made a c.kept) sent.1) in
+    let stands : slice_get m.wire n ≡ Some entry = ap (λ k. slice_get m.wire k) sent.2 ∙ ap (λ l. slice_get l (length w.wire)) wire ∙ at_last w.wire entry in
     subst (λ y. IsSent m n y to) (same_peer w from c.before p c.stands there) (record {
       entry = entry;
       stands = stands;

@@ -1,41 +1,14 @@
--- What calls leave of a peer whose device doesn't fail.
-use Rattle.std.proofs.Common.{◌≡◌, ◌⊎◌, inl, inr, ℕ, ◌+◌, ◌-◌, ◌^◌, min, List, [], ◌∷◌, ◌++◌, true, Some, None, refl, sym, ap, ◌∙◌, subst, append-nil, arith}
-use Rattle.std.proofs.lemmas.List.{append_cancel_left}
-use Rattle.tp_list.specs.Members.{In, AllIn}
-use Rattle.tp_opid.specs.declared.hash.Hash.{Hash}
-use Rattle.tp_change.specs.declared.parts.ChangeParts.{ChangeParts}
+-- What calls leave of a peer.
+use Rattle.tp_headline.proofs.Common.{length, ◌≤◌, arith, append-nil, ◌≡◌, ◌⊎◌, inl, inr, ℕ, List, [], ◌∷◌, ◌++◌, take, Bool, true, false, Some, None, refl, sym, ap, ◌∙◌, subst, append_assoc, ◌+◌, ◌-◌, append_cancel_left, In, AllIn, never, Hash, ChangeParts, IsChange, IsTextOf, AllChanges, absent, text_at_all_heads, has_all, past, Sound, has_all-heads, record_of, records_of, Outcome, Done, Stopped, ReceivesWith, at_end, EntersAfter, AppendsRecord, JournalState, RefusesRecord, Appends, AreFew, came, changes_in, changes_of, Keeps, known_of, PeerData, arming, Takes, receiver_of, coming, run_advances, step_cases, step_keeps, message_at, carried-In, message_again, heads_at, IsMessageOf, MayEnter, IsEditOf}
 use Rattle.tp_edit.specs.declared.splice.Splice.{Splice}
-use Rattle.tp_text.specs.Text.{IsTextOf}
-use Rattle.tp_document.specs.DocState.{AllChanges}
-use Rattle.tp_document.specs.Merging.{absent}
-use Rattle.tp_document.proofs.TextLaws.{text_at_all_heads}
-use Rattle.tp_graph.specs.Named.{has_all}
-use Rattle.tp_graph.specs.Past.{past}
-use Rattle.tp_graph.specs.Sound.{Sound}
-use Rattle.tp_graph.proofs.HeadsLaws.{has_all-heads}
-use Rattle.tp_journal.specs.Layout.{records_of}
 use Rattle.tp_receive.specs.declared.error.ReceiveError.{ReceiveError}
-use Rattle.tp_receive.specs.declared.error.ReceiveError.TheVariants as receive
 use Rattle.tp_receive.specs.Intake.{Intake, Receiver, Run}
-use Rattle.tp_receive.specs.Outcome.{Outcome, Done, Stopped, ReceivesWith, at_end}
-use Rattle.tp_receive.specs.Receiving.{EntersAfter}
-use Rattle.tp_peer.specs.declared.error.PeerError.TheVariants as error
-use Rattle.tp_peer.specs.Appending.{AppendsRecord, JournalState, RefusesRecord}
-use Rattle.tp_peer.specs.Laws.{Appends, AreFew, Keeps, Tears, came, changes_in, changes_of}
-use Rattle.tp_peer.specs.Links.{known_of}
-use Rattle.tp_peer.specs.PeerData.{PeerData}
-use Rattle.tp_peer.specs.PeerStep.{Call, Edit, Merge, Receive, Generate, Read, ReadAt, Decodes, HearsPart, Reply, Made, Merged, Received, Generated, Text, Refused, PeerStep, Runs, knowing}
-use Rattle.tp_peer.specs.Taking.{Takes, receiver_of}
-use Rattle.tp_peer.proofs.KeepingLaws.{coming, run_advances}
-use Rattle.tp_peer.proofs.StepLaws.{step_cases, step_keeps}
+use Rattle.tp_receive.proofs.TurnLaws.{Run-one, Run-then}
+use Rattle.tp_peer.specs.PeerStep.{Call, Edit, Merge, Receive, Generate, Read, ReadAt, Decodes, HearsPart, Reply, Made, Merged, Received, Generated, Text, Refused, PeerStep, Runs}
+use Rattle.tp_peer.proofs.PeerLaws.{whole_turn}
 use Rattle.tp_sync.specs.Message.{MessageParts}
-use Rattle.tp_sync.specs.Reading.{message_at}
-use Rattle.tp_sync.proofs.TakeLaws.{carried-In}
-use Rattle.tp_sync.proofs.WholeMessage.{message_again}
-use Rattle.tp_headline.specs.Calling.{Steps, heads_at}
-use Rattle.tp_headline.specs.Carried.{IsMessageOf}
-use Rattle.tp_headline.specs.Crashing.{MayEnter}
-use Rattle.tp_headline.specs.Refusing.{IsEditOf}
+use Rattle.tp_receive.specs.declared.error.ReceiveError.TheVariants as receive
+use Rattle.tp_peer.specs.declared.error.PeerError.TheVariants as error
 
 -- ---- what a call may enter
 
@@ -137,7 +110,7 @@ may_enter p made answer new e = e
 
 -- ---- what a call leaves
 
--- The peer entered changes, and their records were appended.
+-- The peer entered changes, and their records were appended. Its device didn't fail.
 pub record Enters (p : PeerData) (made : Call) (answer : Reply) (p' : PeerData) : Type 0 where
   pub new : List ChangeParts
   pub applied : p'.applied ≡ p.applied ++ new
@@ -148,38 +121,144 @@ pub record Enters (p : PeerData) (made : Call) (answer : Reply) (p' : PeerData) 
   pub journal : p'.journal ≡ p.journal ++ records_of new
   pub id : p'.id ≡ p.id
   pub actor : p'.actor ≡ p.actor
-  pub failures : p'.failures ≡ p.failures
   pub stopped : p'.stopped ≡ p.stopped
 
--- a device that failed counts a failure
-no_failure : {A : Type 0} (before after : ℕ) → after ≡ min (before + 1) (2 ^ 64 - 1) → after ≡ 0 → A
-no_failure before after grown none = absurd (omega arith)
+-- The device failed while the record of one change more was appended, or the journal settled, and the peer has stopped.
+pub record Stops (p : PeerData) (made : Call) (p' : PeerData) : Type 0 where
+  pub new : List ChangeParts
+  pub torn : List ChangeParts
+  pub one : length torn ≤ 1
+  pub applied : p'.applied ≡ p.applied ++ new
+  pub may : MayEnter p made (new ++ torn)
+  pub fits : EntersAfter p.applied (new ++ torn)
+  pub limits : AllChanges (new ++ torn)
+  pub count : ℕ
+  pub journal : p'.journal ≡ p.journal ++ (records_of new ++ take count (records_of torn))
 
-appended : (p : PeerData) (new : List ChangeParts) (answer : Reply) (p' : PeerData) → Appends p new answer p' ⊎ Tears p new answer p' → p'.failures ≡ 0 → Appends p new answer p'
-appended p new answer p' (inl appends) none = appends
-appended p new answer p' (inr tears) none = no_failure p.failures p'.failures tears.failures none
-
-pub steps_enter : (p : PeerData) (made : Call) (answer : Reply) (p' : PeerData) → Steps p made answer p' → Enters p made answer p'
-steps_enter p made answer p' s =
-    let k = step_keeps p made answer p' s.step in
-    let a = appended p k.new answer p' k.journal s.no_failure in
+-- what receiving left where the device failed
+torn_takes : (p : PeerData) (made : Call) (K : List ChangeParts) (p' : PeerData) → ((new : List ChangeParts) → AllIn new (p.waiting ++ K) → MayEnter p made new) → Takes p K (Stopped receive.NotKept) p'
+    → Stops p made p'
+torn_takes p made K p' may t =
+    let s = t.receives.1 in
+    let c = s.by.change in
+    let tears = s.by.refused in
+    let w = whole_turn s.at s.by.rest c s.by.next s.by.fits tears.limits in
+    let run = Run-then AppendsRecord (coming p K) s.at w.0 s.run (Run-one AppendsRecord s.at w.0 w.1) in
+    let a = run_advances p K s.at s.run in
+    let b = run_advances p K w.0 run in
+    let same : b.new ≡ a.new ++ c ∷ [] =
+    append_cancel_left p.applied b.new (a.new ++ c ∷ []) (sym b.grows.begins ∙ w.2 ∙ ap (λ C. C ++ c ∷ []) a.grows.begins ∙ append_assoc p.applied a.new (c ∷ [])) in
+    let count = tears.part.0 in
     record {
-      new = k.new;
-      applied = k.applied;
-      entered = entered p made answer p' k.new k.few k.applied s.step;
-      fits = k.fits;
-      limits = k.limits;
-      waits = k.waits;
-      journal = a.journal;
-      id = k.id;
-      actor = k.actor;
-      failures = a.failures;
-      stopped = a.goes_on;
+      new = a.new;
+      torn = c ∷ [];
+      one = omega arith;
+      applied = s.applied ∙ a.grows.begins;
+      may = may (a.new ++ c ∷ []) (subst (λ l. AllIn l (p.waiting ++ K)) same b.grows.came);
+      fits = subst (λ l. EntersAfter p.applied l) same b.grows.fits;
+      limits = subst AllChanges same b.appended.limits;
+      count = count;
+      journal = tears.part.1 ∙ ap (λ l. l ++ take count (record_of c)) a.appended.content ∙ append_assoc p.journal (records_of a.new) (take count (record_of c))
+          ∙ ap (λ l. p.journal ++ (records_of a.new ++ take count l)) (sym (append-nil (record_of c)));
     }
 
+stops : (p : PeerData) (made : Call) (p' : PeerData) → Runs p made (Refused error.JournalFailed) p' → Stops p made p'
+stops p (Edit ss time message) p' h =
+    let c = h.0 in
+    let tears = h.2.tears in
+    record {
+      new = [];
+      torn = c ∷ [];
+      one = omega arith;
+      applied = ap (λ (x : PeerData). x.applied) h.2.left ∙ sym (append-nil p.applied);
+      may = inr (c, h.1, refl);
+      fits = (h.1.enters, tt);
+      limits = λ d i. elim i [ inl e ↦ subst IsChange (sym e) tears.limits | inr none ↦ absurd none ];
+      count = tears.part.0;
+      journal = tears.part.1 ∙ ap (λ l. p.journal ++ take tears.part.0 l) (sym (append-nil (record_of c)));
+    }
+stops p (Merge other) p' h = torn_takes p (Merge other) (absent p.applied other.applied) p' (λ new all. all) h.1
+stops p (Receive link bytes) p' h =
+    let x = h.1 in
+    torn_takes p (Receive link bytes) x.message.changes p' (λ new all. subst (λ (K : List ChangeParts). AllIn new (p.waiting ++ K)) (sym (ap changes_of x.decodes.reads)) all) x.takes
+stops p (Generate link) p' h = record {
+  new = [];
+  torn = [];
+  one = omega arith;
+  applied = ap (λ (x : PeerData). x.applied) h.left ∙ sym (append-nil p.applied);
+  may = λ d i. absurd i;
+  fits = tt;
+  limits = λ d i. absurd i;
+  count = 0;
+  journal = h.unsettled.content ∙ sym (append-nil p.journal);
+}
+stops p Read p' h = absurd (let e = h.0 in cc)
+stops p (ReadAt H) p' h = absurd h.0
+stops p made p' h = absurd h
+
 -- a call that wasn't refused as stopped ran
-pub runs_of_steps : (p : PeerData) (made : Call) (answer : Reply) (p' : PeerData) → Steps p made answer p' → (answer ≡ Refused error.Stopped → ⊥) → Runs p made answer p'
-runs_of_steps p made answer p' s on = elim (step_cases p made answer p' s.step) [ inl stopped ↦ absurd (on stopped.0) | inr runs ↦ runs.1 ]
+pub runs_of_steps : (p : PeerData) (made : Call) (answer : Reply) (p' : PeerData) → PeerStep p made answer p' → (answer ≡ Refused error.Stopped → ⊥) → Runs p made answer p'
+runs_of_steps p made answer p' s on = elim (step_cases p made answer p' s) [ inl stopped ↦ absurd (on stopped.0) | inr runs ↦ runs.1 ]
+
+appends_enter : (p : PeerData) (made : Call) (answer : Reply) (p' : PeerData) → PeerStep p made answer p' → (k : Keeps p made answer p') → Appends p k.new answer p' → Enters p made answer p'
+appends_enter p made answer p' s k a = record {
+  new = k.new;
+  applied = k.applied;
+  entered = entered p made answer p' k.new k.few k.applied s;
+  fits = k.fits;
+  limits = k.limits;
+  waits = k.waits;
+  journal = a.journal;
+  id = k.id;
+  actor = k.actor;
+  stopped = a.goes_on;
+}
+
+-- A call that was made entered changes; or the device failed, and the peer has stopped.
+pub steps_leave : (p : PeerData) (made : Call) (answer : Reply) (p' : PeerData) → PeerStep p made answer p' → Enters p made answer p' ⊎ (Stops p made p' × (p'.stopped ≡ true) × (answer ≡ Refused error.JournalFailed))
+steps_leave p made answer p' s =
+    let k = step_keeps p made answer p' s in
+    elim k.journal [
+      | inl a ↦ inl (appends_enter p made answer p' s k a)
+      | inr t ↦ inr (stops p made p' (runs_of_steps p made (Refused error.JournalFailed) p' (subst (λ r. PeerStep p made r p') t.answered s) (λ e. cc)), t.stopped, t.answered)
+    ]
+
+-- a device that can't fail doesn't
+calm_enters : (p : PeerData) (made : Call) (answer : Reply) (p' : PeerData) → p.device.can_fail ≡ false → PeerStep p made answer p' → Enters p made answer p'
+calm_enters p made answer p' calm s =
+    let k = step_keeps p made answer p' s in
+    elim k.journal [ inl a ↦ appends_enter p made answer p' s k a | inr t ↦ never t.device.could calm ]
+
+-- what a device does is nothing to what comes and what is entered
+same_came : (p : PeerData) (can_fail : Bool) (made : Call) → came (arming p can_fail) made ≡ came p made
+same_came p can_fail (Merge other) = refl
+same_came p can_fail (Receive link bytes) = refl
+same_came p can_fail made = refl
+
+same_entered : (p : PeerData) (can_fail : Bool) (made : Call) (answer : Reply) (new : List ChangeParts) → Entered (arming p can_fail) made answer new → Entered p made answer new
+same_entered p can_fail (Edit ss time message) (Made (Some hash)) new e = e
+same_entered p can_fail (Edit ss time message) answer new e = e
+same_entered p can_fail made (Made (Some hash)) new e = absurd e
+same_entered p can_fail (Merge other) answer new e = e
+same_entered p can_fail (Receive link bytes) answer new e = e
+same_entered p can_fail made answer new e = e
+
+-- what a call of the peer enters whose device isn't set to fail
+pub steps_enter : (p : PeerData) (made : Call) (answer : Reply) (p' : PeerData) → PeerStep (arming p false) made answer p' → Enters p made answer p'
+steps_enter p made answer p' s =
+    let e = calm_enters (arming p false) made answer p' refl s in
+    record {
+      new = e.new;
+      applied = e.applied;
+      entered = same_entered p false made answer e.new e.entered;
+      fits = e.fits;
+      limits = e.limits;
+      waits = subst (λ (K : List ChangeParts). AllIn p'.waiting (p.waiting ++ K)) (same_came p false made) e.waits;
+      journal = e.journal;
+      id = e.id;
+      actor = e.actor;
+      stopped = e.stopped;
+    }
 
 -- ---- what is noted of an answer
 
@@ -205,8 +284,8 @@ run_noted p made (Generated (Some message)) p' sound h = absurd h
 run_noted p made (Text text) p' sound h = absurd h
 run_noted p made answer p' sound h = tt
 
-pub steps_noted : (p : PeerData) (made : Call) (answer : Reply) (p' : PeerData) → Sound p.applied → Steps p made answer p' → IsNoted p' (heads_at p made) answer
-steps_noted p made answer p' sound s = elim (step_cases p made answer p' s.step) [
+pub steps_noted : (p : PeerData) (made : Call) (answer : Reply) (p' : PeerData) → Sound p.applied → PeerStep p made answer p' → IsNoted p' (heads_at p made) answer
+steps_noted p made answer p' sound s = elim (step_cases p made answer p' s) [
   | inl stopped ↦ subst (λ a. IsNoted p' (heads_at p made) a) (sym stopped.0) tt
   | inr runs ↦ run_noted p made answer p' sound runs.1
 ]

@@ -1,36 +1,14 @@
 -- What a crash makes of a peer of a world.
-use Rattle.std.proofs.Common.{◌≡◌, ◌⊎◌, inl, inr, ℕ, ◌+◌, ◌<◌, ◌≤◌, nat_le, List, [], ◌∷◌, ◌++◌, length, take, drop, true, false, Option, Some, None, refl, sym, ap, ◌∙◌, subst, append-nil, arith}
+use Rattle.tp_headline.proofs.Common.{◌≡◌, ◌⊎◌, inl, inr, ℕ, ◌+◌, ◌<◌, ◌≤◌, nat_le, List, [], ◌∷◌, ◌++◌, length, take, drop, true, false, Option, Some, None, refl, sym, ap, ◌∙◌, subst, append-nil, arith, take_all, drop-append_seam, take-append-add, In, AllIn, In-append, In-last, In-left, truth, Actor, DocId, ChangeParts, no_device, IsDocId, record_of, records_of, journal, IsHistory, Recovers, recovers_cut, recovers_once, PeerData, opened, history_grows, Alone, Merge, Deliver, IsCall, made_by, Carried, IsCarried, ComesBack, Crashes, KeepsWhole, MakesWhole, MayBe, MayEnter, kept_bytes, made_during, stopped_with, Crash, bytes_of, Happens, Next, MayHappen, Reply, World, HasPeer, gained, with_made, with_peer, with_used}
 use Rattle.std.proofs.lemmas.Bool.Decides.{nat_tests}
-use Rattle.std.proofs.lemmas.List.{take_all}
-use Rattle.std.proofs.Math.Seq.{drop-append_seam, take-append-add}
-use Rattle.tp_list.specs.Members.{In, AllIn}
-use Rattle.tp_list.proofs.Members.{In-append, In-last, In-left}
-use Rattle.tp_list.proofs.Tests.{truth}
-use Rattle.tp_opid.specs.declared.actor.Actor.{Actor}
-use Rattle.tp_opid.specs.declared.doc_id.DocId.{DocId}
-use Rattle.tp_change.specs.declared.parts.ChangeParts.{ChangeParts}
-use Rattle.tp_journal.specs.Layout.{IsDocId, record_of, records_of, journal}
-use Rattle.tp_journal.specs.Recovery.{IsHistory, Recovers}
-use Rattle.tp_journal.proofs.CutLaws.{recovers_cut}
-use Rattle.tp_journal.proofs.RecoveryLaws.{recovers_once}
-use Rattle.tp_peer.specs.PeerData.{PeerData, opened}
-use Rattle.tp_peer.specs.PeerStep as peer
-use Rattle.tp_peer.proofs.KeepingLaws.{history_grows}
-use Rattle.tp_headline.specs.declared.error.WorldError.TheVariants as world
-use Rattle.tp_headline.specs.Call.{Call, Alone, Merge, Deliver}
-use Rattle.tp_headline.specs.Calling.{IsCall, made_by}
-use Rattle.tp_headline.specs.Carried.{Carried, IsCarried}
-use Rattle.tp_headline.specs.Crashing.{ComesBack, Crashes, KeepsWhole, MakesWhole, MayBe, MayEnter, kept_bytes, made_during, stopped_with}
-use Rattle.tp_headline.specs.Event.{Crash, bytes_of}
-use Rattle.tp_headline.specs.Happening.{Happens, Next}
-use Rattle.tp_headline.specs.Refusing.{IsEditAt, MayHappen}
-use Rattle.tp_headline.specs.Reply.{Reply}
-use Rattle.tp_headline.specs.World.{World, HasPeer, gained, with_made, with_peer, with_used}
+use Rattle.tp_headline.specs.Call.{Call}
 use Rattle.tp_headline.proofs.CallLaws.{Enters, may_enter, steps_enter}
 use Rattle.tp_headline.proofs.Lasting.{Carries, Grows, becomes, begins-In}
-use Rattle.tp_headline.proofs.MakingLaws.{Makes, all_was_made, makes, makes_none, nothing_left, one_cut, would_edit}
+use Rattle.tp_headline.proofs.MakingLaws.{Makes, all_was_made, makes, makes_none, nothing_left, one_cut, recovers_all, would_edit}
 use Rattle.tp_headline.proofs.PeerMoves.{LivesOn, Moves, moves_grow, peer_changes}
 use Rattle.tp_headline.proofs.PlaceLaws.{slice_get-set_same}
+use Rattle.tp_peer.specs.PeerStep as peer
+use Rattle.tp_headline.specs.declared.error.WorldError.TheVariants as world
 
 -- ---- what the journal recovers to
 
@@ -63,34 +41,34 @@ recovered_cut p at kept new is own appended history =
       recovers = subst (λ b. Recovers b p.id (p.applied ++ cut.whole) (length (journal p.id (p.applied ++ cut.whole)))) (sym bytes) cut.recovers;
     }
 
--- nothing was appended to a journal that recovers
-recovered_as_it_was : (p : PeerData) (kept keep : ℕ) → Recovers p.journal p.id p.applied keep → Recovered p p kept []
-recovered_as_it_was p kept keep r =
-    let bytes : kept_bytes p p kept ≡ p.journal = take_all (length p.journal + kept) p.journal (omega arith) in
-    record {
-      whole = [];
-      others = [];
-      split = refl;
-      within = omega arith;
-      torn = λ c more e. absurd cc;
-      keep = keep;
-      recovers = subst (λ b. Recovers b p.id (p.applied ++ []) keep) (sym bytes) (subst (λ C. Recovers p.journal p.id C keep) (sym (append-nil p.applied)) r);
-    }
+-- What the journal of p recovers to between calls: its changes, and those that were made of which it has whole records.
+pub record FoundBetween (w : World) (p : PeerData) (kept : ℕ) : Type 0 where
+  pub whole : List ChangeParts
+  pub were_made : AllIn whole w.made
+  pub keep : ℕ
+  pub recovers : Recovers (kept_bytes p p kept) p.id (p.applied ++ whole) keep
 
-pub recovered_between : (w : World) (p : PeerData) (kept : ℕ) → Carried w → IsCarried w p → Recovered p p kept []
-recovered_between w p kept h q = elim (truth p.stopped) [
-  | inl stopped ↦ let d = q.dead stopped in recovered_as_it_was p kept d.0 d.1
+found_in : (w : World) (p : PeerData) (kept keep : ℕ) (whole : List ChangeParts) → AllIn whole w.made → Recovers p.journal p.id (p.applied ++ whole) keep → FoundBetween w p kept
+found_in w p kept keep whole were_made r =
+    let bytes : kept_bytes p p kept ≡ p.journal = take_all (length p.journal + kept) p.journal (omega arith) in
+    record { whole = whole; were_made = were_made; keep = keep; recovers = subst (λ b. Recovers b p.id (p.applied ++ whole) keep) (sym bytes) r }
+
+pub found_between : (w : World) (p : PeerData) (kept : ℕ) → Carried w → IsCarried w p → FoundBetween w p kept
+found_between w p kept h q = elim (truth p.stopped) [
+  | inl stopped ↦ let d = q.dead stopped in found_in w p kept d.keep d.more d.were_made d.recovers
   | inr runs ↦
-      recovered_cut p p kept [] (subst IsDocId (sym q.id) h.is_id) (q.live runs).journal (sym (append-nil p.journal)) (subst IsHistory (sym (append-nil p.applied)) q.history)
+      let keep = length (journal p.id p.applied) in
+      let all = recovers_all p.id p.applied (subst IsDocId (sym q.id) h.is_id) q.history in
+      found_in w p kept keep [] (λ c i. absurd i) (subst (λ b. Recovers b p.id (p.applied ++ []) keep) (sym (q.live runs).journal) (subst (λ C. Recovers (journal p.id p.applied) p.id C keep) (sym (append-nil p.applied)) all))
 ]
 
 -- ---- the peer afterwards
 
 -- it runs again with the changes, or has stopped with them
 abbrev pub IsBack : PeerData → Actor → List ℕ → List ChangeParts → PeerData → Type 0
-IsBack p actor bytes C p' = (p' ≡ opened p.id actor C 0) ⊎ (p' ≡ stopped_with p bytes C)
+IsBack p actor bytes C p' = (p' ≡ opened p.id actor C no_device) ⊎ (p' ≡ stopped_with p bytes C)
 
-same_opened : (i j : DocId) (a : Actor) (C D : List ChangeParts) → i ≡ j → C ≡ D → opened i a C 0 ≡ opened j a D 0
+same_opened : (i j : DocId) (a : Actor) (C D : List ChangeParts) → i ≡ j → C ≡ D → opened i a C no_device ≡ opened j a D no_device
 same_opened i j a C D e f = cc
 
 is_back : (p p' : PeerData) (bytes : List ℕ) (C : List ChangeParts) (keep : ℕ) (actor : Actor) (reply : Reply) → Recovers bytes p.id C keep → ComesBack p bytes actor reply p' → IsBack p actor bytes C p'
@@ -107,13 +85,15 @@ back_applied p p' bytes C actor (inl is) = ap (λ (x : PeerData). x.applied) is
 back_applied p p' bytes C actor (inr is) = ap (λ (x : PeerData). x.applied) is
 
 -- what was recovered is what the peer that comes back gained
-came_back : (p at p' : PeerData) (kept : ℕ) (new : List ChangeParts) (actor : Actor) (reply : Reply) (r : Recovered p at kept new) → ComesBack p (kept_bytes p at kept) actor reply p' → p'.applied ≡ p.applied ++ r.whole
-came_back p at p' kept new actor reply r comes =
-    let C = p.applied ++ r.whole in
-    back_applied p p' (kept_bytes p at kept) C actor (is_back p p' (kept_bytes p at kept) C r.keep actor reply r.recovers comes)
+came_back : (p p' : PeerData) (bytes : List ℕ) (whole : List ChangeParts) (keep : ℕ) (actor : Actor) (reply : Reply) → Recovers bytes p.id (p.applied ++ whole) keep → ComesBack p bytes actor reply p'
+    → p'.applied ≡ p.applied ++ whole
+came_back p p' bytes whole keep actor reply r comes =
+    let C = p.applied ++ whole in
+    back_applied p p' bytes C actor (is_back p p' bytes C keep actor reply r comes)
 
-pub gained_back : (p at p' : PeerData) (kept : ℕ) (new : List ChangeParts) (actor : Actor) (reply : Reply) (r : Recovered p at kept new) → ComesBack p (kept_bytes p at kept) actor reply p' → gained p p' ≡ r.whole
-gained_back p at p' kept new actor reply r comes = ap (drop (length p.applied)) (came_back p at p' kept new actor reply r comes) ∙ drop-append_seam p.applied r.whole
+pub gained_back : (p p' : PeerData) (bytes : List ℕ) (whole : List ChangeParts) (keep : ℕ) (actor : Actor) (reply : Reply) → Recovers bytes p.id (p.applied ++ whole) keep → ComesBack p bytes actor reply p'
+    → gained p p' ≡ whole
+gained_back p p' bytes whole keep actor reply r comes = ap (drop (length p.applied)) (came_back p p' bytes whole keep actor reply r comes) ∙ drop-append_seam p.applied whole
 
 -- it is carried, where what was recovered was made, and nothing by its actor
 back_is_carried : (w w' : World) (p p' : PeerData) (bytes : List ℕ) (C : List ChangeParts) (keep : ℕ) (actor : Actor) → IsCarried w p → Grows w w' → Recovers bytes p.id C keep → AllIn C w'.made
@@ -124,7 +104,6 @@ back_is_carried w w' p p' bytes C keep actor q grows r made used none (inl is) =
   applied = made;
   waiting = λ c i. absurd i;
   used = used;
-  quiet = refl;
   live = λ runs. record { journal = refl; own = λ c i by. absurd (none c i by) };
   dead = λ stopped. cc;
 })
@@ -134,9 +113,14 @@ back_is_carried w w' p p' bytes C keep actor q grows r made used none (inr is) =
   applied = made;
   waiting = λ c i. absurd i;
   used = grows.used p.actor q.used;
-  quiet = q.quiet;
   live = λ runs. cc;
-  dead = λ stopped. (keep, r);
+  dead = λ stopped. record {
+    more = [];
+    few = omega arith;
+    were_made = λ c i. absurd i;
+    keep = keep;
+    recovers = subst (λ D. Recovers bytes p.id D keep) (sym (append-nil C)) r;
+  };
 })
 
 -- a life ends
@@ -145,20 +129,19 @@ new_life w p p' bytes C actor fresh (inl is) runs = inr (λ i. fresh (subst (λ 
 new_life w p p' bytes C actor fresh (inr is) runs = absurd (let stopped : true ≡ false = ap (λ (x : PeerData). x.stopped) (sym is) ∙ runs in cc)
 
 -- the peer that crashed comes back, and changes of its life were made
-crash_returns : (w : World) (n : ℕ) (p at p' : PeerData) (kept : ℕ) (new made : List ChangeParts) (actor : Actor) (reply : Reply) → Carried w → HasPeer w n p
-    → (r : Recovered p at kept new) → ComesBack p (kept_bytes p at kept) actor reply p' → (In actor w.used → ⊥) → Makes w p r.whole made
+crash_returns : (w : World) (n : ℕ) (p p' : PeerData) (bytes : List ℕ) (whole made : List ChangeParts) (keep : ℕ) (actor : Actor) (reply : Reply) → Carried w → HasPeer w n p
+    → Recovers bytes p.id (p.applied ++ whole) keep → ComesBack p bytes actor reply p' → (In actor w.used → ⊥) → Makes w p whole made
     → Carries w (with_used (with_made (with_peer w n p') made) actor)
-crash_returns w n p at p' kept new made actor reply h stands r comes fresh m =
+crash_returns w n p p' bytes whole made keep actor reply h stands r comes fresh m =
     let w' = with_used (with_made (with_peer w n p') made) actor in
-    let bytes = kept_bytes p at kept in
-    let C = p.applied ++ r.whole in
+    let C = p.applied ++ whole in
     let q = h.peers n p stands in
     let moves : Moves w w' n p' made = record { id = refl; peers = refl; made = refl; used = λ a i. In-left a w.used (actor ∷ []) i; wire = refl; reads = refl } in
     let grows = moves_grow w w' n p' made moves in
-    let back = is_back p p' bytes C r.keep actor reply r.recovers comes in
-    let all : AllIn C w'.made = λ c i. elim (In-append c p.applied r.whole i) [
+    let back = is_back p p' bytes C keep actor reply r comes in
+    let all : AllIn C w'.made = λ c i. elim (In-append c p.applied whole i) [
       | inl old ↦ begins-In w.made w'.made grows.made c (q.applied c old)
-      | inr whole ↦ m.all c whole
+      | inr new ↦ m.all c new
     ] in
     let none : (c : ChangeParts) → In c w'.made → c.actor ≡ actor → ⊥ = λ c i is. elim (In-append c w.made made i) [
       | inl old ↦ fresh (subst (λ a. In a w.used) is (h.used c old))
@@ -168,10 +151,10 @@ crash_returns w n p at p' kept new made actor reply h stands r comes fresh m =
       old = h;
       stands = stands;
       moves = moves;
-      begins = (r.whole, back_applied p p' bytes C actor back);
+      begins = (whole, back_applied p p' bytes C actor back);
       sound = m.sound;
       by = m.by;
-      carried = back_is_carried w w' p p' bytes C r.keep actor q grows r.recovers all (In-last actor w.used) none back;
+      carried = back_is_carried w w' p p' bytes C keep actor q grows r all (In-last actor w.used) none back;
       life = new_life w p p' bytes C actor fresh back;
     })
 
@@ -218,17 +201,17 @@ crashed : (w : World) (n : ℕ) (during : Option Call) (kept : ℕ) (actor : Act
     → Carries w (with_used (with_made (with_peer w n c.after) (made_during during (gained c.before c.after))) actor)
 crashed w n None kept actor reply h may c =
     let p = c.before in
-    let r = recovered_between w p kept h (h.peers n p c.stands) in
-    crash_returns w n p p c.after kept [] [] actor reply h c.stands r (subst (λ (x : PeerData). ComesBack p (kept_bytes p x kept) actor reply c.after) c.might c.back) (may world.ActorUsed actor refl)
-    (makes_none w p r.whole h (λ d i. absurd (subst (λ l. In d l) (nothing_left r.whole r.others r.split) i)))
+    let f = found_between w p kept h (h.peers n p c.stands) in
+    crash_returns w n p c.after (kept_bytes p p kept) f.whole [] f.keep actor reply h c.stands f.recovers
+    (subst (λ (x : PeerData). ComesBack p (kept_bytes p x kept) actor reply c.after) c.might c.back) (may world.ActorUsed actor refl) (makes_none w p f.whole h f.were_made)
 crashed w n (Some named) kept actor reply h may c =
     let p = c.before in
     let i = interrupted w n p named c.at kept actor h may c.stands c.might in
     let made = c.might.0 in
     let same : made_during (Some named) (gained p c.after) ≡ made_by made i.cut.whole =
-    during_is w named made (gained p c.after) c.might.2 ∙ ap (λ l. made_by made l) (gained_back p c.at c.after kept i.enters.new actor reply i.cut c.back) in
+    during_is w named made (gained p c.after) c.might.2 ∙ ap (λ l. made_by made l) (gained_back p c.after (kept_bytes p c.at kept) i.cut.whole i.cut.keep actor reply i.cut.recovers c.back) in
     subst (λ l. Carries w (with_used (with_made (with_peer w n c.after) l) actor)) (sym same)
-    (crash_returns w n p c.at c.after kept i.enters.new (made_by made i.cut.whole) actor reply h c.stands i.cut c.back (may world.ActorUsed actor refl) i.makes)
+    (crash_returns w n p c.after (kept_bytes p c.at kept) i.cut.whole (made_by made i.cut.whole) i.cut.keep actor reply h c.stands i.cut.recovers c.back (may world.ActorUsed actor refl) i.makes)
 
 pub crash_carries : (w : World) (n : ℕ) (during : Option Call) (kept : ℕ) (actor : Actor) (reply : Reply) (w' : World) → Carried w → MayHappen w (Crash n during kept actor)
     → Happens w (Crash n during kept actor) reply w' → Carries w w'
@@ -261,11 +244,11 @@ crash_keeps w n named kept actor reply w' h (inr does) =
       are_whole = record { others = i.cut.others; split = i.cut.split; within = i.cut.within; torn = i.cut.torn };
       after = c.after;
       stands = subst (λ x. HasPeer x n c.after) (sym s.1) (slice_get-set_same w.peers n p c.after c.stands);
-      there = came_back p c.at c.after kept new actor reply i.cut c.back;
+      there = came_back p c.after (kept_bytes p c.at kept) i.cut.whole i.cut.keep actor reply i.cut.recovers c.back;
       added =
           made
           ∙ ap (λ l. w.made ++ l)
-          (during_is w named call (gained p c.after) c.might.2 ∙ ap (λ l. made_by call l) (gained_back p c.at c.after kept new actor reply i.cut c.back));
+          (during_is w named call (gained p c.after) c.might.2 ∙ ap (λ l. made_by call l) (gained_back p c.after (kept_bytes p c.at kept) i.cut.whole i.cut.keep actor reply i.cut.recovers c.back));
     })
 
 -- a crash within an edit makes nothing, or its change

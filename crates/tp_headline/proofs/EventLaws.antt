@@ -1,44 +1,20 @@
 -- What each event makes of a world that is carried.
-use Rattle.std.proofs.Common.{◌≡◌, inl, inr, ℕ, List, [], ◌∷◌, ◌++◌, length, true, Some, refl, sym, ap, ◌∙◌, subst, append-nil}
-use Rattle.tp_list.specs.Members.{In, SameMembers}
-use Rattle.tp_list.proofs.Members.{In-push}
-use Rattle.tp_list.proofs.TraceLaws.{trace_keeps}
-use Rattle.tp_opid.specs.declared.actor.Actor.{Actor}
-use Rattle.tp_opid.specs.declared.doc_id.DocId.{DocId}
-use Rattle.tp_opid.specs.declared.hash.Hash.{Hash}
-use Rattle.tp_text.specs.Text.{IsTextOf}
-use Rattle.tp_document.proofs.TextLaws.{text_of_a_set}
-use Rattle.tp_graph.specs.Named.{has_all}
-use Rattle.tp_graph.specs.Past.{past}
-use Rattle.tp_graph.proofs.NamedLaws.{has_all-more}
-use Rattle.tp_graph.proofs.PastLaws.{past-In}
-use Rattle.tp_graph.proofs.SetLaws.{past-same}
-use Rattle.tp_journal.specs.Layout.{IsDocId}
-use Rattle.tp_journal.proofs.HistoryLaws.{history_none}
-use Rattle.tp_peer.specs.PeerData.{PeerData, opened}
+use Rattle.tp_headline.proofs.Common.{◌≡◌, inl, inr, ℕ, List, [], ◌∷◌, true, Some, refl, sym, ap, ◌∙◌, subst, ◌++◌, In, SameMembers, In-push, trace_keeps, Actor, DocId, Hash, IsTextOf, text_of_a_set, has_all, past, has_all-more, past-In, past-same, no_device, IsDocId, history_none, PeerData, arming, opened, Calls, after_call, heads_at, made_by, noting, Carried, IsFaithful, Event, Start, Fork, Call, Crash, Fail, bytes_of, Happens, Next, MayHappen, Reply, GoesOn, Met, ReadRecord, World, HasPeer, beginning, with_made, with_new_peer, with_peer, with_read, with_used}
+use Rattle.tp_headline.proofs.CallLaws.{IsNoted, steps_noted}
+use Rattle.tp_headline.proofs.CrashMoves.{crash_carries}
+use Rattle.tp_headline.proofs.Lasting.{Carries, becomes, lasts_on, message_stays, still, adds}
+use Rattle.tp_headline.proofs.MakingLaws.{all_was_made, kept_is, left_of, makes, peer_left, would_edit}
+use Rattle.tp_headline.proofs.PeerMoves.{actor_is_used, entry_is_sent, peer_is_armed, peer_joins}
+use Rattle.tp_headline.proofs.PlaceLaws.{slice_get-set_same}
 use Rattle.tp_peer.specs.PeerStep as peer
 use Rattle.tp_headline.specs.declared.error.WorldError.TheVariants as world
 use Rattle.tp_headline.specs.Call as call
-use Rattle.tp_headline.specs.Calling.{Calls, after_call, heads_at, made_by, noting}
-use Rattle.tp_headline.specs.Carried.{Carried, IsCarried, IsFaithful}
-use Rattle.tp_headline.specs.Event.{Event, Start, Fork, Call, Crash, bytes_of}
-use Rattle.tp_headline.specs.Happening.{Happens, Next}
-use Rattle.tp_headline.specs.Refusing.{MayHappen}
-use Rattle.tp_headline.specs.Reply.{Reply}
-use Rattle.tp_headline.specs.Running.{GoesOn, Met}
-use Rattle.tp_headline.specs.World.{ReadRecord, World, HasPeer, beginning, gained, with_entry, with_made, with_new_peer, with_peer, with_read, with_used}
-use Rattle.tp_headline.proofs.CallLaws.{IsNoted, may_enter, steps_enter, steps_noted}
-use Rattle.tp_headline.proofs.CrashMoves.{crash_carries}
-use Rattle.tp_headline.proofs.Lasting.{Carries, Lasts, becomes, begins_still, carried_stays, faithful_stays, lasts_on, message_stays, still}
-use Rattle.tp_headline.proofs.MakingLaws.{all_was_made, makes, peer_enters, would_edit}
-use Rattle.tp_headline.proofs.PeerMoves.{actor_is_used, entry_is_sent, peer_joins}
-use Rattle.tp_headline.proofs.PlaceLaws.{slice_get-set_same}
 
 -- ---- peers that join
 
 started : (w : World) (actor : Actor) (reply : Reply) (w' : World) → Carried w → (In actor w.used → ⊥) → Happens w (Start actor) reply w' → Carries w w'
 started w actor reply w' h fresh (inl new) =
-    becomes w w' (with_used (with_new_peer w (opened w.id actor [] 0)) actor) (new.3 ∙ ap (λ p. with_used (with_new_peer w p) actor) new.1) (peer_joins w actor [] h fresh history_none (λ c i. absurd i))
+    becomes w w' (with_used (with_new_peer w (opened w.id actor [] no_device)) actor) (new.3 ∙ ap (λ p. with_used (with_new_peer w p) actor) new.1) (peer_joins w actor [] h fresh history_none (λ c i. absurd i))
 started w actor reply w' h fresh (inr refused) = becomes w w' (with_used w actor) refused.3 (actor_is_used w actor h)
 
 forked : (w : World) (n : ℕ) (actor : Actor) (reply : Reply) (w' : World) → Carried w → (In actor w.used → ⊥) → Happens w (Fork n actor) reply w' → Carries w w'
@@ -46,8 +22,8 @@ forked w n actor reply w' h fresh s = elim s.2 [
   | inl new ↦
       let of = s.0 in
       let q = h.peers n of s.1 in
-      let fork : PeerData = opened w.id actor of.applied 0 in
-      let is : new.0 ≡ fork = new.1.is ∙ ap (λ i. opened i actor of.applied 0) q.id in
+      let fork : PeerData = opened w.id actor of.applied no_device in
+      let is : new.0 ≡ fork = new.1.is ∙ ap (λ i. opened i actor of.applied no_device) q.id in
       becomes w w' (with_used (with_new_peer w fork) actor) (new.3 ∙ ap (λ x. with_used (with_new_peer w x) actor) is) (peer_joins w actor of.applied h fresh q.history q.applied)
   | inr refused ↦ becomes w w' (with_used w actor) refused.3 (actor_is_used w actor h)
 ]
@@ -63,11 +39,6 @@ was_read w n p H text h stands known is =
     let new : ReadRecord = record { peer = n; heads = H; text = text } in
     let same : SameMembers (past p.applied H) (past w.made H) =
     past-same p.applied w.made H q.history.sound h.sound known (λ c i. q.applied c (past-In p.applied H c i)) in
-    let lasts : Lasts w w' = record {
-      grows = record { id = refl; made = begins_still w.made; used = λ a i. i; wire = λ m e i. i };
-      lists = λ m r i. record { peer = r; stands = i; begins = begins_still r.applied };
-      reads = (new ∷ [], refl);
-    } in
     let faithful : IsFaithful w' new = record {
       known = has_all-more p.applied w.made H q.applied known;
       text = (text_of_a_set (past p.applied H) (past w.made H) text same).0 is;
@@ -75,22 +46,8 @@ was_read w n p H text h stands known is =
       stands = stands;
       held = λ c i. past-In p.applied H c (same.back c i);
     } in
-    record {
-      lasts = lasts;
-      carried = record {
-        is_id = h.is_id;
-        sound = h.sound;
-        limits = h.limits;
-        used = h.used;
-        peers = λ m r i. carried_stays w w' r lasts.grows (λ runs c j by. j) (h.peers m r i);
-        lives = h.lives;
-        wire = h.wire;
-        reads = λ r i. elim (In-push r w.reads new i) [
-          | inl old ↦ faithful_stays w w' r lasts h.sound (h.reads r old)
-          | inr is_new ↦ subst (λ x. IsFaithful w' x) (sym is_new) faithful
-        ];
-      };
-    }
+    adds w w.peers w.used w.wire (w.reads ++ new ∷ []) (new ∷ []) h refl (λ a i. i) (λ m e i. i) (λ m r i. i) (λ m r i. inl i) h.lives (λ e i. inl i)
+    (λ r i. elim (In-push r w.reads new i) [ inl old ↦ inl old | inr is_new ↦ inr (subst (λ x. IsFaithful w' x) (sym is_new) faithful) ])
 
 noted : (w : World) (n : ℕ) (p : PeerData) (H : List Hash) (answer : peer.Reply) → Carried w → HasPeer w n p → IsNoted p H answer → Carries w (noting w n H answer)
 noted w n p H (peer.Generated (Some message)) h stands is = entry_is_sent w n message.0 h (message_stays p.applied w.made message.0 (h.peers n p stands).applied is)
@@ -106,14 +63,15 @@ called w n named reply w' h may s =
     let made = s.made in
     let q = h.peers n p s.stands in
     let runs = may world.Stopped n p (inl refl) s.stands in
-    let e = steps_enter p made s.answer p' s.steps in
+    let l = left_of w p made s.answer p' h q runs s.steps in
     let came = all_was_made w named made p h q s.is (λ link bytes is. may world.ForeignChange bytes (ap (λ (x : call.Call). bytes_of (Call n x)) is)) in
-    let m = makes w n p made e.new e.new [] h s.stands runs (may_enter p made s.answer e.new e.entered) (sym (append-nil e.new)) came (λ c one edit d i same.
+    let m = makes w n p made l.tried l.whole l.others h s.stands runs l.may l.split came (λ c one edit d i same.
     may world.HashClash c d (would_edit w (Call n named) n named made c refl s.is edit, refl) i same) in
-    let v = with_made (with_peer w n p') (made_by made (gained p p')) in
-    let on = peer_enters w n p made s.answer p' h s.stands runs e came m in
+    let v = with_made (with_peer w n p') (made_by made s.kept) in
+    let on : Carries w v = becomes w v (with_made (with_peer w n p') (made_by made l.whole)) (ap (λ K. with_made (with_peer w n p') (made_by made K)) (kept_is p made p' s.kept s.keep l s.recovers))
+    (peer_left w n p made p' h s.stands runs l came m) in
     let next = noted v n p' (heads_at p made) s.answer on.carried (slice_get-set_same w.peers n p p' s.stands) (steps_noted p made s.answer p' q.history.sound s.steps) in
-    let u = after_call w n p made s.answer p' in
+    let u = after_call w n (p, p') made s.answer s.kept in
     becomes w w' u s.left (record { lasts = lasts_on w v u on.lasts next.lasts; carried = next.carried })
 
 -- ---- every event
@@ -123,6 +81,7 @@ happens_carries w (Start actor) reply w' h may s = started w actor reply w' h (m
 happens_carries w (Fork n actor) reply w' h may s = forked w n actor reply w' h (may world.ActorUsed actor refl) s
 happens_carries w (Call n named) reply w' h may s = called w n named reply w' h may s
 happens_carries w (Crash n during kept actor) reply w' h may s = crash_carries w n during kept actor reply w' h may s
+happens_carries w (Fail n kept) reply w' h may s = becomes w w' (with_peer w n (arming s.0 true)) s.3 (peer_is_armed w n s.0 h s.1)
 
 pub next_carries : (w : World) (e : Event) (reply : Reply) (w' : World) → Carried w → Next w e reply w' → Carries w w'
 next_carries w e reply w' h (inl refused) = still w w' h refused.left

@@ -1,33 +1,11 @@
 -- What follows on a world that is carried.
-use Rattle.std.proofs.Common.{◌≡◌, inl, inr, ℕ, List, [], ◌∷◌, ◌++◌, length, true, Some, refl, sym, ap, ◌∙◌, subst, append-nil}
-use Rattle.std.specs.List.{slice_get}
-use Rattle.tp_list.specs.Members.{In, SameMembers}
-use Rattle.tp_list.proofs.Members.{In-left, In-last}
-use Rattle.tp_opid.specs.declared.hash.Hash.{Hash}
-use Rattle.tp_change.specs.declared.parts.ChangeParts.{ChangeParts}
-use Rattle.tp_change.specs.ChangeHash.{hash_of}
-use Rattle.tp_graph.specs.Heads.{heads}
-use Rattle.tp_graph.specs.Named.{has_all}
-use Rattle.tp_graph.specs.Past.{past}
-use Rattle.tp_graph.proofs.HeadsLaws.{has_all-heads, past-heads}
-use Rattle.tp_graph.proofs.PastLaws.{past-In}
-use Rattle.tp_graph.proofs.SetLaws.{past-same}
-use Rattle.tp_graph.proofs.SoundLaws.{deps_first, deps_there, sound_pasts}
-use Rattle.tp_peer.specs.PeerData.{PeerData}
-use Rattle.tp_peer.specs.PeerStep as peer
-use Rattle.tp_headline.specs.Call as call
-use Rattle.tp_headline.specs.Call.{Alone}
-use Rattle.tp_headline.specs.Calling.{Calls, Steps, after_call, heads_at, noting}
-use Rattle.tp_headline.specs.Carried.{Carried}
-use Rattle.tp_headline.specs.Event.{Call}
-use Rattle.tp_headline.specs.Follows.{Follows, Saw, ShowsFromNowOn}
-use Rattle.tp_headline.specs.Happening.{Next}
-use Rattle.tp_headline.specs.Reply.{Answered, Reply, Wire, reply_to}
-use Rattle.tp_headline.specs.World.{ReadRecord, World, HasPeer, seen}
+use Rattle.tp_headline.proofs.Common.{◌≡◌, inl, inr, ℕ, List, [], ◌∷◌, ◌++◌, length, true, Some, refl, sym, ap, ◌∙◌, subst, append-nil, slice_get, In, SameMembers, In-left, In-last, Hash, ChangeParts, hash_of, heads, has_all, past, has_all-heads, past-heads, past-In, past-same, deps_first, deps_there, sound_pasts, PeerData, Alone, Calls, after_call, heads_at, noting, Carried, Call, Follows, Saw, ShowsFromNowOn, Next, Answered, Reply, reply_to, ReadRecord, World, HasPeer, seen}
 use Rattle.tp_headline.proofs.CallLaws.{runs_of_steps}
 use Rattle.tp_headline.proofs.EventLaws.{goes_on_carries, next_carries}
 use Rattle.tp_headline.proofs.Lasting.{begins-In, seen_stays}
 use Rattle.tp_headline.proofs.PlaceLaws.{slice_get-set_same}
+use Rattle.tp_peer.specs.PeerStep as peer
+use Rattle.tp_headline.specs.Call as call
 
 pub same_peer : (w : World) (n : ℕ) (p q : PeerData) → HasPeer w n p → HasPeer w n q → p ≡ q
 same_peer w n p q i j = let e : Some p ≡ Some q = sym i ∙ j in cc
@@ -53,8 +31,8 @@ answer_is k given answer e = cc
 -- The call of a peer that was answered so, as its step.
 pub record Did (w : World) (n : ℕ) (named : call.Call) (answer : peer.Reply) (w' : World) : Type 0 where
   pub calls : Calls w n named (Answered answer) w'
-  pub steps : Steps calls.before calls.made answer calls.after
-  pub left : w' ≡ after_call w n calls.before calls.made answer calls.after
+  pub steps : peer.PeerStep calls.before calls.made answer calls.after
+  pub left : w' ≡ after_call w n (calls.before, calls.after) calls.made answer calls.kept
 
 pub did : (w : World) (n : ℕ) (named : call.Call) (answer : peer.Reply) (w' : World) → Next w (Call n named) (Answered answer) w' → Did w n named answer w'
 did w n named answer w' (inl refused) = absurd (let replied = refused.replied in cc)
@@ -63,8 +41,8 @@ did w n named answer w' (inr does) =
     let is = answer_is (length w.wire) c.answer answer c.replied in
     record {
       calls = c;
-      steps = subst (λ a. Steps c.before c.made a c.after) is c.steps;
-      left = c.left ∙ ap (λ a. after_call w n c.before c.made a c.after) is;
+      steps = subst (λ a. peer.PeerStep c.before c.made a c.after) is c.steps;
+      left = c.left ∙ ap (λ a. after_call w n (c.before, c.after) c.made a c.kept) is;
     }
 
 -- ---- reads
@@ -88,7 +66,7 @@ read_saw w n p text w' h stands next =
     let d = did w n (Alone peer.Read) (peer.Text text) w' next in
     let c = d.calls in
     let C = c.before.applied in
-    let left = d.left ∙ ap (λ m. after_call w n c.before m (peer.Text text) c.after) c.is.0 in
+    let left = d.left ∙ ap (λ m. after_call w n (c.before, c.after) m (peer.Text text) c.kept) c.is.0 in
     let whole = past-heads C (deps_first C (h.peers n c.before c.stands).history.sound) in
     subst (λ (x : PeerData). Saw w w' n text x.applied) (same_peer w n c.before p c.stands stands)
     (subst (λ D. Saw w w' n text D) whole
@@ -99,8 +77,8 @@ read_at_saw : (w : World) (n : ℕ) (p : PeerData) (H : List Hash) (text : List 
 read_at_saw w n p H text w' h stands next =
     let d = did w n (Alone (peer.ReadAt H)) (peer.Text text) w' next in
     let c = d.calls in
-    let left = d.left ∙ ap (λ m. after_call w n c.before m (peer.Text text) c.after) c.is.0 in
-    let steps = subst (λ m. Steps c.before m (peer.Text text) c.after) c.is.0 d.steps in
+    let left = d.left ∙ ap (λ m. after_call w n (c.before, c.after) m (peer.Text text) c.kept) c.is.0 in
+    let steps = subst (λ m. peer.PeerStep c.before m (peer.Text text) c.after) c.is.0 d.steps in
     let runs = runs_of_steps c.before (peer.ReadAt H) (peer.Text text) c.after steps (λ e. cc) in
     subst (λ (x : PeerData). Saw w w' n text (past x.applied H)) (same_peer w n c.before p c.stands stands)
     (saw w w' n c.before H text h c.stands runs.0 (ap (λ (x : World). x.made) left ∙ append-nil w.made) (ap (λ (x : World). x.reads) left))

@@ -1,19 +1,5 @@
 -- What lasts from one moment of a world to a later one.
-use Rattle.std.proofs.Common.{◌≡◌, ℕ, List, [], ◌++◌, true, false, refl, sym, ap, ◌∙◌, subst, append_assoc, append-nil}
-use Rattle.tp_list.specs.Members.{In, AllIn}
-use Rattle.tp_list.proofs.Members.{In-left}
-use Rattle.tp_change.specs.declared.parts.ChangeParts.{ChangeParts}
-use Rattle.tp_text.specs.Text.{IsTextOf}
-use Rattle.tp_graph.specs.Named.{has_all}
-use Rattle.tp_graph.specs.Past.{past}
-use Rattle.tp_graph.specs.Sound.{Sound}
-use Rattle.tp_graph.proofs.NamedLaws.{has_all-more}
-use Rattle.tp_graph.proofs.SoundLaws.{Sound-before}
-use Rattle.tp_receive.specs.Receiving.{Begins}
-use Rattle.tp_peer.specs.PeerData.{PeerData}
-use Rattle.tp_headline.specs.World.{Entry, ReadRecord, World, HasEntry, HasPeer, seen}
-use Rattle.tp_headline.specs.Follows.{HoldsFrom}
-use Rattle.tp_headline.specs.Carried.{Carried, IsCarried, IsFaithful, IsMessageOf}
+use Rattle.tp_headline.proofs.Common.{◌≡◌, ℕ, List, [], ◌++◌, true, false, refl, sym, ap, ◌∙◌, subst, append_assoc, append-nil, inl, inr, ◌⊎◌, Some, In, AllIn, In-left, ChangeParts, IsTextOf, has_all, past, Sound, has_all-more, Sound-before, Begins, PeerData, Entry, ReadRecord, World, HasEntry, HasPeer, seen, HoldsFrom, Carried, IsCarried, IsFaithful, IsMessageOf, LivesApart, Actor, slice_get}
 
 -- From w to w' the document is the same, what was made and used is so still, and each entry of the wire stays.
 pub record Grows (w w' : World) : Type 0 where
@@ -97,11 +83,35 @@ carried_stays w w' p grows own h = record {
   applied = λ c i. begins-In w.made w'.made grows.made c (h.applied c i);
   waiting = λ c i. begins-In w.made w'.made grows.made c (h.waiting c i);
   used = grows.used p.actor h.used;
-  quiet = h.quiet;
   live = λ runs. record { journal = (h.live runs).journal; own = λ c i by. (h.live runs).own c (own runs c i by) by };
-  dead = h.dead;
+  dead = λ stopped.
+      let d = h.dead stopped in
+      record { more = d.more; few = d.few; were_made = λ c i. begins-In w.made w'.made grows.made c (d.were_made c i); keep = d.keep; recovers = d.recovers };
 }
 
 -- a message of changes that were made is one still
 pub message_stays : (C D : List ChangeParts) (bytes : List ℕ) → AllIn C D → IsMessageOf C bytes → IsMessageOf D bytes
 message_stays C D bytes all h = record { message = h.message; reads = h.reads; carries = λ c i. all c (h.carries c i) }
+
+-- The same was made, and peers, actors, entries and reads are there besides, each as it should be.
+pub adds : (w : World) (peers : List PeerData) (used : List Actor) (wire : List Entry) (reads new : List ReadRecord) → Carried w → reads ≡ w.reads ++ new → AllIn w.used used
+    → ((n : ℕ) (e : Entry) → HasEntry w n e → slice_get wire n ≡ Some e) → ((n : ℕ) (p : PeerData) → HasPeer w n p → slice_get peers n ≡ Some p)
+    → (let w' : World = record w { peers = peers; used = used; wire = wire; reads = reads } in ((n : ℕ) (p : PeerData) → HasPeer w' n p → HasPeer w n p ⊎ IsCarried w' p) → LivesApart w'
+    → ((e : Entry) → In e wire → In e w.wire ⊎ IsMessageOf w.made e.bytes) → ((r : ReadRecord) → In r reads → In r w.reads ⊎ IsFaithful w' r) → Carries w w')
+adds w peers used wire reads new h is more entries stand carried lives sent read =
+    let w' : World = record w { peers = peers; used = used; wire = wire; reads = reads } in
+    let grows : Grows w w' = record { id = refl; made = begins_still w.made; used = more; wire = entries } in
+    let lasts : Lasts w w' = record { grows = grows; lists = λ n p i. record { peer = p; stands = stand n p i; begins = begins_still p.applied }; reads = (new, is) } in
+    record {
+      lasts = lasts;
+      carried = record {
+        is_id = h.is_id;
+        sound = h.sound;
+        limits = h.limits;
+        used = λ c i. more c.actor (h.used c i);
+        peers = λ n p i. elim (carried n p i) [ inl old ↦ carried_stays w w' p grows (λ runs c j by. j) (h.peers n p old) | inr fresh ↦ fresh ];
+        lives = lives;
+        wire = λ e i. elim (sent e i) [ inl old ↦ h.wire e old | inr fresh ↦ fresh ];
+        reads = λ r i. elim (read r i) [ inl old ↦ faithful_stays w w' r lasts h.sound (h.reads r old) | inr fresh ↦ fresh ];
+      };
+    }

@@ -1,3 +1,4 @@
+pub mod Common
 pub mod PlaceLaws
 pub mod CallLaws
 pub mod Lasting
@@ -10,3 +11,4 @@ pub mod FollowLaws
 pub mod MayLaws
 pub mod ArrivalLaws
 pub mod BringingLaws
+pub mod FailureLaws

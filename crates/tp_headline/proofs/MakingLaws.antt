@@ -1,41 +1,13 @@
 -- What calls make, and what they make of a peer of a world.
-use Rattle.std.proofs.Common.{◌≡◌, ◌⊎◌, inl, inr, ℕ, List, [], ◌∷◌, ◌++◌, drop, length, cond, Bool, true, false, Option, Some, refl, sym, ap, ◌∙◌, subst, append-nil}
-use Rattle.std.proofs.Math.Seq.{drop-append_seam}
-use Rattle.tp_list.specs.Members.{In, AllIn}
-use Rattle.tp_list.proofs.Members.{In-append, In-left, In-right, In-slice_get}
-use Rattle.tp_list.proofs.Tests.{never, not_true}
-use Rattle.tp_opid.specs.declared.doc_id.DocId.{DocId}
-use Rattle.tp_opid.specs.Same.{same_actor}
-use Rattle.tp_opid.proofs.Orders.{same_actor-same}
-use Rattle.tp_change.specs.declared.parts.ChangeParts.{ChangeParts}
-use Rattle.tp_change.specs.ChangeHash.{hash_of}
-use Rattle.tp_change.specs.Limits.{IsChange}
+use Rattle.tp_headline.proofs.Common.{◌≡◌, ◌⊎◌, inl, inr, ℕ, ◌+◌, ◌<◌, ◌≤◌, List, [], ◌∷◌, ◌++◌, length, length-append, take, cond, Bool, true, false, Option, Some, refl, sym, ap, ◌∙◌, subst, append-nil, append_assoc, arith, take-append-add, take-length, append_cancel_left, In, AllIn, In-append, In-left, In-right, In-slice_get, never, not_true, DocId, same_actor, same_actor-same, ChangeParts, hash_of, IsChange, absent, has, Sound, Fits-from_cause, has-In, In-has, Fits-whole, Sound-push, IsDocId, journal, record_of, records_of, IsHistory, Recovers, journal-append, recovers_cut, history_prefix, recovers_once, Keeps, came, changes_in, changes_of, PeerData, history_grows, journal_grows, step_keeps, Alone, Merge, Deliver, IsAlone, IsCall, made_by, Carried, IsCarried, MayEnter, Event, called_in, IsEditAt, IsEditOf, WouldEdit, World, HasPeer, with_made, with_peer}
+use Rattle.std.proofs.lemmas.Grind.{flat_map-append}
 use Rattle.tp_document.specs.Editing.{Asked, Edited, asking}
-use Rattle.tp_document.specs.Merging.{absent}
 use Rattle.tp_document.proofs.EditFits.{edit_determined}
-use Rattle.tp_graph.specs.Named.{has}
-use Rattle.tp_graph.specs.Sound.{Sound}
-use Rattle.tp_graph.proofs.KeptLaws.{Fits-from_cause}
-use Rattle.tp_graph.proofs.NamedLaws.{has-In, In-has}
-use Rattle.tp_graph.proofs.SetLaws.{Fits-whole}
-use Rattle.tp_graph.proofs.SoundLaws.{Sound-push}
-use Rattle.tp_journal.specs.Layout.{journal, records_of}
-use Rattle.tp_journal.specs.Recovery.{IsHistory}
-use Rattle.tp_journal.proofs.CutLaws.{journal-append}
-use Rattle.tp_peer.specs.Laws.{came, changes_in, changes_of}
-use Rattle.tp_peer.specs.PeerData.{PeerData}
-use Rattle.tp_peer.specs.PeerStep as peer
-use Rattle.tp_peer.proofs.KeepingLaws.{history_grows}
-use Rattle.tp_headline.specs.Call.{Call, Alone, Merge, Deliver}
-use Rattle.tp_headline.specs.Calling.{IsAlone, IsCall, made_by}
-use Rattle.tp_headline.specs.Carried.{Carried, IsCarried}
-use Rattle.tp_headline.specs.Crashing.{MayEnter}
-use Rattle.tp_headline.specs.Event.{Event, called_in}
-use Rattle.tp_headline.specs.Refusing.{IsEditAt, IsEditOf, WouldEdit}
-use Rattle.tp_headline.specs.World.{Entry, World, HasEntry, HasPeer, gained, with_made, with_peer}
-use Rattle.tp_headline.proofs.CallLaws.{Enters}
+use Rattle.tp_headline.specs.Call.{Call}
+use Rattle.tp_headline.proofs.CallLaws.{Enters, Stops, may_enter, steps_leave}
 use Rattle.tp_headline.proofs.Lasting.{Carries, Grows}
 use Rattle.tp_headline.proofs.PeerMoves.{AreBy, Moves, moves_grow, peer_changes}
+use Rattle.tp_peer.specs.PeerStep as peer
 
 -- ---- edits
 
@@ -55,7 +27,7 @@ one_edit w n made c d h e f =
     let same : f.peer ≡ e.peer = let is : Some f.peer ≡ Some e.peer = sym f.stands ∙ e.stands in cc in
     one made e.peer (h.peers n e.peer e.stands).history.sound e.edited (subst (λ (q : PeerData). IsEditOf q made d) same f.edited) where
       one : (made : peer.Call) (p : PeerData) → Sound p.applied → IsEditOf p made c → IsEditOf p made d → c ≡ d
-      one (peer.Edit ss time message) p sound x y = edit_determined p.applied (asking p.actor ss time message) c d sound x y
+      one (peer.Edit ss time message) p sound x y = edit_determined p.applied (asking p.actor ss time message) c d sound x.edit y.edit
       one made p sound x y = absurd x
 
 -- the change of an edit wasn't made before
@@ -194,51 +166,179 @@ all_was_made w named made p h q is brought c i = elim (In-append c p.waiting (ca
 
 -- ---- the peer afterwards
 
--- changes that were made were entered
-enters_is_carried : (w w' : World) (p : PeerData) (call : peer.Call) (answer : peer.Reply) (p' : PeerData) (made : List ChangeParts) (e : Enters p call answer p') → Grows w w' → w'.made ≡ w.made ++ made → Makes w p e.new made
-    → AllIn (p.waiting ++ came p call) w.made → p.stopped ≡ false → IsCarried w p → IsCarried w' p'
-enters_is_carried w w' p call answer p' made e grows is m came runs q =
-    let live = q.live runs in
+-- What a call of a running peer left: it tried to enter changes, the records of some of which are whole in its journal.
+-- Those entered, but for one at most where the device failed.
+pub record Left (p : PeerData) (made : peer.Call) (p' : PeerData) : Type 0 where
+  pub tried : List ChangeParts
+  pub may : MayEnter p made tried
+  pub whole : List ChangeParts
+  pub others : List ChangeParts
+  pub split : tried ≡ whole ++ others
+  pub count : ℕ
+  pub bytes : p'.journal ≡ p.journal ++ take count (records_of tried)
+  pub within : length (records_of whole) ≤ count
+  pub torn : (c : ChangeParts) (more : List ChangeParts) → others ≡ c ∷ more → count < length (records_of (whole ++ c ∷ []))
+  pub keep : ℕ
+  pub recovers : Recovers p'.journal p'.id (p.applied ++ whole) keep
+  pub new : List ChangeParts
+  pub more : List ChangeParts
+  pub applied : p'.applied ≡ p.applied ++ new
+  pub entered : whole ≡ new ++ more
+  pub few : length more ≤ 1
+  pub history : IsHistory p'.applied
+  pub waits : AllIn p'.waiting (p.waiting ++ came p made)
+  pub id : p'.id ≡ p.id
+  pub actor : p'.actor ≡ p.actor
+  pub on : p'.stopped ≡ false → (more ≡ []) × (p'.journal ≡ journal p'.id p'.applied)
+
+pub recovers_all : (id : DocId) (C : List ChangeParts) → IsDocId id → IsHistory C → Recovers (journal id C) id C (length (journal id C))
+recovers_all id C is h = record { tail = []; is_id = is; history = h; short = inl (omega arith); spelled = sym (append-nil (journal id C)); keep_is = refl }
+
+left_on : (w : World) (p : PeerData) (made : peer.Call) (answer : peer.Reply) (p' : PeerData) → Carried w → IsCarried w p → p.stopped ≡ false → Enters p made answer p' → Left p made p'
+left_on w p made answer p' h q runs e =
+    let history : IsHistory p'.applied = subst IsHistory (sym e.applied) (history_grows e.new p.applied q.history e.fits e.limits) in
+    let journal_is : p'.journal ≡ journal p'.id p'.applied =
+    e.journal ∙ ap (λ l. l ++ records_of e.new) (q.live runs).journal ∙ sym (journal-append p.id p.applied e.new)
+    ∙ ap (λ C. journal p.id C) (sym e.applied) ∙ ap (λ (i : DocId). journal i p'.applied) (sym e.id) in
+    let is_id : IsDocId p'.id = subst IsDocId (sym (e.id ∙ q.id)) h.is_id in
     record {
-      id = e.id ∙ q.id ∙ sym grows.id;
-      history = subst IsHistory (sym e.applied) (history_grows e.new p.applied q.history e.fits e.limits);
-      applied = λ c i. subst (λ l. In c l) (sym is) (elim (In-append c p.applied e.new (subst (λ l. In c l) e.applied i)) [
-        | inl old ↦ In-left c w.made made (q.applied c old)
-        | inr new ↦ m.all c new
-      ]);
-      waiting = λ c i. subst (λ l. In c l) (sym is) (In-left c w.made made (came c (e.waits c i)));
-      used = subst (λ a. In a w'.used) (sym e.actor) (grows.used p.actor q.used);
-      quiet = e.failures ∙ q.quiet;
-      live = λ on. record {
-        journal =
-            e.journal ∙ ap (λ l. l ++ records_of e.new) live.journal ∙ sym (journal-append p.id p.applied e.new)
-            ∙ ap (λ C. journal p.id C) (sym e.applied) ∙ ap (λ (i : DocId). journal i p'.applied) (sym e.id);
-        own = λ c i by. subst (λ l. In c l) (sym e.applied) (elim (In-append c w.made made (subst (λ l. In c l) is i)) [
-          | inl old ↦ In-left c p.applied e.new (live.own c old (by ∙ e.actor))
-          | inr fresh ↦ In-right c p.applied e.new (m.own c fresh)
-        ]);
-      };
-      dead = λ stopped. never stopped (e.stopped ∙ runs);
+      tried = e.new;
+      may = may_enter p made answer e.new e.entered;
+      whole = e.new;
+      others = [];
+      split = sym (append-nil e.new);
+      count = length (records_of e.new);
+      bytes = e.journal ∙ ap (λ l. p.journal ++ l) (sym (take-length (records_of e.new)));
+      within = omega arith;
+      torn = λ c more none. absurd cc;
+      keep = length (journal p'.id p'.applied);
+      recovers = subst (λ C. Recovers p'.journal p'.id C (length (journal p'.id p'.applied))) e.applied
+          (subst (λ b. Recovers b p'.id p'.applied (length (journal p'.id p'.applied))) (sym journal_is) (recovers_all p'.id p'.applied is_id history));
+      new = e.new;
+      more = [];
+      applied = e.applied;
+      entered = sym (append-nil e.new);
+      few = omega arith;
+      history = history;
+      waits = e.waits;
+      id = e.id;
+      actor = e.actor;
+      on = λ on. (refl, journal_is);
     }
 
-pub gained_new : (p : PeerData) (call : peer.Call) (answer : peer.Reply) (p' : PeerData) (e : Enters p call answer p') → gained p p' ≡ e.new
-gained_new p call answer p' e = ap (drop (length p.applied)) e.applied ∙ drop-append_seam p.applied e.new
+records-append : (C D : List ChangeParts) → records_of (C ++ D) ≡ records_of C ++ records_of D
+records-append C D = flat_map-append record_of C D
+
+records-length : (C D : List ChangeParts) → length (records_of (C ++ D)) ≡ length (records_of C) + length (records_of D)
+records-length C D = ap length (records-append C D) ∙ length-append (records_of C) (records_of D)
+
+few_whole : (torn whole others : List ChangeParts) → length torn ≤ 1 → torn ≡ whole ++ others → length whole ≤ 1
+few_whole torn whole others one split = let parts = ap length split ∙ length-append whole others in omega arith
+
+left_stopped : (w : World) (p : PeerData) (made : peer.Call) (answer : peer.Reply) (p' : PeerData) → Carried w → IsCarried w p → p.stopped ≡ false → Keeps p made answer p' → Stops p made p' → p'.stopped ≡ true
+    → Left p made p'
+left_stopped w p made answer p' h q runs k s stopped =
+    let torn = s.torn in
+    let tried = s.new ++ torn in
+    let all : IsHistory (p.applied ++ tried) = history_grows tried p.applied q.history s.fits s.limits in
+    let after : IsHistory (p'.applied ++ torn) = subst IsHistory (sym (append_assoc p.applied s.new torn) ∙ ap (λ l. l ++ torn) (sym s.applied)) all in
+    let is_id : IsDocId p'.id = subst IsDocId (sym (k.id ∙ q.id)) h.is_id in
+    let cut = recovers_cut p'.id p'.applied torn s.count is_id after in
+    let whole = cut.whole in
+    let others = cut.are_whole.others in
+    let bytes : p'.journal ≡ journal p'.id p'.applied ++ take s.count (records_of torn) =
+    s.journal ∙ journal_grows p p' s.new (take s.count (records_of torn)) k.id s.applied (q.live runs).journal in
+    let keep = length (journal p'.id (p'.applied ++ whole)) in
+    let size = length (records_of s.new) in
+    let stands : records_of s.new ++ take s.count (records_of torn) ≡ take (size + s.count) (records_of tried) =
+    sym (take-append-add (records_of s.new) (records_of torn) s.count)
+    ∙ ap (λ l. take (size + s.count) l) (sym (records-append s.new torn)) in
+    let longer : p'.applied ++ whole ≡ p.applied ++ (s.new ++ whole) = ap (λ l. l ++ whole) s.applied ∙ append_assoc p.applied s.new whole in
+    record {
+      tried = tried;
+      may = s.may;
+      whole = s.new ++ whole;
+      others = others;
+      split = ap (λ l. s.new ++ l) cut.are_whole.split ∙ sym (append_assoc s.new whole others);
+      count = size + s.count;
+      bytes = s.journal ∙ ap (λ l. p.journal ++ l) stands;
+      within = let parts = records-length s.new whole in let within = cut.are_whole.within in omega arith;
+      torn = λ d more is.
+          let parts = records-length s.new (whole ++ d ∷ []) in
+          let torn = cut.are_whole.torn d more is in
+          let same = ap (λ l. length (records_of l)) (append_assoc s.new whole (d ∷ [])) in
+          omega arith;
+      keep = keep;
+      recovers = subst (λ C. Recovers p'.journal p'.id C keep) longer (subst (λ b. Recovers b p'.id (p'.applied ++ whole) keep) (sym bytes) cut.recovers);
+      new = s.new;
+      more = whole;
+      applied = s.applied;
+      entered = refl;
+      few = few_whole torn whole others s.one cut.are_whole.split;
+      history = history_prefix p'.applied torn after;
+      waits = k.waits;
+      id = k.id;
+      actor = k.actor;
+      on = λ on. never stopped on;
+    }
+
+pub left_of : (w : World) (p : PeerData) (made : peer.Call) (answer : peer.Reply) (p' : PeerData) → Carried w → IsCarried w p → p.stopped ≡ false → peer.PeerStep p made answer p' → Left p made p'
+left_of w p made answer p' h q runs s = elim (steps_leave p made answer p' s) [
+  | inl e ↦ left_on w p made answer p' h q runs e
+  | inr f ↦ left_stopped w p made answer p' h q runs (step_keeps p made answer p' s) f.0 f.1
+]
+
+-- what its journal recovers to beyond what it had is that
+pub kept_is : (p : PeerData) (made : peer.Call) (p' : PeerData) (kept : List ChangeParts) (keep : ℕ) (l : Left p made p') → Recovers p'.journal p'.id (p.applied ++ kept) keep → kept ≡ l.whole
+kept_is p made p' kept keep l r = append_cancel_left p.applied kept l.whole (recovers_once p'.journal p'.id p'.id (p.applied ++ kept) (p.applied ++ l.whole) keep l.keep r l.recovers).1
+
+-- changes that were made were entered
+left_is_carried : (w w' : World) (p : PeerData) (call : peer.Call) (p' : PeerData) (made : List ChangeParts) (l : Left p call p') → Grows w w' → w'.made ≡ w.made ++ made → Makes w p l.whole made
+    → AllIn (p.waiting ++ came p call) w.made → p.stopped ≡ false → IsCarried w p → IsCarried w' p'
+left_is_carried w w' p call p' made l grows is m came runs q =
+    let live = q.live runs in
+    let new_made : AllIn l.new w'.made = λ c i. subst (λ x. In c x) (sym is) (m.all c (subst (λ x. In c x) (sym l.entered) (In-left c l.new l.more i))) in
+    record {
+      id = l.id ∙ q.id ∙ sym grows.id;
+      history = l.history;
+      applied = λ c i. elim (In-append c p.applied l.new (subst (λ x. In c x) l.applied i)) [
+        | inl old ↦ subst (λ x. In c x) (sym is) (In-left c w.made made (q.applied c old))
+        | inr new ↦ new_made c new
+      ];
+      waiting = λ c i. subst (λ x. In c x) (sym is) (In-left c w.made made (came c (l.waits c i)));
+      used = subst (λ a. In a w'.used) (sym l.actor) (grows.used p.actor q.used);
+      live = λ on.
+          let whole_new : l.whole ≡ l.new = l.entered ∙ ap (λ x. l.new ++ x) (l.on on).0 ∙ append-nil l.new in
+          record {
+            journal = (l.on on).1;
+            own = λ c i by. subst (λ x. In c x) (sym l.applied) (elim (In-append c w.made made (subst (λ x. In c x) is i)) [
+              | inl old ↦ In-left c p.applied l.new (live.own c old (by ∙ l.actor))
+              | inr fresh ↦ In-right c p.applied l.new (subst (λ x. In c x) whole_new (m.own c fresh))
+            ]);
+          };
+      dead = λ stopped. record {
+        more = l.more;
+        few = l.few;
+        were_made = λ c i. subst (λ x. In c x) (sym is) (m.all c (subst (λ x. In c x) (sym l.entered) (In-right c l.new l.more i)));
+        keep = l.keep;
+        recovers = subst (λ C. Recovers p'.journal p'.id C l.keep) (ap (λ x. p.applied ++ x) l.entered ∙ sym (append_assoc p.applied l.new l.more) ∙ ap (λ x. x ++ l.more) (sym l.applied)) l.recovers;
+      };
+    }
 
 -- a call of a running peer
-pub peer_enters : (w : World) (n : ℕ) (p : PeerData) (call : peer.Call) (answer : peer.Reply) (p' : PeerData) → Carried w → HasPeer w n p → p.stopped ≡ false → (e : Enters p call answer p') → AllIn (p.waiting ++ came p call) w.made
-    → Makes w p e.new (made_by call e.new) → Carries w (with_made (with_peer w n p') (made_by call (gained p p')))
-peer_enters w n p call answer p' h stands runs e came m =
-    let made = made_by call e.new in
+pub peer_left : (w : World) (n : ℕ) (p : PeerData) (call : peer.Call) (p' : PeerData) → Carried w → HasPeer w n p → p.stopped ≡ false → (l : Left p call p') → AllIn (p.waiting ++ came p call) w.made
+    → Makes w p l.whole (made_by call l.whole) → Carries w (with_made (with_peer w n p') (made_by call l.whole))
+peer_left w n p call p' h stands runs l came m =
+    let made = made_by call l.whole in
     let w' = with_made (with_peer w n p') made in
     let moves : Moves w w' n p' made = record { id = refl; peers = refl; made = refl; used = λ a i. i; wire = refl; reads = refl } in
-    subst (λ l. Carries w (with_made (with_peer w n p') (made_by call l))) (sym (gained_new p call answer p' e))
-    (peer_changes w w' n p p' made (record {
+    peer_changes w w' n p p' made (record {
       old = h;
       stands = stands;
       moves = moves;
-      begins = (e.new, e.applied);
+      begins = (l.new, l.applied);
       sound = m.sound;
       by = m.by;
-      carried = enters_is_carried w w' p call answer p' made e (moves_grow w w' n p' made moves) refl m came runs (h.peers n p stands);
-      life = λ on. inl (runs, e.actor);
-    }))
+      carried = left_is_carried w w' p call p' made l (moves_grow w w' n p' made moves) refl m came runs (h.peers n p stands);
+      life = λ on. inl (runs, l.actor);
+    })

@@ -1,29 +1,10 @@
 -- What may happen in a world.
-use Rattle.std.proofs.Common.{◌≡◌, inl, inr, ℕ, List, [], ◌∷◌, length, false, Option, Some, IsSome, refl, sym, ap, ◌∙◌, subst}
-use Rattle.std.specs.List.{slice_get}
-use Rattle.std.proofs.Math.Seq.{drop-append_seam}
-use Rattle.tp_list.specs.Members.{In, AllIn}
-use Rattle.tp_list.proofs.Tests.{never}
-use Rattle.tp_opid.specs.declared.actor.Actor.{Actor}
-use Rattle.tp_change.specs.declared.parts.ChangeParts.{ChangeParts}
-use Rattle.tp_change.specs.ChangeHash.{hash_of}
-use Rattle.tp_graph.specs.Named.{has}
-use Rattle.tp_graph.proofs.NamedLaws.{In-has}
-use Rattle.tp_peer.specs.Laws.{changes_in}
-use Rattle.tp_peer.specs.PeerData.{PeerData, opened}
-use Rattle.tp_peer.specs.PeerStep as peer
+use Rattle.tp_headline.proofs.Common.{◌≡◌, inl, inr, ℕ, List, [], ◌∷◌, ◌++◌, length, false, Option, Some, IsSome, refl, sym, ap, ◌∙◌, subst, slice_get, In, AllIn, never, Actor, ChangeParts, hash_of, has, In-has, no_device, IsDocId, journal, record_of, IsHistory, Recovers, journal-push, history_push, changes_in, PeerData, opened, Alone, Deliver, IsAlone, made_by, Carried, Call, Start, bytes_of, entries_of, named_by, needed_by, Next, IsEditAt, IsEditOf, IsOpen, MayHappen, WouldEdit, Answered, Peer, World, HasPeer, with_made, with_new_peer, with_peer, with_used}
 use Rattle.tp_headline.specs.declared.error.WorldError.TheVariants.{NoPeer, ActorUsed, ForeignChange, HashClash, Stopped, NoEntry, OutOfMemory}
-use Rattle.tp_headline.specs.Call as call
-use Rattle.tp_headline.specs.Call.{Alone, Deliver}
-use Rattle.tp_headline.specs.Calling.{IsAlone, made_by}
-use Rattle.tp_headline.specs.Carried.{Carried}
-use Rattle.tp_headline.specs.Event.{Call, Start, bytes_of, entries_of, named_by, needed_by}
-use Rattle.tp_headline.specs.Happening.{Next}
-use Rattle.tp_headline.specs.Refusing.{IsEditAt, IsEditOf, IsOpen, MayHappen, WouldEdit}
-use Rattle.tp_headline.specs.Reply.{Answered, Peer}
-use Rattle.tp_headline.specs.World.{World, HasPeer, gained, with_made, with_new_peer, with_peer, with_used}
 use Rattle.tp_headline.proofs.FollowLaws.{same_peer}
-use Rattle.tp_headline.proofs.MakingLaws.{one_call, one_edit, one_named}
+use Rattle.tp_headline.proofs.MakingLaws.{one_call, one_edit, one_named, recovers_all}
+use Rattle.tp_peer.specs.PeerStep as peer
+use Rattle.tp_headline.specs.Call as call
 
 -- a peer may join under an actor that wasn't named
 may_start : (w : World) (actor : Actor) → (In actor w.used → ⊥) → MayHappen w (Start actor)
@@ -35,8 +16,8 @@ may_start w actor fresh Stopped = λ n p i. absurd i
 may_start w actor fresh NoEntry = λ n i. absurd i
 may_start w actor fresh OutOfMemory = tt
 
-pub start_happens : (w : World) (actor : Actor) → (In actor w.used → ⊥) → Next w (Start actor) (Peer (length w.peers)) (with_used (with_new_peer w (opened w.id actor [] 0)) actor)
-start_happens w actor fresh = inr (record { may = may_start w actor fresh; happens = inl (opened w.id actor [] 0, refl, refl, refl) })
+pub start_happens : (w : World) (actor : Actor) → (In actor w.used → ⊥) → Next w (Start actor) (Peer (length w.peers)) (with_used (with_new_peer w (opened w.id actor [] no_device)) actor)
+start_happens w actor fresh = inr (record { may = may_start w actor fresh; happens = inl (opened w.id actor [] no_device, refl, refl, refl) })
 
 some_is : {X : Type 0} (o : Option X) (x : X) → o ≡ Some x → IsSome o
 some_is o x e = rw e refl
@@ -78,9 +59,17 @@ unfolding peer.PeerStep
 edit_steps p (peer.Edit ss time message) c runs edited = rw runs (c, edited, refl, refl)
 edit_steps p made c runs edited = absurd edited
 
-edit_alone : (w : World) (n : ℕ) (p : PeerData) (made : peer.Call) (c : ChangeParts) → IsEditOf p made c → with_made (with_peer w n (peer.entered p c)) (c ∷ []) ≡ with_made (with_peer w n (peer.entered p c)) (made_by made (gained p (peer.entered p c)))
-edit_alone w n p (peer.Edit ss time message) c edited = ap (λ l. with_made (with_peer w n (peer.entered p c)) l) (sym (drop-append_seam p.applied (c ∷ [])))
+edit_alone : (w : World) (n : ℕ) (p : PeerData) (made : peer.Call) (c : ChangeParts) → IsEditOf p made c → with_made (with_peer w n (peer.entered p c)) (c ∷ []) ≡ with_made (with_peer w n (peer.entered p c)) (made_by made (c ∷ []))
+edit_alone w n p (peer.Edit ss time message) c edited = refl
 edit_alone w n p made c edited = absurd edited
+
+-- its journal has the change
+edit_recovers : (p : PeerData) (made : peer.Call) (c : ChangeParts) → IsDocId p.id → IsHistory p.applied → p.journal ≡ journal p.id p.applied → IsEditOf p made c
+    → Recovers (p.journal ++ record_of c) p.id (p.applied ++ c ∷ []) (length (journal p.id (p.applied ++ c ∷ [])))
+edit_recovers p (peer.Edit ss time message) c is_id history own edited =
+    let C = p.applied ++ c ∷ [] in
+    subst (λ b. Recovers b p.id C (length (journal p.id C))) (journal-push p.id p.applied c ∙ ap (λ l. l ++ record_of c) (sym own)) (recovers_all p.id C is_id (history_push p.applied c history edited.limits edited.enters))
+edit_recovers p made c is_id history own edited = absurd edited
 
 needs_none : (w : World) (p : PeerData) (made : peer.Call) (c : ChangeParts) → IsEditOf p made c → IsAlone made
 needs_none w p (peer.Edit ss time message) c edited = tt
@@ -90,6 +79,7 @@ pub edit_happens : (w : World) (n : ℕ) (made : peer.Call) (c : ChangeParts) �
     → Next w (Call n (Alone made)) (Answered (peer.Made (Some (hash_of c)))) (with_made (with_peer w n (peer.entered e.peer c)) (c ∷ []))
 edit_happens w n made c h e new =
     let p = e.peer in
+    let q = h.peers n p e.stands in
     inr (record {
       may = may_edit w n made c h e new;
       happens = record {
@@ -99,7 +89,10 @@ edit_happens w n made c h e new =
         is = (refl, needs_none w p made c e.edited);
         answer = peer.Made (Some (hash_of c));
         after = peer.entered p c;
-        steps = record { step = edit_steps p made c e.runs e.edited; no_failure = (h.peers n p e.stands).quiet };
+        steps = edit_steps p made c e.runs e.edited;
+        kept = c ∷ [];
+        keep = length (journal p.id (p.applied ++ c ∷ []));
+        recovers = edit_recovers p made c (subst IsDocId (sym q.id) h.is_id) q.history (q.live e.runs).journal e.edited;
         replied = refl;
         left = edit_alone w n p made c e.edited;
       };

@@ -1,16 +1,10 @@
 -- The one list of all elements, and each text that was read as a part of it.
-use Rattle.std.proofs.Common.{◌≡◌, inl, inr, ℕ, List, [], ◌∷◌, ◌++◌, filter, refl, sym, ap, ◌∙◌, subst, append_assoc, append-nil}
-use Rattle.tp_list.specs.Members.{In, SameMembers}
-use Rattle.tp_list.proofs.Members.{In-push, In-filter, filter-In}
-use Rattle.tp_opid.specs.declared.hash.Hash.{Hash}
+use Rattle.tp_headline.proofs.Common.{◌≡◌, inl, inr, ℕ, List, [], ◌∷◌, ◌++◌, filter, refl, sym, ap, ◌∙◌, subst, append_assoc, append-nil, In, SameMembers, In-push, In-filter, filter-In, Hash, id_eq, id_eq-flip, ChangeParts, IsTextOf, chars_of, text_of_a_set, past, Sound, past-In, past-more, sound-induct, sound_pasts, World, Carried}
 use Rattle.tp_opid.specs.Insert.{Insert}
-use Rattle.tp_opid.specs.Same.{id_eq}
 use Rattle.tp_opid.specs.Tree.{AreApart, IsNew}
-use Rattle.tp_opid.proofs.Orders.{id_eq-flip}
 use Rattle.tp_opid.proofs.Trees.{IsTree-same}
 use Rattle.tp_change.specs.declared.op.Op.{Op}
 use Rattle.tp_change.specs.declared.op.Op.TheVariants as op_of
-use Rattle.tp_change.specs.declared.parts.ChangeParts.{ChangeParts}
 use Rattle.tp_change.specs.Operations.{ops_of}
 use Rattle.tp_change.specs.Elements.{element, inserts, inserts_in, deletes, is_inserted}
 use Rattle.tp_change.proofs.ElementLaws.{inserts-more, inserts-push, is_inserted-In, is_inserted-member}
@@ -18,18 +12,10 @@ use Rattle.tp_rga.specs.Order.{IsInOrder}
 use Rattle.tp_rga.specs.Shown.{shown}
 use Rattle.tp_rga.proofs.OneOrder.{one_order, order_exists, order_of_part, order_of_set, stands_once}
 use Rattle.tp_text.specs.Applying.{CanApply}
-use Rattle.tp_text.specs.Text.{IsTextOf, chars_of}
 use Rattle.tp_document.proofs.ShowingLaws.{one_text}
 use Rattle.tp_document.proofs.SoundText.{CanApply-fits}
-use Rattle.tp_document.proofs.TextLaws.{text_of_a_set}
-use Rattle.tp_graph.specs.Past.{past}
-use Rattle.tp_graph.specs.Sound.{Sound}
 use Rattle.tp_graph.proofs.TreeLaws.{inserts_tree}
-use Rattle.tp_graph.proofs.PastLaws.{past-In, past-more}
-use Rattle.tp_graph.proofs.SoundLaws.{sound-induct, sound_pasts}
 use Rattle.tp_headline.specs.Headline.{Agrees, Headline, inserted_by}
-use Rattle.tp_headline.specs.World.{World}
-use Rattle.tp_headline.specs.Carried.{Carried}
 
 -- ---- identifiers apart
 

@@ -1,125 +1,57 @@
 -- A peer of a world joins, or changes.
-use Rattle.std.proofs.Common.{◌≡◌, ◌⊎◌, inl, inr, ℕ, List, [], ◌∷◌, ◌++◌, slice_set, false, Some, refl, sym, ap, ◌∙◌, subst, append-nil}
-use Rattle.std.specs.List.{slice_get}
-use Rattle.tp_list.specs.Members.{In, AllIn}
-use Rattle.tp_list.proofs.Members.{In-left, In-append, In-last, In-push}
-use Rattle.tp_opid.specs.declared.actor.Actor.{Actor}
-use Rattle.tp_change.specs.declared.parts.ChangeParts.{ChangeParts}
-use Rattle.tp_document.specs.DocState.{AllChanges}
-use Rattle.tp_graph.specs.Sound.{Sound}
-use Rattle.tp_journal.specs.Layout.{IsDocId}
-use Rattle.tp_journal.specs.Recovery.{IsHistory}
-use Rattle.tp_receive.specs.Receiving.{Begins}
-use Rattle.tp_peer.specs.PeerData.{PeerData, opened}
-use Rattle.tp_headline.specs.World.{Entry, World, HasPeer, with_entry, with_new_peer, with_peer, with_used}
-use Rattle.tp_headline.specs.Carried.{Carried, IsCarried, IsMessageOf, LivesApart}
+use Rattle.tp_headline.proofs.Common.{◌≡◌, ◌⊎◌, inl, inr, ℕ, List, [], ◌∷◌, ◌++◌, slice_set, true, false, Some, refl, sym, ap, ◌∙◌, subst, append-nil, slice_get, In, AllIn, In-left, In-append, In-last, In-push, Actor, ChangeParts, AllChanges, Sound, no_device, IsDocId, IsHistory, Begins, PeerData, arming, opened, Entry, World, HasPeer, with_entry, with_new_peer, with_used, with_peer, Carried, IsCarried, IsMessageOf, LivesApart}
 use Rattle.tp_headline.proofs.PlaceLaws.{slice_get-set_same, slice_get-set, slice_get-set_either, slice_get-left, slice_get-push}
-use Rattle.tp_headline.proofs.Lasting.{Carries, Grows, Lasts, begins-In, begins_still, carried_stays, faithful_stays, message_stays}
+use Rattle.tp_headline.proofs.Lasting.{Carries, Grows, Lasts, begins-In, begins_still, carried_stays, faithful_stays, message_stays, adds}
 
 -- ---- actors
 
 -- nothing else changes where an actor is named
 pub actor_is_used : (w : World) (actor : Actor) → Carried w → Carries w (with_used w actor)
 actor_is_used w actor h =
-    let w' = with_used w actor in
-    let more : AllIn w.used w'.used = λ a i. In-left a w.used (actor ∷ []) i in
-    let grows : Grows w w' = record { id = refl; made = begins_still w.made; used = more; wire = λ n e i. i } in
-    let lasts : Lasts w w' = record {
-      grows = grows;
-      lists = λ n p i. record { peer = p; stands = i; begins = begins_still p.applied };
-      reads = ([], sym (append-nil w.reads));
-    } in
-    record {
-      lasts = lasts;
-      carried = record {
-        is_id = h.is_id;
-        sound = h.sound;
-        limits = h.limits;
-        used = λ c i. more c.actor (h.used c i);
-        peers = λ n p i. carried_stays w w' p grows (λ runs c j by. j) (h.peers n p i);
-        lives = h.lives;
-        wire = h.wire;
-        reads = λ r i. faithful_stays w w' r lasts h.sound (h.reads r i);
-      };
-    }
+    adds w w.peers (w.used ++ actor ∷ []) w.wire w.reads [] h (sym (append-nil w.reads)) (λ a i. In-left a w.used (actor ∷ []) i) (λ n e i. i) (λ n p i. i)
+    (λ n p i. inl i) h.lives (λ e i. inl i) (λ r i. inl i)
 
 -- ---- the wire
 
 -- a message of changes that were made goes on the wire
 pub entry_is_sent : (w : World) (n : ℕ) (bytes : List ℕ) → Carried w → IsMessageOf w.made bytes → Carries w (with_entry w n bytes)
 entry_is_sent w n bytes h is =
-    let w' = with_entry w n bytes in
     let new : Entry = record { sender = n; bytes = bytes } in
-    let grows : Grows w w' = record { id = refl; made = begins_still w.made; used = λ a i. i; wire = λ m e i. slice_get-left w.wire (new ∷ []) m e i } in
-    let lasts : Lasts w w' = record {
-      grows = grows;
-      lists = λ m p i. record { peer = p; stands = i; begins = begins_still p.applied };
-      reads = ([], sym (append-nil w.reads));
-    } in
-    record {
-      lasts = lasts;
-      carried = record {
-        is_id = h.is_id;
-        sound = h.sound;
-        limits = h.limits;
-        used = h.used;
-        peers = λ m p i. carried_stays w w' p grows (λ runs c j by. j) (h.peers m p i);
-        lives = h.lives;
-        wire = λ e i. elim (In-push e w.wire new i) [ inl old ↦ h.wire e old | inr last ↦ subst (λ (x : Entry). IsMessageOf w.made x.bytes) (sym last) is ];
-        reads = λ r i. faithful_stays w w' r lasts h.sound (h.reads r i);
-      };
-    }
+    adds w w.peers w.used (w.wire ++ new ∷ []) w.reads [] h (sym (append-nil w.reads)) (λ a i. i) (λ m e i. slice_get-left w.wire (new ∷ []) m e i) (λ m p i. i)
+    (λ m p i. inl i) h.lives
+    (λ e i. elim (In-push e w.wire new i) [ inl old ↦ inl old | inr last ↦ inr (subst (λ (x : Entry). IsMessageOf w.made x.bytes) (sym last) is) ])
+    (λ r i. inl i)
 
 -- ---- a peer joins
 
 -- a peer joins under an actor that wasn't named, with changes that were made
 pub peer_joins : (w : World) (actor : Actor) (C : List ChangeParts) → Carried w → (In actor w.used → ⊥) → IsHistory C → AllIn C w.made
-    → Carries w (with_used (with_new_peer w (opened w.id actor C 0)) actor)
+    → Carries w (with_used (with_new_peer w (opened w.id actor C no_device)) actor)
 peer_joins w actor C h fresh history made =
-    let p = opened w.id actor C 0 in
+    let p = opened w.id actor C no_device in
     let w' = with_used (with_new_peer w p) actor in
-    let more : AllIn w.used w'.used = λ a i. In-left a w.used (actor ∷ []) i in
-    let grows : Grows w w' = record { id = refl; made = begins_still w.made; used = more; wire = λ n e i. i } in
-    let lasts : Lasts w w' = record {
-      grows = grows;
-      lists = λ n q i. record { peer = q; stands = slice_get-left w.peers (p ∷ []) n q i; begins = begins_still q.applied };
-      reads = ([], sym (append-nil w.reads));
-    } in
     let new : IsCarried w' p = record {
       id = refl;
       history = history;
       applied = made;
       waiting = λ c i. absurd i;
       used = In-last actor w.used;
-      quiet = refl;
       live = λ runs. record { journal = refl; own = λ c i by. absurd (fresh (subst (λ a. In a w.used) by (h.used c i))) };
       dead = λ stopped. cc;
     } in
-    record {
-      lasts = lasts;
-      carried = record {
-        is_id = h.is_id;
-        sound = h.sound;
-        limits = h.limits;
-        used = λ c i. more c.actor (h.used c i);
-        peers = λ n q i. elim (slice_get-push w.peers p q n i) [
-          | inl last ↦ subst (λ x. IsCarried w' x) (sym last.1) new
-          | inr old ↦ carried_stays w w' q grows (λ runs c j by. j) (h.peers n q old)
-        ];
-        lives = λ n m q s i j run_q run_s same. elim (slice_get-push w.peers p q n i) [
-          | inl last_q ↦ elim (slice_get-push w.peers p s m j) [
-            | inl last_s ↦ last_q.0 ∙ sym last_s.0
-            | inr old_s ↦ absurd (fresh (subst (λ a. In a w.used) (sym same ∙ ap (λ (x : PeerData). x.actor) last_q.1) (h.peers m s old_s).used))
-          ]
-          | inr old_q ↦ elim (slice_get-push w.peers p s m j) [
-            | inl last_s ↦ absurd (fresh (subst (λ a. In a w.used) (same ∙ ap (λ (x : PeerData). x.actor) last_s.1) (h.peers n q old_q).used))
-            | inr old_s ↦ h.lives n m q s old_q old_s run_q run_s same
-          ]
-        ];
-        wire = h.wire;
-        reads = λ r i. faithful_stays w w' r lasts h.sound (h.reads r i);
-      };
-    }
+    adds w (w.peers ++ p ∷ []) (w.used ++ actor ∷ []) w.wire w.reads [] h (sym (append-nil w.reads)) (λ a i. In-left a w.used (actor ∷ []) i) (λ n e i. i) (λ n q i. slice_get-left w.peers (p ∷ []) n q i)
+    (λ n q i. elim (slice_get-push w.peers p q n i) [ inl last ↦ inr (subst (λ x. IsCarried w' x) (sym last.1) new) | inr old ↦ inl old ])
+    (λ n m q s i j run_q run_s same. elim (slice_get-push w.peers p q n i) [
+      | inl last_q ↦ elim (slice_get-push w.peers p s m j) [
+        | inl last_s ↦ last_q.0 ∙ sym last_s.0
+        | inr old_s ↦ absurd (fresh (subst (λ a. In a w.used) (sym same ∙ ap (λ (x : PeerData). x.actor) last_q.1) (h.peers m s old_s).used))
+      ]
+      | inr old_q ↦ elim (slice_get-push w.peers p s m j) [
+        | inl last_s ↦ absurd (fresh (subst (λ a. In a w.used) (same ∙ ap (λ (x : PeerData). x.actor) last_s.1) (h.peers n q old_q).used))
+        | inr old_s ↦ h.lives n m q s old_q old_s run_q run_s same
+      ]
+    ])
+    (λ e i. inl i) (λ r i. inl i)
 
 -- ---- a peer changes
 
@@ -244,3 +176,34 @@ peer_changes w w' n p p' new c =
         reads = λ r i. faithful_stays w w' r lasts sound (h.reads r (subst (λ l. In r l) moves.reads i));
       };
     }
+
+-- ---- a device is to fail
+
+-- the peer stays carried
+armed_is_carried : (w w' : World) (p : PeerData) → w'.id ≡ w.id → w'.made ≡ w.made → w'.used ≡ w.used → IsCarried w p → IsCarried w' (arming p true)
+armed_is_carried w w' p id made used q = record {
+  id = q.id ∙ sym id;
+  history = q.history;
+  applied = subst (λ l. AllIn p.applied l) (sym made) q.applied;
+  waiting = subst (λ l. AllIn p.waiting l) (sym made) q.waiting;
+  used = subst (λ l. In p.actor l) (sym used) q.used;
+  live = λ runs. let l = q.live runs in record { journal = l.journal; own = λ c i by. l.own c (subst (λ x. In c x) made i) by };
+  dead = λ stopped.
+      let d = q.dead stopped in
+      record { more = d.more; few = d.few; were_made = subst (λ l. AllIn d.more l) (sym made) d.were_made; keep = d.keep; recovers = d.recovers };
+}
+
+pub peer_is_armed : (w : World) (n : ℕ) (p : PeerData) → Carried w → HasPeer w n p → Carries w (with_peer w n (arming p true))
+peer_is_armed w n p h stands =
+    let p' = arming p true in
+    let w' = with_peer w n p' in
+    peer_changes w w' n p p' [] (record {
+      old = h;
+      stands = stands;
+      moves = record { id = refl; peers = refl; made = sym (append-nil w.made); used = λ a i. i; wire = refl; reads = refl };
+      begins = begins_still p.applied;
+      sound = subst Sound (sym (append-nil w.made)) h.sound;
+      by = record { runs = λ c i. absurd i; actor = λ c i. absurd i; limits = λ c i. absurd i };
+      carried = armed_is_carried w w' p refl refl refl (h.peers n p stands);
+      life = λ runs. inl (runs, refl);
+    })

@@ -1,6 +1,5 @@
 -- Lists by their numbers, where one member is replaced or one is put behind the last.
-use Rattle.std.proofs.Common.{◌≡◌, ◌⊎◌, inl, inr, ℕ, zero, suc, List, [], ◌∷◌, ◌++◌, length, Some, slice_set, refl, ap, arith}
-use Rattle.std.specs.List.{slice_get}
+use Rattle.tp_headline.proofs.Common.{◌≡◌, ◌⊎◌, inl, inr, ℕ, zero, suc, List, [], ◌∷◌, ◌++◌, length, Some, slice_set, refl, ap, arith, slice_get}
 
 -- what stands where a member was replaced
 pub slice_get-set_same : {X : Type 0} (xs : List X) (n : ℕ) (x y : X) → slice_get xs n ≡ Some x → slice_get (slice_set xs n y) n ≡ Some y
@@ -43,8 +42,3 @@ slice_get-push [] y q (suc m) e = absurd cc
 slice_get-push (a ∷ xs) y q zero e = inr e
 slice_get-push (a ∷ xs) y q (suc m) e =
     elim (slice_get-push xs y q m e) [ inl w ↦ inl (ap suc w.0, w.1) | inr w ↦ inr w ]
-
--- the new one stands behind all others
-pub slice_get-last : {X : Type 0} (xs : List X) (y : X) → slice_get (xs ++ y ∷ []) (length xs) ≡ Some y
-slice_get-last [] y = refl
-slice_get-last (a ∷ xs) y = slice_get-last xs y

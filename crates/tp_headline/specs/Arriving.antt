@@ -1,10 +1,7 @@
 -- What a peer holds once it took what came.
 use Rattle.std.specs.Prelude.{◌≡◌, ℕ, ◌<◌, List, length, true}
-use Rattle.tp_list.specs.Members.{In, AllIn}
-use Rattle.tp_change.specs.declared.parts.ChangeParts.{ChangeParts}
+use Rattle.tp_headline.specs.Common.{In, AllIn, ChangeParts, has_all, PeerData}
 use Rattle.tp_graph.specs.Fit.{most_changes}
-use Rattle.tp_graph.specs.Named.{has_all}
-use Rattle.tp_peer.specs.PeerData.{PeerData}
 use Rattle.tp_headline.specs.World.{World, HasPeer}
 
 -- The peer numbered n holds each of the changes K whose dependencies it holds, where it has a place left.

@@ -1,23 +1,16 @@
--- Calls on the peers of a world. Their journals are in memory, so their devices never fail.
-use Rattle.std.specs.Prelude.{◌≡◌, ℕ, List, [], length, Some}
-use Rattle.tp_opid.specs.declared.hash.Hash.{Hash}
-use Rattle.tp_change.specs.declared.parts.ChangeParts.{ChangeParts}
+-- Calls on the peers of a world.
+use Rattle.std.specs.Prelude.{◌≡◌, ℕ, List, [], ◌++◌, length, Some}
+use Rattle.tp_headline.specs.Common.{Hash, ChangeParts, no_device, Recovers, PeerData}
 use Rattle.tp_graph.specs.Heads.{heads}
 use Rattle.tp_peer.specs.Appending.{JournalState, journal_state}
-use Rattle.tp_peer.specs.PeerData.{PeerData}
+use Rattle.tp_headline.specs.Reply.{Reply, reply_to}
+use Rattle.tp_headline.specs.World.{Entry, World, HasEntry, HasPeer, with_entry, with_made, with_peer, with_read}
 use Rattle.tp_peer.specs.PeerStep as peer
 use Rattle.tp_headline.specs.Call as call
-use Rattle.tp_headline.specs.Reply.{Reply, reply_to}
-use Rattle.tp_headline.specs.World.{Entry, World, HasEntry, HasPeer, gained, with_entry, with_made, with_peer, with_read}
 
--- a journal in memory with the bytes
+-- a journal with the bytes, whose device isn't set to fail
 abbrev pub in_memory : List ℕ → JournalState
-in_memory bytes = journal_state bytes 0
-
--- The call on the peer p gave the answer and left p'. No device failed.
-pub record Steps (p : PeerData) (made : peer.Call) (answer : peer.Reply) (p' : PeerData) : Type 0 where
-  pub step : peer.PeerStep p made answer p'
-  pub no_failure : p'.failures ≡ 0
+in_memory bytes = journal_state bytes no_device
 
 -- The call needs no other peer.
 abbrev pub IsAlone : peer.Call → Type 0
@@ -30,7 +23,8 @@ IsCall w (call.Alone own) made = (made ≡ own) × IsAlone own
 IsCall w (call.Merge from) made = (other : PeerData) × HasPeer w from other × (made ≡ peer.Merge other)
 IsCall w (call.Deliver entry) made = (e : Entry) × HasEntry w entry e × (made ≡ peer.Receive e.sender e.bytes)
 
--- the changes that a call makes, of the new ones that it enters: an edit makes its change, and no other call makes any
+-- the changes that a call makes, of those that the journal has then beyond the list before: an edit makes its change, and
+-- no other call makes any
 abbrev pub made_by : peer.Call → List ChangeParts → List ChangeParts
 made_by (peer.Edit splices time message) new = new
 made_by made new = []
@@ -46,11 +40,14 @@ noting w n heads (peer.Generated (Some message)) = with_entry w n message.0
 noting w n heads (peer.Text text) = with_read w n heads text
 noting w n heads answer = w
 
--- the world, once the peer numbered n, which was p, answered so to the call and is p'
-abbrev pub after_call : World → ℕ → PeerData → peer.Call → peer.Reply → PeerData → World
-after_call w n p made answer p' = noting (with_made (with_peer w n p') (made_by made (gained p p'))) n (heads_at p made) answer
+-- the world, once the peer numbered n, which was p.0, answered so to the call and is p.1, and its journal has the changes
+-- `kept` beyond those of p.0
+abbrev pub after_call : World → ℕ → PeerData × PeerData → peer.Call → peer.Reply → List ChangeParts → World
+after_call w n p made answer kept = noting (with_made (with_peer w n p.1) (made_by made kept)) n (heads_at p.0 made) answer
 
--- The peer numbered n made the call that is named so, and the reply says what it answered.
+-- The peer numbered n made the call that is named so, and the reply says what it answered. Where its journal recovers to
+-- more than it had, an edit made that: its change counts as made where its whole record is there, also where the device
+-- failed and the peer has stopped.
 pub record Calls (w : World) (n : ℕ) (named : call.Call) (reply : Reply) (w' : World) : Type 0 where
   pub before : PeerData
   pub stands : HasPeer w n before
@@ -58,6 +55,9 @@ pub record Calls (w : World) (n : ℕ) (named : call.Call) (reply : Reply) (w' :
   pub is : IsCall w named made
   pub answer : peer.Reply
   pub after : PeerData
-  pub steps : Steps before made answer after
+  pub steps : peer.PeerStep before made answer after
+  pub kept : List ChangeParts
+  pub keep : ℕ
+  pub recovers : Recovers after.journal after.id (before.applied ++ kept) keep
   pub replied : reply ≡ reply_to (length w.wire) answer
-  pub left : w' ≡ after_call w n before made answer after
+  pub left : w' ≡ after_call w n (before, after) made answer kept

@@ -1,16 +1,10 @@
 -- What every world that a run reaches keeps, event by event.
-use Rattle.std.specs.Prelude.{◌≡◌, ℕ, List, Ok, true, false}
-use Rattle.tp_list.specs.Members.{In, AllIn}
-use Rattle.tp_change.specs.declared.parts.ChangeParts.{ChangeParts}
+use Rattle.std.specs.Prelude.{◌≡◌, ℕ, ◌≤◌, List, ◌++◌, length, Ok, true, false}
+use Rattle.tp_headline.specs.Common.{In, AllIn, ChangeParts, has_all, IsDocId, journal, IsHistory, Recovers, PeerData, IsTextOf}
 use Rattle.tp_document.specs.DocState.{AllChanges}
-use Rattle.tp_graph.specs.Named.{has_all}
 use Rattle.tp_graph.specs.Sound.{Sound}
-use Rattle.tp_journal.specs.Layout.{IsDocId, journal}
-use Rattle.tp_journal.specs.Recovery.{IsHistory, Recovers}
-use Rattle.tp_peer.specs.PeerData.{PeerData}
 use Rattle.tp_sync.specs.Message.{MessageParts}
 use Rattle.tp_sync.specs.Reading.{message_at}
-use Rattle.tp_text.specs.Text.{IsTextOf}
 use Rattle.tp_headline.specs.World.{Entry, ReadRecord, World, HasPeer, seen}
 
 -- A running peer has its changes in its journal, and holds each change that its actor made.
@@ -18,17 +12,25 @@ pub record IsLive (made : List ChangeParts) (p : PeerData) : Type 0 where
   pub journal : p.journal ≡ journal p.id p.applied
   pub own : (c : ChangeParts) → In c made → c.actor ≡ p.actor → In c p.applied
 
+-- A peer that has stopped: its journal recovers to its changes and, where its device failed once a whole record was
+-- written, to one more that was made.
+pub record IsDead (made : List ChangeParts) (p : PeerData) : Type 0 where
+  pub more : List ChangeParts
+  pub few : length more ≤ 1
+  pub were_made : AllIn more made
+  pub keep : ℕ
+  pub recovers : Recovers p.journal p.id (p.applied ++ more) keep
+
 -- What holds of each peer of the world: its changes are a history, and with those that wait they were made; its actor
--- is used; no device failed; it is live where it runs, and where it has stopped its journal recovers to its changes.
+-- is used; and it is live where it runs, and where it has stopped its journal recovers to its changes and maybe one more.
 pub record IsCarried (w : World) (p : PeerData) : Type 0 where
   pub id : p.id ≡ w.id
   pub history : IsHistory p.applied
   pub applied : AllIn p.applied w.made
   pub waiting : AllIn p.waiting w.made
   pub used : In p.actor w.used
-  pub quiet : p.failures ≡ 0
   pub live : p.stopped ≡ false → IsLive w.made p
-  pub dead : p.stopped ≡ true → (keep : ℕ) × Recovers p.journal p.id p.applied keep
+  pub dead : p.stopped ≡ true → IsDead w.made p
 
 -- The bytes are a message, and each change that it carries was made.
 pub record IsMessageOf (made : List ChangeParts) (bytes : List ℕ) : Type 0 where

@@ -1,28 +1,20 @@
 -- A peer that crashes, between calls or during one, and is opened again.
 use Rattle.std.specs.Prelude.{◌≡◌, ◌⊎◌, ℕ, ◌+◌, ◌≤◌, List, [], ◌∷◌, ◌++◌, length, take, true, false, Option, Some, None}
-use Rattle.tp_opid.specs.declared.actor.Actor.{Actor}
-use Rattle.tp_change.specs.declared.parts.ChangeParts.{ChangeParts}
+use Rattle.tp_headline.specs.Common.{Actor, ChangeParts, no_device, record_of, Recovers, AllIn, EntersAfter, PeerError, came, PeerData, arming}
 use Rattle.tp_journal.specs.Laws.{AreWhole}
-use Rattle.tp_journal.specs.Layout.{record_of}
-use Rattle.tp_journal.specs.Recovery.{Recovers}
-use Rattle.tp_list.specs.Members.{AllIn}
-use Rattle.tp_receive.specs.Receiving.{EntersAfter}
-use Rattle.tp_peer.specs.declared.error.PeerError.{PeerError}
-use Rattle.tp_peer.specs.Laws.{came}
 use Rattle.tp_peer.specs.Opening.{Reopens, NotReopened}
-use Rattle.tp_peer.specs.PeerData.{PeerData}
-use Rattle.tp_peer.specs.PeerStep as peer
-use Rattle.tp_headline.specs.Call as call
-use Rattle.tp_headline.specs.Calling.{IsCall, Steps, in_memory, made_by}
+use Rattle.tp_headline.specs.Calling.{IsCall, in_memory, made_by}
 use Rattle.tp_headline.specs.Refusing.{IsEditAt, IsEditOf}
 use Rattle.tp_headline.specs.Reply.{Reply, Answered, Reopened}
 use Rattle.tp_headline.specs.World.{World, HasPeer}
+use Rattle.tp_peer.specs.PeerStep as peer
+use Rattle.tp_headline.specs.Call as call
 
 -- What the peer p may be at the moment of a crash: as it was, between calls; and what some outcome of the call leaves,
--- during one.
+-- during one, where the device doesn't fail.
 abbrev pub MayBe : World → PeerData → Option call.Call → PeerData → Type 0
 MayBe w p None at = at ≡ p
-MayBe w p (Some named) at = (made : peer.Call) × (answer : peer.Reply) × IsCall w named made × Steps p made answer at
+MayBe w p (Some named) at = (made : peer.Call) × (answer : peer.Reply) × IsCall w named made × peer.PeerStep (arming p false) made answer at
 
 -- what the journal keeps of a call that took the peer p to p': what it held before, and the first `kept` bytes of what
 -- was appended
@@ -31,7 +23,7 @@ kept_bytes p p' kept = take (length p.journal + kept) p'.journal
 
 -- the peer p, stopped, with the bytes as its journal and the changes that these recover to, and with no links
 abbrev pub stopped_with : PeerData → List ℕ → List ChangeParts → PeerData
-stopped_with p bytes C = record p { applied = C; waiting = []; links = []; journal = bytes; stopped = true }
+stopped_with p bytes C = record p { applied = C; waiting = []; links = []; journal = bytes; device = no_device; stopped = true }
 
 -- Why the journal of the peer p, which kept the bytes, isn't opened again: the peer has stopped.
 pub record StaysDown (p : PeerData) (bytes : List ℕ) (actor : Actor) (error : PeerError) (p' : PeerData) : Type 0 where
@@ -80,6 +72,18 @@ pub record MakesWhole (w w' : World) (n : ℕ) (made : peer.Call) (kept : ℕ) :
   pub after : PeerData
   pub stands : HasPeer w' n after
   pub there : after.applied ≡ is.peer.applied ++ change ∷ []
+
+-- An edit of the peer numbered n in which the device failed made its change: the peer has stopped without it, and its
+-- journal recovers to it.
+pub record MakesUnanswered (w w' : World) (n : ℕ) (made : peer.Call) : Type 0 where
+  pub change : ChangeParts
+  pub is : IsEditAt w n made change
+  pub added : w'.made ≡ w.made ++ change ∷ []
+  pub after : PeerData
+  pub stands : HasPeer w' n after
+  pub stopped : after.stopped ≡ true
+  pub keep : ℕ
+  pub recovers : Recovers after.journal after.id (is.peer.applied ++ change ∷ []) keep
 
 -- A crash within a call of the peer numbered n, after `kept` bytes of what it appended: some of the changes that it may
 -- enter had entered, and the peer that came back has what it had and, behind it, just those of them whose records are

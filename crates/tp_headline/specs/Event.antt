@@ -1,6 +1,6 @@
 -- What may happen in a world of peers. Peers are numbered from 0, in the order in which they joined.
 use Rattle.std.specs.Prelude.{ℕ, List, [], ◌∷◌, Option, Some, None}
-use Rattle.tp_opid.specs.declared.actor.Actor.{Actor}
+use Rattle.tp_headline.specs.Common.{Actor}
 use Rattle.tp_peer.specs.PeerStep as peer
 use Rattle.tp_headline.specs.Call as call
 
@@ -9,12 +9,15 @@ use Rattle.tp_headline.specs.Call as call
 -- Call n made: the peer makes the call. A message that it makes goes on the wire, and a text that is read is recorded;
 --   the peer at the other end of a link has no part in it. An entry that is delivered stays on the wire.
 -- Crash n during kept actor: the peer crashes, between calls or during one. Its journal keeps what it held before
---   the call and the first `kept` bytes of what the call appends, and is opened again under the actor.
+--   the call and the first `kept` bytes of what the call appends, and is opened again under the actor. Its device doesn't
+--   fail in that call, and isn't set to fail from then on.
+-- Fail n kept: the device of the peer's journal is to fail in the next append, and to keep the first `kept` bytes of it.
 pub data Event : Type 0 where
   Start : Actor → Event
   Fork : ℕ → Actor → Event
   Call : ℕ → call.Call → Event
   Crash : ℕ → Option call.Call → ℕ → Actor → Event
+  Fail : ℕ → ℕ → Event
 
 -- ---- what an event names
 
@@ -45,14 +48,16 @@ peers_of (Fork n actor) = n ∷ []
 peers_of (Call n made) = n ∷ named_by made
 peers_of (Crash n None kept actor) = n ∷ []
 peers_of (Crash n (Some made) kept actor) = n ∷ named_by made
+peers_of (Fail n kept) = n ∷ []
 
--- the peers that an event needs while they run: one that forks, and those of a call
+-- the peers that an event needs while they run: one that forks, one whose device is to fail, and those of a call
 abbrev pub running_of : Event → List ℕ
 running_of (Start actor) = []
 running_of (Fork n actor) = n ∷ []
 running_of (Call n made) = n ∷ needed_by made
 running_of (Crash n None kept actor) = []
 running_of (Crash n (Some made) kept actor) = n ∷ needed_by made
+running_of (Fail n kept) = n ∷ []
 
 -- the entries of the wire that an event names
 abbrev pub entries_of : Event → List ℕ
@@ -72,3 +77,4 @@ actor_of (Start actor) = Some actor
 actor_of (Fork n actor) = Some actor
 actor_of (Call n made) = None
 actor_of (Crash n during kept actor) = Some actor
+actor_of (Fail n kept) = None

@@ -1,13 +1,6 @@
 -- What lasts while a world goes on.
 use Rattle.std.specs.Prelude.{◌≡◌, ℕ, List, [], ◌∷◌, ◌++◌, true, Some}
-use Rattle.tp_list.specs.Members.{In, SameMembers}
-use Rattle.tp_opid.specs.declared.hash.Hash.{Hash}
-use Rattle.tp_change.specs.declared.parts.ChangeParts.{ChangeParts}
-use Rattle.tp_change.specs.ChangeHash.{hash_of}
-use Rattle.tp_graph.specs.Named.{has_all}
-use Rattle.tp_graph.specs.Past.{past}
-use Rattle.tp_receive.specs.Receiving.{Begins}
-use Rattle.tp_peer.specs.PeerData.{PeerData}
+use Rattle.tp_headline.specs.Common.{In, SameMembers, Hash, ChangeParts, hash_of, has_all, past, Begins, PeerData}
 use Rattle.tp_peer.specs.PeerStep as peer
 use Rattle.tp_headline.specs.Call.{Alone}
 use Rattle.tp_headline.specs.Event.{Event, Call}

@@ -1,18 +1,15 @@
 -- What an event does to a world.
-use Rattle.std.specs.Prelude.{◌≡◌, ◌⊎◌, ℕ, [], length}
-use Rattle.tp_opid.specs.declared.actor.Actor.{Actor}
-use Rattle.tp_journal.specs.Layout.{header_of}
-use Rattle.tp_peer.specs.declared.error.PeerError.{PeerError}
-use Rattle.tp_peer.specs.Opening as opening
-use Rattle.tp_peer.specs.PeerData.{PeerData, opened}
-use Rattle.tp_peer.specs.PeerStep as peer
+use Rattle.std.specs.Prelude.{◌≡◌, ◌⊎◌, [], length, true}
+use Rattle.tp_headline.specs.Common.{Actor, no_device, header_of, PeerError, PeerData, arming, opened}
 use Rattle.tp_headline.specs.declared.error.WorldError.{WorldError}
 use Rattle.tp_headline.specs.Calling.{Calls, in_memory}
 use Rattle.tp_headline.specs.Crashing.{Crashes, made_during}
-use Rattle.tp_headline.specs.Event.{Event, Start, Fork, Call, Crash}
+use Rattle.tp_headline.specs.Event.{Event, Start, Fork, Call, Crash, Fail}
 use Rattle.tp_headline.specs.Refusing.{MayHappen, IsRefusal}
-use Rattle.tp_headline.specs.Reply.{Reply, Peer, Answered, Refused}
+use Rattle.tp_headline.specs.Reply.{Reply, Peer, Armed, Answered, Refused}
 use Rattle.tp_headline.specs.World.{World, HasPeer, with_new_peer, with_peer, with_made, with_used, gained}
+use Rattle.tp_peer.specs.Opening as opening
+use Rattle.tp_peer.specs.PeerStep as peer
 
 -- A peer joins that is as IsNew says, or couldn't be opened, as IsError says. The actor is used then too.
 abbrev pub Joins : World → Actor → (PeerData → Type 0) → (PeerError → Type 0) → Reply → World → Type 0
@@ -23,7 +20,7 @@ Joins w actor IsNew IsError reply w' =
 -- What the event may reply and leave, where nothing is against it.
 abbrev pub Happens : World → Event → Reply → World → Type 0
 Happens w (Start actor) reply w' =
-    Joins w actor (λ p. p ≡ opened w.id actor [] 0) (λ error. opening.NotBegun (header_of w.id) (in_memory []) error (in_memory [])) reply w'
+    Joins w actor (λ p. p ≡ opened w.id actor [] no_device) (λ error. opening.NotBegun (header_of w.id) (in_memory []) error (in_memory [])) reply w'
 Happens w (Fork n actor) reply w' =
     (of : PeerData) × HasPeer w n of
     × Joins w actor (λ p. opening.Forks of actor (in_memory []) p) (λ error. opening.NotForked of actor (in_memory []) error (in_memory [])) reply w'
@@ -31,6 +28,7 @@ Happens w (Call n named) reply w' = Calls w n named reply w'
 Happens w (Crash n during kept actor) reply w' =
     (c : Crashes w n during kept actor reply)
     × (w' ≡ with_used (with_made (with_peer w n c.after) (made_during during (gained c.before c.after))) actor)
+Happens w (Fail n kept) reply w' = (p : PeerData) × HasPeer w n p × (reply ≡ Armed) × (w' ≡ with_peer w n (arming p true))
 
 -- The world refused the event: it is as it was.
 pub record Refuses (w : World) (e : Event) (reply : Reply) (w' : World) : Type 0 where

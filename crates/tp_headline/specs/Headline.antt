@@ -1,13 +1,11 @@
 -- What is promised of every world that a run reaches.
 use Rattle.std.specs.Prelude.{◌≡◌, ℕ, List, filter}
-use Rattle.tp_list.specs.Members.{In, SameMembers}
+use Rattle.tp_headline.specs.Common.{In, SameMembers, ChangeParts, chars_of}
 use Rattle.tp_opid.specs.Insert.{Insert}
 use Rattle.tp_opid.specs.Tree.{AreApart}
-use Rattle.tp_change.specs.declared.parts.ChangeParts.{ChangeParts}
 use Rattle.tp_change.specs.Elements.{inserts, deletes, is_inserted}
 use Rattle.tp_rga.specs.Order.{IsInOrder}
 use Rattle.tp_rga.specs.Shown.{shown}
-use Rattle.tp_text.specs.Text.{chars_of}
 use Rattle.tp_headline.specs.World.{ReadRecord, World, seen}
 
 -- the elements of the list that the changes S insert

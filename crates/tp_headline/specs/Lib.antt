@@ -1,3 +1,4 @@
+pub mod Common
 pub mod WorldError
 pub mod Call
 pub mod Event

@@ -1,14 +1,7 @@
 -- When a world refuses an event.
 use Rattle.std.specs.Prelude.{◌≡◌, ℕ, ◌<◌, nat_le, List, length, Bool, true, false, Some, IsSome}
-use Rattle.std.specs.List.{slice_get}
-use Rattle.tp_list.specs.Members.{In, AllIn}
-use Rattle.tp_opid.specs.declared.actor.Actor.{Actor}
-use Rattle.tp_change.specs.declared.parts.ChangeParts.{ChangeParts}
-use Rattle.tp_change.specs.ChangeHash.{hash_of}
+use Rattle.tp_headline.specs.Common.{slice_get, In, AllIn, Actor, ChangeParts, hash_of, record_of, changes_in, PeerData}
 use Rattle.tp_document.specs.Editing.{Edited, asking}
-use Rattle.tp_journal.specs.Layout.{record_of}
-use Rattle.tp_peer.specs.Laws.{changes_in}
-use Rattle.tp_peer.specs.PeerData.{PeerData}
 use Rattle.tp_peer.specs.PeerStep as peer
 use Rattle.tp_headline.specs.declared.error.WorldError.{WorldError}
 use Rattle.tp_headline.specs.declared.error.WorldError.TheVariants.{NoPeer, ActorUsed, ForeignChange, HashClash, Stopped, NoEntry, OutOfMemory}

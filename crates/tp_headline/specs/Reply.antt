@@ -4,11 +4,13 @@ use Rattle.tp_peer.specs.PeerStep as peer
 use Rattle.tp_headline.specs.declared.error.WorldError.{WorldError}
 
 -- The number of the peer that joined; the number of the entry of the wire that was sent; that a peer that crashed runs
--- again; what a peer answered to its call, or why it couldn't be opened; why the world refused the event.
+-- again; that a device is to fail; what a peer answered to its call, or why it couldn't be opened; why the world refused
+-- the event.
 pub data Reply : Type 0 where
   Peer : ℕ → Reply
   Wire : ℕ → Reply
   Reopened : Reply
+  Armed : Reply
   Answered : peer.Reply → Reply
   Refused : WorldError → Reply
 

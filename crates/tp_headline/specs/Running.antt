@@ -1,7 +1,7 @@
 -- Many events, one after another.
 use Rattle.std.specs.Prelude.{◌≡◌, List, map}
+use Rattle.tp_headline.specs.Common.{DocId}
 use Rattle.tp_list.specs.Traces.{Trace}
-use Rattle.tp_opid.specs.declared.doc_id.DocId.{DocId}
 use Rattle.tp_headline.specs.Event.{Event}
 use Rattle.tp_headline.specs.Happening.{Next}
 use Rattle.tp_headline.specs.Reply.{Reply}

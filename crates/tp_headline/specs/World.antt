@@ -1,12 +1,6 @@
 -- A world of peers that edit one document.
 use Rattle.std.specs.Prelude.{◌≡◌, ℕ, List, [], ◌∷◌, ◌++◌, length, drop, slice_set, Some}
-use Rattle.std.specs.List.{slice_get}
-use Rattle.tp_opid.specs.declared.actor.Actor.{Actor}
-use Rattle.tp_opid.specs.declared.doc_id.DocId.{DocId}
-use Rattle.tp_opid.specs.declared.hash.Hash.{Hash}
-use Rattle.tp_change.specs.declared.parts.ChangeParts.{ChangeParts}
-use Rattle.tp_graph.specs.Past.{past}
-use Rattle.tp_peer.specs.PeerData.{PeerData}
+use Rattle.tp_headline.specs.Common.{slice_get, Actor, DocId, Hash, ChangeParts, past, PeerData}
 
 -- A read: the number of the peer, the heads at which the text was read, and its characters.
 pub record ReadRecord : Type 0 where

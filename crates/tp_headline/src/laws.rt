@@ -6,11 +6,13 @@ ghost use Rattle.tp_opid.specs.declared.actor.Actor.{Actor};
 ghost use Rattle.tp_opid.specs.declared.doc_id.DocId.{DocId};
 ghost use Rattle.tp_change.specs.declared.parts.ChangeParts.{ChangeParts};
 ghost use Rattle.tp_change.specs.ChangeHash.{hash_of};
+ghost use Rattle.tp_journal.specs.Journal.{no_device};
 ghost use Rattle.tp_journal.specs.Layout.{IsDocId};
 ghost use Rattle.tp_graph.specs.Heads.{heads};
 ghost use Rattle.tp_graph.specs.Named.{has, has_all};
 ghost use Rattle.tp_receive.specs.Receiving.{Begins};
 ghost use Rattle.tp_peer.specs.Laws.{changes_in};
+ghost use Rattle.tp_peer.specs.declared.error.PeerError.TheVariants.{JournalFailed};
 ghost use Rattle.tp_peer.specs.PeerData.{PeerData, opened};
 ghost use Rattle.tp_peer.specs.Links.{known_of};
 ghost use Rattle.tp_peer.specs.PeerStep as peer;
@@ -19,7 +21,7 @@ ghost use Rattle.tp_sync.specs.Due.{leaves_out};
 ghost use Rattle.tp_headline.specs.Arriving.{HoldsAll, HoldsReady};
 ghost use Rattle.tp_headline.specs.Call as call;
 ghost use Rattle.tp_headline.specs.Carried.{Carried, IsMessageOf};
-ghost use Rattle.tp_headline.specs.Crashing.{KeepsWhole, MakesWhole};
+ghost use Rattle.tp_headline.specs.Crashing.{KeepsWhole, MakesUnanswered, MakesWhole};
 ghost use Rattle.tp_headline.specs.Event.{Event, Call, Crash, Start};
 ghost use Rattle.tp_headline.specs.Follows.{Follows};
 ghost use Rattle.tp_headline.specs.Happening.{Next};
@@ -85,6 +87,14 @@ pub fn a_crash_within_an_edit()
         → (w'.made ≡ w.made) ⊎ MakesWhole w w' n made kept }
 {}
 
+/// An edit in which the device failed makes nothing, or the edit's change, though it was refused: then the journal of the
+/// peer, which has stopped, recovers to it. So the peer has it after its next crash.
+pub fn a_failure_within_an_edit()
+    ensures { (w : World) (n : ℕ) (made : peer.Call) (w' : World) → Carried w
+        → Next w (Call n (call.Alone made)) (Answered (peer.Refused JournalFailed)) w'
+        → (w'.made ≡ w.made) ⊎ MakesUnanswered w w' n made }
+{}
+
 /// Where a peer crashed within a call, some of the changes that the call may enter had entered by then, as those that
 /// waited and came by a merge, a delivery or bytes of any origin; and the peer comes back with what it had before and,
 /// behind it, just those of them whose records are whole.
@@ -100,7 +110,7 @@ pub fn a_crash_while_receiving()
 pub fn what_may_happen()
     ensures start { (w : World) (actor : Actor) → (In actor w.used → ⊥)
         → Next w (Start actor) (Peer (length w.peers))
-        (with_used (with_new_peer w (opened w.id actor [] 0)) actor) }
+        (with_used (with_new_peer w (opened w.id actor [] no_device)) actor) }
     ensures edit { (w : World) (n : ℕ) (made : peer.Call) (c : ChangeParts) → Carried w
         → (e : IsEditAt w n made c) → has w.made (hash_of c) ≡ false
         → Next w (Call n (call.Alone made)) (Answered (peer.Made (Some (hash_of c))))

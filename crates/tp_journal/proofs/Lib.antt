@@ -5,4 +5,3 @@ pub mod CutLaws
 pub mod BytesLaws
 pub mod RecoveredLaws
 mod Laying
-pub mod DurableLaws

@@ -1,30 +1,42 @@
-//! A journal in a file, each append of which is on the disk.
+//! A journal in a file that brings to the disk what was appended.
+
+ghost use Rattle.std.specs.Prelude.{◌≡◌, false, IfOk};
+ghost use Rattle.tp_journal.specs.Journal.{failing};
 
 use crate::error::JournalError;
 use crate::file::FileJournal;
 use crate::journal::Journal;
+use crate::lock::Lockable;
+use crate::opening::OpenError;
 use std::alloc::Global;
 use std::fs::OpenFile;
 use std::io::{Read, Write};
 use std::rt::Files;
 
-/// A journal in a file, each append of which is on the disk once it has answered Ok. Where the disk fails behind the
-/// write, the append is refused as `Io`, and what was written stays in the content.
+/// A journal in a file, all of which is on the disk once [`settle`](Journal::settle) has answered Ok: many appends take one
+/// sync of the file.
 #[derive(Drop)]
 pub struct DurableJournal<F: Write + OpenFile + Drop> {
     file: FileJournal<F>,
+    is_ahead: bool,
 }
 
-impl<F: Read + Write + OpenFile + Drop> DurableJournal<F> {
-    /// Opens the file at the path as a journal, as [`FileJournal::at`] does.
+impl<F: Read + Write + OpenFile + Lockable + Drop> DurableJournal<F> {
+    /// Opens the file at the path as a journal, as [`FileJournal::at`] does. That what it has is on the disk isn't known
+    /// yet: who wrote it may have ended before.
     pub fn at<R: Files<File = F>>(
         rt: &R,
         alloc: Global,
         path: &str,
         make: bool,
-    ) -> Result<DurableJournal<F>, JournalError> {
+    ) -> Result<DurableJournal<F>, OpenError>
+        ensures { IfOk result (λ _. (file : F) × F.is_locked file) }
+    {
         match FileJournal::at(rt, alloc, path, make) {
-            Ok(file) => Ok(DurableJournal { file }),
+            Ok(file) => Ok(DurableJournal {
+                file,
+                is_ahead: true,
+            }),
             Err(error) => Err(error),
         }
     }
@@ -33,16 +45,25 @@ impl<F: Read + Write + OpenFile + Drop> DurableJournal<F> {
 impl<F: Write + OpenFile + Drop> Journal for DurableJournal<F> {
     ghost content = { λ j. j.file.content };
 
-    ghost failures = { λ j. j.file.failures };
+    ghost device = { λ j. failing j.file.failures };
+
+    ghost is_settled = { λ j. j.is_ahead ≡ false };
 
     fn append(&mut self, bytes: &[u8]) -> Result<(), JournalError> {
-        match self.file.append(bytes) {
-            Ok(()) => self.file.sync(),
-            Err(error) => Err(error),
+        self.is_ahead = true;
+        self.file.append(bytes)
+    }
+
+    fn settle(&mut self) -> Result<(), JournalError> {
+        if self.is_ahead {
+            self.file.sync()?;
+            self.is_ahead = false;
         }
+        Ok(())
     }
 
     fn cut(&mut self, len: u64) -> Result<(), JournalError> {
+        self.is_ahead = true;
         self.file.cut(len)
     }
 

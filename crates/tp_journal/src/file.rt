@@ -3,21 +3,23 @@
 ghost use Rattle.std.specs.Prelude.{◌≡◌, ℕ, ◌+◌, ◌≤◌, ◌++◌, length, take, true, vec_len, OnOk, OnErr, IfOk, IfSome, IsOkUnless};
 ghost use Rattle.std.specs.Vec.{vec_capacity};
 ghost use Rattle.std.specs.Io.KnownBytes.{Appends};
-ghost use Rattle.tp_journal.specs.Journal.{HasGrown};
+ghost use Rattle.tp_journal.specs.Journal.{HasGrown, failing};
 ghost use Rattle.tp_journal.specs.declared.error.JournalError.TheVariants.{Io};
 
 use crate::error::JournalError;
 use crate::journal::Journal;
+use crate::lock::Lockable;
+use crate::opening::OpenError;
 use std::alloc::Global;
 use std::fs::{OpenFile, OpenOptions};
 use std::io;
-use std::io::{ErrorKind, Read, Write};
+use std::io::{Read, Write};
 use std::marker::Model;
 use std::rt::Files;
 
 /// A journal in a file, with a copy in memory of what it read at opening and of what its writes and cuts did. Its
-/// content is that copy: that the file agrees with it is a matter of the device. One process at a time may have the
-/// file open as a journal.
+/// content is that copy: that the file agrees with it is a matter of the device. It has the file's lock from its opening
+/// on until it ends, so no other journal is opened on the file meanwhile, in this process or in another one.
 ///
 /// Each append is one write at the end of the file. A write that took fewer bytes than it was given is a failure of the
 /// device, and the content has what it took. What was written is on the disk once [`sync`](FileJournal::sync) has
@@ -48,12 +50,14 @@ impl<F: Write + OpenFile + Drop> Model for FileJournal<F> {
     ghost view = { λ j. record { content = j.copy.items; failures = j.failures } };
 }
 
-// The refusal that a fault of the system is.
-fn refusal(error: &io::Error) -> JournalError {
-    if error.kind() == ErrorKind::OutOfMemory {
-        JournalError::OutOfMemory
+// Takes the file's lock.
+fn lock<F: Lockable>(file: &F) -> Result<(), OpenError>
+    ensures { OnOk result (F.is_locked file.now) }
+{
+    if file.take_lock()? {
+        Ok(())
     } else {
-        JournalError::Io
+        Err(OpenError::Busy)
     }
 }
 
@@ -94,33 +98,32 @@ fn write_once<W: Write>(writer: &mut W, copy: &mut Vec<u8>, bytes: &[u8]) -> boo
     }
 }
 
-impl<F: Read + Write + OpenFile + Drop> FileJournal<F> {
-    /// Opens the file at the path as a journal, and reads all of it. An absent one is made where `make` is true, and else
-    /// refused as `Io`, as is a file that can't be opened for reading and writing, or read.
+impl<F: Read + Write + OpenFile + Lockable + Drop> FileJournal<F> {
+    /// Opens the file at the path as a journal, takes its lock, and then reads all of it. An absent one is made where `make`
+    /// is true, before the lock is taken, and else refused as `Io`, as is a file that can't be opened for reading and
+    /// writing, locked or read. Where another has the lock it is refused as `Busy`, and not read. The only other refusal is
+    /// `OutOfMemory`.
     pub fn at<R: Files<File = F>>(
         rt: &R,
         alloc: Global,
         path: &str,
         make: bool,
-    ) -> Result<FileJournal<F>, JournalError>
-        ensures { IfOk result (λ j. j.failures ≡ 0) }
+    ) -> Result<FileJournal<F>, OpenError>
+        ensures new { IfOk result (λ j. j.failures ≡ 0) }
+        ensures locked { IfOk result (λ _. (file : F) × F.is_locked file) }
     {
-        match OpenOptions::new()
+        let mut file = OpenOptions::new()
             .read(true)
             .append(true)
             .create(make)
-            .open(rt, path)
-        {
-            Ok(mut file) => match read_whole(alloc, &mut file) {
-                Ok(copy) => Ok(FileJournal {
-                    file,
-                    copy,
-                    failures: 0,
-                }),
-                Err(error) => Err(refusal(&error)),
-            },
-            Err(error) => Err(refusal(&error)),
-        }
+            .open(rt, path)?;
+        lock(&file)?;
+        let copy = read_whole(alloc, &mut file)?;
+        Ok(FileJournal {
+            file,
+            copy,
+            failures: 0,
+        })
     }
 }
 
@@ -145,7 +148,9 @@ impl<F: Write + OpenFile + Drop> FileJournal<F> {
 impl<F: Write + OpenFile + Drop> Journal for FileJournal<F> {
     ghost content = { λ j. j.content };
 
-    ghost failures = { λ j. j.failures };
+    ghost device = { λ j. failing j.failures };
+
+    ghost is_settled = { λ _. Unit {0} };
 
     fn append(&mut self, bytes: &[u8]) -> Result<(), JournalError> {
         if self.copy.reserve(bytes.len()).is_err() {
@@ -155,6 +160,11 @@ impl<F: Write + OpenFile + Drop> Journal for FileJournal<F> {
             self.failures = self.failures.saturating_add(1);
             return Err(JournalError::Io);
         }
+        Ok(())
+    }
+
+    // Whoever has the file calls `sync` when it has to be.
+    fn settle(&mut self) -> Result<(), JournalError> {
         Ok(())
     }
 

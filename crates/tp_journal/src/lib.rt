@@ -8,10 +8,13 @@
 mod durable;
 mod error;
 mod file;
+mod fuse;
 mod journal;
 mod laws;
 mod layout;
+mod lock;
 mod memory;
+mod opening;
 mod reading;
 mod recovering;
 mod writing;
@@ -19,12 +22,15 @@ mod writing;
 pub use durable::DurableJournal;
 pub use error::JournalError;
 pub use file::FileJournal;
+pub use fuse::FuseJournal;
 pub use journal::Journal;
 pub use laws::{
     beginnings_recover, cut_appends_recover, journals_are_bytes, journals_grow, one_recovery,
     one_refusal, recovered_is_what_recovers, refused_or_recovered,
 };
 pub use layout::{DIGEST_BYTES, HEADER_BYTES, MAGIC};
+pub use lock::Lockable;
 pub use memory::MemJournal;
+pub use opening::OpenError;
 pub use recovering::{Recovered, recover};
 pub use writing::{header, put_record, record};

@@ -1,6 +1,7 @@
 //! A journal in memory.
 
-ghost use Rattle.std.specs.Prelude.{◌≡◌, ◌++◌, take, IsOk, OnOk, OnErr, IfOk, IsOkUnless};
+ghost use Rattle.std.specs.Prelude.{◌≡◌, ◌++◌, length, take, IsOk, OnOk, OnErr, IfOk, IsOkUnless};
+ghost use Rattle.tp_journal.specs.Journal.{no_device};
 ghost use Rattle.tp_journal.specs.declared.error.JournalError.TheVariants.{OutOfMemory};
 
 use crate::error::JournalError;
@@ -32,6 +33,13 @@ impl MemJournal {
         MemJournal { bytes }
     }
 
+    /// How many bytes the content has.
+    pub(crate) fn len(&self) -> u64
+        ensures { result ≡ length self.now }
+    {
+        self.bytes.len() as u64
+    }
+
     /// The content. No memory.
     pub fn into_vec(self) -> Vec<u8>
         ensures { result.items ≡ self }
@@ -43,7 +51,9 @@ impl MemJournal {
 impl Journal for MemJournal {
     ghost content = { λ j. j };
 
-    ghost failures = { λ _. 0 };
+    ghost device = { λ _. no_device };
+
+    ghost is_settled = { λ _. Unit {0} };
 
     fn append(&mut self, bytes: &[u8]) -> Result<(), JournalError>
         ensures ok { OnOk result (self.new ≡ self.old ++ bytes.now) }
@@ -54,6 +64,13 @@ impl Journal for MemJournal {
             Ok(()) => Ok(()),
             Err(_) => Err(JournalError::OutOfMemory),
         }
+    }
+
+    fn settle(&mut self) -> Result<(), JournalError>
+        ensures stays { self.new ≡ self.old }
+        ensures settled { IsOk result }
+    {
+        Ok(())
     }
 
     fn cut(&mut self, len: u64) -> Result<(), JournalError>

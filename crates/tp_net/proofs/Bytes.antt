@@ -1,12 +1,7 @@
 -- What is sent where bytes stay, and frames behind frames.
-use Rattle.std.proofs.Common.{ℕ, List, [], ◌++◌, sym, subst}
-use Rattle.std.specs.Prelude.{Option}
-use Rattle.std.specs.Io.KnownBytes.{Appends, Keeps}
-use Rattle.std.specs.List.{flat_map}
-use Rattle.std.proofs.KnownBytes.{Appends-nil, Appends-kept, Appends-trans}
+use Rattle.tp_net.proofs.Common.{ℕ, List, [], ◌++◌, sym, subst, Option, Appends, Keeps, flat_map, Appends-nil, Appends-kept, Appends-trans, spelling}
 use Rattle.std.proofs.lemmas.List.Concat.{flat_map-append}
 use Rattle.tp_frame.specs.declared.frame.Frame.{Frame as FrameOf}
-use Rattle.tp_frame.specs.Frame.{spelling}
 
 -- known bytes that stay gain none
 pub kept_gains_nothing : (a b : Option (List ℕ)) → Keeps a b → Appends a b []

@@ -1,23 +1,8 @@
 -- A session counts the changes that its seat enters by it.
-use Rattle.std.proofs.Common.{◌≡◌, ap, ℕ, ◌+◌, ◌-◌, ◌^◌, ◌≤◌, List, length, Bool, Ok, Err, inl, inr, refl, subst, arith}
-use Rattle.std.specs.Prelude.{Result, min}
+use Rattle.tp_net.proofs.Common.{◌≡◌, ap, ℕ, ◌+◌, ◌-◌, ◌^◌, ◌≤◌, List, length, Bool, Ok, Err, inl, inr, refl, subst, arith, Result, min, trace_keeps, DocId, Frame, Reply, Forgotten, Received, Refused, SeatState, NetError, Turn, Ended, SessionData, begun, counting, Heard, SessionStep, Tells, is_stale, answers, step_ways, Answered, Entry, Traffic, IsHeld, Enters, Holds, Meets, TakesTurn}
 use Rattle.tp_list.specs.Traces.{Trace}
-use Rattle.tp_list.proofs.TraceLaws.{trace_keeps}
-use Rattle.tp_opid.specs.declared.doc_id.DocId.{DocId}
-use Rattle.tp_frame.specs.declared.frame.Frame.{Frame}
-use Rattle.tp_peer.specs.PeerStep.{Reply, Forgotten, Received, Refused}
-use Rattle.tp_served.specs.Seats.{SeatState}
-use Rattle.tp_session.specs.declared.error.NetError.{NetError}
 use Rattle.tp_session.specs.declared.session.Role.{Role}
-use Rattle.tp_session.specs.declared.turn.Turn.{Turn}
-use Rattle.tp_session.specs.declared.turn.Ended.{Ended}
 use Rattle.tp_session.specs.HostCalls.{Receive}
-use Rattle.tp_session.specs.SessionData.{SessionData, begun, counting}
-use Rattle.tp_session.specs.SessionStep.{Heard, SessionStep, Tells, is_stale}
-use Rattle.tp_session.proofs.StepFacts.{answers, step_ways}
-use Rattle.tp_net.specs.Transcript.{Answered, Entry, Traffic}
-use Rattle.tp_net.specs.RunSession.{IsHeld}
-use Rattle.tp_net.specs.Sessions.{Enters, Holds, Meets, TakesTurn}
 use Rattle.tp_net.proofs.Entering.{forgotten_stays, generated_stays, received_grows}
 
 -- the most that is counted
@@ -69,7 +54,8 @@ step_counts : (a : SessionData × SeatState) (f : Frame) (turn : Turn) (b : Sess
 step_counts a f turn b step = elim (step_ways TakesTurn a f (Ok turn) b step) [
   | inl alone ↦ still a.0.applied b.0.applied (length a.1.mine) (length b.1.mine) alone.0.applied (ap (λ (t : SeatState). length t.mine) alone.1)
   | inr (inl told) ↦ tells told.0 a b (Ok turn) told.1
-  | inr (inr came) ↦ heard came.0 came.1.0 a came.1.1 b turn came.1.2 came.1.3
+  | inr (inr (bytes, inl came)) ↦ heard bytes came.0 a came.1 b turn came.2 came.3
+  | inr (inr (bytes, inr refused)) ↦ let e = refused.2.0 in absurd (cc)
 ]
 
 -- all steps of a transcript

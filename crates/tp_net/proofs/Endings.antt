@@ -1,23 +1,7 @@
 -- How a session over a stream ends.
-use Rattle.std.proofs.Common.{◌≡◌, ◌⊎◌, ℕ, List, [], ◌++◌, true, false, Some, None, Err, inl, inr, refl, sym, ap, subst, ◌∙◌, append-nil}
-use Rattle.std.specs.Prelude.{Option, option_to_list}
-use Rattle.tp_frame.specs.declared.frame.Frame.{Frame}
-use Rattle.tp_frame.specs.Frame.{spelling, IsFrame}
-use Rattle.tp_peer.specs.PeerStep.{Reply}
-use Rattle.tp_session.specs.declared.error.NetError.{NetError}
+use Rattle.tp_net.proofs.Common.{◌≡◌, ◌⊎◌, ℕ, List, [], ◌++◌, true, false, Some, None, Err, inl, inr, refl, sym, ap, subst, ◌∙◌, append-nil, Option, option_to_list, Frame, spelling, IsFrame, Reply, NetError, Turn, Ended, HostCall, is_over, refusal_of, SessionData, first_of, SessionStep, turn_tells, Comes, Traffic, CantSend, EndsBy, GivesNoFrame, Takes, TakesAndStops, EndsWell, StopsFor}
 use Rattle.tp_session.specs.declared.session.Phase.{Phase}
 use Rattle.tp_session.specs.declared.session.Phase.TheVariants.{AwaitsHello, Exchanges, SaidDone, Over}
-use Rattle.tp_session.specs.declared.turn.Turn.{Turn}
-use Rattle.tp_session.specs.declared.turn.Ended.{Ended}
-use Rattle.tp_session.specs.HostCalls.{HostCall}
-use Rattle.tp_session.specs.Laws.{is_over}
-use Rattle.tp_session.specs.NetError.{refusal_of}
-use Rattle.tp_session.specs.SessionData.{SessionData, first_of}
-use Rattle.tp_session.specs.SessionStep.{SessionStep}
-use Rattle.tp_session.proofs.StepFacts.{refusal_due, turn_tells}
-use Rattle.tp_net.specs.Transcript.{Comes, Traffic}
-use Rattle.tp_net.specs.Stops.{CantSend, EndsBy, GivesNoFrame, Takes, TakesAndStops}
-use Rattle.tp_net.specs.RunSession.{EndsWell, StopsFor}
 use Rattle.tp_net.proofs.Transcripts.{comes_begin, comes_on}
 
 over_is : (p : Phase) → is_over p ≡ true → p ≡ Over
@@ -27,7 +11,7 @@ over_is SaidDone is = absurd (cc)
 over_is Over is = refl
 
 -- an end from its error, where the refusal is the one that is due
-ended_is : (ended : Ended) (e : NetError) → e ≡ ended.error → ended.send ≡ refusal_of ended.error → ended ≡ record { error = e; send = refusal_of e }
+pub ended_is : (ended : Ended) (e : NetError) → e ≡ ended.error → ended.send ≡ refusal_of ended.error → ended ≡ record { error = e; send = refusal_of e }
 ended_is ended e is due =
     let told : ended.send ≡ refusal_of e = due ∙ ap refusal_of (sym is) in
     ap (λ (x : NetError). let r : Ended = record { error = x; send = ended.send } in r) (sym is)
@@ -37,20 +21,6 @@ module _ {H : Type 0} (steps : H → HostCall → Reply → H → Type 0) (a : S
   -- the session has ended just where the turn says so
   pub turn_ends : (held : List ℕ) (turn : Turn) (rest : List ℕ) (b : SessionData × H) → Takes steps a held turn rest b → turn.ended ≡ is_over b.0.phase
   turn_ends held turn rest b t = turn_tells steps a b t.frame turn t.step
-
-  -- the next frame ends the session for an error
-  pub ends_by : (held : List ℕ) (frame : Frame) (rest : List ℕ) (ended : Ended) (s' : SessionData) (e : NetError) (h' : H)
-      → IsFrame frame → held ≡ spelling frame ++ rest → is_over a.0.phase ≡ false → e ≡ ended.error → SessionStep steps a frame (Err ended) (s', h')
-      → EndsBy steps a held e h'
-  ends_by held frame rest ended s' e h' is_frame front going is step = record {
-    frame = frame;
-    rest = rest;
-    session = s';
-    is_frame = is_frame;
-    front = front;
-    step = subst (λ (x : Ended). SessionStep steps a frame (Err x) (s', h'))
-        (ended_is ended e is (refusal_due steps a (s', h') frame ended going step)) step;
-  }
 
   -- a turn that ends the session ends it well
   pub ends_well : (w : Traffic) (held : List ℕ) (s' : SessionData) (h' : H) (applied : ℕ)

@@ -1,17 +1,15 @@
 -- How many changes a seat's turns enter.
-use Rattle.std.proofs.Common.{◌≡◌, ◌∙◌, ap, ℕ, suc, ◌+◌, ◌-◌, List, [], ◌∷◌, ◌++◌, length, refl, Bool, true, false, arith, length-append, length-drop, sym}
-use Rattle.std.specs.Prelude.{MatchBool}
+use Rattle.tp_net.proofs.Common.{◌≡◌, ◌∙◌, ap, ℕ, suc, ◌+◌, ◌-◌, List, [], ◌∷◌, ◌++◌, length, refl, Bool, true, false, arith, length-append, length-drop, sym, MatchBool, Call, Forget, Generate, Hears, Receive, Received, Refused, Reply, SeatState, Shows, past}
 use Rattle.tp_change.specs.declared.parts.ChangeParts.{ChangeParts}
 use Rattle.tp_receive.specs.Receiving.{hashes}
 use Rattle.tp_receive.proofs.RunLaws.{progress}
 use Rattle.tp_peer.specs.declared.error.PeerError.TheVariants.{Stopped}
 use Rattle.tp_peer.specs.Appending.{AppendsRecord}
 use Rattle.tp_peer.specs.PeerData.{PeerData}
-use Rattle.tp_peer.specs.PeerStep.{Call, Forget, Generate, Hears, PeerStep, Receive, Received, Refused, Reply}
+use Rattle.tp_peer.specs.PeerStep.{PeerStep}
 use Rattle.tp_receive.specs.Outcome.{Report, at_end}
 use Rattle.tp_peer.specs.Taking.{journal_of, receiver_of}
 use Rattle.tp_peer.proofs.StepLaws.{step_keeps}
-use Rattle.tp_served.specs.Seats.{SeatState, Shows, past}
 
 -- ---- peers
 

@@ -1,6 +1,8 @@
+pub mod Common
 pub mod Bytes
 pub mod Transcripts
 pub mod Endings
+pub mod Hearing
 pub mod SeatLists
 pub mod Entering
 pub mod Counting

@@ -1,15 +1,9 @@
 -- Lists of seats, seat by seat.
-use Rattle.std.proofs.Common.{◌≡◌, ℕ, zero, suc, ◌<◌, List, [], ◌∷◌, ◌++◌, length, take, drop, take_all, append-nil, ap, subst, sym, refl, inl, inr, ◌∙◌, arith}
+use Rattle.tp_net.proofs.Common.{◌≡◌, ℕ, zero, suc, ◌<◌, List, [], ◌∷◌, ◌++◌, length, take, drop, take_all, append-nil, ap, subst, sym, refl, inl, inr, ◌∙◌, arith, Result, Ok, Err, slice_index_or, trace_join, DocId, SeatData, NetError, AllSit, Holds, Meets, Sits}
 use lib.Seq.{drop-length}
-use Rattle.std.specs.Prelude.{Result, Ok, Err, slice_index_or}
 use Rattle.atomic_table.specs.Seated.{TableId}
-use Rattle.tp_list.proofs.TraceLaws.{trace_join}
-use Rattle.tp_opid.specs.declared.doc_id.DocId.{DocId}
-use Rattle.tp_served.specs.Seats.{SeatData}
-use Rattle.tp_session.specs.declared.error.NetError.{NetError}
 use Rattle.tp_session.specs.declared.session.Role.TheVariants.{Server}
 use Rattle.tp_served.specs.Calls.{AreOf}
-use Rattle.tp_net.specs.Sessions.{AllSit, Holds, Meets, Sits}
 
 module _ (id : DocId) where
   -- no session

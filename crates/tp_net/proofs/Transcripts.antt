@@ -1,18 +1,6 @@
 -- How a transcript begins and goes on.
-use Rattle.std.proofs.Common.{◌≡◌, ℕ, List, [], ◌∷◌, ◌++◌, refl, sym, ap, subst, ◌∙◌, append_assoc, append-nil}
-use Rattle.std.specs.Prelude.{Option, option_to_list}
-use Rattle.std.specs.List.{flat_map, AllByRecursion}
-use Rattle.std.proofs.lemmas.List.{flat_map_more, map-append}
-use Rattle.tp_list.proofs.TraceLaws.{trace_push}
-use Rattle.tp_frame.specs.declared.frame.Frame.{Frame}
-use Rattle.tp_frame.specs.Frame.{spelling, IsFrame}
+use Rattle.tp_net.proofs.Common.{◌≡◌, ℕ, List, [], ◌∷◌, ◌++◌, refl, sym, ap, subst, ◌∙◌, append_assoc, append-nil, Option, option_to_list, flat_map, AllByRecursion, flat_map_more, map-append, trace_push, Frame, spelling, IsFrame, Reply, Turn, HostCall, SessionData, first_of, Answered, Comes, Entry, Traffic, frames_of, Takes}
 use Rattle.tp_frame.specs.Stream.{BeginsWith}
-use Rattle.tp_peer.specs.PeerStep.{Reply}
-use Rattle.tp_session.specs.declared.turn.Turn.{Turn}
-use Rattle.tp_session.specs.HostCalls.{HostCall}
-use Rattle.tp_session.specs.SessionData.{SessionData, first_of}
-use Rattle.tp_net.specs.Transcript.{Answered, Comes, Entry, Traffic, frames_of}
-use Rattle.tp_net.specs.Stops.{Takes}
 
 -- ---- bytes that begin with frames
 
@@ -70,10 +58,9 @@ module _ {H : Type 0} (steps : H → HostCall → Reply → H → Type 0) (a : S
       }
 
 -- as it stands once it was made
-pub comes_first : {H : Type 0} (steps : H → HostCall → Reply → H → Type 0) (a : SessionData) (h : H) (s : SessionData) (held : List ℕ) (first : Option Frame)
-    → s ≡ a → held ≡ [] → first ≡ first_of s.role s.id → Comes steps (a, h) (record { read = []; sent = option_to_list first }) held (s, h)
-comes_first steps a h s held first is empty sends =
+pub comes_first : {H : Type 0} (steps : H → HostCall → Reply → H → Type 0) (a : SessionData) (h : H) (s : SessionData) (first : Option Frame)
+    → s ≡ a → first ≡ first_of s.role s.id → Comes steps (a, h) (record { read = []; sent = option_to_list first }) [] (s, h)
+comes_first steps a h s first is sends =
     let sent : first ≡ first_of a.role a.id = sends ∙ ap (λ (q : SessionData). first_of q.role q.id) is in
     let begun = subst (λ (o : Option Frame). Comes steps (a, h) (record { read = []; sent = option_to_list o }) [] (a, h)) (sym sent) (comes_begin steps (a, h)) in
-    let none = subst (λ (l : List ℕ). Comes steps (a, h) (record { read = []; sent = option_to_list first }) l (a, h)) (sym empty) begun in
-    subst (λ (q : SessionData). Comes steps (a, h) (record { read = []; sent = option_to_list first }) held (q, h)) (sym is) none
+    subst (λ (q : SessionData). Comes steps (a, h) (record { read = []; sent = option_to_list first }) [] (q, h)) (sym is) begun

@@ -1,3 +1,4 @@
+pub mod Common
 pub mod Transcript
 pub mod Stops
 pub mod RunSession

@@ -1,14 +1,8 @@
 -- A session over a stream, from its begin to its end.
 use Rattle.std.specs.Prelude.{◌≡◌, ◌⊎◌, ℕ, List, [], ◌++◌, Option, Result, Ok, Err, option_to_list}
-use Rattle.tp_frame.specs.declared.frame.Frame.{Frame}
+use Rattle.tp_net.specs.Common.{Frame, Reply, Forgotten, Refused, NetError, Io, Peer, HostCall, Forget, refusal_of, SessionData}
 use Rattle.tp_peer.specs.declared.error.PeerError.{PeerError}
-use Rattle.tp_peer.specs.PeerStep.{Reply, Forgotten, Refused}
-use Rattle.tp_session.specs.declared.error.NetError.{NetError}
-use Rattle.tp_session.specs.declared.error.NetError.TheVariants.{Io, Peer}
 use Rattle.tp_session.specs.declared.session.Phase.TheVariants.{Over}
-use Rattle.tp_session.specs.HostCalls.{HostCall, Forget}
-use Rattle.tp_session.specs.NetError.{refusal_of}
-use Rattle.tp_session.specs.SessionData.{SessionData}
 use Rattle.tp_net.specs.Transcript.{Comes, Traffic}
 use Rattle.tp_net.specs.Stops.{Stops}
 

@@ -1,15 +1,10 @@
 -- Sessions on a seat, one after another, and what they came to.
 use Rattle.std.specs.Prelude.{◌≡◌, ◌⊎◌, ℕ, ◌+◌, ◌-◌, ◌^◌, min, List, [], ◌∷◌, length, Result, Ok, Err}
-use Rattle.tp_list.specs.Traces.{Trace}
+use Rattle.tp_net.specs.Common.{Trace, Reply, NetError, Io, HostCall, on, begun}
 use Rattle.tp_opid.specs.declared.doc_id.DocId.{DocId}
-use Rattle.tp_peer.specs.PeerStep.{Reply}
 use Rattle.tp_served.specs.Seats.{SeatData, SeatState, Shows}
-use Rattle.tp_session.specs.declared.error.NetError.{NetError}
-use Rattle.tp_session.specs.declared.error.NetError.TheVariants.{Io}
 use Rattle.tp_session.specs.declared.session.Role.{Role}
 use Rattle.tp_session.specs.declared.session.Role.TheVariants.{Server}
-use Rattle.tp_session.specs.HostCalls.{HostCall, on}
-use Rattle.tp_session.specs.SessionData.{begun}
 use Rattle.tp_net.specs.Transcript.{Traffic}
 use Rattle.tp_net.specs.RunSession.{IsHeld}
 

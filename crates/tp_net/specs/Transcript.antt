@@ -1,14 +1,8 @@
 -- The transcript of a session on one side: the frames that came, and the turns that answered them.
 use Rattle.std.specs.Prelude.{◌≡◌, ℕ, List, ◌++◌, map, option_to_list, Ok}
+use Rattle.tp_net.specs.Common.{Trace, Frame, Reply, Turn, HostCall, SessionData, first_of, SessionStep}
 use Rattle.std.specs.List.{flat_map}
-use Rattle.tp_list.specs.Traces.{Trace}
-use Rattle.tp_frame.specs.declared.frame.Frame.{Frame}
 use Rattle.tp_frame.specs.Stream.{BeginsWith}
-use Rattle.tp_peer.specs.PeerStep.{Reply}
-use Rattle.tp_session.specs.declared.turn.Turn.{Turn}
-use Rattle.tp_session.specs.HostCalls.{HostCall}
-use Rattle.tp_session.specs.SessionData.{SessionData, first_of}
-use Rattle.tp_session.specs.SessionStep.{SessionStep}
 
 -- What went over the stream: the bytes that were read, and the frames that were sent.
 pub record Traffic : Type 0 where

@@ -1,13 +1,13 @@
-//! Frames out of a reader.
+//! Parts of frames out of a reader.
 
-ghost use Rattle.std.specs.Prelude.{◌≡◌, ◌⊎◌, ◌<◌, ◌≤◌, ℕ, List, [], ◌++◌, length, take, IfOk, IfErr, OnOk, OnErr};
+ghost use Rattle.std.specs.Prelude.{◌≡◌, ◌⊎◌, ◌<◌, ◌≤◌, ℕ, List, [], ◌++◌, length, slice_index, take, IfOk, IfErr, OnOk, OnErr};
 ghost use Rattle.std.specs.Io.KnownBytes.{Consumes};
-ghost use Rattle.tp_frame.specs.Frame.{spelling, IsFrame};
+ghost use Rattle.tp_frame.specs.Parts.{Led, Gives, Stands, with_more};
 ghost use Rattle.tp_session.specs.declared.error.NetError.TheVariants.{Io, OutOfMemory};
-ghost use Rattle.tp_net.specs.Stops.{GivesNoFrame};
+ghost use Rattle.tp_net.specs.Stops.{GivesNoFrame, is_last};
 
 use std::io::{ErrorKind, Read};
-use tp_frame::{Frame, Framer};
+use tp_frame::{Part, PartFramer};
 use tp_session::NetError;
 
 /// The most bytes that are read at once.
@@ -35,37 +35,61 @@ fn read_some<R: Read>(reader: &mut R, chunk: &mut [u8]) -> Result<usize, NetErro
     Err(NetError::Io)
 }
 
+// Feeds the framer bytes.
+fn feed(framer: &mut PartFramer, bytes: &[u8]) -> Result<(), NetError>
+    ensures typed { (i : ℕ) → slice_index bytes.now i < 256 }
+    ensures ok { OnOk result ((led : Led) → Stands led framer.old
+        → Stands (with_more led bytes.now) framer.new) }
+    ensures err { IfErr result (λ e. e ≡ OutOfMemory) }
+{
+    framer.feed(bytes)?;
+    Ok(())
+}
+
 // Feeds the framer the next bytes. `Io` where there are none, and where the reader fails.
-fn feed_some<R: Read>(reader: &mut R, framer: &mut Framer) -> Result<(), NetError>
+fn feed_some<R: Read>(reader: &mut R, framer: &mut PartFramer) -> Result<(), NetError>
     ensures ok { OnOk result ((more : List ℕ)
         × Consumes (R.remaining reader.old) (R.remaining reader.new) more
-        × (0 < length more) × (framer.new ≡ framer.old ++ more)) }
+        × (0 < length more) × ((i : ℕ) → slice_index more i < 256)
+        × ((led : Led) → Stands led framer.old → Stands (with_more led more) framer.new)) }
     ensures lost { (more : List ℕ)
         × Consumes (R.remaining reader.old) (R.remaining reader.new) more }
     ensures err { IfErr result (λ e. (e ≡ Io) ⊎ (e ≡ OutOfMemory)) }
 {
     let mut chunk = [0u8; CHUNK];
     let len = read_some(reader, &mut chunk)?;
-    framer.feed(&chunk[..len])?;
+    feed(framer, &chunk[..len])?;
     Ok(())
 }
 
-/// The next frame of the stream: that which the framer holds, or the bytes that the reader gives make whole.
+/// The next part of the stream: that which the framer holds, or which the bytes that the reader gives make.
 ///
 /// `Io` where the reader fails or ends before, `Frame` where what came is no frame, and `OutOfMemory`.
-pub(crate) fn next_frame<R: Read>(reader: &mut R, framer: &mut Framer) -> Result<Frame, NetError>
-    ensures ok { IfOk result (λ frame. (more : List ℕ)
+pub(crate) fn next_part<R: Read>(reader: &mut R, framer: &mut PartFramer) -> Result<Part, NetError>
+    ensures ok { (led : Led) → Stands led framer.old → IfOk result
+        (λ part. (more : List ℕ) × (after : Led)
         × Consumes (R.remaining reader.old) (R.remaining reader.new) more
-        × IsFrame frame × (framer.old ++ more ≡ spelling frame ++ framer.new)) }
-    ensures err { IfErr result (λ e. (more : List ℕ)
-        × Consumes (R.remaining reader.old) (R.remaining reader.new) more
-        × GivesNoFrame (framer.old ++ more) e) }
+        × ((i : ℕ) → slice_index more i < 256)
+        × Gives (with_more led more) part after × Stands after framer.new) }
+    ensures err { (led : Led) → Stands led framer.old → IfErr result
+        (λ e. (more : List ℕ) × Consumes (R.remaining reader.old) (R.remaining reader.new) more
+        × GivesNoFrame (led.came ++ more) e) }
 {
     for _ in 0..u64::MAX {
-        if let Some(frame) = framer.next()? {
-            return Ok(frame);
+        if let Some(part) = framer.next()? {
+            return Ok(part);
         }
         feed_some(reader, framer)?;
     }
     Err(NetError::Io)
+}
+
+/// Whether a frame ends with the part.
+pub(crate) fn is_last(part: &Part) -> bool
+    ensures { result ≡ is_last part.now }
+{
+    match part {
+        Part::Begin(_) | Part::Piece(_) => false,
+        Part::End | Part::Whole(_) => true,
+    }
 }

@@ -4,42 +4,54 @@ ghost use Rattle.std.specs.Prelude.{◌≡◌, ◌⊎◌, ℕ, List, ◌++◌, f
 ghost use Rattle.std.specs.List.{flat_map};
 ghost use Rattle.std.specs.Io.KnownBytes.{Appends, Consumes, Keeps};
 ghost use Rattle.tp_frame.specs.Frame.{spelling};
+ghost use Rattle.tp_frame.specs.Joining.{between};
 ghost use Rattle.tp_session.specs.declared.error.NetError.TheVariants.{Io};
 ghost use Rattle.tp_session.specs.declared.turn.Turn.{Turn as TurnOf};
 ghost use Rattle.tp_session.specs.Laws.{is_over};
 ghost use Rattle.tp_session.specs.SessionData.{begun};
 ghost use Rattle.tp_net.specs.Transcript.{Traffic};
-ghost use Rattle.tp_net.specs.Stops.{GivesNoFrame, EndsBy, Takes, TakesAndStops};
+ghost use Rattle.tp_net.specs.Stops.{GivesNoFrame, EndsBy, IsAmid, Takes, TakesAndStops};
 ghost use Rattle.tp_net.specs.RunSession.{EndsWell, StopsFor, Ends, IsHeld};
 
-use crate::reading::next_frame;
+use crate::reading::{is_last, next_part};
 use crate::writing::{send, send_refusal};
 use std::alloc::Global;
 use std::io::{Read, Write};
-use tp_frame::Framer;
+use tp_frame::PartFramer;
 use tp_opid::DocId;
 use tp_session::{Host, NetError, Role, Session, Turn};
 
-// The session's turn about the next frame.
+// The session's turn about the next frame, whose parts it takes as they come.
 fn hear<R: Read, H: Host>(
+    alloc: Global,
     reader: &mut R,
-    framer: &mut Framer,
+    framer: &mut PartFramer,
     session: &mut Session,
     host: &mut H,
 ) -> Result<Turn, NetError>
-    ensures ok { IfOk result (λ turn. (more : List ℕ)
+    ensures ok { (came : List ℕ) → IsAmid session.old (between came) session.old framer.old
+        → IfOk result (λ turn. (more : List ℕ) × (rest : List ℕ)
         × Consumes (R.remaining reader.old) (R.remaining reader.new) more
-        × Takes H.steps (session.old, H.seen host.old) (framer.old ++ more) turn
-        framer.new (session.new, H.seen host.new)) }
-    ensures err { IfErr result (λ e. (more : List ℕ)
+        × Takes H.steps (session.old, H.seen host.old) (came ++ more) turn
+        rest (session.new, H.seen host.new)
+        × IsAmid session.new (between rest) session.new framer.new) }
+    ensures err { (came : List ℕ) → IsAmid session.old (between came) session.old framer.old
+        → IfErr result (λ e. (more : List ℕ)
         × Consumes (R.remaining reader.old) (R.remaining reader.new) more
         × (is_over session.old.phase ≡ false
-        → (GivesNoFrame (framer.old ++ more) e × (H.seen host.new ≡ H.seen host.old))
-        ⊎ EndsBy H.steps (session.old, H.seen host.old) (framer.old ++ more) e (H.seen host.new))) }
+        → (GivesNoFrame (came ++ more) e × (H.seen host.new ≡ H.seen host.old))
+        ⊎ EndsBy H.steps (session.old, H.seen host.old) (came ++ more) e (H.seen host.new))) }
     ensures host { H.goes_on host.old host.new }
 {
-    let frame = next_frame(reader, framer)?;
-    Ok(session.on_frame(frame, host)?)
+    for _ in 0..u64::MAX {
+        let part = next_part(reader, framer)?;
+        let last = is_last(&part);
+        let turn = session.on_part(alloc, part, host)?;
+        if last {
+            return Ok(turn);
+        }
+    }
+    Err(NetError::Io)
 }
 
 // Takes the next frame and sends the answer. Whether the session has ended then.
@@ -47,23 +59,26 @@ fn take_turn<R: Read, W: Write, H: Host>(
     alloc: Global,
     reader: &mut R,
     writer: &mut W,
-    framer: &mut Framer,
+    framer: &mut PartFramer,
     session: &mut Session,
     host: &mut H,
 ) -> Result<bool, NetError>
-    ensures ok { IfOk result (λ ended. (more : List ℕ) × (turn : TurnOf)
+    ensures ok { (came : List ℕ) → IsAmid session.old (between came) session.old framer.old
+        → IfOk result (λ ended. (more : List ℕ) × (rest : List ℕ) × (turn : TurnOf)
         × Consumes (R.remaining reader.old) (R.remaining reader.new) more
         × Appends (W.contents writer.old) (W.contents writer.new)
         (flat_map spelling (option_to_list turn.send))
-        × Takes H.steps (session.old, H.seen host.old) (framer.old ++ more) turn
-        framer.new (session.new, H.seen host.new)
+        × Takes H.steps (session.old, H.seen host.old) (came ++ more) turn
+        rest (session.new, H.seen host.new)
+        × IsAmid session.new (between rest) session.new framer.new
         × (turn.ended ≡ ended)) }
-    ensures err { IfErr result (λ e. (more : List ℕ)
+    ensures err { (came : List ℕ) → IsAmid session.old (between came) session.old framer.old
+        → IfErr result (λ e. (more : List ℕ)
         × Consumes (R.remaining reader.old) (R.remaining reader.new) more
         × (is_over session.old.phase ≡ false
-        → (GivesNoFrame (framer.old ++ more) e × (H.seen host.new ≡ H.seen host.old))
-        ⊎ (EndsBy H.steps (session.old, H.seen host.old) (framer.old ++ more) e (H.seen host.new)
-        ⊎ TakesAndStops H.steps (session.old, H.seen host.old) (framer.old ++ more) e
+        → (GivesNoFrame (came ++ more) e × (H.seen host.new ≡ H.seen host.old))
+        ⊎ (EndsBy H.steps (session.old, H.seen host.old) (came ++ more) e (H.seen host.new)
+        ⊎ TakesAndStops H.steps (session.old, H.seen host.old) (came ++ more) e
         (H.seen host.new)))) }
     ensures kept { IfErr result
         (λ e. (e ≡ Io) ⊎ Keeps (W.contents writer.old) (W.contents writer.new)) }
@@ -72,7 +87,7 @@ fn take_turn<R: Read, W: Write, H: Host>(
     let Turn {
         send: answer,
         ended,
-    } = hear(reader, framer, session, host)?;
+    } = hear(alloc, reader, framer, session, host)?;
     send(alloc, writer, answer)?;
     Ok(ended)
 }
@@ -96,7 +111,7 @@ fn converse<R: Read, W: Write, H: Host>(
     ensures host { H.goes_on host.old host.new }
 {
     let mut session = Session::new(role, id);
-    let mut framer = Framer::new(alloc);
+    let mut framer = PartFramer::new(alloc);
     send(alloc, writer, session.first())?;
     for _ in 0..u64::MAX {
         if take_turn(alloc, reader, writer, &mut framer, &mut session, host)? {
@@ -135,19 +150,19 @@ fn hold<R: Read, W: Write, H: Host>(
 /// many changes were applied here.
 ///
 /// The host forgets its link before the first frame and at the end. A client sends its hello; then each frame that the
-/// reader gives is answered as [`Session::on_frame`] says, until both sides have said done. The writer is flushed behind
+/// reader gives is answered as [`Session::on_part`] says, until both sides have said done. The writer is flushed behind
 /// each frame.
 ///
 /// Where the host refuses to forget the link at the begin the answer is `Peer`, and nothing is read or sent; such a
 /// refusal at the end changes nothing. `Io` where the reader fails, or ends before the session has, and where the
 /// writer fails. `Frame` where the bytes that come are no frame, or a message of the host is too long for one.
-/// `OutOfMemory` where a growth was refused for a frame, and else what `on_frame` answers. Before each error but `Io`
+/// `OutOfMemory` where a growth was refused for a frame, and else what `on_part` answers. Before each error but `Io`
 /// and `RefusedByOther` the refusal that is due is sent, which takes no memory; where the writer fails then, the
 /// answer is `Io`.
 ///
 /// It waits for bytes as long as the reader does, so the other side can hold it for ever. At most 8,192 bytes are read at
-/// once, copied into the framer, and kept there until their frames are whole; bytes behind the last frame may have been
-/// read. An answer's bytes are written once. All else is the cost of the host's calls.
+/// once and copied into the framer, which keeps them no longer than it takes to give them to the session: of a message
+/// those of one change at most are held, and what was decoded. Bytes behind the last frame may have been read. An answer's bytes are written once. All else is the cost of the host's calls.
 pub fn run_session<R: Read, W: Write, H: Host>(
     alloc: Global,
     reader: &mut R,

@@ -9,6 +9,7 @@ use tp_journal::Journal;
 use tp_peer::{Outgoing, PeerError, Received};
 use tp_served::{Seat, Served};
 use tp_session::Host;
+use tp_sync::Message;
 
 /// A seat that is lent, with its served peer, as the host of sessions on the link with the seat's number.
 ///
@@ -48,6 +49,10 @@ impl<'a, 's, J: Journal, R: Wait> Host for SeatedHost<'a, 's, J, R> {
 
     fn receive(&mut self, bytes: &[u8]) -> Result<Received, PeerError> {
         self.served.receive(self.rt, self.seat, bytes)
+    }
+
+    fn receive_message(&mut self, message: Message) -> Result<Received, PeerError> {
+        self.served.receive_message(self.rt, self.seat, message)
     }
 
     fn generate(&mut self) -> Result<Option<Outgoing>, PeerError> {

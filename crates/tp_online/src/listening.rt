@@ -29,7 +29,7 @@ pub(crate) fn opened<R: Disk + AllocGlobal>(
     file: &str,
     actor: Actor,
 ) -> Result<Peer<DurableJournal<R::File>>, CommandError>
-    ensures { IfOk result (λ p. OfFile (R.reads rt.now) file.now
+    ensures { IfOk result (λ p. OfFile (R.takes rt.now) file.now
         (λ bytes. OpensJournal bytes actor p)) }
 {
     let journal = rt.durable_journal(file)?;
@@ -53,7 +53,7 @@ pub(crate) fn listen<R: Disk + Net + AllocGlobal>(
     addr: SocketAddr,
     actor: Actor,
 ) -> Result<Listening<R::Listener, R::File>, CommandError>
-    ensures { IfOk result (λ l. OfFile (R.reads rt.now) file.now
+    ensures { IfOk result (λ l. OfFile (R.takes rt.now) file.now
         (λ bytes. OpensJournal bytes actor l.peer)) }
 {
     let peer = opened(rt, file, actor)?;

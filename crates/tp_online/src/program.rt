@@ -77,12 +77,12 @@ where
     ensures status { result ≤ MISUSED }
     // What was done prints nothing on the standard error.
     ensures done { result ≡ DONE → Keeps (E.contents err.old) (E.contents err.new)
-        × WasDone (R.reads rt.now) (R.leaves rt.now) (map S.text words.now)
+        × WasDone (R.reads rt.now) (R.takes rt.now) (R.leaves rt.now) (map S.text words.now)
         (W.contents out.old) (W.contents out.new) }
     // Of what was refused one line stands there, or a beginning of it where writing it failed.
     ensures refused { result ≡ REFUSED → (e : Refusal)
         × GrowsPart (IsLineOf e) (E.contents err.old) (E.contents err.new)
-        × WasRefused (R.reads rt.now) (R.leaves rt.now) (map S.text words.now) e
+        × WasRefused (R.reads rt.now) (R.takes rt.now) (R.leaves rt.now) (map S.text words.now) e
         (W.contents out.old) (W.contents out.new) }
     // Words at fault print nothing on the standard output.
     ensures misused { result ≡ MISUSED → (fault_of textpeer_app (map S.text words.now) ≢ [])
@@ -109,11 +109,11 @@ where
     R::Stream: Send,
     ensures status { result ≤ REFUSED }
     ensures done { result ≡ DONE → Keeps (E.contents err.old) (E.contents err.new)
-        × IsDone (R.reads rt.now) (R.leaves rt.now) command.entry
+        × IsDone (R.reads rt.now) (R.takes rt.now) (R.leaves rt.now) command.entry
         (W.contents out.old) (W.contents out.new) }
     ensures refused { result ≡ REFUSED → (e : Refusal)
         × GrowsPart (IsLineOf e) (E.contents err.old) (E.contents err.new)
-        × IsRefused (R.reads rt.now) (R.leaves rt.now) command.entry e
+        × IsRefused (R.reads rt.now) (R.takes rt.now) (R.leaves rt.now) command.entry e
         (W.contents out.old) (W.contents out.new) }
 {
     match carried(rt, command, out) {
@@ -131,10 +131,10 @@ fn carried<R: Disk + Net + Threads + Wait + AllocGlobal + Sync, W: Write>(
 where
     R::File: Send,
     R::Stream: Send,
-    ensures done { OnOk result (IsDone (R.reads rt.now) (R.leaves rt.now) command.entry
+    ensures done { OnOk result (IsDone (R.reads rt.now) (R.takes rt.now) (R.leaves rt.now) command.entry
         (W.contents out.old) (W.contents out.new)) }
     ensures refused { IfErr result
-        (λ e. IsRefused (R.reads rt.now) (R.leaves rt.now) command.entry e
+        (λ e. IsRefused (R.reads rt.now) (R.takes rt.now) (R.leaves rt.now) command.entry e
         (W.contents out.old) (W.contents out.new)) }
 {
     match job_of(rt.alloc(), command) {
@@ -156,9 +156,9 @@ where
     R::File: Send,
     R::Stream: Send,
     ensures prints { OnOk result
-        (Grows (IsPrinted (R.reads rt.now) (R.leaves rt.now) job.entry)
+        (Grows (IsPrinted (R.reads rt.now) (R.takes rt.now) (R.leaves rt.now) job.entry)
         (W.contents out.old) (W.contents out.new)) }
-    ensures err { IfErr result (λ e. LeavesOf (R.reads rt.now) (R.leaves rt.now) job.entry e
+    ensures err { IfErr result (λ e. LeavesOf (R.reads rt.now) (R.takes rt.now) (R.leaves rt.now) job.entry e
         (W.contents out.old) (W.contents out.new)) }
 {
     match job {
@@ -167,8 +167,17 @@ where
             file,
             addr,
             sessions,
+            workers,
             key,
-        } => done(serve_file(rt, file, addr, sessions, key, out)),
+        } => done(serve_file(
+            rt,
+            file,
+            addr,
+            sessions,
+            workers.clamp(1, 64) as usize,
+            key,
+            out,
+        )),
         Job::Sync { file, addr, key } => done(sync_file(rt, file, addr, key, out)),
     }
 }

@@ -34,9 +34,6 @@ pub(crate) struct Met<F: Write + OpenFile + Drop> {
     pub applied: u64,
 }
 
-// How many sessions a server holds at once.
-const WORKERS: usize = 2;
-
 // The line of the port on which a server listens.
 fn listening_line(alloc: Global, port: u16) -> Result<String, CommandError>
     ensures ok { IfOk result (λ l. string_bytes l ≡ line_of_port port) }
@@ -94,18 +91,19 @@ fn held<R: Disk + Net + Threads + Wait + AllocGlobal + Sync>(
     rt: &R,
     listening: Listening<R::Listener, R::File>,
     sessions: u64,
+    workers: usize,
 ) -> Result<Peer<DurableJournal<R::File>>, JobError>
 where
     R::File: Send,
     R::Stream: Send,
-    ensures ok { IfOk result (λ p. WasServed listening.peer WORKERS p) }
+    ensures ok { IfOk result (λ p. WasServed listening.peer workers p) }
 {
     let Listening {
         listener,
         port: _,
         peer,
     } = listening;
-    match seated(rt.alloc(), peer, WORKERS) {
+    match seated(rt.alloc(), peer, workers) {
         Ok((served, seats)) => {
             match hold(rt, rt.alloc(), &listener, &served, seats, sessions) {
                 Ok(back) => Ok(ended(served, back)?),
@@ -121,18 +119,19 @@ fn held_and_told<R: Disk + Net + Threads + Wait + AllocGlobal + Sync, W: Write>(
     rt: &R,
     listening: Listening<R::Listener, R::File>,
     sessions: u64,
+    workers: usize,
     out: &mut W,
 ) -> Result<Peer<DurableJournal<R::File>>, JobError>
 where
     R::File: Send,
     R::Stream: Send,
-    ensures served { IfOk result (λ p. WasServed listening.peer WORKERS p) }
+    ensures served { IfOk result (λ p. WasServed listening.peer workers p) }
     ensures ok { OnOk result
         (Appends (W.contents out.old) (W.contents out.new) (line_of_sessions sessions)) }
     ensures err { IfErr result
         (λ _. AppendsPart (W.contents out.old) (W.contents out.new) (line_of_sessions sessions)) }
 {
-    match held(rt, listening, sessions) {
+    match held(rt, listening, sessions, workers) {
         Ok(peer) => match tell_sessions(rt.alloc(), sessions, out) {
             Ok(()) => Ok(peer),
             Err(error) => {
@@ -149,19 +148,20 @@ fn serve_on<R: Disk + Net + Threads + Wait + AllocGlobal + Sync, W: Write>(
     rt: &R,
     listening: Listening<R::Listener, R::File>,
     sessions: u64,
+    workers: usize,
     out: &mut W,
 ) -> Result<Peer<DurableJournal<R::File>>, JobError>
 where
     R::File: Send,
     R::Stream: Send,
-    ensures served { IfOk result (λ p. WasServed listening.peer WORKERS p) }
+    ensures served { IfOk result (λ p. WasServed listening.peer workers p) }
     ensures ok { OnOk result
         (Grows (IsServed sessions) (W.contents out.old) (W.contents out.new)) }
     ensures err { IfErr result
         (λ _. GrowsPart (IsServed sessions) (W.contents out.old) (W.contents out.new)) }
 {
     match tell_port(rt.alloc(), listening.port, out) {
-        Ok(()) => held_and_told(rt, listening, sessions, out),
+        Ok(()) => held_and_told(rt, listening, sessions, workers, out),
         Err(error) => {
             drop(listening);
             Err(error)
@@ -169,21 +169,23 @@ where
     }
 }
 
-/// Serves the journal at a path. The port on which it listens is printed before the first session, and how many sessions
-/// there were behind the last. The peer that the closing gave back; one whose journal failed meanwhile is refused.
+/// Serves the journal at a path, with as many sessions at once as there are workers, 1 to 64. The port on which it listens
+/// is printed before the first session, and how many sessions there were behind the last. The peer that the closing gave
+/// back; one whose journal failed meanwhile is refused.
 pub(crate) fn serve_file<R: Disk + Net + Threads + Wait + AllocGlobal + Sync, W: Write>(
     rt: &R,
     file: &str,
     addr: SocketAddr,
     sessions: u64,
+    workers: usize,
     key: Option<[u8; 32]>,
     out: &mut W,
 ) -> Result<Peer<DurableJournal<R::File>>, JobError>
 where
     R::File: Send,
     R::Stream: Send,
-    ensures served { IfOk result (λ p. OfFile (R.reads rt.now) file.now
-        (λ bytes. ServesJournal key bytes WORKERS p)) }
+    ensures served { IfOk result (λ p. OfFile (R.takes rt.now) file.now
+        (λ bytes. ServesJournal key bytes workers p)) }
     ensures ok { OnOk result
         (Grows (IsServed sessions) (W.contents out.old) (W.contents out.new)) }
     ensures err { IfErr result (λ _. Keeps (W.contents out.old) (W.contents out.new)
@@ -191,7 +193,7 @@ where
 {
     let actor = draw_actor(rt, key)?;
     match listen(rt, file, addr, actor) {
-        Ok(listening) => serve_on(rt, listening, sessions, out),
+        Ok(listening) => serve_on(rt, listening, sessions, workers, out),
         Err(error) => Err(JobError::Command(error)),
     }
 }
@@ -204,7 +206,7 @@ fn applied_by<R: Disk + Net + Wait + AllocGlobal>(
     key: Option<[u8; 32]>,
 ) -> Result<Met<R::File>, JobError>
     ensures entered { IfOk result (λ met. HasEntered met.served met.seat met.applied
-        × OfFile (R.reads rt.now) file.now (λ bytes. OpensUnder key bytes met.served.opened)) }
+        × OfFile (R.takes rt.now) file.now (λ bytes. OpensUnder key bytes met.served.opened)) }
 {
     let actor = draw_actor(rt, key)?;
     let peer = opened(rt, file, actor)?;
@@ -229,7 +231,7 @@ pub(crate) fn sync_file<R: Disk + Net + Wait + AllocGlobal, W: Write>(
     out: &mut W,
 ) -> Result<Met<R::File>, JobError>
     ensures entered { IfOk result (λ met. HasEntered met.served met.seat met.applied
-        × OfFile (R.reads rt.now) file.now (λ bytes. OpensUnder key bytes met.served.opened)) }
+        × OfFile (R.takes rt.now) file.now (λ bytes. OpensUnder key bytes met.served.opened)) }
     ensures ok { IfOk result (λ met. Appends (W.contents out.old) (W.contents out.new)
         (line_of_applied met.applied)) }
     ensures err { IfErr result

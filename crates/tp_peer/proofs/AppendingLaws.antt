@@ -1,11 +1,17 @@
 -- What a refused append of a record leaves.
-use Rattle.tp_peer.proofs.Common.{ℕ, List, ap, ◌∙◌, ChangeParts, IsChange, LeavesPart, record_of, JournalState, RefusesRecord, journal_state}
+use Rattle.tp_peer.proofs.Common.{take_all, ◌≡◌, ℕ, List, ◌++◌, length, ap, sym, subst, ◌∙◌, arith, ChangeParts, IsChange, LeavesPart, CountsFailure, Device, Fails, record_of, AppendsRecord, JournalState, RefusesRecord, journal_state, StaysUnsettled, TearsRecord, reason_of}
 use Rattle.tp_journal.specs.declared.error.JournalError.{JournalError}
 use Rattle.tp_journal.specs.declared.error.JournalError.TheVariants.{Io, OutOfMemory}
-use Rattle.tp_journal.specs.Journal.{CountsFailure}
-use Rattle.tp_peer.specs.Appending.{reason_of}
 
-pub record_refused : (k k' : JournalState) (c : ChangeParts) (e : JournalError) → IsChange c → LeavesPart e k.content k'.content (record_of c) → CountsFailure e k.failures k'.failures → RefusesRecord k c (reason_of e) k'
-record_refused k k' c Io limits part counts = record { limits = limits; part = part; failures = counts }
+pub record_refused : (k k' : JournalState) (c : ChangeParts) (e : JournalError) → IsChange c → LeavesPart e k.content k'.content (record_of c) → CountsFailure e k.device k'.device → RefusesRecord k c (reason_of e) k'
+record_refused k k' c Io limits part counts = record { limits = limits; part = part; device = counts }
 record_refused k k' c OutOfMemory limits part counts =
-    ap (λ (b : List ℕ). journal_state b k'.failures) part ∙ ap (λ (n : ℕ). journal_state k.content n) counts
+    ap (λ (b : List ℕ). journal_state b k'.device) part ∙ ap (λ (d : Device). journal_state k.content d) counts
+
+-- a record that was appended before the journal couldn't be settled
+pub unsettled_tears : (k k1 k' : JournalState) (c : ChangeParts) → AppendsRecord k c k1 → StaysUnsettled k1 k' → TearsRecord k c k'
+unsettled_tears k k1 k' c a s = record {
+  limits = a.limits;
+  part = (length (record_of c), s.content ∙ a.content ∙ ap (λ (l : List ℕ). k.content ++ l) (sym (take_all (length (record_of c)) (record_of c) (omega arith))));
+  device = subst (λ (d : Device). Fails d k'.device) a.device s.device;
+}

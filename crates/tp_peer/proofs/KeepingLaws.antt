@@ -1,27 +1,17 @@
 -- What a journal is once records were appended, and what enters a history.
-use Rattle.tp_peer.proofs.Common.{◌≡◌, ℕ, suc, ◌+◌, ◌≤◌, inl, inr, List, [], ◌∷◌, ◌++◌, length, Bool, cond, refl, sym, ap, ◌∙◌, subst, append_assoc, append-nil, length-append, arith, ChangeParts, IsChange, Intake, Run, Turn, record_of, records_of, IsHistory, history_push, AppendsRecord, JournalState, PeerData, Done, Report, Stopped, at_end, Takes, journal_of, receiver_of}
-use Rattle.tp_document.specs.DocState.{AllChanges}
-use Rattle.tp_graph.specs.GraphState.{most_waiting}
-use Rattle.tp_graph.specs.Named.{has_all}
-use Rattle.tp_receive.specs.Delivery.{delivery, slots, takes_slot, with_slots}
-use Rattle.tp_receive.specs.Intake.{begin}
-use Rattle.tp_receive.specs.Receiving.{EntersAfter, Grows}
-use Rattle.tp_receive.specs.Replies.{KeepsAll}
-use Rattle.tp_receive.proofs.RunLaws.{progress}
-use Rattle.tp_receive.proofs.TurnLaws.{Run-keeps, TakesOut, Turn-cases}
-use Rattle.tp_list.specs.Members.{AllIn}
+use Rattle.tp_peer.proofs.Common.{◌≡◌, ℕ, suc, ◌+◌, ◌≤◌, inl, inr, List, [], ◌∷◌, ◌++◌, length, Bool, cond, refl, sym, ap, ◌∙◌, subst, append_assoc, append-nil, length-append, arith, ChangeParts, IsChange, Intake, Run, Turn, begin, record_of, records_of, IsHistory, history_push, AppendsRecord, JournalState, PeerData, Done, Report, Stopped, at_end, Takes, journal_of, receiver_of, AllChanges, most_waiting, has_all, delivery, slots, takes_slot, with_slots, EntersAfter, Grows, KeepsAll, progress, Run-keeps, TakesOut, Turn-cases, AllIn}
 use Rattle.tp_receive.specs.declared.error.ReceiveError.TheVariants as receive
 
 -- The records of the changes were appended.
 pub record AreAppended (k : JournalState) (new : List ChangeParts) (k' : JournalState) : Type 0 where
   pub content : k'.content ≡ k.content ++ records_of new
-  pub failures : k'.failures ≡ k.failures
+  pub device : k'.device ≡ k.device
   pub limits : AllChanges new
 
 pub all_appended : (new : List ChangeParts) (k k' : JournalState) → KeepsAll AppendsRecord k new k' → AreAppended k new k'
 all_appended [] k k' e = record {
   content = ap (λ (j : JournalState). j.content) (sym e) ∙ sym (append-nil k.content);
-  failures = ap (λ (j : JournalState). j.failures) (sym e);
+  device = ap (λ (j : JournalState). j.device) (sym e);
   limits = λ c i. absurd i;
 }
 all_appended (c ∷ new) k k' h =
@@ -29,7 +19,7 @@ all_appended (c ∷ new) k k' h =
     let rest = all_appended new h.0 k' h.2 in
     record {
       content = rest.content ∙ ap (λ l. l ++ records_of new) first.content ∙ append_assoc k.content (record_of c) (records_of new);
-      failures = rest.failures ∙ first.failures;
+      device = rest.device ∙ first.device;
       limits = λ d i. elim i [ inl e ↦ subst IsChange (sym e) first.limits | inr j ↦ rest.limits d j ];
     }
 
@@ -106,7 +96,7 @@ coming p K = begin (journal_of p) p.applied p.waiting K
 
 -- the peer as it is where receiving came to `at`
 abbrev pub reached : PeerData → Intake JournalState → PeerData
-reached p at = record p { applied = at.applied; waiting = at.waiting; journal = at.keeper.content; failures = at.keeper.failures }
+reached p at = record p { applied = at.applied; waiting = at.waiting; journal = at.keeper.content; device = at.keeper.device }
 
 -- Receiving the changes K came so far, and the device didn't fail.
 pub record Reaches (p : PeerData) (K : List ChangeParts) (p' : PeerData) : Type 0 where
@@ -126,9 +116,9 @@ reaches_part p K p' t =
       run = x.run;
       left =
           t.left
-          ∙ ap (λ (C : List ChangeParts). record p { applied = C; waiting = p'.waiting; journal = p'.journal; failures = p'.failures }) x.applied
-          ∙ ap (λ (W : List ChangeParts). record p { applied = x.at.applied; waiting = W; journal = p'.journal; failures = p'.failures }) x.waiting
-          ∙ ap (λ (j : JournalState). record p { applied = x.at.applied; waiting = x.at.waiting; journal = j.content; failures = j.failures }) kept;
+          ∙ ap (λ (C : List ChangeParts). record p { applied = C; waiting = p'.waiting; journal = p'.journal; device = p'.device }) x.applied
+          ∙ ap (λ (W : List ChangeParts). record p { applied = x.at.applied; waiting = W; journal = p'.journal; device = p'.device }) x.waiting
+          ∙ ap (λ (j : JournalState). record p { applied = x.at.applied; waiting = x.at.waiting; journal = j.content; device = j.device }) kept;
     }
 
 -- How far receiving the changes K came, and what was appended until then.

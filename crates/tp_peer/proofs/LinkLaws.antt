@@ -1,14 +1,9 @@
 -- What is known on each link, once one was changed, made or forgotten.
-use Rattle.std.proofs.Common.{◌≡◌, ◌⊎◌, inl, inr, ℕ, suc, zero, ◌+◌, ◌<◌, ◌≤◌, List, [], ◌∷◌, ◌++◌, length, take, Bool, true, false, ◌||◌, eqb, eqb-true, length-append, refl, sym, ap, ◌∙◌, subst, arith}
+use Rattle.tp_peer.proofs.Common.{◌≡◌, ◌⊎◌, inl, inr, ℕ, suc, zero, ◌+◌, ◌<◌, ◌≤◌, List, [], ◌∷◌, ◌++◌, length, take, Bool, true, false, ◌||◌, eqb, eqb-true, length-append, refl, sym, ap, ◌∙◌, subst, arith, slice_index_or, nat_le, SyncParts, fresh, MovesLinks, TouchesLink, Call, Edit, Forget, Generate, Merge, Read, ReadAt, ReadHeads, Receive, AreLinks, IsAt, NumbersOnce, has_link, is_one_too_many, known_of, with_link, without_link, neither, neither_left, neither_right, or_left}
 use Rattle.std.proofs.lemmas.Bool.{eq-eqb}
 use Rattle.std.proofs.lemmas.Bool.Decides.{nat_tests}
-use Rattle.std.specs.Prelude.{slice_index_or, nat_le}
 use Rattle.std.specs.List.{remove, slice_set}
-use Rattle.tp_sync.specs.State.{SyncParts, fresh}
 use Rattle.tp_peer.specs.declared.links.TheConstants.{MAX_LINKS}
-use Rattle.tp_peer.specs.Laws.{MovesLinks, TouchesLink}
-use Rattle.tp_peer.specs.PeerStep.{Call, Edit, Forget, Generate, Merge, Read, ReadAt, ReadHeads, Receive}
-use Rattle.tp_peer.specs.Links.{AreLinks, IsAt, NumbersOnce, has_link, is_one_too_many, known_of, with_link, without_link}
 
 -- ---- tests
 
@@ -16,20 +11,6 @@ use Rattle.tp_peer.specs.Links.{AreLinks, IsAt, NumbersOnce, has_link, is_one_to
 split : {A : Type 0} (b : Bool) → (b ≡ true → A) → (b ≡ false → A) → A
 split true f g = f refl
 split false f g = g refl
-
-left_of : (a b : Bool) → (a || b) ≡ false → a ≡ false
-left_of false b h = refl
-left_of true b h = absurd cc
-
-right_of : (a b : Bool) → (a || b) ≡ false → b ≡ false
-right_of false b h = h
-right_of true b h = absurd cc
-
-either : (a b : Bool) → a ≡ true → (a || b) ≡ true
-either a b h = rw h refl
-
-neither : (a b : Bool) → a ≡ false → b ≡ false → (a || b) ≡ false
-neither a b h k = rw h k
 
 -- a test of two numbers, the other way round
 turned : (n m : ℕ) → eqb n m ≡ false → eqb m n ≡ false
@@ -42,15 +23,15 @@ not_same n m h = split (eqb n m) (λ t. absurd (h (eqb-true n m t))) (λ f. f)
 
 pub has_last : (L : List (ℕ × SyncParts)) (l : ℕ × SyncParts) (n : ℕ) → has_link L n ≡ false → eqb l.0 n ≡ false → has_link (L ++ l ∷ []) n ≡ false
 has_last [] l n h k = neither (eqb l.0 n) false k refl
-has_last (m ∷ L) l n h k = neither (eqb m.0 n) (has_link (L ++ l ∷ []) n) (left_of (eqb m.0 n) (has_link L n) h) (has_last L l n (right_of (eqb m.0 n) (has_link L n) h) k)
+has_last (m ∷ L) l n h k = neither (eqb m.0 n) (has_link (L ++ l ∷ []) n) (neither_left (eqb m.0 n) (has_link L n) h) (has_last L l n (neither_right (eqb m.0 n) (has_link L n) h) k)
 
 -- the index among the links behind the first
 rest_at : (l : ℕ × SyncParts) (L : List (ℕ × SyncParts)) (n i : ℕ) → IsAt (l ∷ L) n (suc i) → IsAt L n i
-rest_at l L n i a = record { within = let w = a.within in omega arith; first = right_of (eqb l.0 n) (has_link (take i L) n) a.first; number = a.number }
+rest_at l L n i a = record { within = let w = a.within in omega arith; first = neither_right (eqb l.0 n) (has_link (take i L) n) a.first; number = a.number }
 
 -- the first isn't the one
 not_first : (l : ℕ × SyncParts) (L : List (ℕ × SyncParts)) (n i : ℕ) → IsAt (l ∷ L) n (suc i) → eqb l.0 n ≡ false
-not_first l L n i a = left_of (eqb l.0 n) (has_link (take i L) n) a.first
+not_first l L n i a = neither_left (eqb l.0 n) (has_link (take i L) n) a.first
 
 pub at_with : (L : List (ℕ × SyncParts)) (n i : ℕ) (s : SyncParts) → IsAt L n i → with_link L n s ≡ slice_set L i (n, s)
 at_with [] n i s a = absurd (let w = a.within in omega arith)
@@ -60,7 +41,7 @@ at_with (l ∷ L) n (suc i) s a = rw (not_first l L n i a) (ap (λ (M : List (�
 pub none_with : (L : List (ℕ × SyncParts)) (n : ℕ) (s : SyncParts) → has_link L n ≡ false → with_link L n s ≡ L ++ (n, s) ∷ []
 none_with [] n s h = refl
 none_with (l ∷ L) n s h =
-    rw (left_of (eqb l.0 n) (has_link L n) h) (ap (λ (M : List (ℕ × SyncParts)). l ∷ M) (none_with L n s (right_of (eqb l.0 n) (has_link L n) h)))
+    rw (neither_left (eqb l.0 n) (has_link L n) h) (ap (λ (M : List (ℕ × SyncParts)). l ∷ M) (none_with L n s (neither_right (eqb l.0 n) (has_link L n) h)))
 
 pub at_known : (L : List (ℕ × SyncParts)) (n i : ℕ) (d : ℕ × SyncParts) → IsAt L n i → known_of L n ≡ (slice_index_or L i d).1
 at_known [] n i d a = absurd (let w = a.within in omega arith)
@@ -70,7 +51,7 @@ at_known (l ∷ L) n (suc i) d a = rw (not_first l L n i a) (at_known L n i d (r
 pub none_without : (L : List (ℕ × SyncParts)) (n : ℕ) → has_link L n ≡ false → without_link L n ≡ L
 none_without [] n h = refl
 none_without (l ∷ L) n h =
-    rw (left_of (eqb l.0 n) (has_link L n) h) (ap (λ (M : List (ℕ × SyncParts)). l ∷ M) (none_without L n (right_of (eqb l.0 n) (has_link L n) h)))
+    rw (neither_left (eqb l.0 n) (has_link L n) h) (ap (λ (M : List (ℕ × SyncParts)). l ∷ M) (none_without L n (neither_right (eqb l.0 n) (has_link L n) h)))
 
 pub at_without : (L : List (ℕ × SyncParts)) (n i : ℕ) → NumbersOnce L → IsAt L n i → without_link L n ≡ remove L i
 at_without [] n i once a = absurd (let w = a.within in omega arith)
@@ -81,11 +62,11 @@ at_without (l ∷ L) n (suc i) once a = rw (not_first l L n i a) (ap (λ (M : Li
 
 pub none_known : (L : List (ℕ × SyncParts)) (n : ℕ) → has_link L n ≡ false → known_of L n ≡ fresh
 none_known [] n h = refl
-none_known (l ∷ L) n h = rw (left_of (eqb l.0 n) (has_link L n) h) (none_known L n (right_of (eqb l.0 n) (has_link L n) h))
+none_known (l ∷ L) n h = rw (neither_left (eqb l.0 n) (has_link L n) h) (none_known L n (neither_right (eqb l.0 n) (has_link L n) h))
 
 pub at_has : (L : List (ℕ × SyncParts)) (n i : ℕ) → IsAt L n i → has_link L n ≡ true
 at_has [] n i a = absurd (let w = a.within in omega arith)
-at_has (l ∷ L) n zero a = either (eqb l.0 n) (has_link L n) (eq-eqb l.0 n (a.number l))
+at_has (l ∷ L) n zero a = or_left (eqb l.0 n) (has_link L n) (eq-eqb l.0 n (a.number l))
 at_has (l ∷ L) n (suc i) a = rw (not_first l L n i a) (at_has L n i (rest_at l L n i a))
 
 -- ---- another link
@@ -108,14 +89,14 @@ pub has_with : (L : List (ℕ × SyncParts)) (n m : ℕ) (s : SyncParts) → eqb
 has_with [] n m s other h = neither (eqb n m) false other refl
 has_with (l ∷ L) n m s other h =
     split (eqb l.0 n)
-    (λ t. rw t (neither (eqb n m) (has_link L m) other (right_of (eqb l.0 m) (has_link L m) h)))
-    (λ f. rw f (neither (eqb l.0 m) (has_link (with_link L n s) m) (left_of (eqb l.0 m) (has_link L m) h) (has_with L n m s other (right_of (eqb l.0 m) (has_link L m) h))))
+    (λ t. rw t (neither (eqb n m) (has_link L m) other (neither_right (eqb l.0 m) (has_link L m) h)))
+    (λ f. rw f (neither (eqb l.0 m) (has_link (with_link L n s) m) (neither_left (eqb l.0 m) (has_link L m) h) (has_with L n m s other (neither_right (eqb l.0 m) (has_link L m) h))))
 
 pub has_without : (L : List (ℕ × SyncParts)) (n m : ℕ) → has_link L m ≡ false → has_link (without_link L n) m ≡ false
 has_without [] n m h = refl
 has_without (l ∷ L) n m h =
-    let rest = has_without L n m (right_of (eqb l.0 m) (has_link L m) h) in
-    split (eqb l.0 n) (λ t. rw t rest) (λ f. rw f (neither (eqb l.0 m) (has_link (without_link L n) m) (left_of (eqb l.0 m) (has_link L m) h) rest))
+    let rest = has_without L n m (neither_right (eqb l.0 m) (has_link L m) h) in
+    split (eqb l.0 n) (λ t. rw t rest) (λ f. rw f (neither (eqb l.0 m) (has_link (without_link L n) m) (neither_left (eqb l.0 m) (has_link L m) h) rest))
 
 -- ---- what links keep
 

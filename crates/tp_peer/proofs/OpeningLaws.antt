@@ -1,8 +1,5 @@
 -- What a refused beginning of a journal is to a copy.
-use Rattle.tp_peer.proofs.Common.{List, ChangeParts, journal, PeerError, JournalState}
-use Rattle.tp_opid.specs.declared.actor.Actor.{Actor}
-use Rattle.tp_opid.specs.declared.doc_id.DocId.{DocId}
-use Rattle.tp_peer.specs.declared.error.PeerError.TheVariants.{ActorInUse}
+use Rattle.tp_peer.proofs.Common.{List, ChangeParts, journal, PeerError, JournalState, Actor, DocId, ActorInUse}
 use Rattle.tp_peer.specs.Opening.{NotBegun, NotCopied}
 
 -- a journal that wasn't begun is one to which nothing was copied

@@ -1,29 +1,12 @@
 -- What receiving comes to, what a peer's journal recovers to, and who made an edit's change.
-use Rattle.tp_peer.proofs.Common.{◌≡◌, ℕ, inl, inr, List, [], ◌∷◌, ◌++◌, length, take, true, false, Bool, Some, None, refl, sym, ap, ◌∙◌, subst, append-nil, append_assoc, arith, ChangeParts, journal, record_of, records_of, IsHistory, history_push, AppendsRecord, JournalState, journal_state, IsPeer, PeerData, Done, Report, Stopped, at_end, Takes, journal_of, receiver_of, PeerError, IsChange, Intake, Run, Turn, Call, Edit, Forget, Generate, Merge, PeerStep, Read, ReadAt, ReadHeads, Receive, Reply}
+use Rattle.tp_peer.proofs.Common.{◌≡◌, ℕ, inl, inr, List, [], ◌∷◌, ◌++◌, length, take, true, false, Bool, Some, None, refl, sym, ap, ◌∙◌, subst, append-nil, append_assoc, arith, ChangeParts, journal, record_of, records_of, IsDocId, IsHistory, Recovers, history_push, AppendsRecord, JournalState, journal_state, IsPeer, PeerData, HasJournal, IsTorn, arming, Done, Report, Stopped, at_end, Takes, journal_of, receiver_of, PeerError, IsChange, Intake, Run, Turn, Next, enter, Call, Edit, Forget, Generate, Merge, PeerStep, Read, ReadAt, ReadHeads, Receive, Reply, Made, Refused, RefusesEdit, RefusesGenerate, RefusesMerge, RefusesReceive, Runs, In, HashesApart, Between, Grew-run, nothing_lost, Fails, recovers_cut, JournalFailed, TooManyLinks, Doc, Sync, OutOfMemory, Splice, Asked, asking, cause, LosesNone, Run-one, Run-then, IsComplete, IsPartial, IsTornAt, RecoversTorn}
 use Rattle.std.proofs.lemmas.List.{append_cancel_left}
-use Rattle.tp_list.specs.Members.{In}
-use Rattle.tp_graph.specs.Named.{HashesApart}
 use Rattle.tp_graph.specs.Sound.{Sound}
-use Rattle.tp_receive.specs.Receiving.{Between}
 use Rattle.tp_receive.proofs.GrowsLaws.{Between-grown}
 use Rattle.tp_receive.proofs.ResultLaws.{results}
-use Rattle.tp_receive.proofs.RunLaws.{Grew-run, nothing_lost}
-use Rattle.tp_journal.specs.Layout.{IsDocId}
-use Rattle.tp_journal.specs.Recovery.{Recovers}
-use Rattle.tp_journal.proofs.CutLaws.{recovers_cut}
-use Rattle.tp_peer.specs.PeerData.{HasJournal}
-use Rattle.tp_receive.specs.declared.error.ReceiveError.TheVariants as receive
-use Rattle.tp_peer.specs.declared.error.PeerError.TheVariants.{JournalFailed, TooManyLinks, Doc, Sync, OutOfMemory}
-use Rattle.tp_edit.specs.declared.splice.Splice.{Splice}
-use Rattle.tp_document.specs.Editing.{Asked, asking}
-use Rattle.tp_graph.specs.Fit.{cause}
-use Rattle.tp_receive.specs.Intake.{Next, enter}
-use Rattle.tp_receive.specs.Replies.{LosesNone}
-use Rattle.tp_receive.proofs.TurnLaws.{Run-one, Run-then}
-use Rattle.tp_peer.specs.PeerStep.{Made, Refused, RefusesEdit, RefusesGenerate, RefusesMerge, RefusesReceive, Runs}
-use Rattle.tp_peer.specs.Laws.{IsComplete, IsPartial, IsTornAt, RecoversTorn}
-use Rattle.tp_peer.proofs.StepLaws.{journal_grows, running_journal, step_cases}
+use Rattle.tp_peer.proofs.StepLaws.{journal_grows, running_journal, step_cases, step_keeps}
 use Rattle.tp_peer.proofs.KeepingLaws.{coming, run_advances}
+use Rattle.tp_receive.specs.declared.error.ReceiveError.TheVariants as receive
 
 -- ---- receiving
 
@@ -52,11 +35,11 @@ rest_is {S} at rest c (inl n) = (ap (λ (s : Intake S). s.applied) n.without, ap
 rest_is {S} at rest c (inr n) = (ap (λ (s : Intake S). s.applied) n.without, ap (λ (s : Intake S). s.keeper) n.without)
 
 -- the turn at which the device failed, had it not
-whole_turn : (at rest : Intake JournalState) (c : ChangeParts) → Next at c rest → cause at.applied c ≡ None → IsChange c
+pub whole_turn : (at rest : Intake JournalState) (c : ChangeParts) → Next at c rest → cause at.applied c ≡ None → IsChange c
     → (t : Intake JournalState) × Turn AppendsRecord at t × (t.applied ≡ at.applied ++ c ∷ [])
 whole_turn at rest c next fits limits =
     let is = rest_is at rest c next in
-    let k : JournalState = journal_state (at.keeper.content ++ record_of c) at.keeper.failures in (
+    let k : JournalState = journal_state (at.keeper.content ++ record_of c) at.keeper.device in (
       enter rest c k,
       record {
         change = c;
@@ -65,7 +48,7 @@ whole_turn at rest c next fits limits =
         meets = inl (
           subst (λ C. cause C c ≡ None) (sym is.0) fits,
           k,
-          subst (λ (j : JournalState). AppendsRecord j c k) (sym is.1) (record { limits = limits; content = refl; failures = refl }),
+          subst (λ (j : JournalState). AppendsRecord j c k) (sym is.1) (record { limits = limits; content = refl; device = refl }),
           refl,
         );
       },
@@ -98,6 +81,12 @@ torn p K p' sound t =
           ∙ journal_grows p p' a.new (take part.0 (record_of c)) id (s.applied ∙ a.grows.begins) is;
     }
 
+pub fails_where_it_can : (p : PeerData) (call : Call) (p' : PeerData) → PeerStep p call (Refused JournalFailed) p' → Fails p.device p'.device
+fails_where_it_can p call p' s = elim (step_keeps p call (Refused JournalFailed) p' s).journal [
+  | inl appends ↦ absurd (appends.answered refl)
+  | inr tears ↦ tears.device
+]
+
 -- ---- journals
 
 pub recovers_running : (p : PeerData) → IsPeer p → p.stopped ≡ false → Recovers p.journal p.id p.applied (length p.journal)
@@ -112,16 +101,25 @@ recovers_running p h running =
       keep_is = ap length is;
     }
 
+torn_recovers : (p : PeerData) (bytes : List ℕ) → IsDocId p.id → IsHistory p.applied → p.journal ≡ journal p.id p.applied ++ bytes → IsTorn p.applied bytes → RecoversTorn p
+torn_recovers p bytes is h content (inl none) = record {
+  changes = [];
+  few = omega arith;
+  count = 0;
+  content = content ∙ ap (λ l. journal p.id p.applied ++ l) none;
+  recovers = recovers_cut p.id p.applied [] 0 is (subst IsHistory (sym (append-nil p.applied)) h);
+}
+torn_recovers p bytes is h content (inr t) = record {
+  changes = t.change ∷ [];
+  few = omega arith;
+  count = t.count;
+  content = content ∙ ap (λ l. journal p.id p.applied ++ l) (t.torn ∙ ap (take t.count) (sym (append-nil (record_of t.change))));
+  recovers = recovers_cut p.id p.applied (t.change ∷ []) t.count is (history_push p.applied t.change h t.limits t.fits);
+}
+
 recovers_stopped_at : (s : Bool) (p : PeerData) → s ≡ true → IsDocId p.id → IsHistory p.applied → HasJournal s p.id p.applied p.journal → RecoversTorn p
 recovers_stopped_at false p stopped is h k = absurd cc
-recovers_stopped_at true p stopped is h k =
-    let t = k.1 in
-    record {
-      change = t.change;
-      count = t.count;
-      content = k.2 ∙ ap (λ l. journal p.id p.applied ++ l) (t.torn ∙ ap (take t.count) (sym (append-nil (record_of t.change))));
-      recovers = recovers_cut p.id p.applied (t.change ∷ []) t.count is (history_push p.applied t.change h t.limits t.fits);
-    }
+recovers_stopped_at true p stopped is h k = torn_recovers p k.0 is h k.2 k.1
 
 pub recovers_stopped : (p : PeerData) → IsPeer p → p.stopped ≡ true → RecoversTorn p
 recovers_stopped p h stopped = recovers_stopped_at p.stopped p stopped h.is_id h.history h.kept
@@ -183,11 +181,12 @@ refusal_changes_nothing p call e p' s memory device =
       receive link bytes JournalFailed r memory device = absurd (device refl)
       receive link bytes _ r memory device = absurd r
 
-      generate : (link : ℕ) (e : PeerError) → RefusesGenerate p link e p' → p' ≡ p
-      generate link TooManyLinks r = r.1
-      generate link (Sync e) r = r.3
-      generate link OutOfMemory r = r.1
-      generate link _ r = absurd r
+      generate : (link : ℕ) (e : PeerError) → RefusesGenerate p link e p' → (e ≡ JournalFailed → ⊥) → p' ≡ p
+      generate link TooManyLinks r device = r.1
+      generate link (Sync e) r device = r.3
+      generate link OutOfMemory r device = r.1
+      generate link JournalFailed r device = absurd (device refl)
+      generate link _ r device = absurd r
 
       by : (call : Call) (e : PeerError) → Runs p call (Refused e) p' → (e ≡ OutOfMemory → ⊥) → (e ≡ JournalFailed → ⊥) → p' ≡ p
       by (Edit ss t m) e r memory device = edit (asking p.actor ss t m) e r memory device
@@ -195,6 +194,6 @@ refusal_changes_nothing p call e p' s memory device =
       by Read e r memory device = r.1
       by (ReadAt H) e r memory device = r.1
       by (Receive link bytes) e r memory device = receive link bytes e r memory device
-      by (Generate link) e r memory device = generate link e r
+      by (Generate link) e r memory device = generate link e r device
       by (Forget link) e r memory device = absurd r
       by ReadHeads e r memory device = absurd r

@@ -1,29 +1,16 @@
 -- From what receiving and making a message come to in the parts of a peer to what that is of the peer.
-use Rattle.std.proofs.Common.{◌≡◌, inl, inr, ℕ, List, Bool, false, Option, Some, Result, Ok, Err, ap}
-use Rattle.std.specs.Prelude.{◌↔◌, IfErr, IfOk, IsTrue}
-use Rattle.tp_opid.specs.declared.actor.Actor.{Actor}
+use Rattle.tp_peer.proofs.Common.{◌≡◌, inl, inr, ℕ, List, Bool, false, Some, Err, ap, ◌↔◌, IsTrue, Actor, Done, HasOutcome, ReceivesWith, Stopped, kept_by, DocState, IsMessage, MessageParts, message_spelling, SyncParts, heard, AppendsRecord, JournalState, RefusesRecord, is_one_too_many, known_of, with_link, peer_data, is_failed, refusal_of_sync, Decodes, Hears, RefusesDecoding, RefusesReceive}
 use Rattle.tp_receive.specs.declared.intake.Applied.{Applied}
-use Rattle.tp_receive.specs.declared.error.ReceiveError.TheVariants as receive
-use Rattle.tp_receive.specs.Outcome.{Done, HasOutcome, ReceivesWith, Stopped, report_of}
-use Rattle.tp_document.specs.Applying.{kept_by}
+use Rattle.tp_receive.specs.Outcome.{report_of}
 use Rattle.tp_sync.specs.SyncError.{receiving}
-use Rattle.tp_document.specs.DocState.{DocState}
 use Rattle.tp_sync.specs.declared.error.SyncError.{SyncError}
-use Rattle.tp_sync.specs.declared.error.SyncError.TheVariants as sync
 use Rattle.tp_sync.specs.Gives.{FailsWith}
-use Rattle.tp_sync.specs.Message.{MessageParts}
 use Rattle.tp_sync.specs.Reading.{message_at}
-use Rattle.tp_sync.specs.State.{SyncParts, heard}
-use Rattle.tp_peer.specs.declared.error.PeerError.{PeerError}
-use Rattle.tp_peer.specs.Appending.{AppendsRecord, JournalState, RefusesRecord}
-use Rattle.tp_peer.specs.Links.{is_one_too_many, known_of, with_link}
-use Rattle.tp_peer.specs.PeerData.{PeerData, peer_data}
-use Rattle.tp_peer.specs.PeerError.{is_failed, refusal_of_sync}
-use Rattle.tp_peer.specs.PeerStep.{Decodes, Generate, Generated, Hears, RefusesDecoding, RefusesGenerate, RefusesReceive, Runs, Speaks, replied}
-use Rattle.tp_peer.specs.declared.exchanged.Outgoing.{Outgoing}
-use Rattle.tp_peer.specs.Sent.{sent_of}
 use Rattle.tp_sync.proofs.FaultLaws.{message_faults}
+use Rattle.tp_sync.proofs.WholeMessage.{message_again}
 use Rattle.tp_peer.proofs.TakingLaws.{took, took_none}
+use Rattle.tp_receive.specs.declared.error.ReceiveError.TheVariants as receive
+use Rattle.tp_sync.specs.declared.error.SyncError.TheVariants as sync
 
 -- ---- messages that come
 
@@ -40,6 +27,10 @@ decoding_refused bytes sync.TooManyHeads h = no_other bytes sync.TooManyHeads h 
 decoding_refused bytes sync.PendingFull h = no_other bytes sync.PendingFull h (λ x. cc) (λ x. cc)
 decoding_refused bytes sync.OtherDocument h = no_other bytes sync.OtherDocument h (λ x. cc) (λ x. cc)
 decoding_refused bytes sync.NotKept h = no_other bytes sync.NotKept h (λ x. cc) (λ x. cc)
+
+-- The spelling of a message is decoded to it.
+pub decodes : (m : MessageParts) → IsMessage m → Decodes (message_spelling m) m
+decodes m is = record { reads = message_again m is; limits = is }
 
 -- all changes of the message were received
 pub heard_all : (a : Actor) (d d' : DocState) (L L' : List (ℕ × SyncParts)) (k k' : JournalState) (link : ℕ) (bytes : List ℕ) (m : MessageParts) (r : Applied) (same : Bool) → is_one_too_many L link ≡ false → Decodes bytes m → d'.id ≡ d.id

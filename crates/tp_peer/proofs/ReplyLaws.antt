@@ -1,41 +1,34 @@
 -- A reply has the form of its call.
-use Rattle.std.proofs.Common.{◌≡◌, ◌⊎◌, inl, inr, ℕ, List, Bool, false, Option, Some, None, Result, Ok, Err, String, Global, refl, sym, ap, subst}
-use Rattle.std.specs.Prelude.{IfOk}
-use Rattle.tp_edit.specs.declared.splice.Splice.{Splice}
+use Rattle.tp_peer.proofs.Common.{◌≡◌, ◌⊎◌, inl, inr, ℕ, List, false, Option, Some, None, Result, Ok, Err, String, Global, refl, sym, subst, IfErr, IfOk, ap, Splice, Hash, Actor, DocError, DocState, DoesSplices, asking, SyncParts, PeerError, JournalFailed, TooManyLinks, Sync, OutOfMemory, JournalState, StaysUnsettled, IsReplyTo, call_in, call_of, reply_of, IsPeer, PeerData, peer_data, is_failed, refusal_of_document, PeerStep, RefusesGenerate, Runs, needs_stopped, replied}
 use Rattle.tp_edit.specs.Splices.{all_spliced}
-use Rattle.tp_opid.specs.declared.hash.Hash.{Hash}
-use Rattle.tp_opid.specs.declared.actor.Actor.{Actor}
 use Rattle.tp_text.specs.Text.{IsTextOf}
-use Rattle.tp_document.specs.declared.error.DocError.{DocError}
-use Rattle.tp_document.specs.declared.error.DocError.TheVariants as doc
-use Rattle.tp_document.specs.DocState.{DocState}
-use Rattle.tp_document.specs.Editing.{DoesSplices, asking}
 use Rattle.tp_document.proofs.EditFits.{edit_text, nothing_spliced}
-use Rattle.tp_sync.specs.State.{SyncParts}
 use Rattle.tp_peer.specs.declared.call.Call.{Call}
-use Rattle.tp_peer.specs.declared.call.Call.TheVariants as call
+use Rattle.tp_peer.specs.declared.call.Request.{Request}
 use Rattle.tp_peer.specs.declared.call.Reply.{Reply}
-use Rattle.tp_peer.specs.declared.call.Reply.TheVariants as reply
-use Rattle.tp_peer.specs.declared.error.PeerError.{PeerError}
-use Rattle.tp_peer.specs.declared.error.PeerError.TheVariants.{Stopped, TooManyLinks, Sync, OutOfMemory}
+use Rattle.tp_peer.specs.declared.error.PeerError.TheVariants.{Stopped}
 use Rattle.tp_peer.specs.declared.exchanged.Outgoing.{Outgoing}
 use Rattle.tp_peer.specs.declared.exchanged.Received.{Received}
-use Rattle.tp_peer.specs.Appending.{JournalState}
-use Rattle.tp_peer.specs.Calls.{IsReplyTo, call_of, reply_of}
-use Rattle.tp_peer.specs.PeerData.{IsPeer, PeerData, peer_data}
-use Rattle.tp_peer.specs.PeerError.{is_failed, refusal_of_document}
-use Rattle.tp_peer.specs.PeerStep as step
-use Rattle.tp_peer.specs.PeerStep.{PeerStep, RefusesGenerate, Runs, needs_stopped, replied}
 use Rattle.tp_peer.proofs.StepLaws.{step_cases}
+use Rattle.tp_document.specs.declared.error.DocError.TheVariants as doc
+use Rattle.tp_peer.specs.declared.call.Call.TheVariants as call
+use Rattle.tp_peer.specs.declared.call.Request.TheVariants as request
+use Rattle.tp_peer.specs.declared.call.Reply.TheVariants as reply
+use Rattle.tp_peer.specs.PeerStep as step
 
 -- no call of the enum needs another peer
-pub needs_itself : (p : PeerData) (x : Call) → needs_stopped p (call_of x) ≡ p.stopped
+needs_itself : (p : PeerData) (x : Call) → needs_stopped p (call_of x) ≡ p.stopped
 needs_itself p (call.Edit splices time message) = refl
 needs_itself p (call.Receive link bytes) = refl
 needs_itself p (call.Generate link) = refl
 needs_itself p (call.Forget link) = refl
 needs_itself p call.Read = refl
 needs_itself p (call.ReadAt hashes) = refl
+
+-- nor does a request
+pub asks_itself : (p : PeerData) (x : Request) → needs_stopped p (call_in x) ≡ p.stopped
+asks_itself p (request.Call call) = needs_itself p call
+asks_itself p (request.Message link message) = refl
 
 -- neither a refusal for a stop nor what a running peer may reply
 never : {A : Type 0} (p p' : PeerData) (made : step.Call) (r : step.Reply) → PeerStep p made r p' → (r ≡ step.Refused Stopped → ⊥) → (Runs p made r p' → ⊥) → A
@@ -90,13 +83,27 @@ text_or_refused reply.Forgotten (inr h) = never h.1.0 h.1.1 (step.ReadAt h.0) (r
 text_or_refused (reply.Text x) h = inl (x, refl)
 text_or_refused (reply.Refused x) h = inr (x, refl)
 
--- a refused generate doesn't stop the peer
+-- a message that wasn't made doesn't stop the peer
 pub generate_goes_on : (a : Actor) (d : DocState) (L L' : List (ℕ × SyncParts)) (k : JournalState) (link : ℕ) (e : PeerError) → RefusesGenerate (peer_data a d L k false) link e (peer_data a d L' k false)
     → RefusesGenerate (peer_data a d L k false) link e (peer_data a d L' k (is_failed e))
+generate_goes_on a d L L' k link JournalFailed h = let wrong = ap (λ (q : PeerData). q.stopped) h.left in absurd cc
 generate_goes_on a d L L' k link TooManyLinks h = h
 generate_goes_on a d L L' k link (Sync e) h = h
 generate_goes_on a d L L' k link OutOfMemory h = h
 generate_goes_on a d L L' k link _ h = absurd h
+
+pub unmade_goes_on : {T : Type 0} (r : Result T PeerError) (a : Actor) (d : DocState) (L L' : List (ℕ × SyncParts)) (k k' : JournalState) (link : ℕ) → k' ≡ k
+    → IfErr r (λ e. RefusesGenerate (peer_data a d L k false) link e (peer_data a d L' k false))
+    → IfErr r (λ e. RefusesGenerate (peer_data a d L k false) link e (peer_data a d L' k' (is_failed e)))
+unmade_goes_on (Ok x) a d L L' k k' link same h = tt
+unmade_goes_on (Err e) a d L L' k k' link same h =
+    subst (λ (j : JournalState). RefusesGenerate (peer_data a d L k false) link e (peer_data a d L' j (is_failed e))) (sym same) (generate_goes_on a d L L' k link e h)
+
+-- where its journal couldn't be settled it stops
+pub unsettled_stops : (a : Actor) (d : DocState) (L : List (ℕ × SyncParts)) (k k' : JournalState) (link : ℕ) (e : PeerError) → e ≡ JournalFailed → StaysUnsettled k k'
+    → RefusesGenerate (peer_data a d L k false) link e (peer_data a d L k' (is_failed e))
+unsettled_stops a d L k k' link e is s =
+    subst (λ (x : PeerError). RefusesGenerate (peer_data a d L k false) link x (peer_data a d L k' (is_failed x))) (sym is) (record { unsettled = s; left = refl })
 
 -- nor does a refused read
 pub text_goes_on : (e : DocError) → (e ≡ doc.UnknownHead) ⊎ (e ≡ doc.OutOfMemory) → is_failed (refusal_of_document e) ≡ false

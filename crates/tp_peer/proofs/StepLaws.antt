@@ -1,37 +1,12 @@
 -- What each step of a peer keeps.
-use Rattle.std.proofs.Common.{◌≡◌, ◌≢◌, ◌⊎◌, ℕ, ◌≤◌, inl, inr, List, [], ◌∷◌, ◌++◌, take, Bool, true, false, ◌||◌, length, Option, Some, None, refl, sym, ap, ◌∙◌, subst, append_assoc, append-nil, arith}
-use Rattle.std.specs.Prelude.{◌==◌, MatchBool}
-use Rattle.tp_list.specs.Members.{AllIn, In}
-use Rattle.tp_opid.specs.declared.doc_id.DocId.{DocId}
-use Rattle.tp_opid.specs.declared.hash.Hash.{Hash}
+use Rattle.tp_peer.proofs.Common.{◌≡◌, ◌≢◌, ◌⊎◌, ℕ, ◌≤◌, inl, inr, List, [], ◌∷◌, ◌++◌, take, Bool, true, false, ◌||◌, length, Option, Some, None, refl, sym, ap, ◌∙◌, subst, append_assoc, append-nil, arith, ◌==◌, MatchBool, AllIn, In, DocId, Hash, ChangeParts, IsChange, Asked, asking, absent, cause, most_waiting, Intake, Device, Fails, IsDocId, journal, record_of, records_of, IsHistory, journal-append, PeerError, JournalFailed, TooManyLinks, Doc, Sync, OutOfMemory, JournalState, HasJournal, IsPeer, IsTorn, PeerData, Call, Decodes, Edit, Forget, Forgotten, Generate, Generated, Heads, Hears, Made, Merge, Merged, Read, ReadAt, ReadHeads, Receive, Received, Refused, RefusesEdit, RefusesGenerate, RefusesMerge, RefusesReceive, RefusesText, Reply, Runs, Speaks, Text, entered, knowing, needs_stopped, Report, StopsAt, StopsUnsettled, Takes, Appends, AreFew, Keeps, MovesLinks, TouchesLink, came, changes_of, is_on, known_of, with_link, without_link, MessageParts, SyncParts, heard, never, neither_left}
 use Rattle.tp_list.proofs.Members.{In-left}
-use Rattle.tp_change.specs.declared.parts.ChangeParts.{ChangeParts}
-use Rattle.tp_change.specs.Limits.{IsChange}
-use Rattle.tp_document.specs.Editing.{Asked, asking}
-use Rattle.tp_document.specs.Merging.{absent}
-use Rattle.tp_graph.specs.Fit.{cause}
-use Rattle.tp_graph.specs.GraphState.{most_waiting}
-use Rattle.tp_receive.specs.Intake.{Intake}
-use Rattle.tp_journal.specs.Journal.{HasGrown}
-use Rattle.tp_journal.specs.Layout.{IsDocId, journal, record_of, records_of}
-use Rattle.tp_journal.specs.Recovery.{IsHistory}
-use Rattle.tp_journal.proofs.CutLaws.{journal-append}
-use Rattle.tp_peer.specs.declared.error.PeerError.{PeerError}
-use Rattle.tp_peer.specs.declared.error.PeerError.TheVariants.{JournalFailed, TooManyLinks, Doc, Sync, OutOfMemory}
-use Rattle.tp_peer.specs.declared.error.PeerError.TheVariants as error
-use Rattle.tp_peer.specs.Appending.{JournalState}
-use Rattle.tp_peer.specs.PeerData.{HasJournal, IsPeer, IsTornRecord, PeerData}
-use Rattle.tp_peer.specs.PeerStep.{Call, Decodes, Edit, Forget, Forgotten, Generate, Generated, Heads, Hears, Made, Merge, Merged, PeerStep, Read, ReadAt, ReadHeads, Receive, Received, Refused, RefusesEdit, RefusesGenerate, RefusesMerge, RefusesReceive, RefusesText, Reply, Runs, Speaks, Text, entered, knowing, needs_stopped}
-use Rattle.tp_receive.specs.declared.error.ReceiveError.TheVariants as receive
-use Rattle.tp_receive.specs.Outcome.{Report}
-use Rattle.tp_receive.specs.Outcome as outcome
-use Rattle.tp_peer.specs.Taking.{StopsAt, Takes}
-use Rattle.tp_peer.specs.Laws.{Appends, AreFew, Keeps, MovesLinks, TouchesLink, came, changes_of, is_on}
-use Rattle.tp_peer.specs.Links.{known_of, with_link, without_link}
-use Rattle.tp_sync.specs.Message.{MessageParts}
-use Rattle.tp_sync.specs.State.{SyncParts, heard}
+use Rattle.tp_peer.specs.PeerStep.{PeerStep}
 use Rattle.tp_peer.proofs.LinkLaws.{moves_leave, other_with, other_without, stays}
-use Rattle.tp_peer.proofs.KeepingLaws.{Advances, Reaches, history_grows, reached, reaches_all, reaches_part, run_advances}
+use Rattle.tp_peer.proofs.KeepingLaws.{Advances, Reaches, history_grows, reaches_all, reaches_part, run_advances}
+use Rattle.tp_peer.specs.declared.error.PeerError.TheVariants as error
+use Rattle.tp_receive.specs.declared.error.ReceiveError.TheVariants as receive
+use Rattle.tp_receive.specs.Outcome as outcome
 
 -- ---- the kinds of steps
 
@@ -45,9 +20,21 @@ few_none p Read = refl
 few_none p (ReadAt H) = refl
 few_none p ReadHeads = refl
 
--- nothing changed
-same_keeps : (p p' : PeerData) (call : Call) (reply : Reply) → reply ≢ Refused JournalFailed → p' ≡ p → Keeps p call reply p'
-same_keeps p p' call reply other e = subst (λ (q : PeerData). Keeps p call reply q) (sym e) (record {
+-- what links stay, but for the one of a call
+abbrev KeepsOthers : Call → List (ℕ × SyncParts) → List (ℕ × SyncParts) → Type 0
+KeepsOthers call L L' = (n : ℕ) → is_on call n ≡ false → known_of L' n ≡ known_of L n
+
+-- the links L' are what the call left of L
+record LeavesLinks (call : Call) (L L' : List (ℕ × SyncParts)) : Type 0 where
+  moves : MovesLinks call L L'
+  others : KeepsOthers call L L'
+
+all_stay : (call : Call) (L : List (ℕ × SyncParts)) → LeavesLinks call L L
+all_stay call L = record { moves = stays call L; others = λ n h. refl }
+
+-- one link changed, and nothing else
+link_keeps : (p p' : PeerData) (call : Call) (reply : Reply) (L : List (ℕ × SyncParts)) → reply ≢ Refused JournalFailed → LeavesLinks call p.links L → p' ≡ record p { links = L } → Keeps p call reply p'
+link_keeps p p' call reply L other links e = subst (λ (q : PeerData). Keeps p call reply q) (sym e) (record {
   id = refl;
   actor = refl;
   new = [];
@@ -58,13 +45,14 @@ same_keeps p p' call reply other e = subst (λ (q : PeerData). Keeps p call repl
   still = λ s. refl;
   waits = λ c i. In-left c p.waiting (came p call) i;
   few_wait = λ h. h;
-  links = stays call p.links;
-  others = λ n h. refl;
-  journal = inl (record { journal = sym (append-nil p.journal); failures = refl; goes_on = refl; answered = other });
+  links = links.moves;
+  others = links.others;
+  journal = inl (record { journal = sym (append-nil p.journal); device = refl; goes_on = refl; answered = other });
 })
 
-never : {A : Type 0} {b : Bool} → b ≡ false → b ≡ true → A
-never f t = cc
+-- nothing changed
+same_keeps : (p p' : PeerData) (call : Call) (reply : Reply) → reply ≢ Refused JournalFailed → p' ≡ p → Keeps p call reply p'
+same_keeps p p' call reply other e = link_keeps p p' call reply p.links other (all_stay call p.links) e
 
 -- one change entered by an edit
 pub edit_keeps : (p p' : PeerData) (call : Call) (reply : Reply) (c : ChangeParts) → reply ≢ Refused JournalFailed → AreFew p call (c ∷ []) → p.stopped ≡ false
@@ -77,57 +65,51 @@ edit_keeps p p' call reply c other few running fits limits e = subst (λ (q : Pe
   few = few;
   fits = (fits, tt);
   limits = λ d i. elim i [ inl same ↦ subst IsChange (sym same) limits | inr none ↦ absurd none ];
-  still = λ s. never running s;
+  still = λ s. never s running;
   waits = λ d i. In-left d p.waiting (came p call) i;
   few_wait = λ h. h;
   links = stays call p.links;
   others = λ n h. refl;
-  journal = inl (record { journal = ap (λ l. p.journal ++ l) (sym (append-nil (record_of c))); failures = refl; goes_on = refl; answered = other });
+  journal = inl (record { journal = ap (λ l. p.journal ++ l) (sym (append-nil (record_of c))); device = refl; goes_on = refl; answered = other });
 })
 
--- the device failed in an edit
-edit_tears : (p p' : PeerData) (call : Call) (c : ChangeParts) → p.stopped ≡ false → cause p.applied c ≡ None → StopsAt p c p' → Keeps p call (Refused JournalFailed) p'
-edit_tears p p' call c running fits s = record {
-  id = ap (λ (q : PeerData). q.id) s.left;
-  actor = ap (λ (q : PeerData). q.actor) s.left;
+-- the device failed before a change entered
+stops_keeps : (p p' : PeerData) (call : Call) (bytes : List ℕ) → p.stopped ≡ false → p' ≡ record p { journal = p'.journal; device = p'.device; stopped = true }
+    → IsTorn p.applied bytes → p'.journal ≡ p.journal ++ bytes → Fails p.device p'.device → Keeps p call (Refused JournalFailed) p'
+stops_keeps p p' call bytes running left torn content device = record {
+  id = ap (λ (q : PeerData). q.id) left;
+  actor = ap (λ (q : PeerData). q.actor) left;
   new = [];
-  applied = ap (λ (q : PeerData). q.applied) s.left ∙ sym (append-nil p.applied);
+  applied = ap (λ (q : PeerData). q.applied) left ∙ sym (append-nil p.applied);
   few = few_none p call;
   fits = tt;
   limits = λ d i. absurd i;
   still = λ t. refl;
-  waits = λ d i. In-left d p.waiting (came p call) (subst (In d) (ap (λ (q : PeerData). q.waiting) s.left) i);
-  few_wait = λ h. subst (λ (W : List ChangeParts). length W ≤ most_waiting) (sym (ap (λ (q : PeerData). q.waiting) s.left)) h;
-  links = subst (MovesLinks call p.links) (sym (ap (λ (q : PeerData). q.links) s.left)) (stays call p.links);
-  others = λ n h. ap (λ (q : PeerData). known_of q.links n) s.left;
+  waits = λ d i. In-left d p.waiting (came p call) (subst (In d) (ap (λ (q : PeerData). q.waiting) left) i);
+  few_wait = λ h. subst (λ (W : List ChangeParts). length W ≤ most_waiting) (sym (ap (λ (q : PeerData). q.waiting) left)) h;
+  links = subst (MovesLinks call p.links) (sym (ap (λ (q : PeerData). q.links) left)) (stays call p.links);
+  others = λ n h. ap (λ (q : PeerData). known_of q.links n) left;
   journal = inr (record {
-    bytes = take s.tears.part.0 (record_of c);
-    torn = record {
-      change = c;
-      limits = s.tears.limits;
-      fits = subst (λ C. cause C c ≡ None) (sym (ap (λ (q : PeerData). q.applied) s.left)) fits;
-      count = s.tears.part.0;
-      torn = refl;
-    };
-    journal = s.tears.part.1;
-    failures = s.tears.failures;
+    bytes = bytes;
+    torn = subst (λ C. IsTorn C bytes) (sym (ap (λ (q : PeerData). q.applied) left)) torn;
+    journal = content;
+    device = device;
     running = running;
-    stopped = ap (λ (q : PeerData). q.stopped) s.left;
+    stopped = ap (λ (q : PeerData). q.stopped) left;
     answered = refl;
   });
 }
 
--- what links stay, but for the one of a call
-abbrev KeepsOthers : Call → List (ℕ × SyncParts) → List (ℕ × SyncParts) → Type 0
-KeepsOthers call L L' = (n : ℕ) → is_on call n ≡ false → known_of L' n ≡ known_of L n
+-- in an edit
+edit_tears : (p p' : PeerData) (call : Call) (c : ChangeParts) → p.stopped ≡ false → cause p.applied c ≡ None → StopsAt p c p' → Keeps p call (Refused JournalFailed) p'
+edit_tears p p' call c running fits s =
+    stops_keeps p p' call (take s.tears.part.0 (record_of c)) running s.left
+    (inr (record { change = c; limits = s.tears.limits; fits = fits; count = s.tears.part.0; torn = refl })) s.tears.part.1 s.tears.device
 
--- the links L' are what the call left of L
-record LeavesLinks (call : Call) (L L' : List (ℕ × SyncParts)) : Type 0 where
-  moves : MovesLinks call L L'
-  others : KeepsOthers call L L'
-
-all_stay : (call : Call) (L : List (ℕ × SyncParts)) → LeavesLinks call L L
-all_stay call L = record { moves = stays call L; others = λ n h. refl }
+-- as the journal was settled
+unsettled_keeps : (p p' : PeerData) (call : Call) → p.stopped ≡ false → StopsUnsettled p p' → Keeps p call (Refused JournalFailed) p'
+unsettled_keeps p p' call running s =
+    stops_keeps p p' call [] running s.left (inl refl) (s.unsettled.content ∙ sym (append-nil p.journal)) s.unsettled.device
 
 -- its links are those of another
 links_left : (p q : PeerData) → q.links ≡ p.links → q ≡ record q { links = p.links }
@@ -146,12 +128,12 @@ received_keeps p p' call K L reply q is kept running t few links e =
       few = few t.at a;
       fits = a.grows.fits;
       limits = a.appended.limits;
-      still = λ s. never running s;
+      still = λ s. never s running;
       waits = subst (λ (D : List ChangeParts). AllIn t.at.waiting (p.waiting ++ D)) (sym is) a.waits;
       few_wait = a.few_wait;
       links = links.moves;
       others = links.others;
-      journal = inl (record { journal = a.appended.content; failures = a.appended.failures; goes_on = refl; answered = kept });
+      journal = inl (record { journal = a.appended.content; device = a.appended.device; goes_on = refl; answered = kept });
     })
 
 -- changes were received until the device failed
@@ -171,16 +153,16 @@ received_tears p p' call K is running t few =
       few = few x.at a;
       fits = a.grows.fits;
       limits = a.appended.limits;
-      still = λ z. never running z;
+      still = λ z. never z running;
       waits = λ d i. subst (λ (D : List ChangeParts). AllIn x.at.waiting (p.waiting ++ D)) (sym is) a.waits d (subst (In d) x.waiting i);
       few_wait = λ h. subst (λ (W : List ChangeParts). length W ≤ most_waiting) (sym x.waiting) (a.few_wait h);
       links = subst (MovesLinks call p.links) (sym (ap (λ (q : PeerData). q.links) t.left)) (stays call p.links);
       others = λ n h. ap (λ (q : PeerData). known_of q.links n) t.left;
       journal = inr (record {
         bytes = take part.0 (record_of c);
-        torn = record { change = c; limits = tears.limits; fits = subst (λ C. cause C c ≡ None) (sym x.applied) x.by.fits; count = part.0; torn = refl };
+        torn = inr (record { change = c; limits = tears.limits; fits = subst (λ C. cause C c ≡ None) (sym x.applied) x.by.fits; count = part.0; torn = refl });
         journal = part.1 ∙ ap (λ l. l ++ take part.0 (record_of c)) a.appended.content ∙ append_assoc p.journal (records_of a.new) (take part.0 (record_of c));
-        failures = subst (λ n. HasGrown n p'.failures) a.appended.failures tears.failures;
+        device = subst (λ (d : Device). Fails d p'.device) a.appended.device tears.device;
         running = running;
         stopped = ap (λ (q : PeerData). q.stopped) t.left;
         answered = refl;
@@ -211,7 +193,7 @@ hears_keeps p p' link bytes r same running h =
     (reaches_all p m.changes r h.taken h.takes) (few_enter p link bytes m h.decodes) (one_changes p (Receive link bytes) link s touches touches (λ n. refl))
     (h.left ∙ relinked h.taken h.takes.left) where
       -- receiving left the links as they were
-      relinked : (q : PeerData) → q ≡ record p { applied = q.applied; waiting = q.waiting; journal = q.journal; failures = q.failures }
+      relinked : (q : PeerData) → q ≡ record p { applied = q.applied; waiting = q.waiting; journal = q.journal; device = q.device }
           → knowing q link (heard (known_of p.links link) h.message) ≡ record q { links = with_link p.links link (heard (known_of p.links link) h.message) }
       relinked q e = ap (λ (L : List (ℕ × SyncParts)). record q { links = with_link L link (heard (known_of p.links link) h.message) }) (ap (λ (x : PeerData). x.links) e)
 
@@ -229,24 +211,6 @@ receive_refused p p' link bytes OutOfMemory running s = elim s.1 [
 ]
 receive_refused p p' link bytes _ running s = absurd s
 
--- one link changed, and nothing else
-link_keeps : (p p' : PeerData) (call : Call) (reply : Reply) (L : List (ℕ × SyncParts)) → reply ≢ Refused JournalFailed → LeavesLinks call p.links L → p' ≡ record p { links = L } → Keeps p call reply p'
-link_keeps p p' call reply L other links e = subst (λ (q : PeerData). Keeps p call reply q) (sym e) (record {
-  id = refl;
-  actor = refl;
-  new = [];
-  applied = sym (append-nil p.applied);
-  few = few_none p call;
-  fits = tt;
-  limits = λ c i. absurd i;
-  still = λ s. refl;
-  waits = λ c i. In-left c p.waiting (came p call) i;
-  few_wait = λ h. h;
-  links = links.moves;
-  others = links.others;
-  journal = inl (record { journal = sym (append-nil p.journal); failures = refl; goes_on = refl; answered = other });
-})
-
 speaks_keeps : (p p' : PeerData) (link : ℕ) (sent : Option (List ℕ × Bool)) → Speaks p link sent p' → Keeps p (Generate link) (Generated sent) p'
 speaks_keeps p p' link None s = same_keeps p p' (Generate link) (Generated None) (λ x. cc) s.left
 speaks_keeps p p' link (Some sent) s =
@@ -254,11 +218,12 @@ speaks_keeps p p' link (Some sent) s =
     link_keeps p p' (Generate link) (Generated (Some sent)) (with_link p.links link s.state) (λ x. cc)
     (one_changes p (Generate link) link s.state touches touches (λ n. refl)) s.left
 
-generate_refused : (p p' : PeerData) (link : ℕ) (e : PeerError) → RefusesGenerate p link e p' → Keeps p (Generate link) (Refused e) p'
-generate_refused p p' link TooManyLinks s = same_keeps p p' (Generate link) (Refused TooManyLinks) (λ x. cc) s.1
-generate_refused p p' link (Sync e) s = same_keeps p p' (Generate link) (Refused (Sync e)) (λ x. cc) s.3
-generate_refused p p' link OutOfMemory s = same_keeps p p' (Generate link) (Refused OutOfMemory) (λ x. cc) s.1
-generate_refused p p' link _ s = absurd s
+generate_refused : (p p' : PeerData) (link : ℕ) (e : PeerError) → p.stopped ≡ false → RefusesGenerate p link e p' → Keeps p (Generate link) (Refused e) p'
+generate_refused p p' link JournalFailed running s = unsettled_keeps p p' (Generate link) running s
+generate_refused p p' link TooManyLinks running s = same_keeps p p' (Generate link) (Refused TooManyLinks) (λ x. cc) s.1
+generate_refused p p' link (Sync e) running s = same_keeps p p' (Generate link) (Refused (Sync e)) (λ x. cc) s.3
+generate_refused p p' link OutOfMemory running s = same_keeps p p' (Generate link) (Refused OutOfMemory) (λ x. cc) s.1
+generate_refused p p' link _ running s = absurd s
 
 forgets_keeps : (p p' : PeerData) (link : ℕ) → p' ≡ record p { links = without_link p.links link } → Keeps p (Forget link) Forgotten p'
 forgets_keeps p p' link e =
@@ -303,7 +268,7 @@ runs_keep p ReadHeads (Heads hs) p' running s = same_keeps p p' ReadHeads (Heads
 runs_keep p (Receive link bytes) (Received r same) p' running s = hears_keeps p p' link bytes r same running s
 runs_keep p (Receive link bytes) (Refused e) p' running s = receive_refused p p' link bytes e running s
 runs_keep p (Generate link) (Generated sent) p' running s = speaks_keeps p p' link sent s
-runs_keep p (Generate link) (Refused e) p' running s = generate_refused p p' link e s
+runs_keep p (Generate link) (Refused e) p' running s = generate_refused p p' link e running s
 runs_keep p (Forget link) Forgotten p' running s = forgets_keeps p p' link s
 runs_keep p _ _ p' running s = absurd s
 
@@ -312,13 +277,9 @@ cases_chosen : {A B : Type 0} (b : Bool) → MatchBool b A B → ((b ≡ true) �
 cases_chosen true h = inl (refl, h)
 cases_chosen false h = inr (refl, h)
 
-neither : (a b : Bool) → (a || b) ≡ false → a ≡ false
-neither false b h = refl
-neither true b h = absurd cc
-
 running_of : (p : PeerData) (call : Call) → needs_stopped p call ≡ false → p.stopped ≡ false
 running_of p (Edit ss t m) h = h
-running_of p (Merge other) h = neither p.stopped other.stopped h
+running_of p (Merge other) h = neither_left p.stopped other.stopped h
 running_of p (Receive link bytes) h = h
 running_of p (Generate link) h = h
 running_of p (Forget link) h = h
@@ -363,7 +324,7 @@ kept_on p p' reply new true is id applied still h a =
     let content : p'.journal ≡ p.journal = a.journal ∙ ap (λ (l : List ChangeParts). p.journal ++ records_of l) none ∙ append-nil p.journal in
     let same : p'.applied ≡ p.applied = applied ∙ ap (λ (l : List ChangeParts). p.applied ++ l) none ∙ append-nil p.applied in (
       h.0,
-      subst (λ (C : List ChangeParts). IsTornRecord C h.0) (sym same) h.1,
+      subst (λ (C : List ChangeParts). IsTorn C h.0) (sym same) h.1,
       content ∙ h.2 ∙ ap (λ (C : List ChangeParts). journal p.id C ++ h.0) (sym same) ∙ ap (λ (i : DocId). journal i p'.applied ++ h.0) (sym id),
     )
 
@@ -395,12 +356,3 @@ step_stopped p call is = subst (λ b. MatchBool b ((Refused error.Stopped ≡ Re
 pub step_runs : (p : PeerData) (call : Call) (reply : Reply) (p' : PeerData) → needs_stopped p call ≡ false → Runs p call reply p' → PeerStep p call reply p'
 unfolding PeerStep
 step_runs p call reply p' is runs = subst (λ b. MatchBool b ((reply ≡ Refused error.Stopped) × (p' ≡ p)) (Runs p call reply p')) (sym is) runs
-
--- the peers of a merge
-pub either_stopped : (a b : Bool) → b ≡ true → (a || b) ≡ true
-either_stopped true b h = refl
-either_stopped false b h = h
-
-pub none_stopped : (a b : Bool) → a ≡ false → b ≡ false → (a || b) ≡ false
-none_stopped false b x y = y
-none_stopped true b x y = absurd cc

@@ -1,47 +1,25 @@
 -- From what a document answers where it receives to what that does to its peer.
-use Rattle.tp_list.proofs.Tests.{never}
-use Rattle.std.proofs.Common.{◌≡◌, ℕ, List, [], ◌∷◌, ◌++◌, Bool, false, Err, refl, ap, ◌∙◌}
-use Rattle.tp_opid.specs.declared.actor.Actor.{Actor}
-use Rattle.tp_opid.specs.declared.doc_id.DocId.{DocId}
-use Rattle.tp_change.specs.declared.parts.ChangeParts.{ChangeParts}
+use Rattle.tp_peer.proofs.Common.{never, ◌≡◌, ℕ, List, Bool, false, Err, refl, ap, ◌∙◌, Actor, DocId, ChangeParts, is_full, Receiver, Outcome, ReceivesWith, Stopped, DocError, HasMergeOutcome, kept_by, DocState, absent, Device, SyncParts, AppendsRecord, JournalState, RefusesRecord, PeerData, peer_data, is_failed, refusal_of_document, RefusesMerge, Takes, stopped_by}
 use Rattle.tp_receive.specs.declared.error.ReceiveError.TheVariants as receive
-use Rattle.tp_receive.specs.Delivery.{is_full}
-use Rattle.tp_receive.specs.Intake.{Receiver}
-use Rattle.tp_receive.specs.Outcome.{Outcome, ReceivesWith, Stopped}
-use Rattle.tp_document.specs.declared.error.DocError.{DocError}
 use Rattle.tp_document.specs.declared.error.DocError.TheVariants as doc
-use Rattle.tp_document.specs.Applying.{HasMergeOutcome, kept_by}
-use Rattle.tp_document.specs.DocState.{DocState}
-use Rattle.tp_document.specs.Merging.{absent}
-use Rattle.tp_journal.specs.Layout.{record_of}
-use Rattle.tp_sync.specs.State.{SyncParts}
-use Rattle.tp_peer.specs.Appending.{AppendsRecord, JournalState, RefusesRecord}
-use Rattle.tp_peer.specs.PeerData.{PeerData, peer_data}
-use Rattle.tp_peer.specs.PeerError.{is_failed, refusal_of_document}
-use Rattle.tp_peer.specs.PeerStep.{RefusesMerge, entered}
-use Rattle.tp_peer.specs.Taking.{Takes, stopped_by}
 
 -- a peer from all its parts
-abbrev from_parts : DocId → Actor → List ChangeParts → List ChangeParts → List (ℕ × SyncParts) → List ℕ → ℕ → Bool → PeerData
-from_parts i a C W L b n s = record { id = i; actor = a; applied = C; waiting = W; links = L; journal = b; failures = n; stopped = s }
-
-pub same_parts : (i j : DocId) (a : Actor) (C D V W : List ChangeParts) (L : List (ℕ × SyncParts)) (b : List ℕ) (n : ℕ) (s : Bool) → i ≡ j → C ≡ D → V ≡ W → from_parts i a C V L b n s ≡ from_parts j a D W L b n s
-same_parts i j a C D V W L b n s e f g =
-    ap (λ (x : DocId). from_parts x a C V L b n s) e ∙ ap (λ (X : List ChangeParts). from_parts j a X V L b n s) f ∙ ap (λ (X : List ChangeParts). from_parts j a D X L b n s) g
+abbrev from_parts : DocId → Actor → List ChangeParts → List ChangeParts → List (ℕ × SyncParts) → List ℕ → Device → Bool → PeerData
+from_parts i a C W L b n s = record { id = i; actor = a; applied = C; waiting = W; links = L; journal = b; device = n; stopped = s }
 
 -- what a document received is what its peer received
 pub took : (a : Actor) (d d' : DocState) (L : List (ℕ × SyncParts)) (k k' : JournalState) (s : Bool) (K : List ChangeParts) (o : Outcome) → d'.id ≡ d.id → ReceivesWith AppendsRecord RefusesRecord (kept_by k d) K (kept_by k' d') o
     → Takes (peer_data a d L k s) K o (peer_data a d' L k' (stopped_by o s))
 took a d d' L k k' s K o e receives = record {
   receives = receives;
-  left = ap (λ (i : DocId). from_parts i a d'.applied d'.waiting L k'.content k'.failures (stopped_by o s)) e;
+  left = ap (λ (i : DocId). from_parts i a d'.applied d'.waiting L k'.content k'.device (stopped_by o s)) e;
 }
 
 -- what left a document and its journal as they were left the peer so
 pub took_none : (a : Actor) (d d' : DocState) (L : List (ℕ × SyncParts)) (k k' : JournalState) (s : Bool) → d'.id ≡ d.id → kept_by k' d' ≡ kept_by k d → peer_data a d' L k' s ≡ peer_data a d L k s
 took_none a d d' L k k' s e same =
-    ap (λ (i : DocId). from_parts i a d'.applied d'.waiting L k'.content k'.failures s) e
-    ∙ ap (λ (r : Receiver JournalState). from_parts d.id a r.applied r.waiting L r.keeper.content r.keeper.failures s) same
+    ap (λ (i : DocId). from_parts i a d'.applied d'.waiting L k'.content k'.device s) e
+    ∙ ap (λ (r : Receiver JournalState). from_parts d.id a r.applied r.waiting L r.keeper.content r.keeper.device s) same
 
 -- ---- a merge that was refused
 

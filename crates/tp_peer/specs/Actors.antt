@@ -1,8 +1,8 @@
 -- Actors: whether changes have one, and how a fresh one is drawn.
 use Rattle.std.specs.Prelude.{ℕ, List, [], ◌∷◌, ◌++◌, Bool, false, ◌||◌}
+use Rattle.tp_peer.specs.Common.{Actor, ChangeParts}
 use Rattle.std.specs.Int.{w32, to_be_bytes}
 use Rattle.rand_chacha.specs.ChaCha.{ChaCha, next_word}
-use Rattle.tp_peer.specs.Common.{Actor, ChangeParts}
 use Rattle.tp_opid.specs.Same.{same_actor}
 
 -- one of the changes is the actor's

@@ -1,30 +1,39 @@
 -- What an append of a change's record does to a journal.
-use Rattle.std.specs.Prelude.{◌≡◌, ℕ, List, ◌++◌}
-use Rattle.tp_peer.specs.Common.{ChangeParts, IsChange, JournalError, GrowsInPart, HasGrown, record_of}
+use Rattle.std.specs.Prelude.{◌≡◌, ℕ, List, ◌++◌, Bool}
+use Rattle.tp_peer.specs.Common.{ChangeParts, IsChange, JournalError, Device, Fails, GrowsInPart, record_of}
 use Rattle.tp_receive.specs.declared.keeper.KeepError.{KeepError}
 use Rattle.tp_receive.specs.declared.keeper.KeepError.TheVariants.{NotKept, OutOfMemory}
 use Rattle.tp_journal.specs.declared.error.JournalError.TheVariants as journal
 
--- what is seen of a journal: its content, and how often its device failed
+-- what is seen of a journal: its content and its device
 pub record JournalState : Type 0 where
   pub content : List ℕ
-  pub failures : ℕ
+  pub device : Device
 
 -- the same, from its parts
-abbrev pub journal_state : List ℕ → ℕ → JournalState
-journal_state content failures = record { content = content; failures = failures }
+abbrev pub journal_state : List ℕ → Device → JournalState
+journal_state content device = record { content = content; device = device }
+
+-- the same, with a device that can fail, or can't
+abbrev pub armed : JournalState → Bool → JournalState
+armed k can_fail = record k { device = record k.device { can_fail = can_fail } }
 
 -- The record of the change was appended.
 pub record AppendsRecord (k : JournalState) (c : ChangeParts) (k' : JournalState) : Type 0 where
   pub limits : IsChange c
   pub content : k'.content ≡ k.content ++ record_of c
-  pub failures : k'.failures ≡ k.failures
+  pub device : k'.device ≡ k.device
 
 -- The device failed while the record was appended: a beginning of it may stand there.
 pub record TearsRecord (k : JournalState) (c : ChangeParts) (k' : JournalState) : Type 0 where
   pub limits : IsChange c
   pub part : GrowsInPart k.content k'.content (record_of c)
-  pub failures : HasGrown k.failures k'.failures
+  pub device : Fails k.device k'.device
+
+-- The device failed as the journal was settled.
+pub record StaysUnsettled (k k' : JournalState) : Type 0 where
+  pub content : k'.content ≡ k.content
+  pub device : Fails k.device k'.device
 
 -- what a refused append leaves
 abbrev pub RefusesRecord : JournalState → ChangeParts → KeepError → JournalState → Type 0

@@ -1,16 +1,18 @@
 -- The calls and replies of the program, as the relation has them.
 use Rattle.std.specs.Prelude.{Bool, false}
-use Rattle.std.specs.Str.{chars}
+use Rattle.tp_peer.specs.Common.{chars, message_spelling}
 use Rattle.std.specs.String.{string_bytes}
 use Rattle.tp_peer.specs.declared.call.Call.{Call}
-use Rattle.tp_peer.specs.declared.call.Call.TheVariants as call
+use Rattle.tp_peer.specs.declared.call.Request.{Request}
 use Rattle.tp_peer.specs.declared.call.Reply.{Reply}
-use Rattle.tp_peer.specs.declared.call.Reply.TheVariants as reply
 use Rattle.tp_peer.specs.PeerData.{PeerData}
 use Rattle.tp_peer.specs.PeerError.{is_failed}
-use Rattle.tp_peer.specs.PeerStep as step
 use Rattle.tp_peer.specs.Sent.{sent_of}
 use Rattle.tp_peer.specs.Taking.{report_of}
+use Rattle.tp_peer.specs.declared.call.Call.TheVariants as call
+use Rattle.tp_peer.specs.declared.call.Request.TheVariants as request
+use Rattle.tp_peer.specs.declared.call.Reply.TheVariants as reply
+use Rattle.tp_peer.specs.PeerStep as step
 
 abbrev pub call_of : Call → step.Call
 call_of (call.Edit splices time message) = step.Edit splices.now time (chars message.now)
@@ -19,6 +21,11 @@ call_of (call.Generate link) = step.Generate link.0
 call_of (call.Forget link) = step.Forget link.0
 call_of call.Read = step.Read
 call_of (call.ReadAt hashes) = step.ReadAt hashes.now
+
+-- the call that is asked for: a message that was decoded is received as its bytes are
+abbrev pub call_in : Request → step.Call
+call_in (request.Call call) = call_of call
+call_in (request.Message link message) = step.Receive link.0 (message_spelling message)
 
 abbrev pub reply_of : Reply → step.Reply
 reply_of (reply.Made made) = step.Made made

@@ -1,27 +1,14 @@
 -- What the laws of peers say.
 use Rattle.std.specs.Prelude.{◌≡◌, ◌≢◌, ◌⊎◌, ℕ, ◌==◌, ◌+◌, ◌≤◌, List, [], ◌++◌, ◌∷◌, length, Bool, true, false, take, None, Result, Ok, Err}
+use Rattle.tp_peer.specs.Common.{ChangeParts, IsChange, cause, most_waiting, AllChanges, absent, Fails, journal, record_of, records_of, SyncError, MAX_CHANGES, MessageParts, message_at, SyncParts, Report}
 use Rattle.tp_list.specs.Members.{AllIn}
-use Rattle.tp_change.specs.declared.parts.ChangeParts.{ChangeParts}
-use Rattle.tp_change.specs.Limits.{IsChange}
-use Rattle.tp_graph.specs.Fit.{cause}
-use Rattle.tp_graph.specs.GraphState.{most_waiting}
-use Rattle.tp_document.specs.DocState.{AllChanges}
-use Rattle.tp_document.specs.Merging.{absent}
 use Rattle.tp_receive.specs.Receiving.{Between, EntersAfter, Receives}
 use Rattle.tp_receive.specs.Replies.{AllAccounted, AreRefused, LosesNone}
-use Rattle.tp_journal.specs.Journal.{HasGrown}
 use Rattle.tp_journal.specs.Laws.{RecoversCut}
-use Rattle.tp_journal.specs.Layout.{journal, record_of, records_of}
-use Rattle.tp_sync.specs.declared.error.SyncError.{SyncError}
-use Rattle.tp_sync.specs.declared.limits.TheConstants.{MAX_CHANGES}
-use Rattle.tp_sync.specs.Message.{MessageParts}
-use Rattle.tp_sync.specs.Reading.{message_at}
-use Rattle.tp_sync.specs.State.{SyncParts}
 use Rattle.tp_peer.specs.declared.error.PeerError.TheVariants.{JournalFailed}
 use Rattle.tp_peer.specs.Links.{is_one_too_many, known_of, with_link, without_link}
-use Rattle.tp_peer.specs.PeerData.{IsTornRecord, PeerData}
+use Rattle.tp_peer.specs.PeerData.{IsTorn, PeerData}
 use Rattle.tp_peer.specs.PeerStep.{Call, Edit, Merge, Receive, Generate, Forget, Reply, Refused}
-use Rattle.tp_receive.specs.Outcome.{Report}
 
 -- the changes of a message
 abbrev pub changes_of : Result MessageParts SyncError → List ChangeParts
@@ -67,17 +54,17 @@ is_on _ n = false
 -- The records of the new changes were appended, and nothing else.
 pub record Appends (p : PeerData) (new : List ChangeParts) (reply : Reply) (p' : PeerData) : Type 0 where
   pub journal : p'.journal ≡ p.journal ++ records_of new
-  pub failures : p'.failures ≡ p.failures
+  pub device : p'.device ≡ p.device
   pub goes_on : p'.stopped ≡ p.stopped
   pub answered : reply ≢ Refused JournalFailed
 
--- The records of the new changes were appended, and then the device failed: a beginning of the record of a change that
--- could enter next may stand behind them. The peer has stopped, and says so.
+-- The records of the new changes were appended, and then the device failed, at a further one or as the journal was settled:
+-- a beginning of the record of a change that could enter next may stand behind them. The peer has stopped, and says so.
 pub record Tears (p : PeerData) (new : List ChangeParts) (reply : Reply) (p' : PeerData) : Type 0 where
   pub bytes : List ℕ
-  pub torn : IsTornRecord p'.applied bytes
+  pub torn : IsTorn p'.applied bytes
   pub journal : p'.journal ≡ p.journal ++ (records_of new ++ bytes)
-  pub failures : HasGrown p.failures p'.failures
+  pub device : Fails p.device p'.device
   pub running : p.stopped ≡ false
   pub stopped : p'.stopped ≡ true
   pub answered : reply ≡ Refused JournalFailed
@@ -123,10 +110,11 @@ pub record IsTornAt (p : PeerData) (K : List ChangeParts) (p' : PeerData) : Type
   pub count : ℕ
   pub journal : p.journal ≡ journal p.id p.applied → p'.journal ≡ journal p'.id p'.applied ++ take count (record_of change)
 
--- What the journal of a stopped peer recovers to: its changes, and the one that was being appended where its record is
--- whole.
+-- What the journal of a stopped peer recovers to: its changes, and the one that was being appended, if there is one, where
+-- its record is whole.
 pub record RecoversTorn (p : PeerData) : Type 0 where
-  pub change : ChangeParts
+  pub changes : List ChangeParts
+  pub few : length changes ≤ 1
   pub count : ℕ
-  pub content : p.journal ≡ journal p.id p.applied ++ take count (records_of (change ∷ []))
-  pub recovers : RecoversCut p.id p.applied (change ∷ []) count
+  pub content : p.journal ≡ journal p.id p.applied ++ take count (records_of changes)
+  pub recovers : RecoversCut p.id p.applied changes count

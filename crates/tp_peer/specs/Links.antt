@@ -1,6 +1,6 @@
 -- The links of a peer: the numbers of the peers with which it exchanges messages, and what it knows of each.
 use Rattle.std.specs.Prelude.{◌≡◌, ℕ, ◌==◌, ◌<◌, ◌≤◌, nat_le, List, [], ◌∷◌, length, filter, slice_index_or, take, Bool, false, ◌||◌, ◌&&◌, not, cond}
-use Rattle.tp_sync.specs.State.{SyncParts, fresh}
+use Rattle.tp_peer.specs.Common.{SyncParts, fresh}
 use Rattle.tp_peer.specs.declared.links.TheConstants.{MAX_LINKS}
 
 -- there is a link with the number n

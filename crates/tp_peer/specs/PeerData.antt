@@ -1,16 +1,12 @@
 -- What contracts see of a peer, and what every peer keeps.
-use Rattle.std.specs.Prelude.{◌≡◌, ℕ, ◌≤◌, List, [], ◌++◌, length, take, Bool, true, false, None}
-use Rattle.tp_peer.specs.Common.{Actor, DocId, ChangeParts, IsChange, cause, record_of, journal, SyncParts}
-use Rattle.tp_document.specs.DocState.{DocState}
-use Rattle.tp_graph.specs.GraphState.{most_waiting}
-use Rattle.tp_journal.specs.Layout.{IsDocId}
-use Rattle.tp_journal.specs.Recovery.{IsHistory}
+use Rattle.std.specs.Prelude.{◌≡◌, ◌⊎◌, ℕ, ◌≤◌, List, [], ◌++◌, length, take, Bool, true, false, None}
+use Rattle.tp_peer.specs.Common.{Actor, DocId, ChangeParts, Device, IsChange, cause, record_of, journal, IsDocId, SyncParts, DocState, most_waiting, IsHistory}
 use Rattle.tp_peer.specs.Appending.{JournalState}
 use Rattle.tp_peer.specs.Links.{AreLinks}
 
 -- The identifier of its document and the actor of its edits; the changes that are applied, in the order in which they
 -- entered; those that wait, in the order in which they came; its links, in the order in which they were made; the
--- content of its journal, and how often the device of that failed; and whether it has stopped.
+-- content of its journal, and the device of that; and whether it has stopped.
 pub record PeerData : Type 0 where
   pub id : DocId
   pub actor : Actor
@@ -18,7 +14,7 @@ pub record PeerData : Type 0 where
   pub waiting : List ChangeParts
   pub links : List (ℕ × SyncParts)
   pub journal : List ℕ
-  pub failures : ℕ
+  pub device : Device
   pub stopped : Bool
 
 -- The bytes are a beginning of one record: that of a change which could enter next behind C.
@@ -29,10 +25,14 @@ pub record IsTornRecord (C : List ChangeParts) (bytes : List ℕ) : Type 0 where
   pub count : ℕ
   pub torn : bytes ≡ take count (record_of change)
 
--- The journal is that of the applied changes. Where the peer has stopped, a beginning of one record stands behind it.
+-- The bytes are none, or a beginning of one record.
+abbrev pub IsTorn : List ChangeParts → List ℕ → Type 0
+IsTorn C bytes = (bytes ≡ []) ⊎ IsTornRecord C bytes
+
+-- The journal is that of the applied changes. Where the peer has stopped, a beginning of one record may stand behind it.
 abbrev pub HasJournal : Bool → DocId → List ChangeParts → List ℕ → Type 0
 HasJournal false id C content = content ≡ journal id C
-HasJournal true id C content = (bytes : List ℕ) × IsTornRecord C bytes × (content ≡ journal id C ++ bytes)
+HasJournal true id C content = (bytes : List ℕ) × IsTorn C bytes × (content ≡ journal id C ++ bytes)
 
 -- What every peer keeps: its changes are a history, and its journal has them; at most 1,024 wait; and it has at most
 -- 1,024 links.
@@ -44,11 +44,15 @@ pub record IsPeer (p : PeerData) : Type 0 where
   pub links : AreLinks p.links
 
 -- a peer with these changes, none that waits, no links, and the journal of the changes
-abbrev pub opened : DocId → Actor → List ChangeParts → ℕ → PeerData
-opened id actor C failures =
-    record { id = id; actor = actor; applied = C; waiting = []; links = []; journal = journal id C; failures = failures; stopped = false }
+abbrev pub opened : DocId → Actor → List ChangeParts → Device → PeerData
+opened id actor C device =
+    record { id = id; actor = actor; applied = C; waiting = []; links = []; journal = journal id C; device = device; stopped = false }
 
 -- what is seen of a peer, from its parts
 abbrev pub peer_data : Actor → DocState → List (ℕ × SyncParts) → JournalState → Bool → PeerData
 peer_data actor d links k stopped =
-    record { id = d.id; actor = actor; applied = d.applied; waiting = d.waiting; links = links; journal = k.content; failures = k.failures; stopped = stopped }
+    record { id = d.id; actor = actor; applied = d.applied; waiting = d.waiting; links = links; journal = k.content; device = k.device; stopped = stopped }
+
+-- the peer, with a device that can fail, or can't
+abbrev pub arming : PeerData → Bool → PeerData
+arming p can_fail = record p { device = record p.device { can_fail = can_fail } }

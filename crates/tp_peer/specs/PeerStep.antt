@@ -1,30 +1,24 @@
 -- The peer as a machine: what a call may answer, and what it leaves.
 use Rattle.std.specs.Prelude.{◌≡◌, ◌≢◌, ◌⊎◌, ◌↔◌, ℕ, ◌<◌, ◌≤◌, List, [], ◌∷◌, ◌++◌, Bool, true, false, ◌||◌, Option, Some, None, Result, Ok, Err, length, IsTrue, MatchBool}
+use Rattle.tp_peer.specs.Common.{ChangeParts, hash_of, Splice, DocError, Done, Report, record_of, SyncError, SyncParts, heard, absent, MAX_HASHES, IsMessage, MessageParts, message_at, message_spelling}
 use Rattle.tp_opid.specs.declared.hash.Hash.{Hash}
-use Rattle.tp_peer.specs.Common.{ChangeParts, hash_of, Splice, DocError, Done, Report, record_of, SyncError, SyncParts}
 use Rattle.tp_text.specs.Text.{IsTextOf}
 use Rattle.tp_graph.specs.Heads.{heads}
 use Rattle.tp_graph.specs.Named.{has_all}
 use Rattle.tp_graph.specs.Past.{past}
-use Rattle.tp_document.specs.declared.error.DocError.TheVariants as doc
 use Rattle.tp_document.specs.Editing.{Asked, AsksNothing, Edited, IsRefused, asking}
-use Rattle.tp_document.specs.Merging.{absent}
 use Rattle.tp_receive.specs.declared.error.ReceiveError.{ReceiveError}
-use Rattle.tp_receive.specs.declared.error.ReceiveError.TheVariants as receive
 use Rattle.tp_receive.specs.Delivery.{is_full}
-use Rattle.tp_receive.specs.Outcome as outcome
-use Rattle.tp_sync.specs.declared.error.SyncError.TheVariants as sync
-use Rattle.tp_sync.specs.declared.limits.TheConstants.{MAX_HASHES}
 use Rattle.tp_sync.specs.Answer.{Answer, IsQuiet}
-use Rattle.tp_sync.specs.Message.{IsMessage, MessageParts}
-use Rattle.tp_sync.specs.Reading.{message_at}
-use Rattle.tp_sync.specs.Spelling.{message_spelling}
-use Rattle.tp_sync.specs.State.{heard}
 use Rattle.tp_peer.specs.declared.error.PeerError.{PeerError}
 use Rattle.tp_peer.specs.declared.error.PeerError.TheVariants.{JournalFailed, Stopped, TooManyLinks, Doc, Sync, OutOfMemory}
 use Rattle.tp_peer.specs.Links.{is_one_too_many, known_of, with_link, without_link}
 use Rattle.tp_peer.specs.PeerData.{PeerData}
-use Rattle.tp_peer.specs.Taking.{StopsAt, Takes}
+use Rattle.tp_peer.specs.Taking.{StopsAt, StopsUnsettled, Takes}
+use Rattle.tp_document.specs.declared.error.DocError.TheVariants as doc
+use Rattle.tp_receive.specs.declared.error.ReceiveError.TheVariants as receive
+use Rattle.tp_receive.specs.Outcome as outcome
+use Rattle.tp_sync.specs.declared.error.SyncError.TheVariants as sync
 
 -- The calls on a peer: an edit by its splices, time and message; a merge from another peer; on the link with a number,
 -- bytes that come, the next message, and its end; the text now, and at the hashes; the heads.
@@ -62,12 +56,6 @@ replied f (Err e) = Refused e
 -- the peer, where c entered as the last and its record was appended
 abbrev pub entered : PeerData → ChangeParts → PeerData
 entered p c = record p { applied = p.applied ++ c ∷ []; journal = p.journal ++ record_of c }
-
--- What a refused entry of c leaves: the peer as it was, or stopped where the device failed while c was appended.
-abbrev pub RefusesEntry : PeerData → ChangeParts → PeerError → PeerData → Type 0
-RefusesEntry p c JournalFailed p' = StopsAt p c p'
-RefusesEntry p c OutOfMemory p' = p' ≡ p
-RefusesEntry p c _ p' = ⊥
 
 -- What an edit did: nothing where it asked nothing, and else its one change entered.
 abbrev pub Edits : PeerData → Asked → Option Hash → PeerData → Type 0
@@ -172,8 +160,9 @@ abbrev pub Speaks : PeerData → ℕ → Option (List ℕ × Bool) → PeerData 
 Speaks p link None p' = IsSilent p link p'
 Speaks p link (Some sent) p' = Sends p link sent.0 sent.1 p'
 
--- What a refused generate leaves: the peer as it was.
+-- What a refused generate leaves: the peer as it was, or stopped where the journal couldn't be settled.
 abbrev pub RefusesGenerate : PeerData → ℕ → PeerError → PeerData → Type 0
+RefusesGenerate p link JournalFailed p' = StopsUnsettled p p'
 RefusesGenerate p link TooManyLinks p' = (is_one_too_many p.links link ≡ true) × (p' ≡ p)
 RefusesGenerate p link (Sync e) p' =
     (is_one_too_many p.links link ≡ false) × (e ≡ sync.TooManyHeads) × (MAX_HASHES < length (heads p.applied)) × (p' ≡ p)

@@ -1,16 +1,15 @@
 -- What receiving changes does to a peer.
 use Rattle.std.specs.Prelude.{◌≡◌, List, Bool, true}
-use Rattle.tp_change.specs.declared.parts.ChangeParts.{ChangeParts}
+use Rattle.tp_peer.specs.Common.{ChangeParts, Outcome, ReceivesWith, Stopped}
 use Rattle.tp_receive.specs.declared.error.ReceiveError.TheVariants.{NotKept}
 use Rattle.tp_receive.specs.Intake.{Receiver, receiver}
-use Rattle.tp_receive.specs.Outcome.{Outcome, ReceivesWith, Stopped}
-use Rattle.tp_peer.specs.Appending.{AppendsRecord, JournalState, RefusesRecord, TearsRecord, journal_state}
+use Rattle.tp_peer.specs.Appending.{AppendsRecord, JournalState, RefusesRecord, StaysUnsettled, TearsRecord, journal_state}
 use Rattle.tp_peer.specs.PeerData.{PeerData}
 pub use Rattle.tp_receive.specs.Outcome.{Report, report_of}
 
 -- what is seen of the peer's journal
 abbrev pub journal_of : PeerData → JournalState
-journal_of p = journal_state p.journal p.failures
+journal_of p = journal_state p.journal p.device
 
 -- the peer as what receives: its journal keeps each change that enters
 abbrev pub receiver_of : PeerData → Receiver JournalState
@@ -19,7 +18,12 @@ receiver_of p = receiver (journal_of p) p.applied p.waiting
 -- The device failed while the record of c was appended, and the peer has stopped.
 pub record StopsAt (p : PeerData) (c : ChangeParts) (p' : PeerData) : Type 0 where
   pub tears : TearsRecord (journal_of p) c (journal_of p')
-  pub left : p' ≡ record p { journal = p'.journal; failures = p'.failures; stopped = true }
+  pub left : p' ≡ record p { journal = p'.journal; device = p'.device; stopped = true }
+
+-- The device failed as the journal was settled, and the peer has stopped.
+pub record StopsUnsettled (p p' : PeerData) : Type 0 where
+  pub unsettled : StaysUnsettled (journal_of p) (journal_of p')
+  pub left : p' ≡ record p { journal = p'.journal; device = p'.device; stopped = true }
 
 -- whether a peer has stopped, once it received with the outcome: where the device failed, or it had stopped
 abbrev pub stopped_by : Outcome → Bool → Bool
@@ -30,4 +34,4 @@ stopped_by _ stopped = stopped
 -- it has stopped where the device failed within a record.
 pub record Takes (p : PeerData) (K : List ChangeParts) (o : Outcome) (p' : PeerData) : Type 0 where
   pub receives : ReceivesWith AppendsRecord RefusesRecord (receiver_of p) K (receiver_of p') o
-  pub left : p' ≡ record p { applied = p'.applied; waiting = p'.waiting; journal = p'.journal; failures = p'.failures; stopped = stopped_by o p.stopped }
+  pub left : p' ≡ record p { applied = p'.applied; waiting = p'.waiting; journal = p'.journal; device = p'.device; stopped = stopped_by o p.stopped }

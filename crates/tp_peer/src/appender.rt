@@ -1,19 +1,22 @@
 //! The journal as what keeps each change before it enters.
 
-ghost use Rattle.std.specs.Prelude.{◌≡◌, OnOk, IfErr};
-ghost use Rattle.tp_peer.specs.Appending.{AppendsRecord, RefusesRecord, journal_state, reason_of};
+ghost use Rattle.std.specs.Prelude.{◌≡◌, OnOk, OnErr, IfErr, IsOkUnless, length, true, false};
+ghost use Rattle.tp_journal.specs.Journal.{no_device};
+ghost use Rattle.tp_peer.specs.Appending.{AppendsRecord, RefusesRecord, StaysUnsettled, armed, journal_state, reason_of};
+ghost use Rattle.tp_peer.specs.declared.error.PeerError.TheVariants.{JournalFailed};
 
+use crate::error::PeerError;
 use std::alloc::Global;
 use std::marker::Model;
 use std::mem;
 use tp_change::Change;
 use tp_document::{KeepError, Keeper};
-use tp_journal::{Journal, JournalError, MemJournal, put_record};
+use tp_journal::{FuseJournal, Journal, JournalError, MemJournal, put_record};
 
 /// A journal to which the record of each change is appended, from a buffer that is used again: it stays as large as the
 /// largest record was.
 ///
-/// Contracts see the journal's content and how often its device failed.
+/// Contracts see the journal's content and its device.
 #[derive(Drop)]
 pub(crate) struct Appender<J: Journal> {
     journal: J,
@@ -25,7 +28,7 @@ impl<J: Journal> Model for Appender<J> {
 
     ghost Value = { JournalState };
 
-    ghost view = { λ a. record { content = J.content a.journal; failures = J.failures a.journal } };
+    ghost view = { λ a. record { content = J.content a.journal; device = J.device a.journal } };
 }
 
 // Why a change wasn't kept, where its append was refused.
@@ -45,11 +48,11 @@ fn append<J: Journal>(
     change: &Change,
 ) -> Result<(), KeepError>
     ensures ok { OnOk result
-        (AppendsRecord (journal_state (J.content journal.old) (J.failures journal.old)) change.now
-        (journal_state (J.content journal.new) (J.failures journal.new))) }
+        (AppendsRecord (journal_state (J.content journal.old) (J.device journal.old)) change.now
+        (journal_state (J.content journal.new) (J.device journal.new))) }
     ensures err { IfErr result (λ e.
-        RefusesRecord (journal_state (J.content journal.old) (J.failures journal.old)) change.now e
-        (journal_state (J.content journal.new) (J.failures journal.new))) }
+        RefusesRecord (journal_state (J.content journal.old) (J.device journal.old)) change.now e
+        (journal_state (J.content journal.new) (J.device journal.new))) }
 {
     let _hash = change.hash();
     let alloc = *buffer.allocator();
@@ -71,7 +74,7 @@ impl<J: Journal> Appender<J> {
     /// Appends to the journal. No memory.
     pub(crate) fn new(alloc: Global, journal: J) -> Appender<J>
         ensures content { result.content ≡ J.content journal }
-        ensures failures { result.failures ≡ J.failures journal }
+        ensures device { result.device ≡ J.device journal }
     {
         Appender {
             journal,
@@ -79,10 +82,36 @@ impl<J: Journal> Appender<J> {
         }
     }
 
+    /// Settles the journal.
+    pub(crate) fn settle(&mut self) -> Result<(), PeerError>
+        ensures ok { OnOk result (self.new ≡ self.old) }
+        ensures only { IsOkUnless result JournalFailed }
+        ensures err { OnErr result (StaysUnsettled self.old self.new) }
+    {
+        match self.journal.settle() {
+            Ok(()) => Ok(()),
+            Err(_) => Err(PeerError::JournalFailed),
+        }
+    }
+
+    /// Appends the record of the change to the journal, and settles it.
+    pub(crate) fn keep_settled(&mut self, change: &Change) -> Result<(), KeepError>
+        ensures ok { OnOk result (AppendsRecord self.old change.now self.new) }
+        ensures err { IfErr result (λ e. RefusesRecord self.old change.now e self.new) }
+    {
+        match self.keep(change) {
+            Ok(()) => match self.settle() {
+                Ok(()) => Ok(()),
+                Err(_) => Err(KeepError::NotKept),
+            },
+            Err(error) => Err(error),
+        }
+    }
+
     /// The journal. No memory.
     pub(crate) fn into_journal(self) -> J
         ensures content { J.content result ≡ self.content }
-        ensures failures { J.failures result ≡ self.failures }
+        ensures device { J.device result ≡ self.device }
     {
         self.journal
     }
@@ -91,9 +120,39 @@ impl<J: Journal> Appender<J> {
 impl Appender<MemJournal> {
     /// A journal in memory has no device that could fail.
     pub(crate) fn never_fails(&self)
-        ensures { self.now.failures ≡ 0 }
+        ensures { self.now.device ≡ no_device }
     {
         let _journal = &self.journal;
+    }
+}
+
+impl Appender<FuseJournal> {
+    /// Lets the next append fail, as [`FuseJournal::arm`] does.
+    pub(crate) fn arm(&mut self, kept: u64)
+        ensures { self.new ≡ armed self.old true }
+    {
+        self.journal.arm(kept);
+    }
+
+    /// Lets the next cut fail.
+    pub(crate) fn arm_cut(&mut self)
+        ensures { self.new ≡ armed self.old true }
+    {
+        self.journal.arm_cut();
+    }
+
+    /// Lets neither fail.
+    pub(crate) fn disarm(&mut self)
+        ensures { self.new ≡ armed self.old false }
+    {
+        self.journal.disarm();
+    }
+
+    /// How many bytes the journal has.
+    pub(crate) fn len(&self) -> u64
+        ensures { result ≡ length self.now.content }
+    {
+        self.journal.len()
     }
 }
 

@@ -16,6 +16,7 @@ use crate::links::Link;
 use tp_document::Applied;
 use tp_edit::Splice;
 use tp_opid::Hash;
+use tp_sync::Message;
 
 /// A call on a peer. A merge, which needs the other peer, and the heads, which are lent, are methods alone.
 #[derive(Clone, Copy, Debug)]
@@ -52,6 +53,20 @@ pub enum Call<'a> {
     ReadAt {
         /// The hashes, in any order.
         hashes: &'a [Hash],
+    },
+}
+
+/// What a peer is asked: a call, or that it receives a message, which is given away and no change of it copied.
+#[derive(Drop)]
+pub enum Request<'a> {
+    /// A call.
+    Call(Call<'a>),
+    /// [`Peer::receive_message`](crate::Peer::receive_message).
+    Message {
+        /// The link on which it came.
+        link: Link,
+        /// The message, as it was decoded.
+        message: Message,
     },
 }
 

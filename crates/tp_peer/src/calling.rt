@@ -1,18 +1,18 @@
 //! One call on a peer, by its value.
 
 ghost use Rattle.std.specs.Prelude.{◌≡◌, false};
-ghost use Rattle.tp_peer.specs.Calls.{call_of, fails, reply_of};
+ghost use Rattle.tp_peer.specs.Calls.{call_in, call_of, fails, reply_of};
 ghost use Rattle.tp_peer.specs.PeerData.{PeerData, peer_data};
 ghost use Rattle.tp_peer.specs.PeerStep.{PeerStep, Read, ReadAt, Runs};
 
 use crate::appender::Appender;
-use crate::call::{Call, Reply};
+use crate::call::{Call, Reply, Request};
 use crate::editing::edit_on;
 use crate::error::PeerError;
 use crate::links::Links;
 use crate::peer::Peer;
 use crate::sequence::PeerSequence;
-use crate::syncing::{generate_on, receive_on};
+use crate::syncing::{generate_on, receive_message_on, receive_on};
 use std::alloc::Global;
 use tp_document::Document;
 use tp_journal::Journal;
@@ -67,7 +67,7 @@ fn call_on<J: Journal>(
                 Err(error) => Reply::Refused(error),
             }
         }
-        Call::Generate { link } => match generate_on(alloc, document, links, link) {
+        Call::Generate { link } => match generate_on(alloc, document, links, appender, link) {
             Ok(sent) => Reply::Generated(sent),
             Err(error) => Reply::Refused(error),
         },
@@ -80,23 +80,54 @@ fn call_on<J: Journal>(
     }
 }
 
+// Does what is asked, on the parts of a running peer as `call_on`.
+fn answer_on<J: Journal>(
+    alloc: Global,
+    actor: Actor,
+    document: &mut Document<PeerSequence>,
+    links: &mut Links,
+    appender: &mut Appender<J>,
+    request: Request,
+) -> Reply
+    ensures { Runs (peer_data actor document.old links.old.known appender.old false) (call_in request.entry)
+        (reply_of result)
+        (peer_data actor document.new links.new.known appender.new (fails (reply_of result))) }
+{
+    match request {
+        Request::Call(call) => call_on(alloc, actor, document, links, appender, call),
+        Request::Message { link, message } => {
+            match receive_message_on(alloc, document, links, appender, link, message) {
+                Ok(received) => Reply::Received(received),
+                Err(error) => Reply::Refused(error),
+            }
+        }
+    }
+}
+
 impl<J: Journal> Peer<J> {
-    /// Makes the call, as the method of its name does.
-    pub fn call(&mut self, call: Call) -> Reply
-        ensures { PeerStep self.old (call_of call.entry) (reply_of result) self.new }
+    /// Does what is asked, as the method of its name does.
+    pub fn answer(&mut self, request: Request) -> Reply
+        ensures { PeerStep self.old (call_in request.entry) (reply_of result) self.new }
     {
         if self.stopped {
             return Reply::Refused(PeerError::Stopped);
         }
-        let reply = call_on(
+        let reply = answer_on(
             self.alloc,
             self.actor,
             &mut self.document,
             &mut self.links,
             &mut self.appender,
-            call,
+            request,
         );
         self.stopped = reply.fails();
         reply
+    }
+
+    /// Makes the call, as the method of its name does.
+    pub fn call(&mut self, call: Call) -> Reply
+        ensures { PeerStep self.old (call_of call.entry) (reply_of result) self.new }
+    {
+        self.answer(Request::Call(call))
     }
 }

@@ -14,12 +14,12 @@ use crate::error::PeerError;
 use crate::peer::Peer;
 use crate::sequence::PeerSequence;
 use tp_change::Change;
-use tp_document::{Document, KeepError, Keeper};
+use tp_document::{Document, KeepError};
 use tp_edit::Splice;
 use tp_journal::Journal;
 use tp_opid::{Actor, Hash};
 
-// Appends the record of a change that can enter, and enters it. All that can fail comes before the append, and nothing
+// Appends the record of a change that can enter, settles the journal, and enters it. All that can fail comes before the append, and nothing
 // after it.
 fn append_and_enter<J: Journal>(
     document: &mut Document<PeerSequence>,
@@ -36,7 +36,7 @@ fn append_and_enter<J: Journal>(
     ensures stays { OnErr result (document.new.applied ≡ document.old.applied) }
 {
     match document.reserve(&change) {
-        Ok(()) => match appender.keep(&change) {
+        Ok(()) => match appender.keep_settled(&change) {
             Ok(()) => {
                 let hash = change.hash();
                 document.enter(change);
@@ -74,11 +74,11 @@ pub(crate) fn edit_on<J: Journal>(
 }
 
 impl<J: Journal> Peer<J> {
-    /// Edits the text under the peer's actor, as [`Document::edit`] does, once the change was appended to the journal.
-    /// Answers the change's hash; `None` where the splices are in range and change nothing.
+    /// Edits the text under the peer's actor, as [`Document::edit`] does, once the change was appended to the journal and
+    /// the journal was settled. Answers the change's hash; `None` where the splices are in range and change nothing.
     ///
     /// It is refused as `Stopped`; then as the document refuses it; as `JournalFailed` where the device failed while
-    /// the record was appended: the change didn't enter, and the peer has stopped. Every other refusal, `OutOfMemory`
+    /// the record was appended or the journal settled: the change didn't enter, and the peer has stopped. Every other refusal, `OutOfMemory`
     /// among them, leaves the peer as it was.
     ///
     /// Beside the edit itself it costs one append of the change's bytes and 36 more.

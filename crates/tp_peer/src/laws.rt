@@ -4,6 +4,7 @@ ghost use Rattle.std.specs.Prelude.{◌≡◌, ℕ, List, ◌++◌, true, false,
 ghost use Rattle.tp_list.specs.Members.{In};
 ghost use Rattle.tp_peer.specs.Common.{ChangeParts, Splice, Recovers, Done, Report, Stopped};
 ghost use Rattle.tp_graph.specs.Named.{HashesApart};
+ghost use Rattle.tp_journal.specs.Journal.{Fails, no_device};
 ghost use Rattle.tp_graph.specs.Sound.{Sound};
 ghost use Rattle.tp_peer.specs.declared.error.PeerError.{PeerError as Refusal};
 ghost use Rattle.tp_peer.specs.declared.error.PeerError.TheVariants.{JournalFailed, OutOfMemory};
@@ -67,10 +68,16 @@ pub fn a_stop_is_between()
         → Takes p K (Stopped receive.NotKept) p' → IsTornAt p K p' }
 {}
 
-/// The journal of a peer in memory has no device that could fail, so no call on it answers `JournalFailed`: by
-/// [`a_step_keeps`] the number of failures would have grown.
+/// A call answers `JournalFailed` only at a peer whose device can fail, and counts one failure more.
+pub fn a_device_fails_where_it_can()
+    ensures { (p : PeerData) (call : Call) (p' : PeerData)
+        → PeerStep p call (Refused JournalFailed) p' → Fails p.device p'.device }
+{}
+
+/// The journal of a peer in memory has no device that could fail, so by [`a_device_fails_where_it_can`] no call on it
+/// answers `JournalFailed`.
 pub fn a_peer_in_memory_never_fails(peer: &Peer<MemJournal>)
-    ensures { peer.now.failures ≡ 0 }
+    ensures { peer.now.device ≡ no_device }
 {
     peer.appender.never_fails();
 }

@@ -11,6 +11,7 @@ mod calling;
 mod editing;
 mod error;
 mod exchanged;
+mod fused;
 pub mod laws;
 mod links;
 mod merging;
@@ -20,7 +21,7 @@ mod sequence;
 mod syncing;
 
 pub use actors::fresh_actor;
-pub use call::{Call, Reply};
+pub use call::{Call, Reply, Request};
 pub use error::PeerError;
 pub use exchanged::{Outgoing, Received};
 pub use links::{Link, MAX_LINKS};

@@ -52,11 +52,11 @@ fn is_unused(alloc: Global, bytes: &[u8]) -> Result<bool, PeerError>
 fn check_unused<J: Journal>(alloc: Global, journal: &mut J) -> Result<(), PeerError>
     ensures ok { OnOk result (IsUnused (J.content journal.old)) }
     ensures stays { OnOk result
-        (journal_state (J.content journal.new) (J.failures journal.new)
-        ≡ journal_state (J.content journal.old) (J.failures journal.old)) }
+        (journal_state (J.content journal.new) (J.device journal.new)
+        ≡ journal_state (J.content journal.old) (J.device journal.old)) }
     ensures err { (bytes : List ℕ) → IfErr result
-        (λ e. NotBegun bytes (journal_state (J.content journal.old) (J.failures journal.old)) e
-        (journal_state (J.content journal.new) (J.failures journal.new))) }
+        (λ e. NotBegun bytes (journal_state (J.content journal.old) (J.device journal.old)) e
+        (journal_state (J.content journal.new) (J.device journal.new))) }
 {
     match journal.read_all() {
         Ok(bytes) => match is_unused(alloc, &bytes) {
@@ -72,10 +72,10 @@ fn check_unused<J: Journal>(alloc: Global, journal: &mut J) -> Result<(), PeerEr
 fn begin<J: Journal>(journal: &mut J, bytes: &[u8]) -> Result<(), PeerError>
     requires { IsUnused (J.content journal.old) }
     ensures ok { OnOk result (J.content journal.new ≡ bytes.now) }
-    ensures quiet { OnOk result (J.failures journal.new ≡ J.failures journal.old) }
+    ensures quiet { OnOk result (J.device journal.new ≡ J.device journal.old) }
     ensures err { IfErr result
-        (λ e. NotBegun bytes.now (journal_state (J.content journal.old) (J.failures journal.old)) e
-        (journal_state (J.content journal.new) (J.failures journal.new))) }
+        (λ e. NotBegun bytes.now (journal_state (J.content journal.old) (J.device journal.old)) e
+        (journal_state (J.content journal.new) (J.device journal.new))) }
 {
     match journal.cut(0) {
         Ok(()) => match journal.append(bytes) {
@@ -122,12 +122,12 @@ fn bytes_for<J: Journal>(
     ensures bytes { IfOk result
         (λ bytes. bytes.items ≡ journal_bytes document.now.id document.now.applied) }
     ensures stays { OnOk result
-        (journal_state (J.content journal.new) (J.failures journal.new)
-        ≡ journal_state (J.content journal.old) (J.failures journal.old)) }
+        (journal_state (J.content journal.new) (J.device journal.new)
+        ≡ journal_state (J.content journal.old) (J.device journal.old)) }
     ensures err { IfErr result
         (λ e. NotCopied document.now.id document.now.applied actor.now
-        (journal_state (J.content journal.old) (J.failures journal.old)) e
-        (journal_state (J.content journal.new) (J.failures journal.new))) }
+        (journal_state (J.content journal.old) (J.device journal.old)) e
+        (journal_state (J.content journal.new) (J.device journal.new))) }
 {
     match check_unused(alloc, journal) {
         Ok(()) => {}
@@ -157,11 +157,11 @@ fn copy_to<J: Journal>(
     ensures waiting { IfOk result (λ d. d.waiting ≡ []) }
     ensures begun { OnOk result
         (J.content journal.new ≡ journal_bytes document.now.id document.now.applied) }
-    ensures quiet { OnOk result (J.failures journal.new ≡ J.failures journal.old) }
+    ensures quiet { OnOk result (J.device journal.new ≡ J.device journal.old) }
     ensures err { IfErr result
         (λ e. NotCopied document.now.id document.now.applied actor.now
-        (journal_state (J.content journal.old) (J.failures journal.old)) e
-        (journal_state (J.content journal.new) (J.failures journal.new))) }
+        (journal_state (J.content journal.old) (J.device journal.old)) e
+        (journal_state (J.content journal.new) (J.device journal.new))) }
 {
     let bytes = match bytes_for(alloc, document, journal, actor) {
         Ok(bytes) => bytes,
@@ -191,10 +191,10 @@ fn cut_to<J: Journal>(
     ensures kept { OnOk result
         (J.content journal.new
         ≡ journal_bytes recovered.now.document.id recovered.now.document.applied) }
-    ensures quiet { OnOk result (J.failures journal.new ≡ J.failures journal.old) }
+    ensures quiet { OnOk result (J.device journal.new ≡ J.device journal.old) }
     ensures err { IfErr result
-        (λ e. NotReopened (journal_state (J.content journal.old) (J.failures journal.old)) actor.now
-        e (journal_state (J.content journal.new) (J.failures journal.new))) }
+        (λ e. NotReopened (journal_state (J.content journal.old) (J.device journal.old)) actor.now
+        e (journal_state (J.content journal.new) (J.device journal.new))) }
 {
     if has_actor(recovered.document.changes(), actor) {
         return Err(PeerError::ActorInUse);
@@ -216,10 +216,10 @@ fn recover_for<J: Journal>(
     ensures free { IfOk result (λ d. is_used d.applied actor.now ≡ false) }
     ensures waiting { IfOk result (λ d. d.waiting ≡ []) }
     ensures kept { IfOk result (λ d. J.content journal.new ≡ journal_bytes d.id d.applied) }
-    ensures quiet { OnOk result (J.failures journal.new ≡ J.failures journal.old) }
+    ensures quiet { OnOk result (J.device journal.new ≡ J.device journal.old) }
     ensures err { IfErr result
-        (λ e. NotReopened (journal_state (J.content journal.old) (J.failures journal.old)) actor.now
-        e (journal_state (J.content journal.new) (J.failures journal.new))) }
+        (λ e. NotReopened (journal_state (J.content journal.old) (J.device journal.old)) actor.now
+        e (journal_state (J.content journal.new) (J.device journal.new))) }
 {
     let bytes = match journal.read_all() {
         Ok(bytes) => bytes,
@@ -253,11 +253,11 @@ pub fn create_journal<J: Journal>(
     ensures unused { OnOk result (IsUnused (J.content journal.old)) }
     ensures begun { OnOk result
         (J.content journal.new ≡ journal_bytes document.now.id document.now.applied) }
-    ensures quiet { OnOk result (J.failures journal.new ≡ J.failures journal.old) }
+    ensures quiet { OnOk result (J.device journal.new ≡ J.device journal.old) }
     ensures err { IfErr result
         (λ e. NotBegun (journal_bytes document.now.id document.now.applied)
-        (journal_state (J.content journal.old) (J.failures journal.old)) e
-        (journal_state (J.content journal.new) (J.failures journal.new))) }
+        (journal_state (J.content journal.old) (J.device journal.old)) e
+        (journal_state (J.content journal.new) (J.device journal.new))) }
 {
     match check_unused(alloc, journal) {
         Ok(()) => {}
@@ -282,12 +282,12 @@ impl<J: Journal> Peer<J> {
         id: DocId,
         actor: Actor,
     ) -> Result<Peer<J>, Unopened<J>>
-        ensures ok { IfOk result (λ p. p ≡ opened id actor [] (J.failures journal)) }
+        ensures ok { IfOk result (λ p. p ≡ opened id actor [] (J.device journal)) }
         ensures unused { OnOk result (IsUnused (J.content journal)) }
         ensures err { IfErr result
             (λ u. NotBegun (journal_bytes id [])
-            (journal_state (J.content journal) (J.failures journal))
-            u.error (journal_state (J.content u.journal) (J.failures u.journal))) }
+            (journal_state (J.content journal) (J.device journal))
+            u.error (journal_state (J.content u.journal) (J.device u.journal))) }
     {
         let empty = Document::new(alloc, id);
         let copied = copy_to(alloc, &empty, &mut journal, &actor);
@@ -308,10 +308,10 @@ impl<J: Journal> Peer<J> {
     /// The cost is that of `recover`, and of one copy of the journal.
     pub fn reopen(alloc: Global, mut journal: J, actor: Actor) -> Result<Peer<J>, Unopened<J>>
         ensures ok { IfOk result
-            (λ p. Reopens (journal_state (J.content journal) (J.failures journal)) actor p) }
+            (λ p. Reopens (journal_state (J.content journal) (J.device journal)) actor p) }
         ensures err { IfErr result
-            (λ u. NotReopened (journal_state (J.content journal) (J.failures journal)) actor
-            u.error (journal_state (J.content u.journal) (J.failures u.journal))) }
+            (λ u. NotReopened (journal_state (J.content journal) (J.device journal)) actor
+            u.error (journal_state (J.content u.journal) (J.device u.journal))) }
     {
         match recover_for(alloc, &mut journal, &actor) {
             Ok(document) => Ok(Peer::new(alloc, journal, document, actor)),
@@ -331,10 +331,10 @@ impl<J: Journal> Peer<J> {
     /// It enters each change anew, and makes the whole journal in memory.
     pub fn fork<K: Journal>(&self, mut journal: K, actor: Actor) -> Result<Peer<K>, Unopened<K>>
         ensures ok { IfOk result
-            (λ p. Forks self.now actor (journal_state (K.content journal) (K.failures journal)) p) }
+            (λ p. Forks self.now actor (journal_state (K.content journal) (K.device journal)) p) }
         ensures err { IfErr result
-            (λ u. NotForked self.now actor (journal_state (K.content journal) (K.failures journal))
-            u.error (journal_state (K.content u.journal) (K.failures u.journal))) }
+            (λ u. NotForked self.now actor (journal_state (K.content journal) (K.device journal))
+            u.error (journal_state (K.content u.journal) (K.device u.journal))) }
     {
         if self.stopped {
             return Err(Unopened {

@@ -69,7 +69,7 @@ impl<J: Journal> Peer<J> {
     ) -> Peer<J>
         requires kept { J.content journal ≡ journal_bytes document.id document.applied }
         requires waiting { document.waiting ≡ [] }
-        ensures { result ≡ opened document.id actor document.applied (J.failures journal) }
+        ensures { result ≡ opened document.id actor document.applied (J.device journal) }
     {
         let _len = array_len(document.id().0);
         let _changes = document.changes();
@@ -156,7 +156,7 @@ impl<J: Journal> Peer<J> {
     /// Ends the peer, also one that has stopped, and gives its journal back. No memory.
     pub fn stop(self) -> J
         ensures content { J.content result ≡ self.journal }
-        ensures failures { J.failures result ≡ self.failures }
+        ensures device { J.device result ≡ self.device }
         ensures kept { HasJournal self.stopped self.id self.applied (J.content result) }
     {
         let Peer {

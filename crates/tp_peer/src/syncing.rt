@@ -1,16 +1,17 @@
 //! Messages from and to other peers, each on a link.
 
-ghost use Rattle.std.specs.Prelude.{false, IfOk, IfErr};
+ghost use Rattle.std.specs.Prelude.{◌≡◌, false, IfOk, IfErr};
 ghost use Rattle.tp_opid.specs.declared.actor.Actor.{Actor as ActorOf};
 ghost use Rattle.tp_peer.specs.Appending.{JournalState};
 ghost use Rattle.tp_peer.specs.PeerData.{peer_data};
 ghost use Rattle.tp_peer.specs.PeerError.{is_failed};
-ghost use Rattle.tp_peer.specs.PeerStep.{PeerStep, Receive, Received as Reported, Generate, Generated, Forget, Forgotten, Decodes, Hears, RefusesDecoding, RefusesReceive, Speaks, RefusesGenerate, replied};
+ghost use Rattle.tp_peer.specs.PeerStep.{PeerStep, Receive, Received as Reported, Generate, Generated, Forget, Forgotten, Hears, RefusesDecoding, RefusesReceive, Speaks, RefusesGenerate, replied};
 ghost use Rattle.tp_peer.specs.Sent.{sent_of};
 ghost use Rattle.tp_peer.specs.Taking.{report_of};
+ghost use Rattle.tp_sync.specs.Spelling.{message_spelling};
 
 use crate::appender::Appender;
-use crate::call::Call;
+use crate::call::{Call, Request};
 use crate::error::PeerError;
 use crate::exchanged::{Outgoing, Received};
 use crate::links::{Link, Links};
@@ -23,7 +24,7 @@ use tp_sync::{Message, generate, receive_with};
 
 // The message that the bytes are.
 fn message_of(alloc: Global, bytes: &[u8]) -> Result<Message, PeerError>
-    ensures ok { IfOk result (λ m. Decodes bytes.now m) }
+    ensures ok { IfOk result (λ m. bytes.now ≡ message_spelling m) }
     ensures err { IfErr result (λ e. RefusesDecoding bytes.now e) }
 {
     match Message::decode(alloc, bytes) {
@@ -33,6 +34,42 @@ fn message_of(alloc: Global, bytes: &[u8]) -> Result<Message, PeerError>
 }
 
 // Receives the message of a link. All that can fail comes before its changes, and nothing after them.
+pub(crate) fn receive_message_on<J: Journal>(
+    alloc: Global,
+    document: &mut Document<PeerSequence>,
+    links: &mut Links,
+    appender: &mut Appender<J>,
+    link: Link,
+    message: Message,
+) -> Result<Received, PeerError>
+    ensures ok { (actor : ActorOf) → IfOk result
+        (λ r. Hears (peer_data actor document.old links.old.known appender.old false) link.0
+        (message_spelling message) (report_of r.applied) r.same_heads
+        (peer_data actor document.new links.new.known appender.new false)) }
+    ensures err { (actor : ActorOf) → IfErr result
+        (λ e. RefusesReceive (peer_data actor document.old links.old.known appender.old false) link.0
+        (message_spelling message) e
+        (peer_data actor document.new links.new.known appender.new (is_failed e))) }
+{
+    if links.is_full_for(link) {
+        return Err(PeerError::TooManyLinks);
+    }
+    let mut state = links.known(alloc, link)?;
+    links.reserve()?;
+    let same_heads = state.is_declared(message.heads());
+    match receive_with(document, &mut state, message, appender) {
+        Ok(applied) => {
+            links.set(link, state);
+            Ok(Received {
+                applied,
+                same_heads,
+            })
+        }
+        Err(error) => Err(PeerError::from(error)),
+    }
+}
+
+// Receives the message that the bytes are. A link that has no place is refused before they are read.
 pub(crate) fn receive_on<J: Journal>(
     alloc: Global,
     document: &mut Document<PeerSequence>,
@@ -54,23 +91,11 @@ pub(crate) fn receive_on<J: Journal>(
         return Err(PeerError::TooManyLinks);
     }
     let message = message_of(alloc, bytes)?;
-    let mut state = links.known(alloc, link)?;
-    links.reserve()?;
-    let same_heads = state.is_declared(message.heads());
-    match receive_with(document, &mut state, message, appender) {
-        Ok(applied) => {
-            links.set(link, state);
-            Ok(Received {
-                applied,
-                same_heads,
-            })
-        }
-        Err(error) => Err(PeerError::from(error)),
-    }
+    receive_message_on(alloc, document, links, appender, link, message)
 }
 
 // Makes the next message of a link. What is known there changes only once the bytes are written.
-pub(crate) fn generate_on(
+fn message_on(
     alloc: Global,
     document: &Document<PeerSequence>,
     links: &mut Links,
@@ -102,6 +127,27 @@ pub(crate) fn generate_on(
     }
 }
 
+// Settles the journal, and makes the next message of a link: it declares what is kept.
+pub(crate) fn generate_on<J: Journal>(
+    alloc: Global,
+    document: &Document<PeerSequence>,
+    links: &mut Links,
+    appender: &mut Appender<J>,
+    link: Link,
+) -> Result<Option<Outgoing>, PeerError>
+    ensures ok { (actor : ActorOf) → IfOk result
+        (λ sent. Speaks (peer_data actor document.now links.old.known appender.old false) link.0
+        (sent_of sent) (peer_data actor document.now links.new.known appender.new false)) }
+    ensures err { (actor : ActorOf) → IfErr result
+        (λ e. RefusesGenerate (peer_data actor document.now links.old.known appender.old false) link.0 e
+        (peer_data actor document.now links.new.known appender.new (is_failed e))) }
+{
+    match appender.settle() {
+        Ok(()) => message_on(alloc, document, links, link),
+        Err(error) => Err(error),
+    }
+}
+
 impl<J: Journal> Peer<J> {
     /// Receives a message that came on a link, as Automerge's call `receive_sync_message`: its changes, as a merge
     /// receives them, and then the heads that it declares and the hashes that it wants, which are known on the link from
@@ -123,14 +169,26 @@ impl<J: Journal> Peer<J> {
         self.call(Call::Receive { link, bytes }).into_received()
     }
 
+    /// Receives a message that was decoded, as [`receive_bytes`](Peer::receive_bytes) receives its bytes. They aren't
+    /// made, and no change is copied.
+    pub fn receive_message(&mut self, link: Link, message: Message) -> Result<Received, PeerError>
+        ensures { PeerStep self.old (Receive link.0 (message_spelling message))
+            (replied (λ r. Reported (report_of r.applied) r.same_heads) result) self.new }
+    {
+        self.answer(Request::Message { link, message })
+            .into_received()
+    }
+
     /// The next message on a link, as Automerge's call `generate_sync_message`, or `None` where there is nothing to say:
-    /// see [`generate`](tp_sync::generate). A link that isn't there is made.
+    /// see [`generate`](tp_sync::generate). A link that isn't there is made. The journal is settled first, so that what a
+    /// message declares is kept.
     ///
-    /// It is refused as `Stopped`; then as `TooManyLinks` where the link would be a new one and there are 1,024; then as
-    /// `TooManyHeads` of the exchange where the document has more than 65,535 heads. The only other refusal is
-    /// `OutOfMemory`. Each leaves the peer as it was.
+    /// It is refused as `Stopped`; then as `JournalFailed` where the device failed as the journal was settled: the peer has
+    /// stopped; then as `TooManyLinks` where the link would be a new one and there are 1,024; then as `TooManyHeads` of the
+    /// exchange where the document has more than 65,535 heads. The only other refusal is `OutOfMemory`. Each but
+    /// `JournalFailed` leaves the peer as it was.
     ///
-    /// The cost is that of `generate`, and of the bytes that are written.
+    /// The cost is that of `generate`, of the bytes that are written, and of settling the journal.
     pub fn generate_bytes(&mut self, link: Link) -> Result<Option<Outgoing>, PeerError>
         ensures { PeerStep self.old (Generate link.0)
             (replied (λ sent. Generated (sent_of sent)) result) self.new }

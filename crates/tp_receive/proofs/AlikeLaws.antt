@@ -1,6 +1,5 @@
 -- Two whole runs from one beginning end alike, whatever keeps.
-use Rattle.tp_receive.proofs.Common.{◌≡◌, ℕ, zero, suc, ◌+◌, inl, inr, List, [], ◌∷◌, ◌++◌, length, Bool, true, false, cond, Option, Some, None, refl, sym, ap, ◌∙◌, subst, nat_lt, In-right, never, In, Hash, ChangeParts, hash_of, GraphError, MissingDeps, has, cause, most_waiting, AllWait, lacks_deps, is_refusal, slots, Intake, Meets, Next, Run, Turn, hold, intake, refuse, Ends, NextWaits, Turns}
-use Rattle.tp_receive.specs.Replies.{Alike}
+use Rattle.tp_receive.proofs.Common.{◌≡◌, ℕ, zero, suc, ◌+◌, inl, inr, List, [], ◌∷◌, ◌++◌, length, Bool, true, false, cond, Option, Some, None, refl, sym, ap, ◌∙◌, subst, nat_lt, In-right, never, In, Hash, ChangeParts, hash_of, GraphError, MissingDeps, has, cause, most_waiting, AllWait, lacks_deps, is_refusal, slots, Intake, Meets, Next, Run, Turn, hold, intake, refuse, Ends, NextWaits, Turns, Alike}
 
 -- ---- one next
 

@@ -1,8 +1,7 @@
 -- What a change that was judged meets against the final list.
-use Rattle.tp_receive.proofs.Common.{◌≡◌, ◌==◌, ◌||◌, ◌⊎◌, inl, inr, List, [], ◌∷◌, ◌++◌, length, Bool, true, false, Option, Some, None, refl, sym, ap, ◌∙◌, subst, append_assoc, append-nil, In, AllIn, Hash, ChangeParts, hash_of, GraphError, MissingDeps, has, has_all, HashesApart, most_changes, Sound, truth, never, not_true, has-In, has-append, has-left, Sound-push, Fits-from_cause, EntersAfter, lacks_deps, is_refusal, Known, or_full, has_all-In, enters}
-use Rattle.tp_graph.specs.declared.error.GraphError.TheVariants.{BadSeq, BadStart, BadReference, SeqClash, UnknownHead, Full, OutOfMemory}
-use Rattle.tp_graph.specs.Fit.{defect, cause}
-use Rattle.tp_graph.proofs.SetLaws.{defect-later}
+use Rattle.tp_receive.proofs.Common.{◌≡◌, ◌==◌, ◌||◌, ◌⊎◌, inl, inr, List, [], ◌∷◌, ◌++◌, length, Bool, true, false, Option, Some, None, refl, sym, ap, ◌∙◌, subst, append_assoc, append-nil, In, AllIn, Hash, ChangeParts, hash_of, GraphError, MissingDeps, has, has_all, HashesApart, most_changes, Sound, truth, never, not_true, has-In, has-append, has-left, Sound-push, Fits-from_cause, EntersAfter, lacks_deps, is_refusal, Known, or_full, has_all-In, enters, BadSeq, BadStart, BadReference, SeqClash, UnknownHead, Full, defect, defect-later, neither}
+use Rattle.tp_graph.specs.declared.error.GraphError.TheVariants.{OutOfMemory}
+use Rattle.tp_graph.specs.Fit.{cause}
 use Rattle.tp_graph.proofs.CauseLaws.{missing_deps_is}
 use Rattle.tp_receive.proofs.RefusalLaws.{cause-known, refused-stays, EntersAfter-append}
 
@@ -151,9 +150,7 @@ pub Never-out : (F C : List ChangeParts) (c : ChangeParts) → HashesApart F →
 Never-out F C c apart i lacks out new fits came =
     has-append C new (hash_of c) ∙ neither (has C (hash_of c)) (has new (hash_of c)) lacks (not_true (has new (hash_of c)) (λ t.
     let w = has-In new (hash_of c) t in
-    out new fits came (subst (λ (y : ChangeParts). In y new) (apart w.0 c (came w.0 w.1) i w.2) w.1))) where
-      neither : (a b : Bool) → a ≡ false → b ≡ false → (a || b) ≡ false
-      neither a b e f = rw (e, f) refl
+    out new fits came (subst (λ (y : ChangeParts). In y new) (apart w.0 c (came w.0 w.1) i w.2) w.1)))
 
 pub Barred-later : (F C new : List ChangeParts) (c : ChangeParts) → HashesApart F → In c F → EntersAfter C new → AllIn new F → Barred F C c → Barred F (C ++ new) c
 Barred-later F C new c apart i fits came b = record {

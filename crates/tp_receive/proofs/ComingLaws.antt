@@ -1,7 +1,6 @@
 -- The loop that reserves slots.
-use Rattle.tp_receive.proofs.Common.{◌≡◌, ℕ, ◌+◌, ◌-◌, ◌⊎◌, inl, inr, List, [], ◌∷◌, ◌++◌, Bool, true, false, not, ◌||◌, cond, refl, sym, ap, ◌∙◌, arith, subst, get_or, take, length, ◌<◌, append_assoc, append-nil, take_more, Hash, ChangeParts, hash_of, same_hash, has, has_all, has-append, delivery, with_slots, slots, takes_slot, hashes, has_hash, IsHashSetOf, among, held_of}
+use Rattle.tp_receive.proofs.Common.{◌≡◌, ℕ, ◌+◌, ◌-◌, ◌⊎◌, inl, inr, List, [], ◌∷◌, ◌++◌, Bool, true, false, not, ◌||◌, cond, refl, sym, ap, ◌∙◌, arith, subst, get_or, take, length, ◌<◌, append_assoc, append-nil, take_more, Hash, ChangeParts, hash_of, same_hash, has, has_all, has-append, delivery, with_slots, slots, takes_slot, hashes, has_hash, IsHashSetOf, among, held_of, IsNoted}
 use Rattle.tp_receive.proofs.HashLaws.{among-hashes}
-use Rattle.tp_receive.specs.Trying.{IsNoted}
 
 pub has-both : (C D : List ChangeParts) (H : List Hash) (h : Hash) → IsHashSetOf H D → has (C ++ D) h ≡ (has C h || has_hash H h)
 has-both C D H h e = has-append C D h ∙ ap (λ b. has C h || b) (sym (e h))

@@ -1,8 +1,6 @@
 -- What was dropped for want of space, where two changes with one hash are one: it can never enter, and it is none of
 -- the undeliverable ones.
-use Rattle.tp_receive.proofs.Common.{◌≡◌, ◌+◌, ◌≤◌, ◌⊎◌, inl, inr, List, [], ◌∷◌, ◌++◌, length, Bool, true, false, cond, Some, refl, sym, ap, ◌∙◌, subst, append_assoc, arith, In-left, truth, never, not_true, In, AllIn, Hash, same_hash, same_hash-same, ChangeParts, hash_of, GraphError, MissingDeps, has, has_all, HashesApart, cause, most_waiting, has-In, In-has, has-left, has-append, is_refusal, delivery, with_slots, slots, takes_slot, Intake, Turn, refuse, In-last, or_cases, has_all-In, has_all-more, enter}
-use Rattle.tp_list.proofs.Tests.{neither}
-use Rattle.tp_receive.specs.Delivery.{undeliverable}
+use Rattle.tp_receive.proofs.Common.{◌≡◌, ◌+◌, ◌≤◌, ◌⊎◌, inl, inr, List, [], ◌∷◌, ◌++◌, length, Bool, true, false, cond, Some, refl, sym, ap, ◌∙◌, subst, append_assoc, arith, In-left, truth, never, not_true, In, AllIn, Hash, same_hash, same_hash-same, ChangeParts, hash_of, GraphError, MissingDeps, has, has_all, HashesApart, cause, most_waiting, has-In, In-has, has-left, has-append, is_refusal, delivery, with_slots, slots, takes_slot, Intake, Turn, refuse, In-last, or_cases, has_all-In, has_all-more, enter, neither, undeliverable}
 use Rattle.tp_receive.proofs.CausesLaws.{Never, Barred, Never-later, Never-out, Barred-later, NeverEnters, out_of_dep, out_of_refusal, waits_for, lacking}
 use Rattle.tp_receive.proofs.TurnLaws.{Turn-cases, IsHere, changes_of, with_rest}
 use Rattle.tp_receive.proofs.RunLaws.{In-pushed, HasRoom, refusal_drops, placing_of}

@@ -1,7 +1,5 @@
 -- Lists of hashes: those of changes, and those that are held.
-use Rattle.tp_receive.proofs.Common.{◌≡◌, ℕ, ◌+◌, ◌<◌, List, [], ◌∷◌, ◌++◌, length, ◌||◌, take, get_or, true, false, cond, inl, inr, refl, sym, ap, ◌∙◌, subst, truth, never, not_true, take_more, same_hash, Hash, ChangeParts, hash_of, has, hashes, or_cases, among, HashesOnce, held_of}
-use Rattle.tp_list.proofs.Tests.{or_left, or_right}
-use Rattle.tp_receive.specs.Receiving.{EachOnce}
+use Rattle.tp_receive.proofs.Common.{◌≡◌, ℕ, ◌+◌, ◌<◌, List, [], ◌∷◌, ◌++◌, length, ◌||◌, take, get_or, true, false, cond, inl, inr, refl, sym, ap, ◌∙◌, subst, truth, never, not_true, take_more, same_hash, Hash, ChangeParts, hash_of, has, hashes, or_cases, among, HashesOnce, held_of, or_left, or_right, EachOnce}
 
 pub hashes-append : (C D : List ChangeParts) → hashes (C ++ D) ≡ hashes C ++ hashes D
 hashes-append [] D = refl

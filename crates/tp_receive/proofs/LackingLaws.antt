@@ -1,15 +1,8 @@
 -- What the changes that wait are known to lack: what follows, and what stays known.
-use Rattle.tp_receive.proofs.Common.{◌≡◌, ◌⊎◌, inl, inr, ℕ, suc, zero, ◌+◌, ◌<◌, ◌≤◌, List, [], ◌∷◌, ◌++◌, length, Bool, true, false, Option, Some, None, take, drop, set, replicate, refl, sym, ap, ◌∙◌, subst, arith, get_or, slice_get, remove, take_more, In, never, not_true, Hash, same_hash, same_hash-same, ChangeParts, hash_of, has, has_all, cause, has-append, In-has, AllWait, lacks_deps, GainsOnly, KnowsApart, KnowsLack, Lacks, LacksApart, get_or_from_slice_get, slice_get-get_or, AllZip-long, In-slice_get, HashesOnce}
-use Rattle.std.specs.List.{AllZip}
-use Rattle.std.proofs.lemmas.List.{take_all, take_more_set, drop_more, drop-set-lt, set-get_or, get_or-set_other}
-use Rattle.std.proofs.lemmas.Option.{slice_get_within}
-use Rattle.std.specs.Option.{MatchOption, is_some}
-use Rattle.std.proofs.lemmas.Slice.Zip.{all_zipped_more}
-use Rattle.tp_list.proofs.Tests.{neither_left, neither_right}
-use Rattle.tp_opid.proofs.Orders.{same_hash-itself}
-use Rattle.tp_receive.specs.Lacking.{lacks_it}
+use Rattle.tp_receive.proofs.Common.{◌≡◌, ◌⊎◌, inl, inr, ℕ, suc, zero, ◌+◌, ◌<◌, ◌≤◌, List, [], ◌∷◌, ◌++◌, length, Bool, true, false, Option, Some, None, take, drop, set, replicate, refl, sym, ap, ◌∙◌, subst, arith, get_or, slice_get, remove, take_more, never, not_true, Hash, same_hash, same_hash-same, ChangeParts, hash_of, has, has_all, cause, has-append, In-has, AllWait, lacks_deps, GainsOnly, KnowsApart, KnowsLack, Lacks, LacksApart, get_or_from_slice_get, slice_get-get_or, AllZip-long, In-slice_get, HashesOnce, AllZip, take_all, take_more_set, drop_more, drop-set-lt, set-get_or, get_or-set_other, slice_get_within, all_zipped_more, neither_left, neither_right, same_hash-itself, lacks_it, slice_get-there}
+use Rattle.std.specs.Option.{is_some}
 use Rattle.tp_receive.proofs.CausesLaws.{lacks_cause, lacks_one, waits_again, waits_for}
-use Rattle.tp_receive.proofs.WaitLaws.{slice_get_there}
+use Rattle.std.proofs.lemmas.Bool.{cases_lt}
 
 -- ---- lists whose elements belong together, one by one
 
@@ -95,11 +88,11 @@ entry_within C W L i knows small = omega (arith, AllZip-long (Lacks C) W L knows
 
 -- an entry that is there
 pub entry_there : {Y : Type 0} (L : List Y) (i : ℕ) → i < length L → (y : Y) × (y ≡ get_or L i y)
-entry_there L i small = let w = slice_get_there L i small in (w.0, sym (get_or_from_slice_get L i w.0 w.0 w.1))
+entry_there L i small = let w = slice_get-there L i small in (w.0, sym (get_or_from_slice_get L i w.0 w.0 w.1))
 
 pub known_at : (C W : List ChangeParts) (L : List (Option Hash)) (i : ℕ) (b : Bool) (c : ChangeParts) → KnowsLack C W L → ((l : Option Hash) → slice_get L i ≡ Some l → b ≡ is_some l) → b ≡ true → slice_get W i ≡ Some c
     → true ≡ lacks_deps (cause C c)
-known_at C W L i b c knows is t get = by (slice_get_there L i (entry_within C W L i knows (slice_get_within W i c get))) where
+known_at C W L i b c knows is t get = by (slice_get-there L i (entry_within C W L i knows (slice_get_within W i c get))) where
   by : (l : Option Hash) × (slice_get L i ≡ Some l) → true ≡ lacks_deps (cause C c)
   by (None, e) = let w : true ≡ false = sym t ∙ is None e in cc
   by (Some h, e) = sym (known_waits C c h (zipped_at (Lacks C) W L i c (Some h) knows get e))
@@ -179,15 +172,12 @@ pub known_before : (n i : ℕ) (L : List (Option Hash)) (o : Option Hash) → n 
 known_before n i L o few known j small = ap is_some (get_or-set_other L i j o None (λ e. absurd (omega (arith, e, small)))) ∙ known j small
 
 pub known_more : (n i : ℕ) (L : List (Option Hash)) (o : Option Hash) → n ≡ i → i < length L → o ≡ get_or L i o → is_some o ≡ true → AreKnown n L → AreKnown (i + 1) L
-known_more n i L o e within is some known j small = elim (nat_cases j i (omega arith)) [
+known_more n i L o e within is some known j small = elim (cases_lt j i) [
   | inl less ↦ known j (omega (arith, e))
-  | inr same ↦ subst (λ k. is_some (get_or L k None) ≡ true) (sym same) (ap is_some (get_or_from_slice_get L i o None (slice_get-get_or L i o within ∙ ap Some (sym is))) ∙ some)
-] where
-  nat_cases : (j i : ℕ) → j ≤ i → (j < i) ⊎ (j ≡ i)
-  nat_cases zero zero h = inr refl
-  nat_cases zero (suc i) h = inl (omega arith)
-  nat_cases (suc j) zero h = absurd (omega arith)
-  nat_cases (suc j) (suc i) h = elim (nat_cases j i (omega arith)) [ inl l ↦ inl (omega arith) | inr s ↦ inr (ap suc s) ]
+  | inr over ↦
+      let same : i ≡ j = omega arith in
+      subst (λ k. is_some (get_or L k None) ≡ true) same (ap is_some (get_or_from_slice_get L i o None (slice_get-get_or L i o within ∙ ap Some (sym is))) ∙ some)
+]
 
 -- Those of which something is known must wait.
 pub all_known : (D W : List ChangeParts) (L : List (Option Hash)) (n : ℕ) → KnowsLack D W L → AreKnown n L → AllWait D (take n W)

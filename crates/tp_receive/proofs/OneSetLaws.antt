@@ -1,11 +1,6 @@
 -- Any two results of receiving one list have the same members.
-use Rattle.tp_receive.proofs.Common.{◌≡◌, ◌<◌, inl, inr, List, [], ◌∷◌, ◌++◌, length, false, None, IsSome, refl, sym, ap, subst, append_assoc, append-nil, In, AllIn, ChangeParts, hash_of, GraphError, has, HashesApart, cause, most_changes, Sound, truth, never, not_true, has-In, In-has, In-left, In-right, In-append, Sound-push, Fits-from_cause, EntersAfter, clashes, Receives}
-use Rattle.tp_list.specs.Members.{SameMembers}
-use Rattle.tp_opid.proofs.Orders.{same_actor-same}
+use Rattle.tp_receive.proofs.Common.{◌≡◌, ◌<◌, inl, inr, List, [], ◌∷◌, ◌++◌, length, false, None, IsSome, refl, sym, ap, subst, append_assoc, append-nil, In, AllIn, ChangeParts, hash_of, GraphError, has, HashesApart, cause, most_changes, Sound, truth, never, not_true, has-In, In-has, In-left, In-right, In-append, Sound-push, Fits-from_cause, EntersAfter, clashes, Receives, SameMembers, same_actor-same, cause-from_Fits, SeqsApart, Fits-part}
 use Rattle.tp_graph.proofs.ClashLaws.{clash_of}
-use Rattle.tp_graph.proofs.SetLaws.{Fits-part}
-use Rattle.tp_graph.proofs.KeptLaws.{cause-from_Fits}
-use Rattle.tp_receive.specs.Receiving.{SeqsApart}
 
 -- The changes of a result are of what was there and came.
 pub of_both : (C K long : List ChangeParts) → Receives C K long → AllIn long (C ++ K)

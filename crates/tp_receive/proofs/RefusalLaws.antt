@@ -1,10 +1,8 @@
 -- A cause other than a missing dependency stays whatever enters.
-use Rattle.tp_receive.proofs.Common.{◌≡◌, ◌==◌, inl, inr, List, [], ◌∷◌, ◌++◌, length, Bool, true, false, ◌||◌, Option, Some, None, IsSome, refl, sym, ap, subst, append_assoc, append-nil, AllIn, ChangeParts, hash_of, GraphError, has, has_all, most_changes, Sound, truth, has-left, In-left, Sound-push, Fits-from_cause, EntersAfter, lacks_deps, is_refusal, Known, or_full, clashes, has_all-more, enters}
+use Rattle.tp_receive.proofs.Common.{◌≡◌, ◌==◌, inl, inr, List, [], ◌∷◌, ◌++◌, length, Bool, true, false, ◌||◌, Option, Some, None, IsSome, refl, sym, ap, subst, append_assoc, append-nil, AllIn, ChangeParts, hash_of, GraphError, has, has_all, most_changes, Sound, truth, has-left, In-left, Sound-push, Fits-from_cause, EntersAfter, lacks_deps, is_refusal, Known, or_full, clashes, has_all-more, enters, defect_behind, or_clash, Fits, not_among}
 use Rattle.tp_graph.specs.Past.{past}
-use Rattle.tp_graph.specs.Fit.{defect, defect_behind, or_clash, cause}
-use Rattle.tp_graph.specs.Sound.{Fits}
+use Rattle.tp_graph.specs.Fit.{defect, cause}
 use Rattle.tp_graph.proofs.PastLaws.{past-push_other}
-use Rattle.tp_graph.proofs.SoundLaws.{not_among}
 
 -- a refusal is a cause
 pub IsSome-refusal : (o : Option GraphError) → is_refusal o ≡ true → IsSome o

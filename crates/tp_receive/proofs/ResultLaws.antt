@@ -1,6 +1,5 @@
 -- What a whole run came to.
-use Rattle.tp_receive.proofs.Common.{◌≡◌, ℕ, ◌+◌, ◌≤◌, ◌⊎◌, inl, inr, List, ◌++◌, length, Bool, true, false, Some, refl, sym, ap, ◌∙◌, subst, arith, nat_lt, In-append, nat_tests, In, Hash, ChangeParts, hash_of, GraphError, MissingDeps, cause, most_waiting, Sound, ReceiveError, KeepError, HashesApart, is_refusal, delivery, with_slots, slots, Intake, Turn, Receiver, Run, Stops, begin, Between, is_full, Ends}
-use Rattle.tp_receive.specs.Replies.{Results}
+use Rattle.tp_receive.proofs.Common.{◌≡◌, ℕ, ◌+◌, ◌≤◌, ◌⊎◌, inl, inr, List, ◌++◌, length, Bool, true, false, Some, refl, sym, ap, ◌∙◌, subst, arith, nat_lt, In-append, nat_tests, In, Hash, ChangeParts, hash_of, GraphError, MissingDeps, cause, most_waiting, Sound, ReceiveError, KeepError, HashesApart, is_refusal, delivery, with_slots, slots, Intake, Turn, Receiver, Run, Stops, begin, Between, is_full, Ends, Results}
 use Rattle.tp_receive.proofs.RefusalLaws.{IsSome-refusal, IsSome-lacks}
 use Rattle.tp_receive.proofs.CausesLaws.{Barred-cause, lacks_cause}
 use Rattle.tp_receive.proofs.GrowsLaws.{Sound-grows, Between-grown}

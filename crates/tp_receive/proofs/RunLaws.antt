@@ -1,6 +1,5 @@
 -- What holds wherever a run stops: what entered and was kept, that nothing is lost, and how many wait.
-use Rattle.tp_receive.proofs.Common.{◌≡◌, ℕ, suc, ◌+◌, ◌≤◌, ◌⊎◌, inl, inr, List, [], ◌∷◌, ◌++◌, length, Bool, true, false, cond, Option, Some, refl, sym, ap, ◌∙◌, subst, arith, length-append, append_assoc, append-nil, In-left, In-right, In-append, In, AllIn, Hash, ChangeParts, hash_of, has_all, GraphError, MissingDeps, cause, most_waiting, is_refusal, hashes, delivery, with_slots, takes_slot, slots, Intake, Turn, Run, begin, refuse, Grows}
-use Rattle.tp_receive.specs.Replies.{KeepsAll, Progress, WasRefused, LosesNone, NoneDropped}
+use Rattle.tp_receive.proofs.Common.{◌≡◌, ℕ, suc, ◌+◌, ◌≤◌, ◌⊎◌, inl, inr, List, [], ◌∷◌, ◌++◌, length, Bool, true, false, cond, Option, Some, refl, sym, ap, ◌∙◌, subst, arith, length-append, append_assoc, append-nil, In-left, In-right, In-append, In, AllIn, Hash, ChangeParts, hash_of, has_all, GraphError, MissingDeps, cause, most_waiting, is_refusal, hashes, delivery, with_slots, takes_slot, slots, Intake, Turn, Run, begin, refuse, Grows, KeepsAll, Progress, WasRefused, LosesNone, NoneDropped}
 use Rattle.tp_receive.proofs.RefusalLaws.{refused-push}
 use Rattle.tp_receive.proofs.GrowsLaws.{Grows-none, Grows-one, Grows-then}
 use Rattle.tp_receive.proofs.HashLaws.{hashes-append}

@@ -1,14 +1,11 @@
 -- What a tried change adds to a run.
-use Rattle.tp_receive.proofs.Common.{◌≡◌, ℕ, ◌+◌, ◌-◌, ◌<◌, ◌≤◌, inl, inr, List, [], ◌∷◌, ◌++◌, length, Bool, true, false, Some, Result, Ok, Err, IfErr, OnOk, OnErr, refl, sym, ap, subst, arith, nat_lt, never, nat_tests, slice_get, remove, Hash, ChangeParts, hash_of, GraphError, MissingDeps, cause, most_waiting, ReceiveError, KeepError, delivery, with_slots, slots, AllWait, lacks_deps, is_refusal, Intake, Meets, Next, Receiver, Run, Stops, Turn, begin, hold, intake, receiver, OutOfMemory, is_full, IsEarliest}
+use Rattle.tp_receive.proofs.Common.{◌≡◌, ℕ, ◌+◌, ◌-◌, ◌<◌, ◌≤◌, inl, inr, List, [], ◌∷◌, ◌++◌, length, Bool, true, false, Some, Result, Ok, Err, IfErr, OnOk, OnErr, refl, sym, ap, subst, arith, nat_lt, never, nat_tests, slice_get, remove, Hash, ChangeParts, hash_of, GraphError, MissingDeps, cause, most_waiting, ReceiveError, KeepError, delivery, with_slots, slots, AllWait, lacks_deps, is_refusal, Intake, Meets, Next, Receiver, Run, Stops, Turn, begin, hold, intake, receiver, OutOfMemory, is_full, IsEarliest, PendingFull, NotKept, NextComes, Tried, TryFails, IsHeld, slice_get-there, IsOk}
 use Rattle.std.specs.Result.{IsErrAnd}
-use Rattle.tp_receive.specs.declared.error.ReceiveError.TheVariants.{PendingFull, NotKept}
 use Rattle.tp_receive.specs.declared.admit.Admission.TheVariants as admission
-use Rattle.tp_receive.specs.Intake.{NextComes}
 use Rattle.tp_receive.specs.declared.intake.Applied.{Applied}
 use Rattle.tp_receive.specs.Outcome.{HasOutcome, ReceivesWith, Stopped}
-use Rattle.tp_receive.specs.Trying.{Tried, TryFails, IsHeld}
 use Rattle.tp_receive.proofs.TurnLaws.{Run-none, Stops-then}
-use Rattle.tp_receive.proofs.WaitLaws.{AllWait-push, slice_get_there, next_waits}
+use Rattle.tp_receive.proofs.WaitLaws.{AllWait-push, next_waits}
 
 -- what holds of the error that `?` hands on holds of the result
 pub IfErr-residual : {T : Type 0} (P : ReceiveError → Type 0) (r : Result T ReceiveError) (e : ReceiveError) → P e → IsErrAnd r (λ x. x ≡ e) → IfErr r P
@@ -18,6 +15,10 @@ IfErr-residual P (Err x) e p k = subst P (sym k) p
 pub OnOk-map : {T E P Q : Type 0} (r : Result T E) → (P → Q) → OnOk r P → OnOk r Q
 OnOk-map (Ok x) f h = f h
 OnOk-map (Err x) f h = h
+
+pub from_ok : {T E : Type 0} (P : Type 0) (r : Result T E) → OnOk r P → IsOk r → P
+from_ok P (Ok x) h k = h
+from_ok P (Err e) h k = cc
 
 pub OnOk-both : {T E P Q R : Type 0} (r : Result T E) → (P → Q → R) → OnOk r P → OnOk r Q → OnOk r R
 OnOk-both (Ok x) f p q = f p q
@@ -93,7 +94,7 @@ pub turn_entered : {S T : Type 0} (keeps : S → ChangeParts → S → Type 0) (
     → IsEarliest C W i → ((c : ChangeParts) → slice_get W i ≡ Some c → OnOk res (Tried keeps (intake k C [] [] t r) c (intake k' C' [] [] t' r') admission.Entered)) → OnOk res (W' ≡ remove W i)
     → OnOk res (Turn keeps (intake k C W P t r) (intake k' C' W' P t' r'))
 turn_entered keeps k k' C C' W W' i P t t' r r' res first ok out =
-    let there = slice_get_there W i first.within in
+    let there = slice_get-there W i first.within in
     OnOk-both res
     (λ a o. record {
       change = there.0;
@@ -108,7 +109,7 @@ pub turn_refused : {S T : Type 0} (keeps : S → ChangeParts → S → Type 0) (
     → ((c : ChangeParts) → slice_get W i ≡ Some c → OnOk res (r' ≡ r ++ (hash_of c, f) ∷ [])) → t' ≡ t → C' ≡ C → OnOk res (W' ≡ remove W i)
     → OnOk res (Turn keeps (intake k C W P t r) (intake k C' W' P t' r'))
 turn_refused keeps k C C' W W' i f P t t' r r' res first judged ok reported same out =
-    let there = slice_get_there W i first.within in
+    let there = slice_get-there W i first.within in
     let j = judged there.0 there.1 in
     OnOk-both res
     (λ a o. record {
@@ -124,7 +125,7 @@ pub turn_stopped : {S T : Type 0} (keeps : S → ChangeParts → S → Type 0) (
     → IfErr res (λ e. Stops keeps refuses (intake k C W P t r) e (receiver k' C' W'))
 turn_stopped keeps refuses k k' C C' W W' i P t r (Ok x) first err applied waiting = tt
 turn_stopped keeps refuses k k' C C' W W' i P t r (Err e) first err applied waiting =
-    let there = slice_get_there W i first.within in
+    let there = slice_get-there W i first.within in
     Stops-trying keeps refuses (intake k C W P t r) there.0 (intake k C (remove W i) P t r) e k' C' W'
     (inl (next_waits k C W P t r i there.0 first there.1)) applied waiting (err there.0 there.1)
 

@@ -1,11 +1,5 @@
 -- The list of what waits: going over it, and taking one out.
-use Rattle.tp_receive.proofs.Common.{◌≡◌, ℕ, suc, zero, ◌+◌, ◌<◌, inl, inr, List, [], ◌∷◌, ◌++◌, length, Bool, true, Some, take, refl, sym, ap, ◌∙◌, subst, arith, get_or, In-append, take_more, slice_get, remove, Hash, ChangeParts, GraphError, cause, AllWait, lacks_deps, intake, NextWaits, IsEarliest}
-
--- There is an element within a list.
-pub slice_get_there : {X : Type 0} (xs : List X) (i : ℕ) → i < length xs → (x : X) × (slice_get xs i ≡ Some x)
-slice_get_there [] i h = absurd (omega arith)
-slice_get_there (x ∷ xs) zero h = (x, refl)
-slice_get_there (x ∷ xs) (suc i) h = slice_get_there xs i (omega arith)
+use Rattle.tp_receive.proofs.Common.{◌≡◌, ℕ, suc, zero, ◌+◌, ◌<◌, inl, inr, List, [], ◌∷◌, ◌++◌, length, Bool, true, Some, take, refl, sym, ap, ◌∙◌, subst, get_or, In-append, take_more, slice_get, remove, Hash, ChangeParts, GraphError, cause, AllWait, lacks_deps, intake, NextWaits, IsEarliest}
 
 -- a list around one of its elements
 pub record IsSplit {X : Type 0} (xs : List X) (i : ℕ) (x : X) : Type 0 where

@@ -1,5 +1,5 @@
 -- Which changes of a list are deliverable, and how many slots the others take.
-use Rattle.std.specs.Prelude.{◌≡◌, ℕ, ◌+◌, List, [], ◌∷◌, ◌++◌, length, Bool, true, false, ◌||◌, not, cond, nat_lt}
+use Rattle.std.specs.Prelude.{◌≡◌, ℕ, ◌+◌, List, [], ◌∷◌, ◌++◌, length, Bool, ◌||◌, not, cond, nat_lt}
 use Rattle.tp_receive.specs.Common.{ChangeParts, hash_of, has, most_waiting, has_all}
 
 -- The changes of K, each with whether it is deliverable behind C: each of its dependencies is one of C, or an earlier

@@ -1,7 +1,6 @@
 -- Sets of hashes, against the changes whose hashes they have.
 use Rattle.std.specs.Prelude.{◌≡◌, List, Bool}
-use Rattle.std.specs.List.{list_any}
-use Rattle.tp_receive.specs.Common.{Hash, ChangeParts, has, same_hash}
+use Rattle.tp_receive.specs.Common.{Hash, ChangeParts, has, same_hash, list_any}
 
 -- whether the hash is one of the set
 abbrev pub has_hash : List Hash → Hash → Bool

@@ -1,7 +1,6 @@
 -- Of each change that waits, a dependency that it is known to lack.
 use Rattle.std.specs.Prelude.{◌≡◌, List, Bool, false, Option, Some, None}
-use Rattle.std.specs.List.{AllZip}
-use Rattle.tp_receive.specs.Common.{In, Hash, ChangeParts, hash_of, has, same_hash}
+use Rattle.tp_receive.specs.Common.{In, Hash, ChangeParts, hash_of, has, same_hash, AllZip}
 
 -- What is known of a change c: nothing, or that it isn't in C and neither is that dependency of it.
 abbrev pub Lacks : List ChangeParts → ChangeParts → Option Hash → Type 0

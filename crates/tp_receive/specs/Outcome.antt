@@ -1,5 +1,5 @@
 -- The one outcome of receiving: all changes were received, or those up to a refusal.
-use Rattle.std.specs.Prelude.{◌≡◌, List, [], Option, Some, IsSomeAnd, Result, Ok, Err, true, false}
+use Rattle.std.specs.Prelude.{◌≡◌, List, [], Option, IsSomeAnd, Result, Ok, Err, true, false}
 use Rattle.tp_receive.specs.Common.{Hash, ChangeParts, GraphError}
 use Rattle.tp_receive.specs.declared.error.ReceiveError.{ReceiveError}
 use Rattle.tp_receive.specs.declared.error.ReceiveError.TheVariants.{PendingFull, NotKept, OutOfMemory}

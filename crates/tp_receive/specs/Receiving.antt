@@ -1,8 +1,6 @@
 -- Receiving changes in any order, as a relation between applied lists.
 use Rattle.std.specs.Prelude.{◌≡◌, ℕ, List, [], ◌∷◌, ◌++◌, Bool, true, false, Option, Some, None, IsSome, cond}
-use Rattle.tp_receive.specs.Common.{slice_get, remove, In, AllIn, Hash, ChangeParts, hash_of, GraphError, MissingDeps, cause, Sound, DocId}
-use Rattle.tp_graph.specs.declared.error.GraphError.TheVariants.{Known, BadSeq, BadStart, BadReference, SeqClash, UnknownHead, Full, OutOfMemory}
-use Rattle.tp_graph.specs.Named.{among}
+use Rattle.tp_receive.specs.Common.{slice_get, remove, In, AllIn, Hash, ChangeParts, hash_of, GraphError, MissingDeps, cause, Sound, DocId, Known, BadSeq, BadStart, BadReference, SeqClash, UnknownHead, Full, OutOfMemory, among}
 
 -- The changes enter behind `before` one after another: none has a cause at its turn.
 abbrev pub EntersAfter : List ChangeParts → List ChangeParts → Type 0

@@ -1,6 +1,6 @@
 -- What becomes of one change while it is tried.
 use Rattle.std.specs.Prelude.{◌≡◌, ◌⊎◌, ℕ, ◌+◌, ◌<◌, ◌≤◌, List, [], ◌∷◌, ◌++◌, length, take, Bool, true, false, cond, Some, None}
-use Rattle.tp_receive.specs.Common.{slice_get, Hash, ChangeParts, hash_of, GraphError, MissingDeps, has, cause, most_waiting, has_all}
+use Rattle.tp_receive.specs.Common.{slice_get, Hash, ChangeParts, hash_of, GraphError, MissingDeps, has, cause, most_waiting}
 use Rattle.tp_receive.specs.declared.admit.Admission.{Admission}
 use Rattle.tp_receive.specs.declared.admit.Admission.TheVariants.{Entered, Refused, Waits}
 use Rattle.tp_receive.specs.declared.error.ReceiveError.{ReceiveError}

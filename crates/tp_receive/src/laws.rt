@@ -1,10 +1,7 @@
 //! Laws of receiving, each the contract of a function that does nothing.
 
 ghost use Rattle.std.specs.Prelude.{List, ◌≡◌, ◌+◌, ◌++◌, ◌<◌, ◌≤◌, true, false, Some, length};
-ghost use Rattle.tp_receive.specs.Common.{ChangeParts, In, AllIn, GraphError, cause, Sound, most_waiting};
-ghost use Rattle.tp_list.specs.Members.{SameMembers};
-ghost use Rattle.tp_graph.specs.Fit.{most_changes};
-ghost use Rattle.tp_graph.specs.Named.{HashesApart};
+ghost use Rattle.tp_receive.specs.Common.{ChangeParts, In, AllIn, GraphError, cause, Sound, most_waiting, SameMembers, most_changes, HashesApart};
 ghost use Rattle.tp_receive.specs.Receiving.{Receives, Between, Grows, EntersAfter, SeqsApart, is_refusal};
 ghost use Rattle.tp_receive.specs.Delivery.{is_full};
 ghost use Rattle.tp_receive.specs.Intake.{Ends, Intake, Receiver, Run, Stops, begin};

@@ -1,9 +1,8 @@
 //! What receives changes: applied changes, and changes that wait.
 
 ghost use Rattle.std.specs.Prelude.{◌≡◌, ◌<◌, ◌≤◌, ◌++◌, ◌∷◌, [], ℕ, List, Option, Some, None, false, length, is_ok, if◌then◌else◌, IfErr, OnOk, OnErr};
-ghost use Rattle.tp_receive.specs.Common.{slice_get, ChangeParts, hash_of, cause, Sound, most_waiting, DocId, Answers};
+ghost use Rattle.tp_receive.specs.Common.{slice_get, ChangeParts, hash_of, cause, Sound, most_waiting, DocId, Answers, HashesOnce};
 ghost use Rattle.tp_graph.specs.Named as named;
-ghost use Rattle.tp_graph.specs.GraphState.{HashesOnce};
 ghost use Rattle.tp_receive.specs.Receiving.{IsSeenAs, IsTakenOut};
 
 use tp_change::Change;

@@ -1,3 +1,4 @@
+pub mod Common
 pub mod ListLaws
 pub mod ViewLaws
 pub mod RuleLaws

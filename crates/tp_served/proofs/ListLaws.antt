@@ -1,9 +1,5 @@
 -- Laws on lists: beginnings, and the changes of one seat.
-use Rattle.std.proofs.Common.{◌≡◌, ◌≢◌, ◌⊎◌, inl, inr, ⊎_elim, ℕ, eqb, eq-eqb, ne_eqb, cond, List, [], ◌∷◌, ◌++◌, length, drop, get_or, Bool, true, false, refl, sym, ap, ◌∙◌, append_assoc, append-nil}
-use Rattle.tp_list.specs.Members.{In}
-use Rattle.tp_change.specs.declared.parts.ChangeParts.{ChangeParts}
-use Rattle.tp_receive.specs.Receiving.{Begins}
-use Rattle.tp_served.specs.Rule.{changes_of, entered_by, numbered}
+use Rattle.tp_served.proofs.Common.{◌≡◌, ◌≢◌, ◌⊎◌, inl, inr, ⊎_elim, ℕ, eqb, eq-eqb, ne_eqb, cond, List, [], ◌∷◌, ◌++◌, length, drop, get_or, Bool, true, false, refl, sym, ap, ◌∙◌, append_assoc, append-nil, In, ChangeParts, Begins, changes_of, entered_by, numbered}
 
 -- ---- beginnings
 

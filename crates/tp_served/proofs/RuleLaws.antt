@@ -1,25 +1,14 @@
 -- Each step on the shared state keeps its rule.
-use Rattle.std.proofs.Common.{◌≡◌, ◌≢◌, ◌⊎◌, inl, inr, ⊎_elim, ℕ, zero, suc, ◌+◌, ◌<◌, eqb, cond, List, [], ◌∷◌, ◌++◌, length, set, get_or, take, drop, Option, Some, None, refl, sym, ap, ◌∙◌, subst, arith, length-append, append-nil, append_assoc, take-append-drop}
-use Rattle.std.specs.Prelude.{MatchBool}
+use Rattle.tp_served.proofs.Common.{◌≡◌, ◌≢◌, ◌⊎◌, inl, inr, ⊎_elim, ℕ, zero, suc, ◌+◌, ◌<◌, eqb, cond, List, [], ◌∷◌, ◌++◌, length, set, get_or, take, drop, Option, Some, None, refl, sym, ap, ◌∙◌, subst, arith, length-append, append-nil, append_assoc, take-append-drop, MatchBool, Allows, Final, Joins, Seen, Splits, Step, gives, keeps, opening, takes, In, ChangeParts, Begins, PeerData, HaveMet, SeatState, fresh_from, gave, missed_by, past, took, AllFit, Fits, IsCurrent, IsHome, IsLeft, IsOut, IsServed, Shared, ViewState, alone, changes_of, entered_by, holds, idle, numbered, times, first_seat, Serves, Takes, Token, first_of, given, joined, looked, others_of, spent, tried, Closes}
 use mathlib.Core.Logic.{dite}
 use native.Mathlib.Decide.{ℕ_discrete}
 use mathlib.Core.Option as maybe
 use lib.ListN.{get_elem?}
 use lib.Seq.{set-get_or}
 use prog.Atomic.{either}
-use Rattle.atomic_table.specs.Table.{Allows, Final, Joins, Seen, Splits, Step, gives, keeps, opening, takes}
 use Rattle.atomic_table.proofs.Lists.{at_last, at_longer, at_set, at_snoc, set_again, set_else, set_here}
-use Rattle.tp_list.specs.Members.{In}
 use Rattle.tp_list.proofs.Members.{In-append, In-left, In-right}
-use Rattle.tp_change.specs.declared.parts.ChangeParts.{ChangeParts}
-use Rattle.tp_receive.specs.Receiving.{Begins}
 use Rattle.tp_peer.specs.Links.{known_of}
-use Rattle.tp_peer.specs.PeerData.{PeerData}
-use Rattle.tp_served.specs.Seats.{HaveMet, SeatState, fresh_from, gave, missed_by, past, took}
-use Rattle.tp_served.specs.Rule.{AllFit, Fits, IsCurrent, IsHome, IsLeft, IsOut, IsServed, Shared, ViewState, alone, changes_of, entered_by, holds, idle, numbered, times}
-use Rattle.tp_served.specs.Sitting.{first_seat}
-use Rattle.tp_served.specs.Steps.{Serves, Takes, Token, first_of, given, joined, looked, others_of, spent, tried}
-use Rattle.tp_served.specs.Calls.{Closes}
 use Rattle.tp_served.proofs.ListLaws.{begins_more, begins_same, both_begin, changes_more, drop_begin, entered-append, entered_all, entered_none, in_numbered}
 use Rattle.tp_served.proofs.ViewLaws.{AllFit-append, AllFit-in, AllFit-map, AllFit-split, at_below, at_one, fresh_fit, fresh_once, length_fresh, length_parted, times-append, times_in, times_le, times_parted, total-push, total-set, total_le, two_le}
 

@@ -1,12 +1,5 @@
 -- Laws on lists of seats: as they are parted, and as they are joined.
-use Rattle.std.proofs.Common.{◌≡◌, ℕ, zero, suc, ◌+◌, ◌-◌, ◌<◌, List, [], ◌∷◌, ◌++◌, length, Option, Some, refl, sym, ap, ◌∙◌, subst, arith, append-nil}
-use Rattle.atomic_table.specs.Seated.{TableId}
-use Rattle.atomic_table.specs.Table.{opening}
-use Rattle.tp_peer.specs.PeerData.{PeerData}
-use Rattle.tp_served.specs.Seats.{SeatData, SeatState, fresh, fresh_from, seats_of, states_of}
-use Rattle.tp_served.specs.Rule.{IsServed, alone, idle}
-use Rattle.tp_served.specs.Steps.{first_of, others_of}
-use Rattle.tp_served.specs.Calls.{AreOf}
+use Rattle.tp_served.proofs.Common.{◌≡◌, ℕ, zero, suc, ◌+◌, ◌-◌, ◌<◌, List, [], ◌∷◌, ◌++◌, length, Option, Some, refl, sym, ap, ◌∙◌, subst, arith, append-nil, TableId, opening, PeerData, SeatData, SeatState, fresh, fresh_from, seats_of, states_of, IsServed, alone, idle, first_of, others_of, AreOf}
 use Rattle.tp_served.proofs.RuleLaws.{opens}
 
 -- ---- parted

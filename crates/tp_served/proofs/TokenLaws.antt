@@ -1,18 +1,7 @@
 -- What a seat's token is after a step.
-use Rattle.std.proofs.Common.{◌≡◌, ◌≢◌, ℕ, eqb, eq-eqb, ne_eqb, ◌+◌, arith, List, [], ◌∷◌, Option, Some, None, refl, sym, ap, ◌∙◌, subst}
-use Rattle.std.specs.Prelude.{MatchBool}
-use Rattle.atomic_table.specs.Table.{Step, rest, step}
+use Rattle.tp_served.proofs.Common.{◌≡◌, ◌≢◌, ℕ, eqb, eq-eqb, ne_eqb, ◌+◌, arith, List, [], ◌∷◌, Option, Some, None, refl, sym, ap, ◌∙◌, subst, MatchBool, Step, rest, step, TableId, PeerData, Call, PeerStep, Reply, SeatState, Shows, gave, missed_by, took, ViewState, alone, holds, idle, IsSeat, seat_of, Serves, Takes, Token, given, joined, tried, Answer, Replied, EndsTurn, IsOnlyOn, IsTurn, Tries}
 use mathlib.Core.Option as maybe
-use Rattle.atomic_table.specs.Seated.{TableId}
-use Rattle.tp_peer.specs.PeerData.{PeerData}
-use Rattle.tp_peer.specs.PeerStep.{Call, PeerStep, Reply}
 use Rattle.tp_peer.proofs.StepLaws.{step_keeps}
-use Rattle.tp_served.specs.Seats.{SeatState, Shows, gave, missed_by, took}
-use Rattle.tp_served.specs.Rule.{ViewState, alone, holds, idle}
-use Rattle.tp_served.specs.Sitting.{IsSeat, seat_of}
-use Rattle.tp_served.specs.Steps.{Serves, Takes, Token, given, joined, tried}
-use Rattle.tp_served.specs.ServedError.{Answer, Replied}
-use Rattle.tp_served.specs.Calls.{EndsTurn, IsOnlyOn, IsTurn, Tries}
 
 -- a step, where what it tells doesn't hang on it
 abbrev pub any_step : Step (Option PeerData)
@@ -72,10 +61,6 @@ turn_is t m m' r h takes e out some =
 -- another was put into the slot
 pub put_is : (t : SeatState) (h h' : PeerData) (m m' : Token) → m ≡ (holds h t, (0, None) ∷ []) → m' ≡ (m.0, (0, Some h') ∷ rest m.1) → m' ≡ (holds h t, (0, Some h') ∷ [])
 put_is t h h' m m' e put = put ∙ ap (λ (x : Token). (let y : Token = (x.0, (0, Some h') ∷ rest x.1) in y)) e
-
--- the token of a seat, by its views
-pub seat_token : (views badge : List ViewState) (m : Token) → badge ≡ views → views ≡ alone (seat_of views) ∷ [] → badge ≡ m.0 ∷ [] → m.1 ≡ [] → m ≡ (alone (seat_of views), [])
-seat_token views badge m same one e none = token_is (alone (seat_of views)) m badge e (same ∙ one) none
 
 -- two tokens joined
 pub joined_token : (m v w : Token) (t u : SeatState) → v ≡ (alone u, []) → w ≡ (alone t, []) → m ≡ (joined v.0 w.0, v.1) → m ≡ (idle (t ∷ u ∷ []), [])

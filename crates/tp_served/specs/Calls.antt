@@ -1,11 +1,7 @@
 -- What the calls on a served peer ensure.
 use Rattle.std.specs.Prelude.{◌≡◌, ◌≢◌, ℕ, ◌<◌, ◌≤◌, false, List, [], ◌∷◌, ◌++◌, Option, Some, None}
-use Rattle.atomic_table.specs.Seated.{TableId}
-use Rattle.tp_list.specs.Members.{In}
-use Rattle.tp_change.specs.declared.parts.ChangeParts.{ChangeParts}
+use Rattle.tp_served.specs.Common.{TableId, In, ChangeParts, PeerData, Call, Reply}
 use Rattle.tp_peer.specs.Laws.{is_on}
-use Rattle.tp_peer.specs.PeerData.{PeerData}
-use Rattle.tp_peer.specs.PeerStep.{Call, Reply}
 use Rattle.tp_served.specs.declared.error.ServedError.{ServedError}
 use Rattle.tp_served.specs.declared.error.ServedError.TheVariants.{Busy, Peer, BadSeats, OutOfMemory}
 use Rattle.tp_served.specs.ServedError.{Answer, Missed, Replied, Never}

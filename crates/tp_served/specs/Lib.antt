@@ -1,3 +1,4 @@
+pub mod Common
 pub mod ServedError
 pub mod Seats
 pub mod Rule

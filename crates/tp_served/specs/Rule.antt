@@ -1,11 +1,8 @@
 -- The rule that a served peer's shared state keeps: one word, one slot, and a view for each seat.
 use Rattle.std.specs.Prelude.{◌≡◌, ◌≢◌, ◌⊎◌, ℕ, ◌+◌, ◌<◌, ◌==◌, List, [], ◌∷◌, ◌++◌, length, cond, Option, Some, None}
+use Rattle.tp_served.specs.Common.{State, In, ChangeParts, PeerData}
 use mathlib.Core.Option as maybe
 use lib.ListN.{get_elem?}
-use Rattle.atomic_table.specs.Table.{State}
-use Rattle.tp_list.specs.Members.{In}
-use Rattle.tp_change.specs.declared.parts.ChangeParts.{ChangeParts}
-use Rattle.tp_peer.specs.PeerData.{PeerData}
 use Rattle.tp_served.specs.Seats.{IsKeptIn, SeatState}
 
 -- One view: the seats that are joined in it, and the peer that it holds, where it holds one.

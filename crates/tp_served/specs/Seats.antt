@@ -1,11 +1,7 @@
 -- A served peer, what each of its seats knows, and what a call on a seat does.
 use Rattle.std.specs.Prelude.{◌≡◌, ◌⊎◌, ℕ, suc, zero, ◌+◌, List, [], ◌∷◌, ◌++◌, length, drop, map}
-use Rattle.tp_change.specs.declared.parts.ChangeParts.{ChangeParts}
+use Rattle.tp_served.specs.Common.{ChangeParts, known_of, PeerData, Call, PeerStep, Reply, TableId}
 use Rattle.tp_receive.specs.Receiving.{Begins}
-use Rattle.tp_peer.specs.Links.{known_of}
-use Rattle.tp_peer.specs.PeerData.{PeerData}
-use Rattle.tp_peer.specs.PeerStep.{Call, PeerStep, Reply}
-use Rattle.atomic_table.specs.Seated.{TableId}
 
 -- What a seat knows: its number; the whole peer as its last turn found it, and as it left it; the changes that its
 -- turns entered, in order; how many turns it took; and how many of its tries found the word taken.

@@ -1,6 +1,6 @@
 -- The numbers of the refusals, and what a call's answer says.
 use Rattle.std.specs.Prelude.{ℕ, Result, Ok, Err}
-use Rattle.tp_peer.specs.PeerStep.{Reply, Refused}
+use Rattle.tp_served.specs.Common.{Reply, Refused}
 use Rattle.tp_served.specs.declared.error.ServedError.{ServedError}
 use Rattle.tp_served.specs.declared.error.ServedError.TheVariants.{Busy, Peer, BadSeats, OutOfMemory}
 

@@ -1,14 +1,14 @@
 -- A seat, by the views of its token.
 use Rattle.std.specs.Prelude.{◌≡◌, ℕ, List, [], ◌∷◌, false}
-use Rattle.atomic_table.specs.Seated.{TableId}
-use Rattle.tp_peer.specs.PeerData.{PeerData}
+use Rattle.tp_served.specs.Common.{TableId, PeerData}
+use Rattle.tp_journal.specs.Journal.{no_device}
 use Rattle.tp_served.specs.Seats.{SeatData, SeatState, fresh}
 use Rattle.tp_served.specs.Rule.{ViewState, alone}
 
 -- no peer, which stands for what a token without a seat knows
 abbrev pub nobody : PeerData
 nobody =
-    record { id = record { 0 = [] }; actor = record { 0 = [] }; applied = []; waiting = []; links = []; journal = []; failures = 0; stopped = false }
+    record { id = record { 0 = [] }; actor = record { 0 = [] }; applied = []; waiting = []; links = []; journal = []; device = no_device; stopped = false }
 
 -- the first of the seats
 abbrev pub first_seat : List SeatState → SeatState

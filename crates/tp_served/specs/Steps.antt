@@ -1,9 +1,6 @@
 -- The steps on a served peer's shared state, and what each tells the seat that makes it.
 use Rattle.std.specs.Prelude.{◌≡◌, ◌≢◌, ℕ, ◌==◌, List, [], ◌∷◌, ◌++◌, take, drop, Option, Some, MatchBool}
-use Rattle.atomic_table.specs.Table.{Me, Step}
-use Rattle.tp_change.specs.declared.parts.ChangeParts.{ChangeParts}
-use Rattle.tp_peer.specs.Links.{known_of}
-use Rattle.tp_peer.specs.PeerData.{PeerData}
+use Rattle.tp_served.specs.Common.{Me, Step, ChangeParts, known_of, PeerData}
 use Rattle.tp_served.specs.Seats.{IsKeptIn, HaveMet, SeatState, gave, missed_by, took}
 use Rattle.tp_served.specs.Rule.{ViewState, alone, holds, idle}
 

@@ -3,7 +3,8 @@
 ghost use Rattle.std.specs.Prelude.{◌≡◌, MatchOption};
 ghost use Rattle.std.specs.Str.{chars};
 ghost use Rattle.std.specs.String.{string_bytes};
-ghost use Rattle.tp_peer.specs.Calls.{call_of, reply_of};
+ghost use Rattle.tp_sync.specs.Spelling.{message_spelling};
+ghost use Rattle.tp_peer.specs.Calls.{call_in, reply_of};
 ghost use Rattle.tp_peer.specs.PeerStep.{Edit, Made, Receive, Received as Reported, Generate, Generated, Forget, Forgotten, Read, Reply as ReplyOf, Text, replied};
 ghost use Rattle.tp_peer.specs.Sent.{sent_of};
 ghost use Rattle.tp_peer.specs.Taking.{report_of};
@@ -18,7 +19,8 @@ use std::mem;
 use tp_edit::Splice;
 use tp_journal::Journal;
 use tp_opid::Hash;
-use tp_peer::{Call, Link, Outgoing, PeerError, Received, Reply};
+use tp_peer::{Call, Link, Outgoing, PeerError, Received, Reply, Request};
+use tp_sync::Message;
 
 // What the peer answered, as the answer of a try.
 fn of_peer<T>(outcome: Result<T, PeerError>) -> Result<T, ServedError>
@@ -31,20 +33,20 @@ fn of_peer<T>(outcome: Result<T, PeerError>) -> Result<T, ServedError>
 }
 
 impl<J: Journal> Served<J> {
-    // Makes the call where no other seat has the peer.
-    fn try_call(&self, seat: &mut Seat, call: Call) -> Option<Reply>
+    // Has the peer answer where no other seat has the peer.
+    fn try_call(&self, seat: &mut Seat, request: Request) -> Option<Reply>
         requires served { seat.old.served ≡ self.now.served }
-        requires link { IsOnlyOn seat.old.state.number (call_of call) }
+        requires link { IsOnlyOn seat.old.state.number (call_in request) }
         ensures served { seat.new.served ≡ seat.old.served }
         ensures tries { MatchOption result
-            (Tries seat.old.state (call_of call.entry) Missed seat.new.state)
-            (λ reply. Tries seat.old.state (call_of call.entry) (Replied (reply_of reply))
+            (Tries seat.old.state (call_in request.entry) Missed seat.new.state)
+            (λ reply. Tries seat.old.state (call_in request.entry) (Replied (reply_of reply))
             seat.new.state) }
     {
         let badge = mem::replace(&mut seat.badge, Badge::blank());
         match self.take(badge) {
             Ok(turn) => {
-                let (badge, reply) = self.call_on(turn, call);
+                let (badge, reply) = self.call_on(turn, request);
                 seat.badge = badge;
                 Some(reply)
             }
@@ -62,7 +64,7 @@ impl<J: Journal> Served<J> {
         ensures tries { Tries seat.old.state Read
             (answered (λ t. Text (chars (string_bytes t))) result) seat.new.state }
     {
-        match self.try_call(seat, Call::Read) {
+        match self.try_call(seat, Request::Call(Call::Read)) {
             Some(reply) => of_peer(reply.into_text()),
             None => Err(ServedError::Busy),
         }
@@ -83,11 +85,11 @@ impl<J: Journal> Served<J> {
     {
         match self.try_call(
             seat,
-            Call::Edit {
+            Request::Call(Call::Edit {
                 splices,
                 time,
                 message,
-            },
+            }),
         ) {
             Some(reply) => of_peer(reply.into_made()),
             None => Err(ServedError::Busy),
@@ -104,7 +106,28 @@ impl<J: Journal> Served<J> {
             seat.new.state }
     {
         let link = Link(seat.number());
-        match self.try_call(seat, Call::Receive { link, bytes }) {
+        match self.try_call(seat, Request::Call(Call::Receive { link, bytes })) {
+            Some(reply) => of_peer(reply.into_received()),
+            None => Err(ServedError::Busy),
+        }
+    }
+
+    /// Receives a message that was decoded, on the link with the seat's number, as `Peer::receive_message` does. `Busy`
+    /// where another seat has the peer: the message is gone then.
+    pub fn try_receive_message(
+        &self,
+        seat: &mut Seat,
+        message: Message,
+    ) -> Result<Received, ServedError>
+        requires { seat.old.served ≡ self.now.served }
+        ensures served { seat.new.served ≡ seat.old.served }
+        ensures tries { Tries seat.old.state
+            (Receive seat.old.state.number (message_spelling message))
+            (answered (λ r. Reported (report_of r.applied) r.same_heads) result)
+            seat.new.state }
+    {
+        let link = Link(seat.number());
+        match self.try_call(seat, Request::Message { link, message }) {
             Some(reply) => of_peer(reply.into_received()),
             None => Err(ServedError::Busy),
         }
@@ -120,7 +143,7 @@ impl<J: Journal> Served<J> {
             seat.new.state }
     {
         let link = Link(seat.number());
-        match self.try_call(seat, Call::Generate { link }) {
+        match self.try_call(seat, Request::Call(Call::Generate { link })) {
             Some(reply) => of_peer(reply.into_generated()),
             None => Err(ServedError::Busy),
         }
@@ -135,7 +158,7 @@ impl<J: Journal> Served<J> {
             seat.new.state }
     {
         let link = Link(seat.number());
-        match self.try_call(seat, Call::Forget { link }) {
+        match self.try_call(seat, Request::Call(Call::Forget { link })) {
             Some(reply) => of_peer(reply.into_forgotten()),
             None => Err(ServedError::Busy),
         }

@@ -1,7 +1,7 @@
 //! A seat's turn: the peer is taken out of its slot, and put back.
 
 ghost use Rattle.std.specs.Prelude.{◌≡◌, [], ◌∷◌, None, IfOk, IfErr};
-ghost use Rattle.tp_peer.specs.Calls.{call_of, reply_of};
+ghost use Rattle.tp_peer.specs.Calls.{call_in, reply_of};
 ghost use Rattle.tp_peer.specs.PeerData.{PeerData};
 ghost use Rattle.tp_served.specs.Seats.{SeatState, gave, missed_by};
 ghost use Rattle.tp_served.specs.Rule.{alone, holds};
@@ -12,7 +12,7 @@ use crate::rule::{Give, Take, View};
 use crate::served::Served;
 use atomic_table::{Badge, Seat as Token};
 use tp_journal::Journal;
-use tp_peer::{Call, Peer, Reply};
+use tp_peer::{Peer, Reply, Request};
 
 /// The peer, out with the seat that has its turn. It ends in `give`.
 pub(crate) struct Turn<J: Journal> {
@@ -58,17 +58,17 @@ impl<J: Journal> Served<J> {
         token.into_badge()
     }
 
-    /// Makes the call on the seat's turn, and ends it.
-    pub(crate) fn call_on(&self, turn: Turn<J>, call: Call) -> (Badge<View>, Reply)
+    /// Has the peer answer on the seat's turn, and ends it.
+    pub(crate) fn call_on(&self, turn: Turn<J>, request: Request) -> (Badge<View>, Reply)
         requires served { turn.token.table_id ≡ self.now.served }
         requires turn { (t : SeatState) × IsTurn t turn.token.me turn.peer
-            × IsOnlyOn t.number (call_of call) }
+            × IsOnlyOn t.number (call_in request) }
         ensures served { result.0.table_id ≡ self.now.served }
         ensures ends { (t : SeatState) → IsTurn t turn.token.me turn.peer
-            → EndsTurn t (call_of call.entry) (reply_of result.1) result.0.views }
+            → EndsTurn t (call_in request.entry) (reply_of result.1) result.0.views }
     {
         let Turn { token, mut peer } = turn;
-        let reply = peer.call(call);
+        let reply = peer.answer(request);
         (self.give(Turn { token, peer }), reply)
     }
 }

@@ -3,7 +3,8 @@
 ghost use Rattle.std.specs.Prelude.{◌≡◌, ℕ, [], ◌∷◌};
 ghost use Rattle.std.specs.Str.{chars};
 ghost use Rattle.std.specs.String.{string_bytes};
-ghost use Rattle.tp_peer.specs.Calls.{call_of, reply_of};
+ghost use Rattle.tp_sync.specs.Spelling.{message_spelling};
+ghost use Rattle.tp_peer.specs.Calls.{call_in, reply_of};
 ghost use Rattle.tp_peer.specs.PeerStep.{Edit, Made, Receive, Received as Reported, Generate, Generated, Forget, Forgotten, Read, Text, replied};
 ghost use Rattle.tp_peer.specs.Sent.{sent_of};
 ghost use Rattle.tp_peer.specs.Taking.{report_of};
@@ -21,7 +22,8 @@ use std::{mem, thread};
 use tp_edit::Splice;
 use tp_journal::Journal;
 use tp_opid::Hash;
-use tp_peer::{Call, Link, Outgoing, PeerError, Received, Reply};
+use tp_peer::{Call, Link, Outgoing, PeerError, Received, Reply, Request};
+use tp_sync::Message;
 
 impl<J: Journal> Served<J> {
     // Tries to take the peer until it has it.
@@ -43,17 +45,17 @@ impl<J: Journal> Served<J> {
         unreachable!()
     }
 
-    // Makes the call once the seat has the peer.
-    fn call<R: Wait>(&self, rt: &R, seat: &mut Seat, call: Call) -> Reply
+    // Has the peer answer once the seat has the peer.
+    fn call<R: Wait>(&self, rt: &R, seat: &mut Seat, request: Request) -> Reply
         requires served { seat.old.served ≡ self.now.served }
-        requires link { IsOnlyOn seat.old.state.number (call_of call) }
+        requires link { IsOnlyOn seat.old.state.number (call_in request) }
         ensures served { seat.new.served ≡ seat.old.served }
-        ensures shows { Shows seat.old.state (call_of call.entry) (reply_of result)
+        ensures shows { Shows seat.old.state (call_in request.entry) (reply_of result)
             seat.new.state }
     {
         let badge = mem::replace(&mut seat.badge, Badge::blank());
         let turn = self.wait(rt, badge);
-        let (badge, reply) = self.call_on(turn, call);
+        let (badge, reply) = self.call_on(turn, request);
         seat.badge = badge;
         reply
     }
@@ -65,7 +67,7 @@ impl<J: Journal> Served<J> {
         ensures shows { Shows seat.old.state Read
             (replied (λ t. Text (chars (string_bytes t))) result) seat.new.state }
     {
-        let reply = self.call(rt, seat, Call::Read);
+        let reply = self.call(rt, seat, Request::Call(Call::Read));
         reply.into_text()
     }
 
@@ -86,11 +88,11 @@ impl<J: Journal> Served<J> {
         let reply = self.call(
             rt,
             seat,
-            Call::Edit {
+            Request::Call(Call::Edit {
                 splices,
                 time,
                 message,
-            },
+            }),
         );
         reply.into_made()
     }
@@ -110,7 +112,27 @@ impl<J: Journal> Served<J> {
             seat.new.state }
     {
         let link = Link(seat.number());
-        let reply = self.call(rt, seat, Call::Receive { link, bytes });
+        let reply = self.call(rt, seat, Request::Call(Call::Receive { link, bytes }));
+        reply.into_received()
+    }
+
+    /// Receives a message that was decoded, on the link with the seat's number, as `Peer::receive_message` does, once the
+    /// seat has the peer.
+    pub fn receive_message<R: Wait>(
+        &self,
+        rt: &R,
+        seat: &mut Seat,
+        message: Message,
+    ) -> Result<Received, PeerError>
+        requires { seat.old.served ≡ self.now.served }
+        ensures served { seat.new.served ≡ seat.old.served }
+        ensures shows { Shows seat.old.state
+            (Receive seat.old.state.number (message_spelling message))
+            (replied (λ r. Reported (report_of r.applied) r.same_heads) result)
+            seat.new.state }
+    {
+        let link = Link(seat.number());
+        let reply = self.call(rt, seat, Request::Message { link, message });
         reply.into_received()
     }
 
@@ -124,7 +146,7 @@ impl<J: Journal> Served<J> {
             seat.new.state }
     {
         let link = Link(seat.number());
-        let reply = self.call(rt, seat, Call::Generate { link });
+        let reply = self.call(rt, seat, Request::Call(Call::Generate { link }));
         reply.into_generated()
     }
 
@@ -137,7 +159,7 @@ impl<J: Journal> Served<J> {
             seat.new.state }
     {
         let link = Link(seat.number());
-        let reply = self.call(rt, seat, Call::Forget { link });
+        let reply = self.call(rt, seat, Request::Call(Call::Forget { link }));
         reply.into_forgotten()
     }
 }

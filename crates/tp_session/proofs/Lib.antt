@@ -1,2 +1,3 @@
 pub mod SessionLaws
 pub mod StepFacts
+pub mod ReadingLaws

@@ -1,7 +1,5 @@
 -- What every step of a session keeps, and what its answer tells.
-use Rattle.std.proofs.Common.{◌≡◌, ◌⊎◌, ℕ, List, Bool, true, false, ◌&&◌, ◌==◌, Some, None, Result, Ok, Err, inl, inr, refl, sym, ap, subst, ◌∙◌}
-use Rattle.std.specs.Prelude.{Option, MatchBool, length}
-use Rattle.tp_opid.specs.declared.doc_id.DocId.{DocId}
+use Rattle.std.proofs.Common.{◌≡◌, ◌⊎◌, ℕ, List, Bool, true, false, ◌&&◌, ◌==◌, Some, None, Result, Ok, Err, inl, inr, refl, sym, ap, subst, ◌∙◌, Option, MatchBool, length}
 use Rattle.tp_opid.specs.Same.{same_doc}
 use Rattle.tp_frame.specs.declared.frame.Frame.{Frame}
 use Rattle.tp_frame.specs.declared.frame.Frame.TheVariants.{Hello, Sync, Done, Refusal}
@@ -19,18 +17,19 @@ use Rattle.tp_session.specs.HostCalls.{HostCall}
 use Rattle.tp_session.specs.Laws.{is_over}
 use Rattle.tp_session.specs.NetError.{refusal_of}
 use Rattle.tp_session.specs.SessionData.{SessionData, counting, greeting}
-use Rattle.tp_session.specs.SessionStep.{Says, Closes, Fails, IsLate, is_stale, Sends, Answers, Tells, Heard, Hears, Welcomes, OnFrame, SessionStep}
+use Rattle.tp_session.specs.SessionStep.{Says, Closes, Fails, IsLate, is_stale, Answers, Tells, Heard, Hears, Welcomes, OnFrame, SessionStep}
 
 -- what the answer tells, where the session was in the phase before and is s' then
 abbrev Told : Phase → Result Turn Ended → SessionData → Type 0
 Told phase (Ok turn) s' = turn.ended ≡ is_over s'.phase
 Told phase (Err ended) s' = (is_over s'.phase ≡ true) × (is_over phase ≡ false → ended.send ≡ refusal_of ended.error)
 
--- the role and the document stay, so many changes are counted then, and the answer tells the end
+-- the role, the document and what is read stay, so many changes are counted then, and the answer tells the end
 pub record Keeps (s : SessionData) (n : ℕ) (answer : Result Turn Ended) (s' : SessionData) : Type 0 where
   pub role : s'.role ≡ s.role
   pub id : s'.id ≡ s.id
   pub applied : s'.applied ≡ n
+  pub reading : s'.reading ≡ s.reading
   pub told : Told s.phase answer s'
 
 -- ---- what a side does
@@ -40,6 +39,7 @@ says s f phase answer s' going step = record {
   role = ap (λ (q : SessionData). q.role) step.1;
   id = ap (λ (q : SessionData). q.id) step.1;
   applied = ap (λ (q : SessionData). q.applied) step.1;
+  reading = ap (λ (q : SessionData). q.reading) step.1;
   told = subst (λ (a : Result Turn Ended). Told s.phase a s') (sym step.0) (sym (ap (λ (q : SessionData). is_over q.phase) step.1 ∙ going));
 }
 
@@ -48,6 +48,7 @@ closes s send answer s' step = record {
   role = ap (λ (q : SessionData). q.role) step.1;
   id = ap (λ (q : SessionData). q.id) step.1;
   applied = ap (λ (q : SessionData). q.applied) step.1;
+  reading = ap (λ (q : SessionData). q.reading) step.1;
   told = subst (λ (a : Result Turn Ended). Told s.phase a s') (sym step.0) (sym (ap (λ (q : SessionData). is_over q.phase) step.1));
 }
 
@@ -56,6 +57,7 @@ fails s error answer s' step = record {
   role = ap (λ (q : SessionData). q.role) step.1;
   id = ap (λ (q : SessionData). q.id) step.1;
   applied = ap (λ (q : SessionData). q.applied) step.1;
+  reading = ap (λ (q : SessionData). q.reading) step.1;
   told = subst (λ (a : Result Turn Ended). Told s.phase a s') (sym step.0) (ap (λ (q : SessionData). is_over q.phase) step.1, λ (going : is_over s.phase ≡ false). refl);
 }
 
@@ -66,6 +68,7 @@ late s answer s' over step =
       role = ap (λ (q : SessionData). q.role) step.1;
       id = ap (λ (q : SessionData). q.id) step.1;
       applied = ap (λ (q : SessionData). q.applied) step.1;
+      reading = ap (λ (q : SessionData). q.reading) step.1;
       told = subst (λ (a : Result Turn Ended). Told s.phase a s') (sym step.0) (ap (λ (q : SessionData). is_over q.phase) step.1 ∙ ended, λ (going : is_over s.phase ≡ false). cc);
     }
 
@@ -89,7 +92,7 @@ module _ {H : Type 0} (steps : H → HostCall → Reply → H → Type 0) where
   heard (Received r same_heads) a answer b step =
       let s : SessionData = counting a.0 (length r.applied) in
       let k : Keeps s s.applied answer b.0 = answers s (is_stale r same_heads) step.0 answer b.0 step.2 in
-      (s.applied, record { role = k.role; id = k.id; applied = k.applied; told = k.told })
+      (s.applied, record { role = k.role; id = k.id; applied = k.applied; reading = k.reading; told = k.told })
   heard (Refused e) a answer b step = (a.0.applied, fails a.0 (Peer e) answer b.0 step.0)
   heard _ a answer b step = absurd step
 
@@ -133,13 +136,17 @@ module _ {H : Type 0} (steps : H → HostCall → Reply → H → Type 0) where
   step_keeps a f answer b step = elim (step_ways a f answer b step) [
     | inl alone ↦ (a.0.applied, alone.0)
     | inr (inl told) ↦ (a.0.applied, answers a.0 told.0 told.1.0 answer b.0 told.1.2)
-    | inr (inr came) ↦ heard came.1.0 (a.0, came.1.1) answer b came.1.3
+    | inr (inr (bytes, inl came)) ↦ heard came.0 (a.0, came.1) answer b came.3
+    | inr (inr (bytes, inr refused)) ↦ (a.0.applied, fails a.0 (Peer refused.0) answer b.0 refused.2)
   ]
 
   -- ---- the laws
 
   pub role_and_id : (a b : SessionData × H) (f : Frame) (answer : Result Turn Ended) → SessionStep steps a f answer b → (b.0.role ≡ a.0.role) × (b.0.id ≡ a.0.id)
   role_and_id a b f answer step = let k = step_keeps a f answer b step in (k.1.role, k.1.id)
+
+  pub reading_stays : (a b : SessionData × H) (f : Frame) (answer : Result Turn Ended) → SessionStep steps a f answer b → b.0.reading ≡ a.0.reading
+  reading_stays a b f answer step = let k = step_keeps a f answer b step in k.1.reading
 
   pub turn_tells : (a b : SessionData × H) (f : Frame) (turn : Turn) → SessionStep steps a f (Ok turn) b → turn.ended ≡ is_over b.0.phase
   turn_tells a b f turn step = let k = step_keeps a f (Ok turn) b step in k.1.told

@@ -3,22 +3,25 @@ use Rattle.std.specs.Prelude.{ℕ, ◌+◌, ◌-◌, ◌^◌, min, Option, Some,
 use Rattle.tp_opid.specs.declared.doc_id.DocId.{DocId}
 use Rattle.tp_frame.specs.declared.frame.Frame.{Frame}
 use Rattle.tp_frame.specs.declared.frame.Frame.TheVariants.{Hello}
+use Rattle.tp_sync.specs.ReaderState.{ReaderState}
 use Rattle.tp_session.specs.declared.session.Role.{Role}
 use Rattle.tp_session.specs.declared.session.Role.TheVariants.{Client, Server}
 use Rattle.tp_session.specs.declared.session.Phase.{Phase}
 use Rattle.tp_session.specs.declared.session.Phase.TheVariants.{AwaitsHello}
 use Rattle.tp_session.specs.declared.session.TheConstants.{VERSION}
 
--- Which side it is, the identifier of its document, how far it is, and how many changes were applied here.
+-- Which side it is, the identifier of its document, how far it is, how many changes were applied here, and how far the
+-- message of a sync frame was read that isn't whole yet.
 pub record SessionData : Type 0 where
   pub role : Role
   pub id : DocId
   pub phase : Phase
   pub applied : ℕ
+  pub reading : Option ReaderState
 
 -- a session at its begin
 abbrev pub begun : Role → DocId → SessionData
-begun role id = record { role = role; id = id; phase = AwaitsHello; applied = 0 }
+begun role id = record { role = role; id = id; phase = AwaitsHello; applied = 0; reading = None }
 
 -- the hello of a side that holds the document
 abbrev pub greeting : DocId → Frame

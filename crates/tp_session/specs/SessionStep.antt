@@ -5,7 +5,8 @@ use Rattle.tp_opid.specs.declared.doc_id.DocId.{DocId}
 use Rattle.tp_opid.specs.Same.{same_doc}
 use Rattle.tp_frame.specs.declared.frame.Frame.{Frame}
 use Rattle.tp_frame.specs.declared.frame.Frame.TheVariants.{Hello, Sync, Done, Refusal}
-use Rattle.tp_peer.specs.PeerStep.{Reply, Received, Generated, Refused}
+use Rattle.tp_peer.specs.declared.error.PeerError.{PeerError}
+use Rattle.tp_peer.specs.PeerStep.{Reply, Received, Generated, Refused, RefusesDecoding}
 use Rattle.tp_peer.specs.Taking.{Report}
 use Rattle.tp_session.specs.declared.error.NetError.{NetError}
 use Rattle.tp_session.specs.declared.error.NetError.TheVariants.{OtherDocument, Version, Unexpected, RefusedByOther, Peer, OutOfMemory}
@@ -67,9 +68,13 @@ Heard steps (Received r same_heads) a answer b = Tells steps (is_stale r same_he
 Heard steps (Refused e) a answer b = Fails a.0 (Peer e) answer b.0 × (b.1 ≡ a.1)
 Heard steps _ a answer b = ⊥
 
--- The host received the bytes, and the side answers by what it replied.
+-- The bytes are no message, or memory was refused as they were read: the host isn't asked.
+abbrev pub RefusesBytes : {H : Type 0} → List ℕ → SessionData × H → Result Turn Ended → SessionData × H → Type 0
+RefusesBytes bytes a answer b = (e : PeerError) × RefusesDecoding bytes e × Fails a.0 (Peer e) answer b.0 × (b.1 ≡ a.1)
+
+-- The host received the bytes, and the side answers by what it replied; or they are refused before it is asked.
 abbrev pub Hears : {H : Type 0} → (H → HostCall → Reply → H → Type 0) → List ℕ → SessionData × H → Result Turn Ended → SessionData × H → Type 0
-Hears {H} steps bytes a answer b = (reply : Reply) × (m : H) × steps a.1 (Receive bytes) reply m × Heard steps reply (a.0, m) answer b
+Hears {H} steps bytes a answer b = ((reply : Reply) × (m : H) × steps a.1 (Receive bytes) reply m × Heard steps reply (a.0, m) answer b) ⊎ RefusesBytes bytes a answer b
 
 -- ---- frames
 

@@ -3,9 +3,11 @@
 ghost use Rattle.tp_peer.specs.PeerStep.{Reply, Received as Reported, Generated, Forgotten, replied};
 ghost use Rattle.tp_peer.specs.Sent.{sent_of};
 ghost use Rattle.tp_peer.specs.Taking.{report_of};
+ghost use Rattle.tp_sync.specs.Spelling.{message_spelling};
 ghost use Rattle.tp_session.specs.HostCalls.{HostCall, Receive, Generate, Forget};
 
 use tp_peer::{Outgoing, PeerError, Received};
+use tp_sync::Message;
 
 /// A document's side of one session: it receives the other's messages and makes its own, on one link.
 ///
@@ -26,6 +28,12 @@ pub trait Host {
     /// Receives a message by its bytes.
     fn receive(&mut self, bytes: &[u8]) -> Result<Received, PeerError>
         ensures reply { steps (seen self.old) (Receive bytes.now)
+            (replied (λ r. Reported (report_of r.applied) r.same_heads) result) (seen self.new) }
+        ensures host { goes_on self.old self.new };
+
+    /// Receives a message that was decoded, as [`receive`](Host::receive) receives its bytes.
+    fn receive_message(&mut self, message: Message) -> Result<Received, PeerError>
+        ensures reply { steps (seen self.old) (Receive (message_spelling message))
             (replied (λ r. Reported (report_of r.applied) r.same_heads) result) (seen self.new) }
         ensures host { goes_on self.old self.new };
 

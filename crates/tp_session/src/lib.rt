@@ -8,6 +8,7 @@ mod error;
 mod host;
 pub mod laws;
 mod linked;
+mod parts;
 mod reason;
 mod session;
 mod turn;

@@ -7,6 +7,7 @@ ghost use Rattle.tp_session.specs.HostCalls.{on};
 use crate::host::Host;
 use tp_journal::Journal;
 use tp_peer::{Link, Outgoing, Peer, PeerError, Received};
+use tp_sync::Message;
 
 /// A peer that is lent, and the link on which it holds a session.
 #[derive(Drop)]
@@ -41,6 +42,10 @@ impl<'a, J: Journal> Host for LinkedPeer<'a, J> {
 
     fn receive(&mut self, bytes: &[u8]) -> Result<Received, PeerError> {
         self.peer.receive_bytes(self.link, bytes)
+    }
+
+    fn receive_message(&mut self, message: Message) -> Result<Received, PeerError> {
+        self.peer.receive_message(self.link, message)
     }
 
     fn generate(&mut self) -> Result<Option<Outgoing>, PeerError> {

@@ -1,8 +1,11 @@
 //! The session: what a side answers to each frame.
 
-ghost use Rattle.std.specs.Prelude.{◌≡◌, length, Err, None};
+ghost use Rattle.std.specs.Prelude.{◌≡◌, ◌≤◌, length, Err, None, MatchOption};
+ghost use Rattle.tp_change.specs.declared.limits.TheConstants.{MAX_BYTES};
+ghost use Rattle.tp_peer.specs.PeerStep.{Received as Reported, replied};
+ghost use Rattle.tp_peer.specs.Taking.{report_of};
 ghost use Rattle.tp_session.specs.SessionData.{begun, first_of, counting, greeting};
-ghost use Rattle.tp_session.specs.SessionStep.{SessionStep, Says, Closes, Fails, Tells, Sends, Greets, Hears};
+ghost use Rattle.tp_session.specs.SessionStep.{SessionStep, Says, Closes, Fails, Tells, Sends, Greets, Heard, Hears};
 
 use crate::error::NetError;
 use crate::host::Host;
@@ -11,7 +14,8 @@ use bytes::Bytes;
 use std::marker::Model;
 use tp_frame::Frame;
 use tp_opid::DocId;
-use tp_peer::{Outgoing, Received};
+use tp_peer::{Outgoing, PeerError, Received};
+use tp_sync::MessageReader;
 
 /// The version of the protocol that a hello names.
 pub const VERSION: u8 = 2;
@@ -40,14 +44,16 @@ pub enum Phase {
 
 /// One side of a session.
 ///
-/// Contracts see its role, its document's identifier, how far it is and how many changes were applied here, and
-/// [`on_frame`](Session::on_frame) is a `SessionStep`.
-#[derive(Debug, Drop)]
+/// Contracts see its role, its document's identifier, how far it is, how many changes were applied here and how far the
+/// message of a sync frame was read. [`on_frame`](Session::on_frame) is a `SessionStep`, and
+/// [`on_part`](Session::on_part) is a `PartStep`.
+#[derive(Drop)]
 pub struct Session {
     role: Role,
     id: DocId,
-    phase: Phase,
+    pub(crate) phase: Phase,
     applied: u64,
+    pub(crate) reading: Option<MessageReader>,
 }
 
 impl Model for Session {
@@ -55,7 +61,7 @@ impl Model for Session {
 
     ghost Value = { SessionData };
 
-    ghost view = { λ s. record { role = s.role; id = s.id; phase = s.phase; applied = s.applied } };
+    ghost view = { λ s. record { role = s.role; id = s.id; phase = s.phase; applied = s.applied; reading = s.reading } };
 }
 
 impl Session {
@@ -68,6 +74,7 @@ impl Session {
             id,
             phase: Phase::AwaitsHello,
             applied: 0,
+            reading: None,
         }
     }
 
@@ -105,6 +112,18 @@ impl Session {
         self.applied
     }
 
+    /// How many bytes are held of a message that comes in parts: those of a field that isn't whole yet, at most 4,194,304.
+    pub fn held(&self) -> usize
+        ensures exact { MatchOption self.now.reading (result ≡ 0)
+            (λ reader. result ≡ length reader.held) }
+        ensures few { result ≤ MAX_BYTES }
+    {
+        match &self.reading {
+            Some(reader) => reader.held(),
+            None => 0,
+        }
+    }
+
     // Goes on, and sends a frame.
     fn say(&mut self, frame: Frame, phase: Phase) -> Result<Turn, Ended>
         ensures { Says self.old frame phase result self.new }
@@ -125,7 +144,7 @@ impl Session {
     }
 
     // Ends for an error, with the refusal that is due.
-    fn fail(&mut self, error: NetError) -> Result<Turn, Ended>
+    pub(crate) fn fail(&mut self, error: NetError) -> Result<Turn, Ended>
         ensures { Fails self.old error result self.new }
     {
         self.phase = Phase::Over;
@@ -184,13 +203,18 @@ impl Session {
         }
     }
 
-    // A message comes.
-    fn hear<H: Host>(&mut self, bytes: &[u8], host: &mut H) -> Result<Turn, Ended>
-        ensures step { Hears H.steps bytes.now (self.old, H.seen host.old)
-            result (self.new, H.seen host.new) }
+    // Answers a message by what the host replied as it received it.
+    pub(crate) fn answer<H: Host>(
+        &mut self,
+        received: Result<Received, PeerError>,
+        host: &mut H,
+    ) -> Result<Turn, Ended>
+        ensures step { Heard H.steps
+            (replied (λ r. Reported (report_of r.applied) r.same_heads) received)
+            (self.old, H.seen host.old) result (self.new, H.seen host.new) }
         ensures host { H.goes_on host.old host.new }
     {
-        match host.receive(bytes) {
+        match received {
             Ok(received) => {
                 let stale = received.applied.applied.is_empty() && received.same_heads;
                 self.count(&received);
@@ -198,6 +222,16 @@ impl Session {
             }
             Err(error) => self.fail(NetError::Peer(error)),
         }
+    }
+
+    // A message comes.
+    fn hear<H: Host>(&mut self, bytes: &[u8], host: &mut H) -> Result<Turn, Ended>
+        ensures step { Hears H.steps bytes.now (self.old, H.seen host.old)
+            result (self.new, H.seen host.new) }
+        ensures host { H.goes_on host.old host.new }
+    {
+        let received = host.receive(bytes);
+        self.answer(received, host)
     }
 
     /// Takes a frame of the other, and says what to send and whether the session has ended.
@@ -233,7 +267,7 @@ impl Session {
 }
 
 // A frame comes after the end: nothing is sent.
-fn late() -> Result<Turn, Ended>
+pub(crate) fn late() -> Result<Turn, Ended>
     ensures { result ≡ Err (record { error = NetError.Unexpected; send = None }) }
 {
     Err(Ended {

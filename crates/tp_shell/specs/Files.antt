@@ -1,5 +1,5 @@
--- What commands did to files. `reads` and `leaves` relate a path to bytes: these were read of the file there, and the file
--- there was left with these.
+-- What commands did to files. `reads`, `takes` and `leaves` relate a path to bytes: these were read of the file there; they
+-- were, once its lock was taken; and the file there was left with these.
 use Rattle.std.specs.Prelude.{◌≡◌, ℕ, List, Option}
 use Rattle.rand_chacha.specs.ChaCha.{ChaCha}
 use Rattle.tp_opid.specs.declared.actor.Actor.{Actor}
@@ -17,9 +17,9 @@ use Rattle.tp_shell.specs.Keys.{IsKeyed, drawn}
 abbrev pub OfFile : (List ℕ → List ℕ → Type 0) → List ℕ → (List ℕ → Type 0) → Type 0
 OfFile reads file P = (bytes : List ℕ) × reads file bytes × P bytes
 
--- Some bytes were read of the file, and it was left with others, and of these and those P holds.
+-- Some bytes were read of the file, once its lock was taken, and it was left with others, and of these and those P holds.
 abbrev pub ChangesFile : (List ℕ → List ℕ → Type 0) → (List ℕ → List ℕ → Type 0) → List ℕ → (List ℕ → List ℕ → Type 0) → Type 0
-ChangesFile reads leaves file P = (before : List ℕ) × (after : List ℕ) × reads file before × P before after × leaves file after
+ChangesFile takes leaves file P = (before : List ℕ) × (after : List ℕ) × takes file before × P before after × leaves file after
 
 -- The file was left with the saved file of the journal's document.
 abbrev pub SavesTo : (List ℕ → List ℕ → Type 0) → List ℕ → List ℕ → Type 0

@@ -30,8 +30,8 @@ IsJobOf (asked.Save file out) (Files (Save file' out')) = (file' ≡ file) × (o
 IsJobOf (asked.Load saved file) (Files (Load saved' file')) = (saved' ≡ saved) × (file' ≡ file)
 IsJobOf (asked.Show log) (Files (Show log')) = log' ≡ log
 IsJobOf (asked.Simulate script) (Files (Simulate script')) = script' ≡ script
-IsJobOf (asked.Serve file addr sessions key) (Serve file' addr' sessions' key') =
-    (file' ≡ file) × IsSocketText addr.now addr' × (sessions' ≡ sessions) × IsKeyOf key key'
+IsJobOf (asked.Serve file addr sessions workers key) (Serve file' addr' sessions' workers' key') =
+    (file' ≡ file) × IsSocketText addr.now addr' × (sessions' ≡ sessions) × (workers' ≡ workers) × IsKeyOf key key'
 IsJobOf (asked.Sync file addr key) (Sync file' addr' key') = (file' ≡ file) × IsSocketText addr.now addr' × IsKeyOf key key'
 IsJobOf command job = ⊥
 
@@ -42,13 +42,13 @@ hash_texts (asked.Edit file at del text time message key) = key_texts key
 hash_texts (asked.Text file heads) = heads.items
 hash_texts (asked.Cursor file at heads) = heads.items
 hash_texts (asked.Merge file other key) = key_texts key
-hash_texts (asked.Serve file addr sessions key) = key_texts key
+hash_texts (asked.Serve file addr sessions workers key) = key_texts key
 hash_texts (asked.Sync file addr key) = key_texts key
 hash_texts command = []
 
 -- the text of a command that is to be an address
 abbrev pub address_texts : Command → List (Bor (List ℕ))
-address_texts (asked.Serve file addr sessions key) = addr ∷ []
+address_texts (asked.Serve file addr sessions workers key) = addr ∷ []
 address_texts (asked.Sync file addr key) = addr ∷ []
 address_texts command = []
 

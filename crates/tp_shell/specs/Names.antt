@@ -2,7 +2,7 @@
 use Rattle.std.specs.Prelude.{ℕ, List, ◌++◌, codes}
 use Rattle.std.specs.Fmt.{decimal}
 use Rattle.tp_commands.specs.declared.error.CommandError.{CommandError}
-use Rattle.tp_commands.specs.declared.error.CommandError.TheVariants.{Io, OutOfMemory, Peer, Doc, Store}
+use Rattle.tp_commands.specs.declared.error.CommandError.TheVariants.{Io, OutOfMemory, Peer, Doc, Store, Busy}
 use Rattle.tp_names.specs.Names.{name_of_bytes, name_of_document, name_of_peer, name_of_session}
 use Rattle.tp_textpeer.specs.Refusal.{refusal_text as text_of_log_refusal}
 use Rattle.tp_shell.specs.declared.error.JobError.TheVariants.{Command, Show, Line, Session}
@@ -16,6 +16,7 @@ name_of_command OutOfMemory = codes "OutOfMemory"
 name_of_command (Peer e) = name_of_peer e
 name_of_command (Doc e) = name_of_document e
 name_of_command (Store e) = name_of_bytes e
+name_of_command Busy = codes "Busy"
 
 -- what is printed of a refusal, without a newline
 abbrev pub refusal_text : ShellError → List ℕ

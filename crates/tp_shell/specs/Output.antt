@@ -31,28 +31,28 @@ IsShown printed = (log : List ℕ) × (text : List ℕ) × HasText log text × (
 -- the change that was made, or `nothing`; of `merge` how many changes of the other file entered; of `save` and `load`
 -- nothing; of `simulate` the replies to the lines of a script, and the one list of its world. And the file that a job
 -- writes was left as it says.
-abbrev pub IsFilesPrinted : (List ℕ → List ℕ → Type 0) → (List ℕ → List ℕ → Type 0) → FileJob → List ℕ → Type 0
-IsFilesPrinted reads leaves (New file key) printed = ChangesFile reads leaves file.now (λ before after. IsNewLine key before after printed)
-IsFilesPrinted reads leaves (Edit file splice time message key) printed =
-    ChangesFile reads leaves file.now (λ before after. IsEditLine key splice time (chars message.now) before after printed)
-IsFilesPrinted reads leaves (Text file heads) printed = OfFile reads file.now (λ journal. IsTextLine journal heads.items printed)
-IsFilesPrinted reads leaves (Heads file) printed = OfFile reads file.now (λ journal. AreHeadLines journal printed)
-IsFilesPrinted reads leaves (Log file) printed = OfFile reads file.now (λ journal. AreChangeLines journal printed)
-IsFilesPrinted reads leaves (Graph file) printed = OfFile reads file.now (λ journal. IsChangeGraph journal printed)
-IsFilesPrinted reads leaves (Cursor file at heads) printed = OfFile reads file.now (λ journal. IsCursorLine journal at heads.items printed)
-IsFilesPrinted reads leaves (Merge file other key) printed =
-    ChangesFile reads leaves file.now (λ before after. OfFile reads other.now (λ bytes. IsMergeLine key before bytes after printed))
-IsFilesPrinted reads leaves (Save file out) printed = (printed ≡ []) × OfFile reads file.now (λ journal. SavesTo leaves out.now journal)
-IsFilesPrinted reads leaves (Load saved file) printed = (printed ≡ []) × OfFile reads saved.now (λ bytes. ChangesFile reads leaves file.now (IsLoaded bytes))
-IsFilesPrinted reads leaves (Show log) printed = IsShown printed
-IsFilesPrinted reads leaves (Simulate script) printed = IsScriptPrinted printed
+abbrev pub IsFilesPrinted : (List ℕ → List ℕ → Type 0) → (List ℕ → List ℕ → Type 0) → (List ℕ → List ℕ → Type 0) → FileJob → List ℕ → Type 0
+IsFilesPrinted reads takes leaves (New file key) printed = ChangesFile takes leaves file.now (λ before after. IsNewLine key before after printed)
+IsFilesPrinted reads takes leaves (Edit file splice time message key) printed =
+    ChangesFile takes leaves file.now (λ before after. IsEditLine key splice time (chars message.now) before after printed)
+IsFilesPrinted reads takes leaves (Text file heads) printed = OfFile reads file.now (λ journal. IsTextLine journal heads.items printed)
+IsFilesPrinted reads takes leaves (Heads file) printed = OfFile reads file.now (λ journal. AreHeadLines journal printed)
+IsFilesPrinted reads takes leaves (Log file) printed = OfFile reads file.now (λ journal. AreChangeLines journal printed)
+IsFilesPrinted reads takes leaves (Graph file) printed = OfFile reads file.now (λ journal. IsChangeGraph journal printed)
+IsFilesPrinted reads takes leaves (Cursor file at heads) printed = OfFile reads file.now (λ journal. IsCursorLine journal at heads.items printed)
+IsFilesPrinted reads takes leaves (Merge file other key) printed =
+    ChangesFile takes leaves file.now (λ before after. OfFile reads other.now (λ bytes. IsMergeLine key before bytes after printed))
+IsFilesPrinted reads takes leaves (Save file out) printed = (printed ≡ []) × OfFile reads file.now (λ journal. SavesTo leaves out.now journal)
+IsFilesPrinted reads takes leaves (Load saved file) printed = (printed ≡ []) × OfFile reads saved.now (λ bytes. ChangesFile takes leaves file.now (IsLoaded bytes))
+IsFilesPrinted reads takes leaves (Show log) printed = IsShown printed
+IsFilesPrinted reads takes leaves (Simulate script) printed = IsScriptPrinted printed
 
 -- The bytes are what is printed of the job where it was done: of `serve` the port and how many sessions were held; of `sync`
 -- how many changes entered.
-abbrev pub IsPrinted : (List ℕ → List ℕ → Type 0) → (List ℕ → List ℕ → Type 0) → Job → List ℕ → Type 0
-IsPrinted reads leaves (Files job) printed = IsFilesPrinted reads leaves job printed
-IsPrinted reads leaves (Serve file addr sessions key) printed = IsServed sessions printed
-IsPrinted reads leaves (Sync file addr key) printed = IsSynced printed
+abbrev pub IsPrinted : (List ℕ → List ℕ → Type 0) → (List ℕ → List ℕ → Type 0) → (List ℕ → List ℕ → Type 0) → Job → List ℕ → Type 0
+IsPrinted reads takes leaves (Files job) printed = IsFilesPrinted reads takes leaves job printed
+IsPrinted reads takes leaves (Serve file addr sessions workers key) printed = IsServed sessions printed
+IsPrinted reads takes leaves (Sync file addr key) printed = IsSynced printed
 
 -- What the writer holds grew by bytes of which P holds.
 abbrev pub Grows : (List ℕ → Type 0) → Option (List ℕ) → Option (List ℕ) → Type 0
@@ -73,15 +73,15 @@ LeavesScript (Line number) before after = StopsAt number before after
 LeavesScript e before after = Keeps before after ⊎ PrintsPart before after
 
 -- What the output holds after the refusal of what is done to files. A script is printed as it goes on, all else at the end.
-abbrev pub LeavesFiles : (List ℕ → List ℕ → Type 0) → (List ℕ → List ℕ → Type 0) → FileJob → JobError → Option (List ℕ) → Option (List ℕ) → Type 0
-LeavesFiles reads leaves (Simulate script) e before after = LeavesScript e before after
-LeavesFiles reads leaves job e before after = Leaves (IsFilesPrinted reads leaves job) e before after
+abbrev pub LeavesFiles : (List ℕ → List ℕ → Type 0) → (List ℕ → List ℕ → Type 0) → (List ℕ → List ℕ → Type 0) → FileJob → JobError → Option (List ℕ) → Option (List ℕ) → Type 0
+LeavesFiles reads takes leaves (Simulate script) e before after = LeavesScript e before after
+LeavesFiles reads takes leaves job e before after = Leaves (IsFilesPrinted reads takes leaves job) e before after
 
 -- What the output holds after the refusal of a job. A server prints its port once it listens.
-abbrev pub LeavesOf : (List ℕ → List ℕ → Type 0) → (List ℕ → List ℕ → Type 0) → Job → JobError → Option (List ℕ) → Option (List ℕ) → Type 0
-LeavesOf reads leaves (Files job) e before after = LeavesFiles reads leaves job e before after
-LeavesOf reads leaves (Serve file addr sessions key) e before after = Keeps before after ⊎ GrowsPart (IsServed sessions) before after
-LeavesOf reads leaves (Sync file addr key) e before after = Leaves IsSynced e before after
+abbrev pub LeavesOf : (List ℕ → List ℕ → Type 0) → (List ℕ → List ℕ → Type 0) → (List ℕ → List ℕ → Type 0) → Job → JobError → Option (List ℕ) → Option (List ℕ) → Type 0
+LeavesOf reads takes leaves (Files job) e before after = LeavesFiles reads takes leaves job e before after
+LeavesOf reads takes leaves (Serve file addr sessions workers key) e before after = Keeps before after ⊎ GrowsPart (IsServed sessions) before after
+LeavesOf reads takes leaves (Sync file addr key) e before after = Leaves IsSynced e before after
 
 -- The bytes are the line of the refusal; or of `OutOfMemory`, where there was no memory for that line.
 abbrev pub IsLineOf : ShellError → List ℕ → Type 0

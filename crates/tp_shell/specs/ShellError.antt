@@ -28,9 +28,9 @@ no_memory = Command command.OutOfMemory
 abbrev pub code_of : ShellError → ℕ
 code_of BadHex = 1
 code_of (Job (Command e)) = 1 + code_of_command e
-code_of (Job (Show e)) = 7
-code_of (Job (Line number)) = 8
-code_of (Job (Session e)) = 9
+code_of (Job (Show e)) = 8
+code_of (Job (Line number)) = 9
+code_of (Job (Session e)) = 10
 
 abbrev pub refusal_of_hex : HexError → ShellError
 refusal_of_hex hex.BadHex = BadHex

@@ -28,22 +28,22 @@ abbrev pub AskFor : List Text → Command → Type 0
 AskFor words command = (fault_of textpeer_app words ≡ []) × IsFoundAs (subcommand_of textpeer_app words) command
 
 -- What a command asks for was done: the output grew by what is printed of it.
-abbrev pub IsDone : (List ℕ → List ℕ → Type 0) → (List ℕ → List ℕ → Type 0) → Command → Option (List ℕ) → Option (List ℕ) → Type 0
-IsDone reads leaves command before after = (job : Job) × IsJobOf command job × Grows (IsPrinted reads leaves job) before after
+abbrev pub IsDone : (List ℕ → List ℕ → Type 0) → (List ℕ → List ℕ → Type 0) → (List ℕ → List ℕ → Type 0) → Command → Option (List ℕ) → Option (List ℕ) → Type 0
+IsDone reads takes leaves command before after = (job : Job) × IsJobOf command job × Grows (IsPrinted reads takes leaves job) before after
 
 -- A command was refused: its values weren't read, and the output holds what it held; or what it asks for was refused.
-abbrev pub IsRefused : (List ℕ → List ℕ → Type 0) → (List ℕ → List ℕ → Type 0) → Command → ShellError → Option (List ℕ) → Option (List ℕ) → Type 0
-IsRefused reads leaves command e before after = (NotRead command e × Keeps before after)
-    ⊎ ((job : Job) × (f : JobError) × IsJobOf command job × (e ≡ Refused f) × LeavesOf reads leaves job f before after)
+abbrev pub IsRefused : (List ℕ → List ℕ → Type 0) → (List ℕ → List ℕ → Type 0) → (List ℕ → List ℕ → Type 0) → Command → ShellError → Option (List ℕ) → Option (List ℕ) → Type 0
+IsRefused reads takes leaves command e before after = (NotRead command e × Keeps before after)
+    ⊎ ((job : Job) × (f : JobError) × IsJobOf command job × (e ≡ Refused f) × LeavesOf reads takes leaves job f before after)
 
 -- The words asked for help or the version; or for a command, and what it asks for was done.
-abbrev pub WasDone : (List ℕ → List ℕ → Type 0) → (List ℕ → List ℕ → Type 0) → List Text → Option (List ℕ) → Option (List ℕ) → Type 0
-WasDone reads leaves words before after = AskForHelp words
-    ⊎ ((command : Command) × AskFor words command × IsDone reads leaves command before after)
+abbrev pub WasDone : (List ℕ → List ℕ → Type 0) → (List ℕ → List ℕ → Type 0) → (List ℕ → List ℕ → Type 0) → List Text → Option (List ℕ) → Option (List ℕ) → Type 0
+WasDone reads takes leaves words before after = AskForHelp words
+    ⊎ ((command : Command) × AskFor words command × IsDone reads takes leaves command before after)
 
 -- The words were refused: memory ran out before a command was found, and the output holds what it held; or they ask for
 -- help, and the output failed, which may hold a part of the help; or the command that they ask for was refused.
-abbrev pub WasRefused : (List ℕ → List ℕ → Type 0) → (List ℕ → List ℕ → Type 0) → List Text → ShellError → Option (List ℕ) → Option (List ℕ) → Type 0
-WasRefused reads leaves words e before after = ((e ≡ Refused no_memory) × Keeps before after)
+abbrev pub WasRefused : (List ℕ → List ℕ → Type 0) → (List ℕ → List ℕ → Type 0) → (List ℕ → List ℕ → Type 0) → List Text → ShellError → Option (List ℕ) → Option (List ℕ) → Type 0
+WasRefused reads takes leaves words e before after = ((e ≡ Refused no_memory) × Keeps before after)
     ⊎ (((e ≡ Refused failed) × AskForHelp words)
-    ⊎ ((command : Command) × AskFor words command × IsRefused reads leaves command e before after))
+    ⊎ ((command : Command) × AskFor words command × IsRefused reads takes leaves command e before after))

@@ -42,16 +42,16 @@ pub enum ShellError {
 
 impl ShellError {
     /// The number of the refusal: 1 for `BadHex`, then of a job `Io`, `OutOfMemory`, what a peer, a document or the bytes
-    /// of a file were refused for, a log, a script, a session.
+    /// of a file were refused for, `Busy`, a log, a script, a session.
     pub fn code(&self) -> u8
         ensures { result ≡ code_of self.now }
     {
         match self {
             ShellError::BadHex => 1,
             ShellError::Job(JobError::Command(error)) => 1 + error.code(),
-            ShellError::Job(JobError::Show(_)) => 7,
-            ShellError::Job(JobError::Line(_)) => 8,
-            ShellError::Job(JobError::Session(_)) => 9,
+            ShellError::Job(JobError::Show(_)) => 8,
+            ShellError::Job(JobError::Line(_)) => 9,
+            ShellError::Job(JobError::Session(_)) => 10,
         }
     }
 }
@@ -138,6 +138,7 @@ fn command_name(error: CommandError) -> &'static str
         CommandError::Peer(error) => peer_name(error),
         CommandError::Doc(error) => document_name(error),
         CommandError::Store(error) => bytes_name(error),
+        CommandError::Busy => "Busy",
     }
 }
 

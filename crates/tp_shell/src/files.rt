@@ -7,19 +7,22 @@ use std::fs::OpenFile;
 use std::io::{Read, Seek, Write};
 use std::rt::Files;
 use tp_commands::CommandError;
-use tp_journal::{DurableJournal, FileJournal};
+use tp_journal::{DurableJournal, FileJournal, Lockable};
 
 /// Files at paths, as commands meet them.
 ///
-/// Contracts see what a call did by two relations of its own, each between a path and bytes: these were read of the file
-/// there (`reads`), and the file there was left with these, on the disk (`leaves`). What the system does with a file
-/// between two calls is outside of them.
+/// Contracts see what a call did by three relations of its own, each between a path and bytes: these were read of the file
+/// there (`reads`); its lock was taken, and then these were read of it (`takes`); and the file there was left with these,
+/// on the disk (`leaves`). What the system does with a file between two calls is outside of them.
 pub trait Disk {
     /// An open file.
     type File: Read + Write + Seek + OpenFile + Drop;
 
     /// The path, and the bytes that were read of the file there.
     ghost reads: { Self → List ℕ → List ℕ → Type 0 };
+
+    /// The path, and the bytes that were read of the file there, once its lock was taken.
+    ghost takes: { Self → List ℕ → List ℕ → Type 0 };
 
     /// The path, and the bytes with which the file there was left.
     ghost leaves: { Self → List ℕ → List ℕ → Type 0 };
@@ -31,13 +34,14 @@ pub trait Disk {
     fn read(&self, path: &str) -> Result<Vec<u8>, CommandError>
         ensures { IfOk result (λ bytes. reads self.now path.now bytes.items) };
 
-    /// The journal in a file. An absent one is made where `make` is true.
+    /// The journal in a file, which has the file's lock until it ends. An absent file is made where `make` is true. Where
+    /// another has the lock it is refused as `Busy`.
     fn journal(&self, path: &str, make: bool) -> Result<FileJournal<Self::File>, CommandError>
-        ensures { IfOk result (λ j. reads self.now path.now j.content) };
+        ensures { IfOk result (λ j. takes self.now path.now j.content) };
 
-    /// The journal in a file, each append of which is brought to the disk. An absent one is refused.
+    /// The same, each append of which is brought to the disk. An absent file is refused.
     fn durable_journal(&self, path: &str) -> Result<DurableJournal<Self::File>, CommandError>
-        ensures { IfOk result (λ j. reads self.now path.now j.file.content) };
+        ensures { IfOk result (λ j. takes self.now path.now j.file.content) };
 
     /// Brings to the disk what was written to a journal that was taken from the path. Its content stays.
     fn sync(&self, path: &str, journal: &mut FileJournal<Self::File>) -> Result<(), CommandError>
@@ -58,6 +62,32 @@ fn write_new<R: Files>(rt: &R, path: &str, bytes: &[u8]) -> Result<(), CommandEr
     Ok(())
 }
 
+// A name for a file beside the one at the path, with 16 bytes that nobody can guess.
+fn name_beside<R: Files + AllocGlobal>(rt: &R, path: &str) -> Result<String, CommandError> {
+    let mut drawn = [0; 16];
+    let mut source = fs::open(rt, "/dev/urandom")?;
+    source.read_exact(&mut drawn)?;
+    let digits = hex::encode(rt.alloc(), &drawn)?;
+    Ok(format!(in rt.alloc(); "{path}.{digits}.part")?)
+}
+
+// The folder of the file at the path.
+fn folder_of(path: &str) -> &str {
+    match path.rsplit_once('/') {
+        Some(("", _)) => "/",
+        Some((folder, _)) => folder,
+        None => ".",
+    }
+}
+
+// Brings to the disk which files the folder has, where a folder can be opened.
+fn sync_folder<R: Files>(rt: &R, folder: &str) -> Result<(), CommandError> {
+    match fs::open(rt, folder) {
+        Ok(folder) => Ok(folder.sync_all()?),
+        Err(_) => Ok(()),
+    }
+}
+
 // Writes a new file at the path `part`, which then takes the name of the other.
 fn write_and_rename<R: Files>(
     rt: &R,
@@ -66,16 +96,22 @@ fn write_and_rename<R: Files>(
     bytes: &[u8],
 ) -> Result<(), CommandError> {
     write_new(rt, part, bytes)?;
-    Ok(fs::rename(rt, part, path)?)
+    fs::rename(rt, part, path)?;
+    sync_folder(rt, folder_of(path))
 }
 
-/// The files of the system, of which its calls promise nothing. A file is replaced by one that is written beside it, whose
-/// name ends with `.part`, and then takes its name. Where it is refused, the file beside it is removed, as far as that can
-/// be done.
-impl<R: Files + AllocGlobal> Disk for R {
+/// The files of the system, of which its calls promise nothing. A file is replaced by one that is written beside it, under a
+/// name that no other has and that ends with `.part`, and then takes its name; and the folder is brought to the disk. Where
+/// it is refused, the file beside it is removed, as far as that can be done.
+impl<R: Files + AllocGlobal> Disk for R
+where
+    R::File: Lockable,
+{
     type File = R::File;
 
     ghost reads = { λ _ _ _. Unit {0} };
+
+    ghost takes = { λ _ _ _. Unit {0} };
 
     ghost leaves = { λ _ _ _. Unit {0} };
 
@@ -100,7 +136,7 @@ impl<R: Files + AllocGlobal> Disk for R {
     }
 
     fn replace(&self, path: &str, bytes: &[u8]) -> Result<(), CommandError> {
-        let part = format!(in self.alloc(); "{path}.part")?;
+        let part = name_beside(self, path)?;
         let replaced = write_and_rename(self, part.as_str(), path, bytes);
         if replaced.is_err() {
             let _ = fs::remove_file(self, part.as_str());

@@ -114,6 +114,8 @@ pub enum Job<'a> {
         addr: SocketAddr,
         /// How many sessions are held.
         sessions: u64,
+        /// How many are held at once: 1 to 64, to which another number is brought.
+        workers: u64,
         /// The key.
         key: Option<[u8; 32]>,
     },
@@ -184,6 +186,7 @@ pub fn job_of<'a>(alloc: Global, command: Command<'a>) -> Result<Job<'a>, ShellE
             file,
             addr,
             sessions,
+            workers,
             key,
         } => {
             let key = key_in(key)?;
@@ -191,6 +194,7 @@ pub fn job_of<'a>(alloc: Global, command: Command<'a>) -> Result<Job<'a>, ShellE
                 file,
                 addr: address_in(addr)?,
                 sessions,
+                workers,
                 key,
             })
         }

@@ -104,10 +104,10 @@ pub fn carry_out<D: Disk + AllocGlobal, W: Write>(
     out: &mut W,
 ) -> Result<(), JobError>
     ensures prints { OnOk result
-        (Grows (IsFilesPrinted (D.reads rt.now) (D.leaves rt.now) job.entry)
+        (Grows (IsFilesPrinted (D.reads rt.now) (D.takes rt.now) (D.leaves rt.now) job.entry)
         (W.contents out.old) (W.contents out.new)) }
     ensures err { IfErr result
-        (λ e. LeavesFiles (D.reads rt.now) (D.leaves rt.now) job.entry e
+        (λ e. LeavesFiles (D.reads rt.now) (D.takes rt.now) (D.leaves rt.now) job.entry e
         (W.contents out.old) (W.contents out.new)) }
 {
     match job {
@@ -220,7 +220,7 @@ fn new<D: Disk + AllocGlobal>(
     file: &str,
     key: Option<[u8; 32]>,
 ) -> Result<String, CommandError>
-    ensures { IfOk result (λ l. ChangesFile (D.reads rt.now) (D.leaves rt.now) file.now
+    ensures { IfOk result (λ l. ChangesFile (D.takes rt.now) (D.leaves rt.now) file.now
         (λ before after. IsNewLine key before after (string_bytes l))) }
 {
     let mut generator = generator(rt, key)?;
@@ -240,7 +240,7 @@ fn edited<D: Disk + AllocGlobal>(
     message: &str,
     key: Option<[u8; 32]>,
 ) -> Result<String, CommandError>
-    ensures { IfOk result (λ l. ChangesFile (D.reads rt.now) (D.leaves rt.now) file.now
+    ensures { IfOk result (λ l. ChangesFile (D.takes rt.now) (D.leaves rt.now) file.now
         (λ before after. IsEditLine key splice.entry time (chars message.now) before after
         (string_bytes l))) }
 {
@@ -267,7 +267,7 @@ fn merged<D: Disk + AllocGlobal>(
     other: &str,
     key: Option<[u8; 32]>,
 ) -> Result<String, CommandError>
-    ensures { IfOk result (λ l. ChangesFile (D.reads rt.now) (D.leaves rt.now) file.now
+    ensures { IfOk result (λ l. ChangesFile (D.takes rt.now) (D.leaves rt.now) file.now
         (λ before after. OfFile (D.reads rt.now) other.now
         (λ bytes. IsMergeLine key before bytes after (string_bytes l)))) }
 {
@@ -304,7 +304,7 @@ fn begin_at<D: Disk + AllocGlobal>(
     file: &str,
     document: &Document<PeerSequence>,
 ) -> Result<(), CommandError>
-    ensures { OnOk result (ChangesFile (D.reads rt.now) (D.leaves rt.now) file.now
+    ensures { OnOk result (ChangesFile (D.takes rt.now) (D.leaves rt.now) file.now
         (λ before after. BeginsJournal document.now.id document.now.applied before after)) }
 {
     let mut journal = rt.journal(file, true)?;
@@ -315,7 +315,7 @@ fn begin_at<D: Disk + AllocGlobal>(
 fn load_from<D: Disk + AllocGlobal>(rt: &D, saved: &str, file: &str) -> Result<String, CommandError>
     ensures empty { IfOk result (λ l. string_bytes l ≡ []) }
     ensures begun { OnOk result (OfFile (D.reads rt.now) saved.now
-        (λ bytes. ChangesFile (D.reads rt.now) (D.leaves rt.now) file.now (IsLoaded bytes))) }
+        (λ bytes. ChangesFile (D.takes rt.now) (D.leaves rt.now) file.now (IsLoaded bytes))) }
 {
     let document = load::<PeerSequence>(rt.alloc(), &rt.read(saved)?)?;
     let begun = begin_at(rt, file, &document);

@@ -48,6 +48,7 @@ event_in marks (asks.Start actor) = Some (event.Start actor)
 event_in marks (asks.Fork of actor) = Some (event.Fork of actor)
 event_in marks (asks.Call n made crash) = option_map (λ c. event_with n crash c) (call_in marks made)
 event_in marks (asks.Crash n actor) = Some (event.Crash n None 0 actor)
+event_in marks (asks.Fail n kept) = Some (event.Fail n kept)
 event_in marks (asks.Mark name n) = Some (event_with n None (call.Alone peer.Read))
 
 -- There is an event, and the world w meets it as its own steps do.

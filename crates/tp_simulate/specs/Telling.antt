@@ -5,7 +5,7 @@ use Rattle.std.specs.List.{flat_map}
 use Rattle.tp_opid.specs.declared.op_id.OpId.{OpId}
 use Rattle.tp_peer.specs.Taking.{Report}
 use Rattle.tp_peer.specs.PeerStep as peer
-use Rattle.tp_headline.specs.Reply.{Reply, Peer, Wire, Reopened, Answered, Refused}
+use Rattle.tp_headline.specs.Reply.{Reply, Peer, Wire, Reopened, Armed, Answered, Refused}
 use Rattle.tp_names.specs.Names.{name_of_peer, name_of_world}
 use Rattle.tp_simulate.specs.declared.asked.Asked.{Asked}
 use Rattle.tp_simulate.specs.declared.asked.Asked.TheVariants as asks
@@ -45,6 +45,7 @@ abbrev pub told : Asked → Reply → List ℕ
 told asked (Peer n) = line (codes "peer " ++ decimal n)
 told asked (Wire n) = line (codes "wire " ++ decimal n)
 told asked Reopened = line (codes "reopened")
+told asked Armed = line (codes "armed")
 told asked (Answered answer) = told_answer asked answer
 told asked (Refused why) = line (codes "refused " ++ name_of_world why)
 

@@ -55,6 +55,13 @@ pub enum Asked<'a> {
         /// The actor under which it is opened.
         actor: Actor,
     },
+    /// `fail P KEPT`: the device of a peer's journal is to fail in the next append.
+    Fail {
+        /// The peer.
+        peer: usize,
+        /// How many bytes of what is appended the journal keeps.
+        kept: u64,
+    },
     /// `mark M P`: the heads of a peer get a name.
     Mark {
         /// The name.

@@ -32,6 +32,10 @@ fn plain<'a>(words: &[&'a str]) -> Option<Asked<'a>> {
             peer: count(peer)?,
             actor: actor(name)?,
         }),
+        ["fail", peer, kept] => Some(Asked::Fail {
+            peer: count(peer)?,
+            kept: number(kept)?,
+        }),
         ["mark", name, peer] if !name.is_empty() => Some(Asked::Mark {
             name,
             peer: count(peer)?,

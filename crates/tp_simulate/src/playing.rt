@@ -203,6 +203,12 @@ pub(crate) fn carry_out(stage: &mut Stage, asked: &Asked) -> Result<Option<Reply
                 actor: *actor,
             }),
         )),
+        Asked::Fail { peer, kept } => Ok(Some(
+            stage.world.step(Event::Fail {
+                peer: *peer,
+                kept: *kept,
+            }),
+        )),
         Asked::Mark { name, peer } => Ok(Some(mark(stage, name, *peer)?)),
     }
 }

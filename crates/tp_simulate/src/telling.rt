@@ -104,6 +104,7 @@ pub(crate) fn told(alloc: Global, asked: &Asked, reply: &Reply) -> Result<String
             format!(in alloc; "wire {n}\n")
         }
         Reply::Reopened => line(alloc, "reopened"),
+        Reply::Armed => line(alloc, "armed"),
         Reply::Answered(Answer::Alone(reply)) => told_own(alloc, asked, reply),
         Reply::Answered(Answer::Merged(report)) => merged(alloc, report),
         Reply::Refused(why) => refused(alloc, world_name(*why)),

@@ -1,21 +1,14 @@
 -- What an exchange leaves, where nothing waited and nothing was left out or refused.
-use Rattle.tp_sync.proofs.Common.{◌≡◌, inl, inr, List, [], ◌++◌, false, Some, Option, refl, sym, ap, ◌∙◌, subst, append-nil, filter, Result, Ok, Err, IfOk, IfErr, IsSomeAnd, In, In-left, In-right, In-append, In-filter, neither_left, neither_right, Hash, ChangeParts, heads, Sound, SyncError, BadMessage, BadChange, OutOfMemory, SyncParts, declared, due_of, is_due, leaves_out, Stops, AllIn, SameMembers, GraphError, Known, HashesApart, Intake, OtherDocument, fresh, known_hashes, Exchanged, Exchanges, Passes, ReplyFails, side}
-use Rattle.tp_list.proofs.Members.{SameMembers-trans}
+use Rattle.tp_sync.proofs.Common.{◌≡◌, inl, inr, List, [], ◌++◌, false, Some, Option, refl, sym, ap, ◌∙◌, subst, append-nil, filter, Result, Ok, Err, IfOk, IfErr, IsSomeAnd, In, In-left, In-right, In-append, In-filter, neither_left, neither_right, Hash, ChangeParts, heads, Sound, SyncError, BadMessage, BadChange, OutOfMemory, SyncParts, declared, due_of, is_due, leaves_out, Stops, AllIn, SameMembers, GraphError, Known, HashesApart, Intake, OtherDocument, fresh, known_hashes, Exchanged, Exchanges, Passes, ReplyFails, side, SameMembers-trans, hashes_apart, heads_decide, Run, Ends, begin, intake, DocState, TooManyHeads, PendingFull, NotKept, IsOtherOnly, PassFails, RefusesKnownAlone, Side}
 use Rattle.tp_opid.specs.declared.doc_id.DocId.{DocId}
-use Rattle.tp_graph.proofs.SoundLaws.{hashes_apart}
-use Rattle.tp_graph.proofs.SetLaws.{heads_decide}
 use Rattle.tp_receive.specs.declared.intake.Applied.{Applied}
 use Rattle.tp_receive.specs.declared.keeper.NoKeeper.{NoKeeper}
 use Rattle.tp_receive.specs.Delivery.{is_full}
-use Rattle.tp_receive.specs.Intake.{Run, Ends, begin, intake}
 use Rattle.tp_receive.specs.Outcome.{ReceivesAlone, Stopped, keeps_nothing}
 use Rattle.tp_receive.proofs.ResultLaws.{results}
 use Rattle.tp_receive.proofs.RunLaws.{progress}
-use Rattle.tp_document.specs.DocState.{DocState}
 use Rattle.tp_document.specs.Applying.{kept_by_none}
-use Rattle.tp_sync.specs.declared.error.SyncError.TheVariants.{TooManyHeads, PendingFull, NotKept}
 use Rattle.tp_sync.specs.SyncError.{receiving}
-use Rattle.tp_sync.specs.Exchange.{IsOtherOnly, PassFails, RefusesKnownAlone, Side}
 use Rattle.tp_sync.proofs.KnownLaws.{has_all-declared}
 use Rattle.tp_sync.proofs.TakeLaws.{all_carried}
 use Rattle.tp_sync.proofs.UnionLaws.{Arrived, Delivered, came_due, delivered, no_member, twins_of}

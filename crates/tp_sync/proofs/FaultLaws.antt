@@ -1,7 +1,5 @@
 -- Bytes that are no message are refused for two reasons alone.
-use Rattle.tp_sync.proofs.Common.{◌≡◌, ◌⊎◌, inl, inr, ℕ, zero, suc, List, ◌∷◌, Bool, true, false, Option, Some, None, Result, Ok, Err, eqb, cond, ap, length, w32, Reads, Hash, ChangeError, ChangeParts, change_at, next_before, rises, SyncError, BadMessage, BadChange, MAX_CHANGES, MAX_HASHES, MAX_KNOWN, MessageParts, each_entry, stay}
-use Rattle.std.specs.Prelude.{nat_le, ◌==◌, ◌||◌, []}
-use Rattle.tp_codec.specs.Prefix.{byte_at, bytes_at, number_at}
+use Rattle.tp_sync.proofs.Common.{◌≡◌, ◌⊎◌, inl, inr, ℕ, zero, suc, List, ◌∷◌, Bool, true, false, Option, Some, None, Result, Ok, Err, eqb, cond, ap, length, w32, Reads, Hash, ChangeError, ChangeParts, change_at, next_before, rises, SyncError, BadMessage, BadChange, MAX_CHANGES, MAX_HASHES, MAX_KNOWN, MessageParts, each_entry, stay, nat_le, ◌==◌, ◌||◌, [], byte_at, bytes_at, number_at}
 use Rattle.tp_codec.specs.Reading.{and_next, and_then, fail, found_or, give, or_fail, passed, repeat_at, require}
 use Rattle.tp_sync.specs.Reading.{changes_at, decoded, ended, entry_at, hash_at, hashes_at, known_at, message_at, parts_at, version_at}
 

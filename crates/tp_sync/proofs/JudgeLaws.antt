@@ -1,14 +1,11 @@
 -- Stages from which bytes of some number make no message, and what is known at those that are left.
-use Rattle.tp_sync.proofs.Common.{◌≡◌, ◌⊎◌, ℕ, ◌+◌, ◌<◌, ◌≤◌, List, ◌++◌, length, take, drop, true, false, eqb, Some, Result, Err, refl, sym, ap, subst, ◌∙◌, arith, eqb-true, take-append-drop, not_true, MAX_BYTES, SyncError, BadMessage, BadChange, OutOfMemory, Stage, Body, Whole, Failed, MessageParts, is_whole, need, Steps, length-take-le, Moves, Stands}
+use Rattle.tp_sync.proofs.Common.{◌≡◌, ◌⊎◌, ℕ, ◌+◌, ◌<◌, ◌≤◌, List, ◌++◌, length, take, drop, true, false, eqb, Some, Err, refl, sym, ap, subst, ◌∙◌, arith, eqb-true, take-append-drop, not_true, MAX_BYTES, SyncError, BadMessage, BadChange, OutOfMemory, Stage, Body, Whole, Failed, MessageParts, is_whole, need, Steps, length-take-le, Moves, Stands, fault_of}
 use Rattle.tp_codec.specs.Reading.{give}
 use Rattle.tp_sync.specs.Reading.{ended}
-use Rattle.tp_sync.specs.Stages.{fault_of, rest_at}
+use Rattle.tp_sync.specs.Stages.{rest_at}
 use Rattle.tp_sync.proofs.SizeLaws.{no_change}
 use Rattle.tp_sync.proofs.StepLaws.{body_fault}
-
-pub ended_fault : {X : Type 0} (r : Result (X × List ℕ) SyncError) (e : SyncError) → r ≡ Err e → ended r ≡ Err e
-unfolding ended
-ended_fault r e h = rw h refl
+use Rattle.tp_sync.proofs.WholeMessage.{ended_of_err}
 
 -- a change of no bytes, or of too many
 pub body_judged : (len more : ℕ) (m : MessageParts) (rest : List ℕ) → len ≤ length rest → (len ≡ 0) ⊎ (MAX_BYTES < len) → ended (rest_at (Body len more) m rest) ≡ Err BadChange
@@ -16,7 +13,7 @@ body_judged len more m rest le bad =
     let size : length (take len rest) ≡ len = length-take-le len rest le in
     let no : (length (take len rest) ≡ 0) ⊎ (MAX_BYTES < length (take len rest)) = subst (λ (n : ℕ). (n ≡ 0) ⊎ (MAX_BYTES < n)) (sym size) bad in
     ap (λ (b : List ℕ). ended (rest_at (Body len more) m b)) (sym (take-append-drop len rest))
-    ∙ ended_fault (rest_at (Body len more) m (take len rest ++ drop len rest)) BadChange
+    ∙ ended_of_err (rest_at (Body len more) m (take len rest ++ drop len rest)) BadChange
     (body_fault len more m BadChange (take len rest) (drop len rest) size (no_change (take len rest) (drop len rest) no))
 
 -- bytes behind a whole message
@@ -49,11 +46,6 @@ pub moves_fault : (stage : Stage) (before : MessageParts) (field : List ℕ) (le
 moves_fault stage before field left OutOfMemory after apart m = absurd (apart refl)
 moves_fault stage before field left e after apart m = m
 
-pub moves_of_fault : (stage : Stage) (before : MessageParts) (field : List ℕ) (left : ℕ) (e : SyncError) (after : MessageParts) → (e ≡ OutOfMemory → ⊥)
-    → ((rest : List ℕ) → length rest ≡ left → ended (rest_at stage before (field ++ rest)) ≡ Err e) → Moves stage before field left (Err e) after
-moves_of_fault stage before field left OutOfMemory after apart m = absurd (apart refl)
-moves_of_fault stage before field left e after apart m = m
-
 pub moves_of_steps : (stage : Stage) (before : MessageParts) (field : List ℕ) (left : ℕ) (e : SyncError) (after : MessageParts) → Steps stage before field (Err e) after → Moves stage before field left (Err e) after
 moves_of_steps stage before field left OutOfMemory after s = s
-moves_of_steps stage before field left e after s = λ rest len. ended_fault (rest_at stage before (field ++ rest)) e (s rest)
+moves_of_steps stage before field left e after s = λ rest len. ended_of_err (rest_at stage before (field ++ rest)) e (s rest)

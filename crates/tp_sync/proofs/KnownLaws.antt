@@ -1,11 +1,8 @@
 -- Laws of the changes that a message tells of as known.
-use Rattle.tp_sync.proofs.Common.{◌≡◌, ◌↔◌, ◌<◌, ◌≤◌, ℕ, suc, zero, ◌+◌, ◌-◌, ◌*◌, ◌^◌, inl, inr, List, [], ◌∷◌, ◌++◌, length, true, false, cond, nat_le, Some, drop, take, map, refl, sym, ap, subst, ◌∙◌, arith, add-one, leb-true, slice_get, nat_tests, In, IsRising, put, rising, In-append, In-left, In-right, Hash, hash_cmp, ChangeParts, hash_of, heads, has, has_all, In-has, Less, Equal, Greater, cases_lt, length-append, put_at, In-rising, rising-In, rising-rises, hash_exact, hash_total, most_changes, In-has_all, has_all-In, known_hashes, powers_before_end}
+use Rattle.tp_sync.proofs.Common.{◌≡◌, ◌↔◌, ◌<◌, ◌≤◌, ℕ, suc, zero, ◌+◌, ◌-◌, ◌*◌, ◌^◌, inl, inr, List, [], ◌∷◌, ◌++◌, length, true, false, cond, nat_le, Some, drop, take, map, refl, sym, ap, subst, ◌∙◌, arith, add-one, leb-true, slice_get, nat_tests, In, IsRising, put, rising, In-append, In-left, In-right, Hash, hash_cmp, ChangeParts, hash_of, heads, has, has_all, In-has, Less, Equal, Greater, cases_lt, length-append, put_at, In-rising, rising-In, rising-rises, hash_exact, hash_total, most_changes, In-has_all, has_all-In, known_hashes, powers_before_end, In-slice_get, has_all-heads, before_end, IsPowerBeforeEnd}
 use Rattle.std.proofs.lemmas.Nat.{pow_pos}
 use Rattle.std.proofs.Math.Nat.{pow-suc}
 use Rattle.std.proofs.Math.Pow.{pow_mono}
-use Rattle.tp_list.proofs.Members.{In-slice_get}
-use Rattle.tp_graph.proofs.HeadsLaws.{has_all-heads}
-use Rattle.tp_sync.specs.Known.{before_end, IsPowerBeforeEnd}
 
 -- ---- how many there are
 

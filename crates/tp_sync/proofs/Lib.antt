@@ -7,7 +7,6 @@ pub mod WantLaws
 pub mod KnownLaws
 pub mod UnionLaws
 pub mod ExchangeLaws
-pub mod Refusals
 pub mod MessageFields
 pub mod WholeMessage
 pub mod FaultLaws

@@ -1,12 +1,5 @@
 -- What a message carries, by marks of the changes that are due.
-use Rattle.tp_sync.proofs.Common.{◌≡◌, ◌<◌, ◌↔◌, inl, inr, ℕ, List, [], ◌∷◌, ◌++◌, length, Bool, true, false, ◌||◌, ◌&&◌, not, cond, Some, drop, map, filter, refl, sym, ap, ◌∙◌, subst, nat_lt, arith, list_any, nat_tests, In, filter-In, In-left, truth, never, not_true, or_left, Hash, ChangeParts, hash_of, names, has, heads, past, pick, marks_since, Sound, In-has, SyncParts, declared, begins_at, carried, due, due_from, due_of, is_any, is_due, leaves_out, take_due, option_map, has-In}
-use Rattle.std.proofs.lemmas.List.{length-map}
-use Rattle.tp_list.proofs.Tests.{neither}
-use Rattle.tp_graph.proofs.NamedLaws.{names-In, In-names}
-use Rattle.tp_graph.proofs.SoundLaws.{deps_first}
-use Rattle.tp_graph.proofs.HeadsLaws.{past-heads}
-use Rattle.tp_graph.proofs.PastLaws.{past-more}
-use Rattle.tp_sync.specs.Due.{begins_again}
+use Rattle.tp_sync.proofs.Common.{◌≡◌, ◌<◌, ◌↔◌, inl, inr, ℕ, List, [], ◌∷◌, ◌++◌, length, Bool, true, false, ◌||◌, ◌&&◌, not, cond, Some, drop, map, filter, refl, sym, ap, ◌∙◌, subst, nat_lt, arith, list_any, nat_tests, In, filter-In, In-left, truth, never, not_true, or_left, Hash, ChangeParts, hash_of, names, has, heads, past, pick, marks_since, Sound, In-has, SyncParts, declared, begins_at, carried, due, due_from, due_of, is_any, is_due, leaves_out, take_due, option_map, has-In, length-map, neither, names-In, In-names, deps_first, past-heads, past-more, begins_again}
 use Rattle.tp_sync.proofs.MarkLaws.{marks_are_due, any-drop, pick-drop, length-marked}
 use Rattle.tp_sync.proofs.TakeLaws.{piece}
 

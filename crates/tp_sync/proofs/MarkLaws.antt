@@ -1,13 +1,7 @@
 -- Marks of the changes that are due.
-use Rattle.tp_sync.proofs.Common.{◌≡◌, ℕ, suc, List, [], ◌∷◌, length, Bool, true, false, ◌||◌, not, cond, map, filter, drop, refl, sym, ap, ◌∙◌, inl, inr, list_any, In, never, not_true, Hash, ChangeParts, hash_of, names, has, past, pick, marks_since, Sound, In-has, is_due, is_any}
-use Rattle.std.proofs.lemmas.List.{drop-map}
+use Rattle.tp_sync.proofs.Common.{◌≡◌, ℕ, suc, List, [], ◌∷◌, length, Bool, true, false, ◌||◌, not, cond, map, filter, drop, refl, sym, ap, ◌∙◌, inl, inr, list_any, In, never, not_true, Hash, ChangeParts, hash_of, names, has, past, pick, marks_since, Sound, In-has, is_due, is_any, drop-map, same_hash-same, same_hash-itself, is_needed, marks, marked_more, lacks-fewer, past-In}
 use Rattle.tp_opid.specs.Same.{same_hash}
-use Rattle.tp_opid.proofs.Orders.{same_hash-same, same_hash-itself}
-use Rattle.tp_graph.specs.Named.{is_needed}
 use Rattle.tp_graph.specs.GraphState.{HashesOnce}
-use Rattle.tp_graph.specs.Marks.{marks, marked_more}
-use Rattle.tp_graph.proofs.NamedLaws.{lacks-fewer}
-use Rattle.tp_graph.proofs.PastLaws.{past-In}
 use Rattle.tp_graph.proofs.MarksLaws.{hashes_once}
 
 -- ---- a past, by the hashes of its changes

@@ -1,14 +1,10 @@
 -- The fields of a message: what is read is spelled so, and what is spelled is read again.
-use Rattle.tp_sync.proofs.Common.{◌≡◌, ◌⊎◌, ℕ, ◌^◌, ◌<◌, ◌≤◌, ◌||◌, true, eqb, leb, List, [], ◌∷◌, ◌++◌, length, Option, None, Result, Ok, Err, refl, sym, ap, subst, ◌∙◌, append-nil, append_assoc, arith, eqb-true, le-leb, leb-true, inl, inr, w32, flat_map, le-ltb, Hash, or_cases, Reads, ChangeError, ChangeParts, rises, next_before, change_at, spelling, SyncError, BadMessage, MessageParts, IsMessage, entry, each_entry, stay, to_be_bytes, take_at, drop_at, length-append, byte_at, number_at, spelling_of_hashes}
+use Rattle.tp_sync.proofs.Common.{◌≡◌, ◌⊎◌, ℕ, ◌^◌, ◌<◌, ◌≤◌, ◌||◌, true, eqb, leb, List, [], ◌∷◌, ◌++◌, length, Option, None, Result, Ok, Err, refl, sym, ap, subst, ◌∙◌, append-nil, append_assoc, arith, eqb-true, le-leb, leb-true, inl, inr, w32, flat_map, le-ltb, Hash, or_cases, Reads, ChangeError, ChangeParts, rises, next_before, change_at, spelling, SyncError, BadMessage, MessageParts, IsMessage, entry, each_entry, stay, to_be_bytes, take_at, drop_at, length-append, byte_at, number_at, spelling_of_hashes, require, repeat_at, IsField, as_field, give_field, then_field, require_field, byte_field, bytes_field, AreSoMany, number_field, repeat_field, EachFits, wide32, IsChange, AllChanges, AreHashes, TellsKnown, spelling_of_changes}
 use Rattle.tp_codec.specs.Prefix.{bytes_at}
-use Rattle.tp_codec.specs.Reading.{give, fail, and_next, and_then, or_fail, found_or, require, repeat_at}
-use Rattle.tp_codec.proofs.Fields.{IsField, as_field, give_field, then_field, require_field, byte_field, bytes_field, AreSoMany, number_field, repeat_field, EachFits, wide32}
-use Rattle.tp_change.specs.Limits.{IsChange}
+use Rattle.tp_codec.specs.Reading.{give, fail, and_next, and_then, or_fail, found_or}
 use Rattle.tp_change.proofs.ChangeFields.{DepFits, rising_all, hashes_all, fit_all}
 use Rattle.tp_change.proofs.WholeChange.{change_takes, change_again}
-use Rattle.tp_document.specs.DocState.{AllChanges}
-use Rattle.tp_sync.specs.Message.{AreHashes, TellsKnown}
-use Rattle.tp_sync.specs.Spelling.{spelling_of_changes, spelling_of_known, message_spelling}
+use Rattle.tp_sync.specs.Spelling.{spelling_of_known, message_spelling}
 use Rattle.tp_sync.specs.Reading.{version_at, hash_at, hashes_at, known_at, decoded, entry_at, changes_at, parts_at}
 
 -- a version that there is

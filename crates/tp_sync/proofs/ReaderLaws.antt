@@ -1,11 +1,10 @@
 -- What the calls of a reader make of its state.
-use Rattle.tp_sync.proofs.Common.{◌≡◌, inl, inr, ℕ, ◌+◌, ◌-◌, ◌<◌, ◌≤◌, List, [], ◌∷◌, ◌++◌, length, take, drop, true, Result, Ok, Err, refl, sym, ap, subst, ◌∙◌, append_assoc, append-nil, arith, length-append, take-append-drop, nil_from_length, AreBytes, MAX_BYTES, SyncError, OutOfMemory, Stage, Version, Whole, Failed, MessageParts, IsMessage, is_whole, need, Steps, ReaderState, FailsWith, length-take-le, Moves, Stands, Refuses, Takes}
-use Rattle.std.proofs.lemmas.List.{drop-drop, length-drop, take_all}
+use Rattle.tp_sync.proofs.Common.{◌≡◌, inl, ℕ, ◌+◌, ◌-◌, ◌<◌, ◌≤◌, List, [], ◌∷◌, ◌++◌, length, take, drop, true, Result, Ok, Err, refl, sym, ap, subst, ◌∙◌, append_assoc, append-nil, arith, length-append, take-append-drop, nil_from_length, AreBytes, MAX_BYTES, SyncError, OutOfMemory, Stage, Version, Whole, Failed, MessageParts, IsMessage, is_whole, need, Steps, ReaderState, FailsWith, length-take-le, Moves, Stands, Refuses, Takes, drop-drop, take_all, AreBytes-append, AreBytes-take, Answers, IsLed, IsReader}
+use Rattle.std.proofs.lemmas.List.{length-drop}
 use Rattle.tp_codec.specs.Reading.{fail, give}
-use Rattle.tp_codec.proofs.Fields.{AreBytes-append, AreBytes-take}
 use Rattle.tp_sync.specs.Reading.{ended, message_at, parts_at}
 use Rattle.tp_sync.specs.Stages.{changes_from, heads_from, known_from, rest_at, wants_from}
-use Rattle.tp_sync.specs.ReaderState.{Answers, IsLed, IsReader, reads}
+use Rattle.tp_sync.specs.ReaderState.{reads}
 use Rattle.tp_sync.proofs.JudgeLaws.{moves_fault, stands_held, stands_open, stands_whole}
 use Rattle.tp_sync.proofs.WholeMessage.{message_takes}
 
@@ -60,17 +59,6 @@ field_taken s t piece count few left some none steps = record {
       ∙ ap (λ (h : List ℕ). ended (rest_at t.stage t.parts (h ++ rest))) (sym none);
   some = λ e. absurd (omega (arith, e, some));
   whole = λ e. absurd (omega (arith, e, left, some));
-}
-
--- nothing behind a whole message
-pub whole_taken : (s : ReaderState) (piece : List ℕ) → is_whole s.stage ≡ true → s.left ≡ 0 → Takes s piece 0 s
-unfolding reads
-whole_taken s piece w none = record {
-  few = omega arith;
-  left = omega arith;
-  same = λ rest. refl;
-  some = λ e. inr none;
-  whole = λ e. w;
 }
 
 -- ---- refusals

@@ -1,7 +1,5 @@
 -- How many bytes a field has at least: fewer are refused as BadMessage.
-use Rattle.tp_sync.proofs.Common.{◌≡◌, ◌⊎◌, inl, inr, ℕ, zero, suc, ◌+◌, ◌<◌, ◌≤◌, List, [], ◌∷◌, length, take, drop, Bool, true, false, cond, Option, None, Ok, Err, refl, arith, length-drop, w32, le-ltb, Reads, Hash, next_before, rises, SyncError, BadMessage, MAX_HASHES, MAX_KNOWN, Stage, Version, Body, Whole, Failed, MessageParts, each_entry, stay, limit_of, need, from_be_bytes, cases_lt, Count, Hashes, ChangeCount, Length}
-use Rattle.std.specs.Prelude.{nat_le, ◌==◌, ◌||◌}
-use Rattle.std.proofs.lemmas.Bool.{lt-ltb}
+use Rattle.tp_sync.proofs.Common.{◌≡◌, ◌⊎◌, inl, inr, ℕ, zero, suc, ◌+◌, ◌<◌, ◌≤◌, List, [], ◌∷◌, length, take, drop, Bool, true, false, cond, Option, None, Ok, Err, refl, arith, length-drop, w32, le-ltb, Reads, Hash, next_before, rises, SyncError, BadMessage, MAX_HASHES, MAX_KNOWN, Stage, Version, Body, Whole, Failed, MessageParts, each_entry, stay, limit_of, need, from_be_bytes, cases_lt, Count, Hashes, ChangeCount, Length, nat_le, ◌==◌, ◌||◌, lt-ltb}
 use Rattle.tp_codec.specs.Prefix.{byte_at, bytes_at, number_at}
 use Rattle.tp_codec.specs.Reading.{and_next, and_then, found_or, give, or_fail, passed, repeat_at, require}
 use Rattle.tp_sync.specs.Reading.{changes_at, ended, entry_at, hash_at, hashes_at, known_at, message_at, parts_at, version_at}

@@ -1,10 +1,9 @@
 -- Bytes that are no change's, since they are none or too many.
-use Rattle.tp_sync.proofs.Common.{◌≡◌, ◌⊎◌, inl, inr, ℕ, ◌<◌, List, [], length, false, Result, Ok, Err, refl, ap, ◌∙◌, arith, nat_le, nil_from_length, nat_tests, ChangeError, MAX_BYTES, ChangeParts, BadChange}
-use Rattle.std.specs.Prelude.{◌==◌}
+use Rattle.tp_sync.proofs.Common.{◌≡◌, ◌⊎◌, inl, inr, ℕ, ◌<◌, List, [], length, false, Result, Ok, Err, refl, ap, ◌∙◌, arith, nat_le, nil_from_length, nat_tests, ChangeError, MAX_BYTES, ChangeParts, BadChange, ◌==◌, give, parts_at}
 use Rattle.tp_codec.specs.Prefix.{byte_at}
-use Rattle.tp_codec.specs.Reading.{and_next, and_then, fail, found_or, give, or_fail, passed, require}
+use Rattle.tp_codec.specs.Reading.{and_next, and_then, fail, found_or, or_fail, passed, require}
 use Rattle.tp_change.specs.declared.error.ChangeError.TheVariants.{Limit, Short}
-use Rattle.tp_change.specs.Reading.{change_at, ended, parts_at, sized_at, version_at}
+use Rattle.tp_change.specs.Reading.{change_at, ended, sized_at, version_at}
 use Rattle.tp_sync.specs.Reading.{decoded}
 
 past_limit : (size : ℕ) → MAX_BYTES < size → nat_le size MAX_BYTES ≡ false

@@ -1,13 +1,12 @@
 -- What the bytes of one field make of what is still read.
-use Rattle.tp_sync.proofs.Common.{◌≡◌, ◌⊎◌, inl, inr, ℕ, suc, ◌<◌, ◌≤◌, List, [], ◌∷◌, ◌++◌, length, get_or, Bool, true, false, eqb, Option, Some, None, Result, Ok, Err, refl, sym, ap, ◌∙◌, append_assoc, append-nil, arith, length-append, eqb-true, eq-eqb, w32, le-ltb, not_true, or_cases, or_left, Reads, Hash, ChangeParts, change_at, next_before, rises, SyncError, BadMessage, OutOfMemory, MAX_CHANGES, Version, Body, Whole, FailsWith, MessageParts, Steps, each_entry, stay, limit_of, from_be_bytes, take_at, drop_at, or_right, Count, Hashes, ChangeCount, Length}
-use Rattle.std.specs.Prelude.{nat_le, ◌==◌, ◌||◌}
-use Rattle.std.proofs.lemmas.Bool.{le-leb, lt-leb}
+use Rattle.tp_sync.proofs.Common.{◌≡◌, ◌⊎◌, inl, inr, ℕ, suc, ◌<◌, ◌≤◌, List, [], ◌∷◌, ◌++◌, length, get_or, Bool, true, false, eqb, Option, Some, None, Result, Ok, Err, refl, sym, ap, ◌∙◌, append_assoc, append-nil, arith, length-append, eqb-true, eq-eqb, w32, le-ltb, not_true, or_cases, or_left, Reads, Hash, ChangeParts, change_at, next_before, rises, SyncError, BadMessage, OutOfMemory, MAX_CHANGES, Version, Body, Whole, FailsWith, MessageParts, Steps, each_entry, stay, limit_of, from_be_bytes, take_at, drop_at, or_right, Count, Hashes, ChangeCount, Length, nat_le, ◌==◌, ◌||◌, lt-leb, decoded, with_changes, with_hashes}
+use Rattle.std.proofs.lemmas.Bool.{le-leb}
 use Rattle.tp_codec.specs.Prefix.{byte_at, bytes_at, number_at}
 use Rattle.tp_codec.specs.Reading.{and_next, and_then, found_or, give, or_fail, passed, repeat_at, require}
 use Rattle.tp_sync.specs.declared.stages.HashList.{HashList}
 use Rattle.tp_sync.specs.declared.stages.HashList.TheVariants.{Heads, Wants, Known}
-use Rattle.tp_sync.specs.Reading.{changes_at, decoded, entry_at, hash_at, hashes_at, known_at, version_at}
-use Rattle.tp_sync.specs.Stages.{behind, changes_from, entries_from, hashes_from, heads_from, known_from, rest_at, wants_from, with_changes, with_hashes}
+use Rattle.tp_sync.specs.Reading.{changes_at, entry_at, hash_at, hashes_at, known_at, version_at}
+use Rattle.tp_sync.specs.Stages.{behind, changes_from, entries_from, hashes_from, heads_from, known_from, rest_at, wants_from}
 
 -- ---- fields of a known number of bytes
 

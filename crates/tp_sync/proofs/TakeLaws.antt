@@ -1,6 +1,5 @@
 -- Laws of what a message takes.
-use Rattle.tp_sync.proofs.Common.{◌≡◌, ◌<◌, ◌≤◌, ℕ, suc, zero, ◌+◌, inl, inr, List, [], ◌∷◌, ◌++◌, length, Bool, true, false, cond, Some, drop, get_or, refl, sym, ap, subst, ◌∙◌, arith, add-one, append_assoc, append-nil, filter, length-append, take, Option, None, nat_le, slice_get, take-append-drop, nat_tests, Hash, ChangeParts, spelling, pick, In, In-filter, In-left, In-right, neither_left, truth, MAX_CHANGES, SyncParts, declared, begins_at, carried, due, due_from, due_of, is_any, is_due, leaves_out, take_due, FULL_BYTES, is_laden}
-use Rattle.tp_sync.specs.Due.{IsPiece, MovesOn}
+use Rattle.tp_sync.proofs.Common.{◌≡◌, ◌<◌, ◌≤◌, ℕ, suc, zero, ◌+◌, inl, inr, List, [], ◌∷◌, ◌++◌, length, Bool, true, false, cond, Some, drop, get_or, refl, sym, ap, subst, ◌∙◌, arith, add-one, append_assoc, append-nil, filter, length-append, take, Option, None, nat_le, slice_get, take-append-drop, nat_tests, Hash, ChangeParts, spelling, pick, In, In-filter, In-left, In-right, neither_left, truth, MAX_CHANGES, SyncParts, declared, begins_at, carried, due, due_from, due_of, is_any, is_due, leaves_out, take_due, FULL_BYTES, is_laden, IsPiece, MovesOn}
 
 pick-step : (bs : List Bool) (C : List ChangeParts) (i : ℕ) (c : ChangeParts) → length bs ≡ length C → slice_get C i ≡ Some c
     → pick (drop i bs) (drop i C) ≡ cond (get_or bs i false) (c ∷ pick (drop (suc i) bs) (drop (suc i) C)) (pick (drop (suc i) bs) (drop (suc i) C))

@@ -1,11 +1,8 @@
 -- Why an exchange leaves both documents with the union of what they had.
-use Rattle.tp_sync.proofs.Common.{◌≡◌, ◌⊎◌, inl, inr, List, [], ◌∷◌, ◌++◌, Bool, true, false, not, Some, None, Option, length, ◌==◌, refl, sym, ap, ◌∙◌, subst, append_assoc, filter, In, In-left, In-right, In-append, filter-In, truth, never, neither_right, Hash, ChangeParts, hash_of, names, has, has_all, past, Sound, In-has, is_due, AllIn, SameMembers, GraphError, Known, HashesApart, most_changes, has-In, has_all-In, In-has_all, Intake}
-use Rattle.tp_graph.specs.Fit.{defect, or_full, cause}
+use Rattle.tp_sync.proofs.Common.{◌≡◌, ◌⊎◌, inl, inr, List, [], ◌∷◌, ◌++◌, Bool, true, false, not, Some, None, Option, length, ◌==◌, refl, sym, ap, ◌∙◌, subst, append_assoc, filter, In, In-left, In-right, In-append, filter-In, truth, never, neither_right, Hash, ChangeParts, hash_of, names, has, has_all, past, Sound, In-has, is_due, AllIn, SameMembers, GraphError, Known, HashesApart, most_changes, has-In, has_all-In, In-has_all, Intake, defect, or_full, has-left, Fits-at, deps_there, NoTwins, chain_over}
+use Rattle.tp_graph.specs.Fit.{cause}
 use Rattle.tp_graph.proofs.CauseLaws.{known_is}
-use Rattle.tp_graph.proofs.NamedLaws.{has-left}
-use Rattle.tp_graph.proofs.SoundLaws.{Fits-at, deps_there}
 use Rattle.tp_graph.proofs.ReachLaws.{InPast-from_past}
-use Rattle.tp_graph.proofs.SetLaws.{NoTwins, chain_over}
 use Rattle.tp_receive.specs.Receiving.{hashes}
 use Rattle.tp_receive.specs.Replies.{Progress, Results}
 use Rattle.tp_receive.proofs.CausesLaws.{waits_for}

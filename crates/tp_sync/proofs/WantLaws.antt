@@ -1,13 +1,6 @@
 -- Laws of what is wanted.
-use Rattle.tp_sync.proofs.Common.{◌≡◌, ◌<◌, ◌≤◌, ◌↔◌, inl, inr, ℕ, zero, suc, ◌+◌, List, [], ◌∷◌, ◌++◌, length, Bool, true, false, ◌||◌, not, Option, take, drop, get_or, filter, refl, sym, ap, ◌∙◌, subst, append_assoc, add-one, drop-cons, min, arith, flat_map, take-append-drop, In, IsBelowAll, IsRising, put, rising, In-append, In-left, In-right, In-filter, filter-In, never, or_cases, or_left, Hash, hash_cmp, ChangeParts, has, MAX_HASHES, insert, Less, Equal, Greater, put_at, rising-In, In-rising, rising-rises, or_right, hash_total, hash_exact, HasPut, is_absent}
+use Rattle.tp_sync.proofs.Common.{◌≡◌, ◌<◌, ◌≤◌, ◌↔◌, inl, inr, ℕ, zero, suc, ◌+◌, List, [], ◌∷◌, ◌++◌, length, Bool, true, false, ◌||◌, not, Option, take, drop, get_or, filter, refl, sym, ap, ◌∙◌, subst, append_assoc, add-one, drop-cons, min, arith, flat_map, take-append-drop, In, IsBelowAll, IsRising, put, rising, In-append, In-left, In-right, In-filter, filter-In, never, or_cases, or_left, Hash, hash_cmp, ChangeParts, has, MAX_HASHES, insert, Less, Equal, Greater, put_at, rising-In, In-rising, rising-rises, or_right, hash_total, hash_exact, HasPut, is_absent, length-take, take_more, In-middle, below-In, put-In, In-put, In-put_other, put-rises, one_list, among, is_wanted, IsMissing, among-In, In-among, heard_of, wanted}
 use Rattle.std.specs.Ordering.{ordering_reverse}
-use Rattle.std.proofs.lemmas.List.{length-take, take_more}
-use Rattle.tp_list.proofs.Members.{In-middle}
-use Rattle.tp_list.proofs.RisingLaws.{below-In, put-In, In-put, In-put_other, put-rises, one_list}
-use Rattle.tp_graph.specs.Named.{among}
-use Rattle.tp_graph.specs.Since.{is_wanted, IsMissing}
-use Rattle.tp_graph.proofs.HeadsLaws.{among-In, In-among}
-use Rattle.tp_sync.specs.Wanting.{heard_of, wanted}
 
 -- ---- a hash is put at its index
 

@@ -1,7 +1,6 @@
 -- The laws of the whole: the bytes of a message are read as it, and what is read is a message that the bytes spell.
-use Rattle.tp_sync.proofs.Common.{◌≡◌, ℕ, Bool, true, false, cond, eqb, List, [], ◌++◌, length, Result, Ok, Err, refl, sym, ap, ◌∙◌, ◌∷◌, append-nil, append_assoc, eqb-true, w32, flat_map, nil_from_length, AreBytes, Hash, ChangeParts, SyncError, BadMessage, BadChange, MessageParts, IsMessage, entry, to_be_bytes, spelling_of_hashes}
-use Rattle.std.specs.Prelude.{◌↔◌}
-use Rattle.tp_sync.specs.Spelling.{spelling_of_known, message_spelling}
+use Rattle.tp_sync.proofs.Common.{◌≡◌, ℕ, Bool, true, false, cond, eqb, List, [], ◌++◌, length, Result, Ok, Err, refl, sym, ap, ◌∙◌, ◌∷◌, append-nil, append_assoc, eqb-true, w32, flat_map, nil_from_length, AreBytes, Hash, ChangeParts, SyncError, BadMessage, BadChange, MessageParts, IsMessage, entry, to_be_bytes, spelling_of_hashes, ◌↔◌, spelling_of_known}
+use Rattle.tp_sync.specs.Spelling.{message_spelling}
 use Rattle.tp_sync.specs.Reading.{parts_at, ended, message_at}
 use Rattle.tp_sync.proofs.MessageFields.{parts_field}
 
@@ -51,7 +50,7 @@ ended_bad {X} (Ok x) e = absurd (by_test (eqb (length x.1) 0) e)
     by_test false e = cc
 ended_bad (Err d) e = let same : d ≡ BadChange = cc in ap (λ (f : SyncError). Err f) same
 
-ended_of_err : {X : Type 0} (r : Result (X × List ℕ) SyncError) (e : SyncError) → r ≡ Err e → ended r ≡ Err e
+pub ended_of_err : {X : Type 0} (r : Result (X × List ℕ) SyncError) (e : SyncError) → r ≡ Err e → ended r ≡ Err e
 unfolding ended
 ended_of_err r e h = rw h refl
 

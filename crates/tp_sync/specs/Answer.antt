@@ -1,6 +1,6 @@
 -- What a peer answers to another one.
 use Rattle.std.specs.Prelude.{◌≡◌, List, Option, Some, None}
-use Rattle.tp_change.specs.declared.parts.ChangeParts.{ChangeParts}
+use Rattle.tp_sync.specs.Common.{ChangeParts}
 use Rattle.tp_graph.specs.Heads as head
 use Rattle.tp_sync.specs.Message.{MessageParts}
 use Rattle.tp_sync.specs.State.{SyncParts}

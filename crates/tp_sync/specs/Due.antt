@@ -1,7 +1,6 @@
 -- Which changes are due to another peer, and which of them a message carries.
 use Rattle.std.specs.Prelude.{◌≡◌, ◌⊎◌, ℕ, ◌+◌, List, [], ◌∷◌, ◌++◌, length, drop, filter, Bool, true, false, ◌||◌, ◌&&◌, not, cond, nat_lt, nat_le, Option, Some, None}
-use Rattle.tp_sync.specs.Common.{Hash, ChangeParts, hash_of, spelling, has, slice_get}
-use Rattle.tp_graph.specs.Named.{names}
+use Rattle.tp_sync.specs.Common.{Hash, ChangeParts, hash_of, spelling, has, slice_get, names}
 use Rattle.tp_graph.specs.Past.{past}
 use Rattle.tp_graph.specs.Heads.{heads}
 use Rattle.tp_sync.specs.declared.limits.TheConstants.{MAX_CHANGES, FULL_BYTES}

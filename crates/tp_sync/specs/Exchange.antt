@@ -1,12 +1,13 @@
 -- What an exchange does: at most three messages, each received at once.
 use Rattle.std.specs.Prelude.{◌≡◌, ◌⊎◌, ◌<◌, [], length, ◌||◌, IsSomeAnd, Result, Ok, Err}
+use Rattle.tp_sync.specs.Common.{Hash, In, DocState}
 use Rattle.tp_opid.specs.declared.doc_id.DocId.{DocId}
-use Rattle.tp_sync.specs.Common.{Hash, In, ReceivesAlone, DocState, kept_by_none}
+use Rattle.tp_receive.specs.Outcome.{ReceivesAlone, Done, Stopped, report_of}
+use Rattle.tp_document.specs.Applying.{kept_by_none}
 use Rattle.tp_graph.specs.declared.error.GraphError.{GraphError}
 use Rattle.tp_graph.specs.declared.error.GraphError.TheVariants.{Known}
 use Rattle.tp_graph.specs.Heads as head
 use Rattle.tp_receive.specs.declared.intake.Applied.{Applied}
-use Rattle.tp_receive.specs.Outcome.{Done, Stopped, report_of}
 use Rattle.tp_sync.specs.declared.error.SyncError.{SyncError}
 use Rattle.tp_sync.specs.declared.exchanging.Exchanged.{Exchanged}
 use Rattle.tp_sync.specs.declared.error.SyncError.TheVariants.{TooManyHeads, OutOfMemory, OtherDocument}

@@ -1,6 +1,6 @@
 -- What contracts see of a reader of messages: how far it has come, and what its calls answer.
 use Rattle.std.specs.Prelude.{◌≡◌, ◌⊎◌, ℕ, ◌+◌, ◌<◌, ◌≤◌, List, [], ◌++◌, length, take, slice_index, Result, Ok, Err, true}
-use Rattle.tp_change.specs.declared.limits.TheConstants.{MAX_BYTES}
+use Rattle.tp_sync.specs.Common.{MAX_BYTES}
 use Rattle.tp_sync.specs.declared.error.SyncError.{SyncError}
 use Rattle.tp_sync.specs.declared.error.SyncError.TheVariants.{OutOfMemory}
 use Rattle.tp_sync.specs.declared.stages.Stage.{Stage}

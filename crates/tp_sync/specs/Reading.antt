@@ -1,9 +1,7 @@
 -- Reading the bytes of a message from left to right, field by field, up to the first fault: BadChange where the bytes
 -- of a change are no change's, and BadMessage for all else.
 use Rattle.std.specs.Prelude.{ℕ, ◌==◌, ◌||◌, nat_le, List, [], length, Option, None, Result, Ok, Err, if◌then◌else◌}
-use Rattle.tp_sync.specs.Common.{w32, Hash, ChangeParts, change_at, bytes_at, Reads, ◌>>=◌, give, fail, or_fail, repeat_at, rises, next_before}
-use Rattle.tp_codec.specs.Prefix.{byte_at, number_at}
-use Rattle.tp_codec.specs.Reading.{◌>>◌, require}
+use Rattle.tp_sync.specs.Common.{w32, Hash, ChangeParts, change_at, bytes_at, Reads, ◌>>=◌, give, fail, or_fail, repeat_at, rises, next_before, byte_at, number_at, ◌>>◌, require}
 use Rattle.tp_change.specs.declared.error.ChangeError.{ChangeError}
 use Rattle.tp_sync.specs.declared.limits.TheConstants.{MAX_HASHES, MAX_KNOWN, MAX_CHANGES}
 use Rattle.tp_sync.specs.declared.error.SyncError.{SyncError}

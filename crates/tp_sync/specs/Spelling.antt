@@ -1,7 +1,6 @@
 -- The bytes of a message: all numbers big-endian.
 use Rattle.std.specs.Prelude.{ℕ, ◌==◌, List, [], ◌∷◌, ◌++◌, length, if◌then◌else◌}
-use Rattle.tp_sync.specs.Common.{w32, flat_map, Hash, ChangeParts, spelling}
-use Rattle.std.specs.Int.{to_be_bytes}
+use Rattle.tp_sync.specs.Common.{w32, flat_map, Hash, ChangeParts, spelling, to_be_bytes}
 use Rattle.tp_sync.specs.Message.{MessageParts}
 
 -- a count of 4 bytes, and 32 bytes for each hash

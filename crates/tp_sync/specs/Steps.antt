@@ -1,6 +1,6 @@
 -- What the bytes of one field make of a stage.
 use Rattle.std.specs.Prelude.{◌≡◌, ℕ, ◌+◌, ◌<◌, ◌≤◌, List, ◌++◌, length, Result, Ok, Err}
-use Rattle.tp_change.specs.declared.limits.TheConstants.{MAX_BYTES}
+use Rattle.tp_sync.specs.Common.{MAX_BYTES}
 use Rattle.tp_sync.specs.declared.error.SyncError.{SyncError}
 use Rattle.tp_sync.specs.declared.error.SyncError.TheVariants.{OutOfMemory}
 use Rattle.tp_sync.specs.declared.stages.Stage.{Stage}

@@ -1,7 +1,6 @@
 -- Which changes a document wants of another peer.
 use Rattle.std.specs.Prelude.{◌≡◌, ◌⊎◌, List, [], ◌++◌, take, filter, Bool, true, ◌||◌, not, Option}
-use Rattle.tp_sync.specs.Common.{flat_map, In, IsRising, Hash, hash_cmp, ChangeParts, has, rising}
-use Rattle.std.specs.Option.{unwrap_or}
+use Rattle.tp_sync.specs.Common.{flat_map, In, IsRising, Hash, hash_cmp, ChangeParts, has, rising, unwrap_or}
 use Rattle.tp_sync.specs.declared.limits.TheConstants.{MAX_HASHES}
 
 -- the hashes that were heard of: the heads that the other declared, and the dependencies of the changes that wait

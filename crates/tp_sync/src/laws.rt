@@ -1,7 +1,8 @@
 //! Laws of syncing, each the contract of a function that does nothing.
 
 ghost use Rattle.std.specs.Prelude.{◌≡◌, ◌↔◌, ◌≤◌, [], ◌∷◌, ◌++◌, List, true, false, length};
-ghost use Rattle.tp_sync.specs.Common.{In, Hash, ChangeParts, hash_of, has, Sound, DocState};
+ghost use Rattle.tp_sync.specs.Common.{In, Hash, ChangeParts, hash_of, has, DocState};
+ghost use Rattle.tp_graph.specs.Sound.{Sound};
 ghost use Rattle.tp_list.specs.Members.{SameMembers};
 ghost use Rattle.tp_graph.specs.Fit.{most_changes};
 ghost use Rattle.tp_graph.specs.Named.{has_all, HashesApart};

@@ -29,6 +29,7 @@ fn told(alloc: Global, reply: &Reply) -> Result<String, AllocError> {
         Reply::Peer(n) => format!(in alloc; "peer {n}"),
         Reply::Wire(n) => format!(in alloc; "wire {n}"),
         Reply::Reopened => String::from_str(alloc, "reopened"),
+        Reply::Armed => String::from_str(alloc, "armed"),
         Reply::Answered(Answer::Merged(applied)) => {
             format!(in alloc; "applied {}", applied.applied.len())
         }

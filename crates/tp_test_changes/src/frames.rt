@@ -6,8 +6,8 @@ use tp_frame::Frame;
 use tp_opid::DocId;
 use tp_test_runner::{Fault, Shelf, byte};
 
-// Adds the name of the bytes, or their number where no bytes of that kind have one.
-fn put_bytes(shelf: &Shelf<Vec<u8>>, out: &mut String, content: &[u8]) -> Result<(), Fault> {
+/// Adds the name of the bytes, or their number where no bytes of that kind have one.
+pub fn put_bytes(shelf: &Shelf<Vec<u8>>, out: &mut String, content: &[u8]) -> Result<(), Fault> {
     for (name, bytes) in shelf.all() {
         if bytes.as_slice() == content {
             return Ok(out.push_str(name.as_str())?);

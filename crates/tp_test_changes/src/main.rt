@@ -13,6 +13,7 @@ mod judges;
 mod layouts;
 mod logs;
 mod messages;
+mod parts;
 mod pieces;
 mod splices;
 mod states;

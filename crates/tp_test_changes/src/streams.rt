@@ -1,6 +1,7 @@
 //! Calls on streams of frames.
 
 use crate::frames::{frame, put_frame};
+use crate::parts;
 use crate::world::World;
 use std::alloc::Global;
 use tp_frame::{FrameError, Framer, write_frame};
@@ -39,16 +40,16 @@ fn stream(world: &mut World, words: &mut Words) -> Result<String, Fault> {
     keep_bytes(&mut world.bytes, name, whole)
 }
 
-// Adds a blank behind what is there.
-fn put_blank(out: &mut String) -> Result<(), Fault> {
+/// Adds a blank behind what is there.
+pub fn put_blank(out: &mut String) -> Result<(), Fault> {
     if !out.is_empty() {
         out.push(' ')?;
     }
     Ok(())
 }
 
-// What is there, or `none`.
-fn or_none(out: String) -> Result<String, Fault> {
+/// What is there, or `none`.
+pub fn or_none(out: String) -> Result<String, Fault> {
     if out.is_empty() {
         return Ok(String::from_str(*out.allocator(), "none")?);
     }
@@ -91,7 +92,8 @@ fn put_piece(
     Ok(())
 }
 
-fn fault_of(error: FrameError) -> Fault {
+/// What a row is told of a refused feed.
+pub fn fault_of(error: FrameError) -> Fault {
     match error {
         FrameError::OutOfMemory => Fault::Refused,
         _ => Fault::Row("another refusal"),
@@ -188,6 +190,9 @@ pub fn call(world: &mut World, word: &str, words: &mut Words) -> Option<Result<S
         "stream" => stream(world, words),
         "frames" | "frames_by_byte" | "frames_parted" | "frames_cut" => {
             frames(&world.bytes, word, words)
+        }
+        "parts" | "joined" | "joined_parted" | "held" | "flood" => {
+            parts::parts(&world.bytes, word, words)
         }
         "framer" => make(world.alloc, &mut world.framers, words),
         "feed" => feed(world, words),

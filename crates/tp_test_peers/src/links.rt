@@ -6,6 +6,7 @@ use std::alloc::Global;
 use std::fmt::Display;
 use tp_change::Change;
 use tp_peer::{Link, Outgoing, PeerError, Received};
+use tp_sync::Message;
 use tp_test_runner::{Fault, Shelf, Words, done, number, refusal};
 
 fn link(words: &mut Words) -> Result<Link, Fault> {
@@ -67,6 +68,16 @@ fn receive(world: &mut World, words: &mut Words) -> Result<String, Fault> {
     reply(&world.changes, answer)
 }
 
+// `receive_message PEER LINK BYTES`: the message, once it was decoded.
+fn receive_message(world: &mut World, words: &mut Words) -> Result<String, Fault> {
+    let peer = world.peers.get_mut(words.next()?)?;
+    let link = link(words)?;
+    match Message::decode(world.alloc, world.bytes.get(words.next()?)?) {
+        Ok(message) => reply(&world.changes, peer.receive_message(link, message)),
+        Err(error) => refusal(world.alloc, error),
+    }
+}
+
 // `forget PEER LINK`.
 fn forget(world: &mut World, words: &mut Words) -> Result<String, Fault> {
     let peer = world.peers.get_mut(words.next()?)?;
@@ -97,6 +108,7 @@ pub fn call(world: &mut World, word: &str, words: &mut Words) -> Option<Result<S
     Some(match word {
         "send" => send(world, words),
         "receive" => receive(world, words),
+        "receive_message" => receive_message(world, words),
         "forget" => forget(world, words),
         "greet" => greet(world, words),
         _ => return None,

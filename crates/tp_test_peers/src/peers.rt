@@ -1,15 +1,16 @@
 //! Calls that open, fork, merge and end peers.
 
-use crate::faulty::FaultyJournal;
 use crate::world::{RowPeer, World};
+use std::alloc::Global;
 use std::fmt::Display;
 use tp_change::Change;
 use tp_document::Applied;
-use tp_opid::DocId;
+use tp_journal::{FuseJournal, MemJournal};
+use tp_opid::{Actor, DocId};
 use tp_peer::{Peer, PeerError, Unopened};
 use tp_test_runner::{
-    Fault, Shelf, Words, actor, count, document_id, done, keep_bytes, number, put_kept, put_name,
-    refusal,
+    Fault, Runs, Shelf, Words, actor, count, document_id, done, keep_bytes, number, put_kept,
+    put_name, refusal,
 };
 
 // `[on=BYTES]`: a copy of these bytes; none where there are none named.
@@ -20,20 +21,16 @@ fn bytes_of(shelf: &Shelf<Vec<u8>>, words: &mut Words) -> Result<Vec<u8>, Fault>
     }
 }
 
-// `[fails=N]`.
-fn succeeds(words: &mut Words) -> Result<Option<u64>, Fault> {
-    match words.option("fails") {
-        Some(word) => Ok(Some(number(word)?)),
-        None => Ok(None),
+/// `[on=BYTES] [append=K] [cut=0]`: the journal with these bytes, whose next append fails and keeps K bytes, and whose next
+/// cut fails.
+pub fn journal_of(shelf: &Shelf<Vec<u8>>, words: &mut Words) -> Result<FuseJournal, Fault> {
+    let mut journal = FuseJournal::new(MemJournal::new(bytes_of(shelf, words)?));
+    if let Some(kept) = words.option("append") {
+        journal.arm(number(kept)?);
     }
-}
-
-/// `[on=BYTES] [fails=N] [keeps=K]`: the journal with these bytes, whose append number N, from 0, fails and keeps K
-/// bytes.
-pub fn journal_of(shelf: &Shelf<Vec<u8>>, words: &mut Words) -> Result<FaultyJournal, Fault> {
-    let mut journal = FaultyJournal::new(bytes_of(shelf, words)?);
-    journal.succeeds = succeeds(words)?;
-    journal.keeps = count(words.option("keeps").unwrap_or("0"))?;
+    if words.option("cut").is_some() {
+        journal.arm_cut();
+    }
     Ok(journal)
 }
 
@@ -41,7 +38,7 @@ pub fn journal_of(shelf: &Shelf<Vec<u8>>, words: &mut Words) -> Result<FaultyJou
 fn keep(
     peers: &mut Shelf<RowPeer>,
     name: &str,
-    made: Result<RowPeer, Unopened<FaultyJournal>>,
+    made: Result<RowPeer, Unopened<FuseJournal>>,
 ) -> Result<String, Fault> {
     let alloc = peers.alloc();
     match made {
@@ -50,7 +47,7 @@ fn keep(
             done(alloc)
         }
         Err(Unopened { journal, error }) => {
-            let left = journal.memory.into_vec().len();
+            let left = journal.len();
             let error = refusal(alloc, error)?;
             Ok(format!(in alloc; "{error}, {left} bytes")?)
         }
@@ -66,7 +63,7 @@ fn id_of(words: &mut Words) -> Result<DocId, Fault> {
     }
 }
 
-// `create NAME ACTOR [id=ID] [on=BYTES] [fails=N] [keeps=K]`.
+// `create NAME ACTOR [id=ID] [on=BYTES] [append=K] [cut=0]`.
 fn create(world: &mut World, words: &mut Words) -> Result<String, Fault> {
     let name = words.next()?;
     let actor = actor(words.next()?)?;
@@ -76,7 +73,7 @@ fn create(world: &mut World, words: &mut Words) -> Result<String, Fault> {
     keep(&mut world.peers, name, made)
 }
 
-// `reopen NAME ACTOR on=BYTES [fails=N] [keeps=K]`.
+// `reopen NAME ACTOR on=BYTES [append=K] [cut=0]`.
 fn reopen(world: &mut World, words: &mut Words) -> Result<String, Fault> {
     let name = words.next()?;
     let actor = actor(words.next()?)?;
@@ -85,7 +82,7 @@ fn reopen(world: &mut World, words: &mut Words) -> Result<String, Fault> {
     keep(&mut world.peers, name, made)
 }
 
-// `fork NAME OF ACTOR [on=BYTES] [fails=N] [keeps=K]`.
+// `fork NAME OF ACTOR [on=BYTES] [append=K] [cut=0]`.
 fn fork(world: &mut World, words: &mut Words) -> Result<String, Fault> {
     let name = words.next()?;
     let of = words.next()?;
@@ -95,10 +92,67 @@ fn fork(world: &mut World, words: &mut Words) -> Result<String, Fault> {
     keep(&mut world.peers, name, made)
 }
 
+// `create_armed ACTOR`: for each number of bytes that the failing append of a header keeps, from 0 to all 24, why no peer
+// was created, why none is opened on the journal then, and what comes of creating one anew.
+fn create_armed(world: &World, words: &mut Words) -> Result<String, Fault> {
+    let actor = actor(words.next()?)?;
+    let mut runs = Runs::new(world.alloc, 0);
+    for kept in 0..25 {
+        runs.add(created_anew(world.alloc, actor, kept)?)?;
+    }
+    runs.end()
+}
+
+fn created_anew(alloc: Global, actor: Actor, kept: u64) -> Result<String, Fault> {
+    let id = DocId([7; 16]);
+    let mut journal = FuseJournal::new(MemJournal::new(Vec::new(alloc)));
+    journal.arm(kept);
+    let Unopened { journal, error } = match Peer::create(alloc, journal, id, actor) {
+        Ok(_) => return Err(Fault::Row("the append didn't fail")),
+        Err(unopened) => unopened,
+    };
+    let unopened = match Peer::reopen(alloc, journal, actor) {
+        Ok(_) => return Ok(format!(in alloc; "{error} opened")?),
+        Err(unopened) => unopened,
+    };
+    let again = unopened.error;
+    match Peer::create(alloc, unopened.journal, id, actor) {
+        Ok(_) => Ok(format!(in alloc; "{error} {again} created")?),
+        Err(unopened) => {
+            let last = unopened.error;
+            Ok(format!(in alloc; "{error} {again} {last}")?)
+        }
+    }
+}
+
+// `arm PEER K`: its journal's next append fails, and keeps K bytes.
+fn arm(world: &mut World, words: &mut Words) -> Result<String, Fault> {
+    let peer = world.peers.get_mut(words.next()?)?;
+    peer.arm(number(words.next()?)?);
+    done(world.alloc)
+}
+
+// `arm_cut PEER`: its journal's next cut fails. `disarm PEER`: neither fails.
+fn arm_cut(world: &mut World, words: &mut Words) -> Result<String, Fault> {
+    world.peers.get_mut(words.next()?)?.arm_cut();
+    done(world.alloc)
+}
+
+fn disarm(world: &mut World, words: &mut Words) -> Result<String, Fault> {
+    world.peers.get_mut(words.next()?)?.disarm();
+    done(world.alloc)
+}
+
+// `journal_len PEER`: how many bytes its journal has.
+fn journal_len(world: &World, words: &mut Words) -> Result<String, Fault> {
+    let len = world.peers.get(words.next()?)?.journal_len();
+    Ok(format!(in world.alloc; "{len} bytes")?)
+}
+
 // Takes a peer out, and ends it: its journal's bytes.
 fn ended(peers: &mut Shelf<RowPeer>, name: &str) -> Result<Vec<u8>, Fault> {
     let (_name, peer) = peers.take(name)?;
-    Ok(peer.stop().memory.into_vec())
+    Ok(peer.stop().into_vec())
 }
 
 // `stop PEER BYTES`: ends the peer, and gives its journal's bytes a name.
@@ -166,6 +220,11 @@ pub fn call(world: &mut World, word: &str, words: &mut Words) -> Option<Result<S
         "fork" => fork(world, words),
         "merge" => merge(world, words),
         "stop" => stop(world, words),
+        "create_armed" => create_armed(world, words),
+        "arm" => arm(world, words),
+        "arm_cut" => arm_cut(world, words),
+        "disarm" => disarm(world, words),
+        "journal_len" => journal_len(world, words),
         _ => return None,
     })
 }

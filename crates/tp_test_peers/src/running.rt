@@ -1,9 +1,11 @@
 //! Calls that run a session over bytes.
 
 use crate::answers::end;
-use crate::faulty::FaultyJournal;
+use crate::parts::{Framing, Side};
 use crate::world::{RowPeer, World};
 use std::alloc::Global;
+use tp_frame::{Framer, PartFramer};
+use tp_journal::{FuseJournal, MemJournal};
 use tp_net::run_session;
 use tp_peer::Link;
 use tp_session::{LinkedPeer, NetError, Role};
@@ -48,7 +50,7 @@ fn planned<'a>(world: &'a World, words: &mut Words) -> Result<Plan<'a>, Fault> {
 
 /// Another peer with the same changes, on a journal of its own.
 pub fn forked(alloc: Global, peer: &RowPeer) -> Result<RowPeer, Fault> {
-    let journal = FaultyJournal::new(Vec::new(alloc));
+    let journal = FuseJournal::new(MemJournal::new(Vec::new(alloc)));
     match peer.fork(journal, actor_of(FORKED)) {
         Ok(peer) => Ok(peer),
         Err(_) => Err(Fault::Memory),
@@ -102,6 +104,50 @@ fn run_by_byte(plan: Plan) -> Result<String, Fault> {
     Ok(run_over(plan, Input::by_byte(plan.bytes), None)?.answer)
 }
 
+/// A session that was fed a byte at a time: how it ended, and the most bytes that were held.
+#[derive(Drop)]
+struct Fed {
+    answer: String,
+    framed: usize,
+    read: usize,
+}
+
+// The session over the peer.
+fn feed_peer(plan: Plan, peer: &mut RowPeer, side: &mut Side) -> Result<Fed, Fault> {
+    let ended = side.run(plan.shelf.alloc(), peer, plan.bytes)?;
+    Ok(Fed {
+        answer: end(plan.shelf, ended, peer, &side.sent)?,
+        framed: side.framed,
+        read: side.read,
+    })
+}
+
+fn feed(plan: Plan, framing: Framing) -> Result<Fed, Fault> {
+    let mut peer = forked(plan.shelf.alloc(), plan.peer)?;
+    let mut side = Side::new(plan.shelf.alloc(), plan.role, &peer, framing);
+    feed_peer(plan, &mut peer, &mut side)
+}
+
+fn feed_parts(plan: Plan) -> Result<Fed, Fault> {
+    feed(plan, Framing::Parts(PartFramer::new(plan.shelf.alloc())))
+}
+
+// The same without a reader and a writer, a byte at a time, where frames come whole, and where they come in parts.
+fn run_by_parts(plan: Plan) -> Result<String, Fault> {
+    let whole = feed(plan, Framing::Whole(Framer::new(plan.shelf.alloc())))?;
+    let parts = feed_parts(plan)?;
+    if whole.answer.as_str() != parts.answer.as_str() {
+        return Err(Fault::Row("whole frames are answered otherwise"));
+    }
+    Ok(parts.answer)
+}
+
+// The most bytes of frames and of messages that are held where they come in parts.
+fn held_by_parts(plan: Plan) -> Result<String, Fault> {
+    let fed = feed_parts(plan)?;
+    Ok(format!(in plan.shelf.alloc(); "{}, {}", fed.framed, fed.read)?)
+}
+
 // The same where the reader gives a byte at a time, and fails behind 0, 1 and so on up to all of them.
 fn run_reader_fails(plan: Plan) -> Result<String, Fault> {
     let mut runs = Runs::new(plan.shelf.alloc(), 0);
@@ -128,6 +174,8 @@ fn run_as(word: &str, plan: Plan) -> Result<String, Fault> {
     match word {
         "run" => plan.judge(plan.bytes),
         "run_by_byte" => run_by_byte(plan),
+        "run_by_parts" => run_by_parts(plan),
+        "held_by_parts" => held_by_parts(plan),
         "run_cuts" => of_cuts(plan.shelf.alloc(), &plan, plan.bytes),
         "run_reader_fails" => run_reader_fails(plan),
         _ => run_writer_fails(plan),
@@ -137,9 +185,13 @@ fn run_as(word: &str, plan: Plan) -> Result<String, Fault> {
 /// Makes a call `run ROLE PEER BYTES` or one of its kin; `None` where the word is none of these.
 pub fn call(world: &World, word: &str, words: &mut Words) -> Option<Result<String, Fault>> {
     match word {
-        "run" | "run_by_byte" | "run_cuts" | "run_reader_fails" | "run_writer_fails" => {
-            Some(run_planned(world, word, words))
-        }
+        "run"
+        | "run_by_byte"
+        | "run_by_parts"
+        | "held_by_parts"
+        | "run_cuts"
+        | "run_reader_fails"
+        | "run_writer_fails" => Some(run_planned(world, word, words)),
         _ => None,
     }
 }

@@ -6,6 +6,7 @@ use crate::world::World;
 use std::alloc::Global;
 use tp_peer::Received;
 use tp_served::ServedError;
+use tp_sync::Message;
 use tp_test_runner::{Fault, Shelf, Words, done, number, quoted, refusal, text};
 
 // `read TABLE SEAT`.
@@ -52,6 +53,18 @@ fn receive(shelf: &Shelf<Vec<u8>>, table: &mut Table, words: &mut Words) -> Resu
     told(shelf.alloc(), table.receive(bytes))
 }
 
+// `receive_message TABLE SEAT BYTES`: the message, once it was decoded.
+fn receive_message(
+    shelf: &Shelf<Vec<u8>>,
+    table: &mut Table,
+    words: &mut Words,
+) -> Result<String, Fault> {
+    match Message::decode(shelf.alloc(), shelf.get(words.next()?)?) {
+        Ok(message) => told(shelf.alloc(), table.receive_message(message)),
+        Err(error) => refusal(shelf.alloc(), error),
+    }
+}
+
 // `forget TABLE SEAT`.
 fn forget(alloc: Global, table: &mut Table) -> Result<String, Fault> {
     match table.forget() {
@@ -80,6 +93,7 @@ pub fn call(world: &mut World, word: &str, words: &mut Words) -> Result<String, 
         "insert" => insert(world.alloc, table, words),
         "send" => send(&mut world.bytes, table, words),
         "receive" => receive(&world.bytes, table, words),
+        "receive_message" => receive_message(&world.bytes, table, words),
         "forget" => forget(world.alloc, table),
         "meet" => meet(world.alloc, table),
         _ => Err(Fault::Row("no such call")),

@@ -28,14 +28,21 @@ fn serve(
     }
 }
 
-// `open NAME ACTOR SEATS [fails=N]`: a new peer, served so many seats.
+// `open NAME ACTOR SEATS [armed=K]`: a new peer, served so many seats; the next append to its journal fails, and keeps K
+// bytes.
 fn open(world: &mut World, words: &mut Words) -> Result<String, Fault> {
     let name = words.next()?;
     let actor = actor(words.next()?)?;
     let seats = count(words.next()?)?;
     let journal = journal_of(&world.bytes, words)?;
+    let armed = words.option("armed");
     match Peer::create(world.alloc, journal, DocId([7; 16]), actor) {
-        Ok(peer) => serve(&mut world.tables, name, peer, seats),
+        Ok(mut peer) => {
+            if let Some(kept) = armed {
+                peer.arm(number(kept)?);
+            }
+            serve(&mut world.tables, name, peer, seats)
+        }
         Err(unopened) => refusal(world.alloc, unopened.error),
     }
 }

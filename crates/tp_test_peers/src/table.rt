@@ -3,22 +3,23 @@
 ghost use Rattle.std.specs.Prelude.{◌≡◌};
 ghost use Rattle.tp_served.specs.Calls.{AreOf};
 
-use crate::faulty::FaultyJournal;
 use crate::world::RowPeer;
 use std::alloc::Global;
 use std::marker::Model;
 use std::mem;
 use tp_edit::Splice;
+use tp_journal::FuseJournal;
 use tp_opid::{DocId, Hash};
 use tp_peer::{Outgoing, Received};
 use tp_served::{MAX_SEATS, Seat, Served, ServedError, Unclosed, Unserved};
+use tp_sync::Message;
 
 /// A served peer with all its seats, of which one has the next call.
 ///
 /// Contracts see which served peer it is. All of the seats are its own.
 #[derive(Drop)]
 pub struct Table {
-    served: Served<FaultyJournal>,
+    served: Served<FuseJournal>,
     seat: Seat,
     others: Vec<Seat>,
 }
@@ -46,7 +47,7 @@ pub struct Unended {
 }
 
 // The table of these seats; `None` where there is none.
-fn table_of(served: Served<FaultyJournal>, mut seats: Vec<Seat>) -> Option<Table>
+fn table_of(served: Served<FuseJournal>, mut seats: Vec<Seat>) -> Option<Table>
     requires { AreOf served.served seats.items }
 {
     match seats.pop() {
@@ -60,7 +61,7 @@ fn table_of(served: Served<FaultyJournal>, mut seats: Vec<Seat>) -> Option<Table
 }
 
 // A table with a seat more, which has the next call then.
-fn with_seat(unclosed: Unclosed<FaultyJournal>, seat: Seat) -> Unended
+fn with_seat(unclosed: Unclosed<FuseJournal>, seat: Seat) -> Unended
     requires seat { seat.served ≡ unclosed.served.served }
     requires seats { AreOf unclosed.served.served unclosed.seats.items }
 {
@@ -80,7 +81,7 @@ fn with_seat(unclosed: Unclosed<FaultyJournal>, seat: Seat) -> Unended
 }
 
 // A table as it was.
-fn as_it_was(unclosed: Unclosed<FaultyJournal>) -> Unended
+fn as_it_was(unclosed: Unclosed<FuseJournal>) -> Unended
     requires { AreOf unclosed.served.served unclosed.seats.items }
 {
     let Unclosed {
@@ -153,6 +154,11 @@ impl Table {
     /// Receives a message on the seat's link.
     pub fn receive(&mut self, bytes: &[u8]) -> Result<Received, ServedError> {
         self.served.try_receive(&mut self.seat, bytes)
+    }
+
+    /// Receives a message that was decoded, on the seat's link.
+    pub fn receive_message(&mut self, message: Message) -> Result<Received, ServedError> {
+        self.served.try_receive_message(&mut self.seat, message)
     }
 
     /// Makes the next message on the seat's link.

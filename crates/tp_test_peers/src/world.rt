@@ -1,16 +1,16 @@
 //! What the rows of an example have made so far, and what makes their calls.
 
-use crate::faulty::FaultyJournal;
 use crate::table::Table;
 use crate::{cursors, edits, errors, links, meeting, peers, reads, running, seated, serving};
 use std::alloc::Global;
 use tp_change::Change;
 use tp_document::Cursor;
+use tp_journal::FuseJournal;
 use tp_peer::Peer;
 use tp_test_runner::{Calls, Fault, Shelf, Words, call_on_bytes, call_on_fields};
 
 /// A peer of the rows.
-pub type RowPeer = Peer<FaultyJournal>;
+pub type RowPeer = Peer<FuseJournal>;
 
 /// What the rows of an example have made so far.
 #[derive(Drop)]

@@ -4,6 +4,7 @@ use crate::budget::Budget;
 use std::fs::{Metadata, OpenFile};
 use std::io;
 use std::io::{Read, Seek, SeekFrom, Write};
+use tp_journal::Lockable;
 
 /// An open file. Each of its calls spends one of the device's.
 #[derive(Drop)]
@@ -60,5 +61,14 @@ impl<F: OpenFile> OpenFile for Device<'_, F> {
     fn sync_data(&self) -> io::Result<()> {
         self.budget.spend()?;
         self.file.sync_data()
+    }
+}
+
+impl<F: Lockable> Lockable for Device<'_, F> {
+    ghost is_locked = { λ f. F.is_locked f.file };
+
+    fn take_lock(&self) -> io::Result<bool> {
+        self.budget.spend()?;
+        self.file.take_lock()
     }
 }

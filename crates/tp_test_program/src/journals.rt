@@ -3,10 +3,10 @@
 use crate::budget::Budget;
 use crate::host::Host;
 use std::alloc::{AllocError, Global};
-use std::fs::OpenFile;
+use std::fs::{File, OpenFile};
 use std::io::Write;
 use std::rt::Files;
-use tp_journal::{FileJournal, Journal, JournalError, MemJournal};
+use tp_journal::{FileJournal, Journal, JournalError, Lockable, MemJournal, OpenError};
 use tp_test_runner::{Fault, Words, bytes, number};
 
 /// A call on a journal.
@@ -137,11 +137,15 @@ fn in_file<R: Files + AllocGlobal>(
     path: &str,
     make: bool,
     calls: &[JournalCall],
-) -> Result<String, Stop> {
+) -> Result<String, Stop>
+where
+    R::File: Lockable,
+{
     let alloc = rt.alloc();
     match FileJournal::at(rt, alloc, path, make) {
         Ok(mut journal) => answers_in_file(alloc, &mut journal, calls),
-        Err(error) => refused(alloc, error),
+        Err(OpenError::OutOfMemory) => Err(Stop::Refused),
+        Err(error) => Ok(format!(in alloc; "{error}")?),
     }
 }
 
@@ -154,7 +158,10 @@ fn limit(words: &mut Words, key: &str) -> Result<Budget, Fault> {
 
 // `journal NAME [make=1] [device=N] [takes=N] CALL..`: the calls on the file as a journal, which is made where it is
 // absent; its device fails after so many calls, and takes so many bytes.
-fn journal<R: Files + AllocGlobal>(rt: &R, words: &mut Words) -> Result<String, Fault> {
+fn journal<R: Files<File = File> + AllocGlobal>(
+    rt: &R,
+    words: &mut Words,
+) -> Result<String, Fault> {
     let path = words.next()?;
     let make = words.option("make").is_some();
     let device = limit(words, "device")?;
@@ -176,7 +183,7 @@ fn in_memory(alloc: Global, calls: &[String]) -> Result<String, Fault> {
 }
 
 /// Makes calls on a journal; `None` where the word is none of these.
-pub fn call<R: Files + AllocGlobal>(
+pub fn call<R: Files<File = File> + AllocGlobal>(
     rt: &R,
     word: &str,
     words: &mut Words,

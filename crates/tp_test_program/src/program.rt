@@ -2,6 +2,7 @@
 
 use crate::script::Script;
 use crate::world::World;
+use std::fs::File;
 use std::rt::Files;
 use tp_test_runner::{Calls, Fault, Words};
 
@@ -25,7 +26,7 @@ impl<'a, R: Files + AllocGlobal> Program<'a, R> {
     }
 }
 
-impl<R: Files + AllocGlobal + Clone + Drop> Calls for Program<'_, R> {
+impl<R: Files<File = File> + AllocGlobal + Clone + Drop> Calls for Program<'_, R> {
     fn begin(&mut self, file: &str) {
         self.is_script = file.starts_with("script_");
     }

@@ -2,15 +2,18 @@
 
 use crate::answers::Ran;
 use crate::budget::Budget;
-use crate::folder::{Entry, listed, put_changes, restore};
+use crate::folder::{Entry, fault, listed, put_changes, restore};
 use crate::host::Host;
 use crate::lines::command_line;
+use crate::paths::inside;
 use crate::stream::Stream;
 use crate::world::World;
-use std::io;
+use std::fs::File;
 use std::rt::Files;
+use std::{fs, io};
 use tp_command_line::{Command, line};
 use tp_commands::CommandError;
+use tp_journal::Lockable;
 use tp_shell::{Errors, Job, JobError, ShellError, carry_out, ended, explain, job_of};
 use tp_test_runner::{Fault, Words, number};
 
@@ -42,7 +45,10 @@ fn limits_of(words: &mut Words) -> Result<Limits, Fault> {
 }
 
 // Does a job that needs no network; one that needs it is refused as `Io`.
-fn run_job<R: Files + Print + AllocGlobal>(rt: &R, job: Job) -> Result<(), JobError> {
+fn run_job<R: Files + Print + AllocGlobal>(rt: &R, job: Job) -> Result<(), JobError>
+where
+    R::File: Lockable,
+{
     match job {
         Job::Files(job) => carry_out(rt, job, &mut io::writer(rt)),
         _ => Err(JobError::Command(CommandError::Io)),
@@ -50,7 +56,10 @@ fn run_job<R: Files + Print + AllocGlobal>(rt: &R, job: Job) -> Result<(), JobEr
 }
 
 // Does what a command asks for.
-fn run_command<R: Files + Print + AllocGlobal>(rt: &R, command: Command) -> Result<(), ShellError> {
+fn run_command<R: Files + Print + AllocGlobal>(rt: &R, command: Command) -> Result<(), ShellError>
+where
+    R::File: Lockable,
+{
     match run_job(rt, job_of(rt.alloc(), command)?) {
         Ok(()) => Ok(()),
         Err(error) => Err(ShellError::Job(error)),
@@ -58,7 +67,10 @@ fn run_command<R: Files + Print + AllocGlobal>(rt: &R, command: Command) -> Resu
 }
 
 // The program, as far as it needs no network: the exit status.
-fn run_program<R: Files + Print + Eprint + AllocGlobal>(rt: &R, words: &[String]) -> u8 {
+fn run_program<R: Files + Print + Eprint + AllocGlobal>(rt: &R, words: &[String]) -> u8
+where
+    R::File: Lockable,
+{
     let errors = Errors { rt };
     let mut err = io::writer(&errors);
     match line(rt.alloc(), words) {
@@ -68,7 +80,11 @@ fn run_program<R: Files + Print + Eprint + AllocGlobal>(rt: &R, words: &[String]
 }
 
 // Runs the program.
-fn run_line<R: Files + AllocGlobal>(rt: &R, limits: Limits, line: &[String]) -> Result<Ran, Fault> {
+fn run_line<R: Files<File = File> + AllocGlobal>(
+    rt: &R,
+    limits: Limits,
+    line: &[String],
+) -> Result<Ran, Fault> {
     let device = Budget::new(limits.device);
     let room = Budget::new(u64::MAX);
     let host = Host {
@@ -87,7 +103,7 @@ fn run_line<R: Files + AllocGlobal>(rt: &R, limits: Limits, line: &[String]) -> 
 }
 
 // Runs the program over the entries. Where it is refused memory, the folder holds these again.
-fn run_over<R: Files + AllocGlobal>(
+fn run_over<R: Files<File = File> + AllocGlobal>(
     rt: &R,
     limits: Limits,
     line: &[String],
@@ -102,7 +118,7 @@ fn run_over<R: Files + AllocGlobal>(
 }
 
 // The exit status, both texts or which streams have one, and the files that changed.
-fn answer_of<R: Files + AllocGlobal + Clone + Drop>(
+fn answer_of<R: Files<File = File> + AllocGlobal + Clone + Drop>(
     world: &World<R>,
     ran: &Ran,
     before: &[Entry],
@@ -118,7 +134,7 @@ fn answer_of<R: Files + AllocGlobal + Clone + Drop>(
     Ok(answer)
 }
 
-fn run_and_keep<R: Files + AllocGlobal + Clone + Drop>(
+fn run_and_keep<R: Files<File = File> + AllocGlobal + Clone + Drop>(
     world: &mut World<R>,
     limits: Limits,
     line: &[String],
@@ -133,7 +149,7 @@ fn run_and_keep<R: Files + AllocGlobal + Clone + Drop>(
 
 // `run [out=N] [err=N] [device=N] WORD..`: the exit status, both texts, and the files that changed; `streams ..`: the
 // exit status, the streams that have a text, and the files that changed.
-fn run<R: Files + AllocGlobal + Clone + Drop>(
+fn run<R: Files<File = File> + AllocGlobal + Clone + Drop>(
     world: &mut World<R>,
     words: &mut Words,
     has_texts: bool,
@@ -143,8 +159,32 @@ fn run<R: Files + AllocGlobal + Clone + Drop>(
     run_and_keep(world, limits, &line, has_texts)
 }
 
+// The file, with its lock.
+fn locked<R: Files<File = File> + AllocGlobal>(rt: &R, name: &str) -> Result<File, Fault> {
+    let path = inside(rt.alloc(), name)?;
+    let file = match fs::open(rt, path.as_str()) {
+        Ok(file) => file,
+        Err(error) => return Err(fault(&error)),
+    };
+    match file.take_lock() {
+        Ok(true) => Ok(file),
+        _ => Err(Fault::Row("the lock of a file of the row isn't free")),
+    }
+}
+
+// `beside NAME WORD..`: what `run` answers while another has the lock of the file.
+fn run_beside<R: Files<File = File> + AllocGlobal + Clone + Drop>(
+    world: &mut World<R>,
+    words: &mut Words,
+) -> Result<String, Fault> {
+    let file = locked(world.rt, words.next()?)?;
+    let answer = run(world, words, true);
+    drop(file);
+    answer
+}
+
 // What a run answers whose device fails after so many calls; whether it was done.
-fn run_failing<R: Files + AllocGlobal + Clone + Drop>(
+fn run_failing<R: Files<File = File> + AllocGlobal + Clone + Drop>(
     world: &World<R>,
     calls: u64,
     line: &[String],
@@ -163,7 +203,7 @@ fn run_failing<R: Files + AllocGlobal + Clone + Drop>(
 
 // What is answered where the files fail from their first call on, from the second on, and so on, until the command is
 // done.
-fn answers<R: Files + AllocGlobal + Clone + Drop>(
+fn answers<R: Files<File = File> + AllocGlobal + Clone + Drop>(
     world: &World<R>,
     line: &[String],
     before: &[Entry],
@@ -184,7 +224,7 @@ fn answers<R: Files + AllocGlobal + Clone + Drop>(
 }
 
 // `device_fails WORD..`: like answers that follow one another once. The files are then as they were.
-fn device_fails<R: Files + AllocGlobal + Clone + Drop>(
+fn device_fails<R: Files<File = File> + AllocGlobal + Clone + Drop>(
     world: &World<R>,
     words: &mut Words,
 ) -> Result<String, Fault> {
@@ -201,7 +241,7 @@ fn put_answer(answers: &mut String, answer: &str) -> Result<(), Fault> {
 }
 
 /// Makes a call that runs a command line; `None` where the word is none of these.
-pub fn call<R: Files + AllocGlobal + Clone + Drop>(
+pub fn call<R: Files<File = File> + AllocGlobal + Clone + Drop>(
     world: &mut World<R>,
     word: &str,
     words: &mut Words,
@@ -209,6 +249,7 @@ pub fn call<R: Files + AllocGlobal + Clone + Drop>(
     match word {
         "run" => Some(run(world, words, true)),
         "streams" => Some(run(world, words, false)),
+        "beside" => Some(run_beside(world, words)),
         "device_fails" => Some(device_fails(world, words)),
         _ => None,
     }

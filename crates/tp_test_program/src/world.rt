@@ -4,6 +4,7 @@ use crate::answers::Ran;
 use crate::folder::make;
 use crate::lines::{give_name, has_line, meant};
 use crate::{files, journals, runs};
+use std::fs::File;
 use std::rt::Files;
 use tp_test_runner::{Calls, Fault, Shelf, Words};
 
@@ -51,7 +52,7 @@ impl<'a, R: Files + AllocGlobal> World<'a, R> {
     }
 }
 
-impl<R: Files + AllocGlobal + Clone + Drop> Calls for World<'_, R> {
+impl<R: Files<File = File> + AllocGlobal + Clone + Drop> Calls for World<'_, R> {
     fn call(&mut self, words: &mut Words) -> Result<String, Fault> {
         let word = words.next()?;
         self.make_folder()?;

@@ -11,6 +11,7 @@ use std::rt::Files;
 use std::sync::Wait;
 use std::sync::atomic::{AtomicU64, AtomicUsize, Ordering};
 use std::thread::Threads;
+use tp_journal::Lockable;
 
 /// A disk that takes so many writes whole, then a part of one and none behind it, and that brings what it took to its
 /// ground so often.
@@ -115,6 +116,14 @@ impl<F: OpenFile> OpenFile for OnDisk<'_, F> {
     fn sync_data(&self) -> io::Result<()> {
         self.disk.syncs()?;
         self.file.sync_data()
+    }
+}
+
+impl<F: Lockable> Lockable for OnDisk<'_, F> {
+    ghost is_locked = { λ f. F.is_locked f.file };
+
+    fn take_lock(&self) -> io::Result<bool> {
+        self.file.take_lock()
     }
 }
 

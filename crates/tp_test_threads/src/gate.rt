@@ -1,6 +1,7 @@
 //! A journal at whose appends a thread can be held.
 
 ghost use Rattle.std.specs.Prelude.{◌≡◌};
+ghost use Rattle.tp_journal.specs.Journal.{no_device};
 
 use std::alloc::Global;
 use std::sync::Arc;
@@ -72,11 +73,17 @@ pub struct GatedJournal {
 impl Journal for GatedJournal {
     ghost content = { λ j. j.memory };
 
-    ghost failures = { λ _. 0 };
+    ghost device = { λ _. no_device };
+
+    ghost is_settled = { λ _. Unit {0} };
 
     fn append(&mut self, bytes: &[u8]) -> Result<(), JournalError> {
         self.gate.pass();
         self.memory.append(bytes)
+    }
+
+    fn settle(&mut self) -> Result<(), JournalError> {
+        self.memory.settle()
     }
 
     fn cut(&mut self, len: u64) -> Result<(), JournalError> {

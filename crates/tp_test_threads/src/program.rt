@@ -12,22 +12,24 @@ use std::thread::{Threads, join};
 use std::time::Clock;
 use tp_shell::Disk;
 
-// Ann serves her journal to two clients, one after the other: Ben brings a change, and Cat gets it. Then all three read one
-// text.
+// Ann serves her journal to two clients, one after the other: Ben brings a change, and Cat gets it. Meanwhile another edit of
+// hers finds the journal taken. Then all three read one text.
 #[test]
 fn a_server_and_two_clients(rt: HostRuntime) -> Result<(), Fail> {
     assert!(rt; begin(&rt, "ann", "Hello world", &["ben", "cat"]));
     assert!(rt; insert(&rt, "ben", "5", ",").status == 0);
     let place = Place::free(&rt)?;
-    let (served, (ben, cat)) = join(
+    let (served, (ben, ann, cat)) = join(
         &rt,
         || serve(&rt, "ann", place.as_str(), "2"),
         || {
             let ben = sync(&rt, "ben", place.as_str());
-            (ben, sync_once(&rt, "cat", place.as_str()))
+            let ann = insert(&rt, "ann", "0", "no");
+            (ben, ann, sync_once(&rt, "cat", place.as_str()))
         },
     );
     assert!(rt; ben.printed("applied 0\n"));
+    assert!(rt; ann.refused("", "textpeer: Busy\n"));
     assert!(rt; cat.printed("applied 1\n"));
     assert!(rt; served.printed(place.printed(rt.alloc(), "served 2\n")?.as_str()));
     assert!(rt; all_read(&rt, &["ann", "ben", "cat"], "Hello, world\n"));
@@ -157,7 +159,7 @@ fn a_journal_fails_while_it_is_served(rt: HostRuntime) -> Result<(), Fail> {
     let rows = [
         (Device::new(1, 0, 9), "ida hal\n"),
         (Device::new(1, 40, 9), "ida hal\n"),
-        (Device::new(9, 0, 1), "ida hal joe\n"),
+        (Device::new(9, 0, 2), "ida hal joe\n"),
     ];
     assert!(rt; begin(&rt, "first", "hal", &[]));
     for (disk, text) in rows {

@@ -9,7 +9,10 @@ pub use tp_change::{Change, ChangeError, ChangeParts, Op, Record};
 pub use tp_document::{Applied, Cursor, DocError, Document};
 pub use tp_edit::Splice;
 pub use tp_graph::GraphError;
-pub use tp_journal::{DurableJournal, FileJournal, Journal, MemJournal, Recovered, recover};
+pub use tp_journal::{
+    DurableJournal, FileJournal, Journal, JournalError, Lockable, MemJournal, OpenError, Recovered,
+    recover,
+};
 pub use tp_opid::{Actor, DocId, Hash, HexError, OpId, Place};
 pub use tp_peer::{Link, Outgoing, Peer, PeerError, Received, Unopened, fresh_actor};
 pub use tp_posindex::BlockSequence;

@@ -1,26 +1,14 @@
 -- Whether a change that came is one of those that were made.
-use Rattle.std.proofs.Common.{◌≡◌, ℕ, List, [], ◌+◌, ◌<◌, ◌≤◌, length, take, drop, get_or, true, false, Bool, Result, Ok, Err, inl, inr, refl, sym, ap, ◌∙◌, subst}
-use Rattle.std.specs.Prelude.{IfOk, MatchBool}
+use Rattle.tp_world.proofs.Common.{◌≡◌, ℕ, List, [], ◌+◌, ◌<◌, ◌≤◌, length, take, drop, get_or, true, false, Bool, Result, Ok, Err, inl, inr, refl, sym, ap, ◌∙◌, subst, IfOk, MatchBool, drop_all, take_all, take_more, In, AllIn, never, Hash, ChangeParts, hash_of, spelling, HashesApart, has, In-has, changes_in, changes_of, WorldError}
 use Rattle.std.specs.Bool.{Decides}
-use Rattle.std.proofs.lemmas.List.{drop_all, take_all, take_more}
-use Rattle.tp_list.specs.Members.{In, AllIn}
 use Rattle.tp_list.proofs.Members.{In-get_or, In-push}
-use Rattle.tp_list.proofs.Tests.{never}
-use Rattle.tp_opid.specs.declared.hash.Hash.{Hash}
-use Rattle.tp_change.specs.declared.parts.ChangeParts.{ChangeParts}
-use Rattle.tp_change.specs.ChangeHash.{hash_of}
 use Rattle.tp_change.specs.Limits.{IsChange}
-use Rattle.tp_change.specs.Spelling.{spelling}
 use Rattle.tp_change.proofs.SpellingLaws.{one_spelling_is}
-use Rattle.tp_graph.specs.Named.{HashesApart, has}
-use Rattle.tp_graph.proofs.NamedLaws.{In-has}
 use Rattle.tp_sync.specs.declared.error.SyncError.{SyncError}
 use Rattle.tp_sync.specs.declared.error.SyncError.TheVariants.{BadMessage, BadChange, TooManyHeads, PendingFull, OutOfMemory, OtherDocument, NotKept}
 use Rattle.tp_sync.specs.Gives.{FailsWith}
 use Rattle.tp_sync.specs.Message.{MessageParts}
 use Rattle.tp_sync.specs.Reading.{message_at}
-use Rattle.tp_peer.specs.Laws.{changes_in, changes_of}
-use Rattle.tp_headline.specs.declared.error.WorldError.{WorldError}
 
 item-In : (xs : List ChangeParts) (i : ℕ) (x : ChangeParts) → i < length xs → x ≡ get_or xs i x → In x xs
 item-In xs i x less at = subst (λ y. In y xs) (sym at) (In-get_or xs i x less)

@@ -1,38 +1,15 @@
 -- What an event comes to, from what its calls did.
-use Rattle.std.proofs.Common.{◌≡◌, ◌⊎◌, inl, inr, ℕ, zero, suc, ◌+◌, ◌-◌, ◌^◌, ◌<◌, ◌≤◌, min, List, [], ◌∷◌, ◌++◌, length, take, drop, slice_set, true, false, Bool, ◌&&◌, nat_le, Option, Some, None, Result, Ok, Err, refl, sym, ap, ◌∙◌, subst, append-nil, arith}
-use Rattle.std.specs.Prelude.{OnOk, is_err}
-use Rattle.std.specs.List.{slice_get}
-use Rattle.std.proofs.lemmas.Bool.Decides.{nat_tests}
-use Rattle.std.proofs.lemmas.List.{take_all}
-use Rattle.std.proofs.Math.Seq.{drop-length}
-use Rattle.tp_list.specs.Members.{In}
-use Rattle.tp_list.proofs.Tests.{truth}
-use Rattle.tp_opid.specs.declared.actor.Actor.{Actor}
-use Rattle.tp_opid.specs.declared.doc_id.DocId.{DocId}
-use Rattle.tp_opid.specs.declared.hash.Hash.{Hash}
-use Rattle.tp_change.specs.declared.parts.ChangeParts.{ChangeParts}
-use Rattle.tp_journal.specs.Layout.{record_of, records_of}
-use Rattle.tp_journal.specs.Recovery.{Recovers, recovered}
+use Rattle.tp_world.proofs.Common.{◌≡◌, ◌⊎◌, inl, inr, ℕ, ◌+◌, ◌-◌, ◌^◌, ◌<◌, ◌≤◌, min, List, [], ◌∷◌, ◌++◌, length, take, slice_set, true, false, Bool, ◌&&◌, nat_le, Option, Some, None, Result, Ok, Err, refl, sym, ap, ◌∙◌, subst, append-nil, arith, OnOk, is_err, slice_get, nat_tests, length-append, length-take, take_all, In, truth, Actor, DocId, Hash, ChangeParts, record_of, records_of, Recovers, recovered, length-record_of, PeerData, arming, IsCall, heads_at, made_by, noting, Carried, Event, Crash, called_in, entries_of, IsEditAt, IsEditOf, MayHappen, WouldEdit, Reply, reply_to, Entry, ReadRecord, World, HasPeer, gained, with_made, with_peer, with_used, Left, left_of, nothing_left, one_call, one_cut, one_edit, one_named, would_edit, slice_get-set, slice_get-set_same, Meets, AnswersAt, IsWould, Notes, entered_of, heads_named, is_kept_in, is_made, ArmsAt, OpensAgainAt, OpensOn, StepsAt, left_with}
 use Rattle.tp_journal.proofs.RecoveredLaws.{recovered_again}
-use Rattle.tp_peer.specs.PeerData.{PeerData}
+use Rattle.tp_headline.specs.Crashing.{ComesBack, kept_bytes, made_during, stopped_with}
+use Rattle.tp_headline.specs.Event.{Call}
+use Rattle.tp_headline.proofs.CallLaws.{Entered, runs_of_steps}
+use Rattle.tp_headline.proofs.CrashMoves.{during_is, found_between, gained_back, interrupted}
+use Rattle.tp_world.specs.Members.{changes_in}
+use Rattle.tp_world.proofs.MemberLaws.{merge_calm, set_set, set_still}
 use Rattle.tp_peer.specs.PeerStep as peer
 use Rattle.tp_headline.specs.declared.error.WorldError.TheVariants as world
 use Rattle.tp_headline.specs.Call as call
-use Rattle.tp_headline.specs.Calling.{IsCall, Steps, heads_at, made_by, noting}
-use Rattle.tp_headline.specs.Carried.{Carried}
-use Rattle.tp_headline.specs.Crashing.{ComesBack, kept_bytes, made_during, stopped_with}
-use Rattle.tp_headline.specs.Event.{Event, Call, Crash, called_in, entries_of}
-use Rattle.tp_headline.specs.Refusing.{IsEditAt, MayHappen, WouldEdit}
-use Rattle.tp_headline.specs.Reply.{Reply, reply_to}
-use Rattle.tp_headline.specs.World.{Entry, ReadRecord, World, HasPeer, gained, with_made, with_peer, with_used}
-use Rattle.tp_headline.proofs.CallLaws.{Entered, runs_of_steps, steps_enter}
-use Rattle.tp_headline.proofs.CrashMoves.{during_is, gained_back, interrupted, recovered_between}
-use Rattle.tp_headline.proofs.MakingLaws.{gained_new, nothing_left, one_call, one_cut, one_edit, would_edit}
-use Rattle.tp_headline.proofs.PlaceLaws.{slice_get-set_same}
-use Rattle.tp_world.specs.Judging.{Meets}
-use Rattle.tp_world.specs.Making.{AnswersAt, IsWould, Notes, entered_of, heads_named, is_kept_in, is_made}
-use Rattle.tp_world.specs.Members.{OpensAgainAt, OpensOn, StepsAt, changes_in, left_with}
-use Rattle.tp_world.proofs.MemberLaws.{set_set, set_still}
 
 -- ---- what a peer answered
 
@@ -106,36 +83,103 @@ text_stays p peer.Read text p' h = h.1
 text_stays p (peer.ReadAt H) text p' h = h.2
 text_stays p made text p' h = absurd h
 
-made_none : (made : peer.Call) → made_by made [] ≡ []
-made_none (peer.Edit ss time message) = refl
-made_none made = refl
+text_makes_none : (p : PeerData) (made : peer.Call) (text : List ℕ) (p' : PeerData) (new : List ChangeParts) → peer.Runs p made (peer.Text text) p' → made_by made new ≡ []
+text_makes_none p peer.Read text p' new h = refl
+text_makes_none p (peer.ReadAt H) text p' new h = refl
+text_makes_none p made text p' new h = absurd h
 
-unchanged : (w : World) (n : ℕ) (p : PeerData) (made : peer.Call) → HasPeer w n p → with_made (with_peer w n p) (made_by made (gained p p)) ≡ w
-unchanged w n p made stands =
-    let none : made_by made (gained p p) ≡ [] = ap (made_by made) (drop-length p.applied) ∙ made_none made in
-    let one : with_made (with_peer w n p) (made_by made (gained p p)) ≡ with_peer w n p = ap (λ l. record w { peers = slice_set w.peers n p; made = l }) (ap (λ l. w.made ++ l) none ∙ append-nil w.made) in
-    one ∙ ap (λ l. record w { peers = l }) (sym (set_still w.peers n p stands))
+unchanged : (w : World) (n : ℕ) (p : PeerData) → HasPeer w n p → with_made (with_peer w n p) [] ≡ w
+unchanged w n p stands =
+    ap (λ l. record w { peers = slice_set w.peers n p; made = l }) (append-nil w.made) ∙ ap (λ l. record w { peers = l }) (sym (set_still w.peers n p stands))
 
-pub call_meets : (w m : World) (n : ℕ) (named : call.Call) (change : Option ChangeParts) (H : List Hash) (answer : peer.Reply) (all : List ChangeParts) (flag : Bool) (reply : Reply) (w' : World) → Carried w
-    → MayHappen w (Call n named) → IsWould w (Call n named) change → ((p : PeerData) → HasPeer w n p → H ≡ heads_named p named) → AnswersAt w n named answer m → flag ≡ is_made answer
+-- no call but an edit would make a change
+edits_change : (w : World) (e : Event) (n : ℕ) (named : call.Call) (made : peer.Call) (c : ChangeParts) → called_in e ≡ Some (n, named) → IsCall w named made → WouldEdit w e c → (p : PeerData) × IsEditOf p made c
+edits_change w e n (call.Alone own) made c called is would =
+    let one = one_call would.number n would.made own (sym would.called ∙ called) in
+    (would.edit.peer, subst (λ m. IsEditOf would.edit.peer m c) (one.1 ∙ sym is.0) would.edit.edited)
+edits_change w e n (call.Merge from) made c called is would = absurd (let one = (one_named would.number n (call.Alone would.made) (call.Merge from) (sym would.called ∙ called)).1 in cc)
+edits_change w e n (call.Deliver entry) made c called is would = absurd (let one = (one_named would.number n (call.Alone would.made) (call.Deliver entry) (sym would.called ∙ called)).1 in cc)
+
+entered_if : (w : World) (e : Event) (change : Option ChangeParts) (kept : Bool) → IsWould w e change → ((c : ChangeParts) → WouldEdit w e c → ⊥) → entered_of change kept ≡ []
+entered_if w e (Some c) kept would none = absurd (none c would)
+entered_if w e None kept would none = refl
+
+-- one change is kept just where its record is whole
+decided : (c : ChangeParts) (kept : ℕ) (whole : List ChangeParts) → (whole ≡ []) ⊎ (whole ≡ c ∷ []) → (whole ≡ [] → kept < length (record_of c)) → (whole ≡ c ∷ [] → length (record_of c) ≤ kept)
+    → entered_of (Some c) (nat_le (length (record_of c)) kept) ≡ whole
+decided c kept whole (inl none) torn within =
+    let less = torn none in
+    let is : nat_le (length (record_of c)) kept ≡ false = grind (arith, nat_tests) in
+    ap (entered_of (Some c)) is ∙ sym none
+decided c kept whole (inr one) torn within =
+    let le = within one in
+    let is : nat_le (length (record_of c)) kept ≡ true = grind (arith, nat_tests) in
+    ap (entered_of (Some c)) is ∙ sym one
+
+one_record : (c : ChangeParts) → length (records_of (c ∷ [])) ≡ length (record_of c)
+one_record c = ap length (append-nil (record_of c))
+
+-- how many bytes of the record of one change, or of none, came to the journal
+grown_by : (before after : List ℕ) (count grown : ℕ) (C : List ChangeParts) → after ≡ before ++ take count (records_of C) → grown ≡ length after - length before → grown ≡ min count (length (records_of C))
+grown_by before after count grown C is g =
+    let all : length after ≡ length before + length (take count (records_of C)) = ap length is ∙ length-append before (take count (records_of C)) in
+    let part = length-take count (records_of C) in
+    omega arith
+
+-- a change counts as made where its record came to the journal whole, and that is what the call made
+kept_gains : (w : World) (e : Event) (n : ℕ) (named : call.Call) (made : peer.Call) (p p' : PeerData) (change : Option ChangeParts) (grown : ℕ) → Carried w → HasPeer w n p → p.stopped ≡ false → called_in e ≡ Some (n, named)
+    → IsCall w named made → IsWould w e change → (l : Left p made p') → grown ≡ min l.count (length (records_of l.tried)) → entered_of change (is_kept_in change grown) ≡ made_by made l.whole
+kept_gains w e n named (peer.Edit ss time message) p p' change grown h stands runs called is would l g = elim l.may [
+  | inl none ↦
+      let nothing : l.whole ≡ [] = nothing_left l.whole l.others (sym none ∙ l.split) in
+      let zero_grown : grown ≡ 0 = let size = ap (λ C. length (records_of C)) none in omega arith in
+      ap (λ k. entered_of change (is_kept_in change k)) zero_grown ∙ none_kept change ∙ sym nothing
+  | inr one ↦
+      let c = one.0 in
+      let made = peer.Edit ss time message in
+      let edit : IsEditAt w n made c = record { peer = p; stands = stands; runs = runs; edited = one.1 } in
+      let split = sym one.2 ∙ l.split in
+      let size : length (records_of l.tried) ≡ length (record_of c) = ap (λ C. length (records_of C)) one.2 ∙ one_record c in
+      ap (λ x. entered_of x (is_kept_in x grown)) (the_change w e change c h would (would_edit w e n named made c called is edit))
+      ∙ decided c grown l.whole (one_cut c l.whole l.others split)
+      (λ none.
+      let less = subst (λ k. l.count < k) (ap (λ C. length (records_of (C ++ c ∷ []))) none ∙ one_record c) (l.torn c [] (sym (split ∙ ap (λ C. C ++ l.others) none))) in
+      omega arith)
+      (λ all_of.
+      let enough = subst (λ k. k ≤ l.count) (ap (λ C. length (records_of C)) all_of ∙ one_record c) l.within in
+      omega arith)
+] where
+  none_kept : (change : Option ChangeParts) → entered_of change (is_kept_in change 0) ≡ []
+  none_kept None = refl
+  none_kept (Some c) =
+      let some = length-record_of c in
+      let is : nat_le (length (record_of c)) 0 ≡ false = grind (arith, nat_tests) in
+      ap (entered_of (Some c)) is
+kept_gains w e n named made p p' change grown h stands runs called is would l g =
+    entered_if w e change (is_kept_in change grown) would (λ c x. let edit = edits_change w e n named made c called is x in absurd edit.1)
+
+pub call_meets : (w m : World) (n : ℕ) (named : call.Call) (change : Option ChangeParts) (H : List Hash) (answer : peer.Reply) (all : List ChangeParts) (before after grown : ℕ) (flag : Bool) (reply : Reply) (w' : World)
+    → Carried w → MayHappen w (Call n named) → IsWould w (Call n named) change → ((p : PeerData) → HasPeer w n p → H ≡ heads_named p named) → ((p : PeerData) → HasPeer w n p → before ≡ length p.journal)
+    → AnswersAt w n named answer m → ((p : PeerData) → HasPeer m n p → after ≡ length p.journal) → grown ≡ after - before → flag ≡ is_kept_in change grown
     → all ≡ m.made ++ entered_of change flag → Notes (record m { made = all }) n H answer reply w' → Meets w (Call n named) reply w'
-call_meets w m n named change H answer all flag reply w' h may would heads s is e notes =
+call_meets w m n named change H answer all before after grown flag reply w' h may would heads before_is s after_is grown_is is e notes =
     let p = s.before in
     let p' = s.after in
     let made = s.made in
     let runs : p.stopped ≡ false = may world.Stopped n p (inl refl) s.stands in
-    let enters = steps_enter p made answer p' s.steps in
-    let both : (b : Bool) → entered_of change b ≡ entered_of change (b && true) = (λ b. ap (entered_of change) (with_true b)) in
-    let gain : entered_of change flag ≡ made_by made (gained p p') =
-    ap (entered_of change) is ∙ both (is_made answer)
-    ∙ gains w (Call n named) n named made answer p change enters.new enters.new (λ x. true) h s.stands runs refl s.is would enters.entered (λ none. none) (λ c one. sym one)
-    ∙ ap (made_by made) (sym (gained_new p made answer p' enters)) in
-    let left = left_world w m n p' all (entered_of change flag) (made_by made (gained p p')) s.left e gain in
+    let l = left_of w p made answer p' h (h.peers n p s.stands) runs s.steps in
+    let there : slice_get m.peers n ≡ Some p' = subst (λ (x : World). slice_get x.peers n ≡ Some p') (sym s.left) (slice_get-set_same w.peers n p p' s.stands) in
+    let sizes : grown ≡ length p'.journal - length p.journal = grown_is ∙ ap (λ k. k - before) (after_is p' there) ∙ ap (λ k. length p'.journal - k) (before_is p s.stands) in
+    let gain : entered_of change flag ≡ made_by made l.whole =
+    ap (entered_of change) is
+    ∙ kept_gains w (Call n named) n named made p p' change grown h s.stands runs refl s.is would l (grown_by p.journal p'.journal l.count grown l.tried l.bytes sizes) in
+    let left = left_world w m n p' all (entered_of change flag) (made_by made l.whole) s.left e gain in
     elim notes [
       | inl short ↦
-          let steps = subst (λ a. Steps p made a p') short.1 s.steps in
-          let same = text_stays p made short.0 p' (runs_of_steps p made (peer.Text short.0) p' steps (λ x. cc)) in
-          inl (short.2, short.3 ∙ left ∙ ap (λ (x : PeerData). with_made (with_peer w n x) (made_by made (gained p x))) same ∙ unchanged w n p made s.stands)
+          let steps = subst (λ a. peer.PeerStep p made a p') short.1 s.steps in
+          let text = runs_of_steps p made (peer.Text short.0) p' steps (λ x. cc) in
+          let same = text_stays p made short.0 p' text in
+          inl (short.2, short.3 ∙ left ∙ ap (λ K. with_made (with_peer w n p') K) (text_makes_none p made short.0 p' l.whole text) ∙ ap (λ (x : PeerData). with_made (with_peer w n x) []) same ∙ unchanged w n p s.stands)
       | inr noted ↦
           let wire = ap (λ (x : World). x.wire) s.left in
           inr (record {
@@ -146,40 +190,34 @@ call_meets w m n named change H answer all flag reply w' h may would heads s is 
             answer = answer;
             after = p';
             steps = s.steps;
+            kept = l.whole;
+            keep = l.keep;
+            recovers = l.recovers;
             replied = noted.0 ∙ ap (λ (l : List Entry). reply_to (length l) answer) wire;
             left = noted.1 ∙ ap (λ x. noting x n H answer) left
-                ∙ ap (λ K. noting (with_made (with_peer w n p') (made_by made (gained p p'))) n K answer) (heads p s.stands ∙ heads_are w p named made s.is);
+                ∙ ap (λ K. noting (with_made (with_peer w n p') (made_by made l.whole)) n K answer) (heads p s.stands ∙ heads_are w p named made s.is);
           })
-    ] where
-      with_true : (b : Bool) → b ≡ (b && true)
-      with_true true = refl
-      with_true false = refl
+    ]
 
 -- ---- crashes
 
-left_parts : DocId → Actor → List ChangeParts → List ℕ → ℕ → PeerData
-left_parts id actor C bytes failures = record { id = id; actor = actor; applied = C; waiting = []; links = []; journal = bytes; failures = failures; stopped = true }
-
 -- what is left of a peer is what stands in the definition
-left_is : (p : PeerData) (bytes : List ℕ) (C : List ChangeParts) (keep : ℕ) → p.failures ≡ 0 → Recovers bytes p.id C keep → left_with p.id p.actor bytes ≡ stopped_with p bytes C
-unfolding left_parts
-left_is p bytes C keep quiet r =
+left_is : (p : PeerData) (bytes : List ℕ) (C : List ChangeParts) (keep : ℕ) → Recovers bytes p.id C keep → left_with p.id p.actor bytes ≡ stopped_with p bytes C
+left_is p bytes C keep r =
     let found : changes_in (recovered bytes) ≡ C = ap changes_in (recovered_again bytes p.id C keep r) in
-    let one : left_with p.id p.actor bytes ≡ left_parts p.id p.actor C bytes 0 = ap (λ D. left_parts p.id p.actor D bytes 0) found in
-    let two : left_parts p.id p.actor C bytes 0 ≡ stopped_with p bytes C = ap (λ k. left_parts p.id p.actor C bytes k) (sym quiet) in
-    one ∙ two
+    ap (λ (D : List ChangeParts). record (left_with p.id p.actor bytes) { applied = D }) found
 
 -- The peer comes back, as the definition has it.
-comes_back : (p at p' : PeerData) (bytes : List ℕ) (C : List ChangeParts) (keep : ℕ) (actor : Actor) (reply : Reply) → p.failures ≡ 0 → at.id ≡ p.id → at.actor ≡ p.actor → Recovers bytes p.id C keep
+comes_back : (p at p' : PeerData) (bytes : List ℕ) (C : List ChangeParts) (keep : ℕ) (actor : Actor) (reply : Reply) → at.id ≡ p.id → at.actor ≡ p.actor → Recovers bytes p.id C keep
     → OpensOn at.id at.actor bytes actor reply p' → ComesBack p bytes actor reply p'
-comes_back p at p' bytes C keep actor reply quiet id who r (inl again) = inl again
-comes_back p at p' bytes C keep actor reply quiet id who r (inr down) =
+comes_back p at p' bytes C keep actor reply id who r (inl again) = inl again
+comes_back p at p' bytes C keep actor reply id who r (inr down) =
     let same : left_with at.id at.actor bytes ≡ left_with p.id p.actor bytes = ap (λ i. left_with i at.actor bytes) id ∙ ap (λ a. left_with p.id a bytes) who in
-    inr (down.0, down.1, record { why = down.2; changes = C; keep = keep; recovers = r; left = down.3 ∙ same ∙ left_is p bytes C keep quiet r })
+    inr (down.0, down.1, record { why = down.2; changes = C; keep = keep; recovers = r; left = down.3 ∙ same ∙ left_is p bytes C keep r })
 
 -- a journal that is cut at a number that no length reaches
-take_capped : (xs : List ℕ) (len kept n m : ℕ) → length xs < 2 ^ 64 → m ≡ min (2 ^ 64 - 1) len → n ≡ min (m + kept) (2 ^ 64 - 1) → take n xs ≡ take (len + kept) xs
-take_capped xs len kept n m small is cut = elim (truth (nat_le (length xs) n)) [
+take_capped : (xs : List ℕ) (len kept n : ℕ) → length xs < 2 ^ 64 → n ≡ min (len + kept) (2 ^ 64 - 1) → take n xs ≡ take (len + kept) xs
+take_capped xs len kept n small cut = elim (truth (nat_le (length xs) n)) [
   | inl all ↦
       let enough : length xs ≤ n = grind (arith, nat_tests) in
       take_all n xs enough ∙ sym (take_all (len + kept) xs (omega arith))
@@ -199,7 +237,7 @@ pub between_meets : (w : World) (n kept : ℕ) (actor : Actor) (peers : List Pee
 between_meets w n kept actor peers used reply h o named =
     let p = o.before in
     let q = h.peers n p o.stands in
-    let r = recovered_between w p kept h q in
+    let r = found_between w p kept h q in
     let all : take (2 ^ 64 - 1) p.journal ≡ kept_bytes p p kept = take_all (2 ^ 64 - 1) p.journal (omega (arith, o.small)) ∙ sym (take_all (length p.journal + kept) p.journal (omega arith)) in
     let opens = subst (λ b. OpensOn p.id p.actor b actor reply o.after) all o.opens in
     inr (
@@ -209,70 +247,76 @@ between_meets w n kept actor peers used reply h o named =
         at = p;
         might = refl;
         after = o.after;
-        back = comes_back p p o.after (kept_bytes p p kept) (p.applied ++ r.whole) r.keep actor reply q.quiet refl refl r.recovers opens;
+        back = comes_back p p o.after (kept_bytes p p kept) (p.applied ++ r.whole) r.keep actor reply refl refl r.recovers opens;
       },
       crashed_world w n o.after peers w.made [] used actor o.left (sym (append-nil w.made)) named,
     )
 
--- one change is kept just where its record is whole
-decided : (c : ChangeParts) (kept : ℕ) (whole : List ChangeParts) → (whole ≡ []) ⊎ (whole ≡ c ∷ []) → (whole ≡ [] → kept < length (record_of c)) → (whole ≡ c ∷ [] → length (record_of c) ≤ kept)
-    → entered_of (Some c) (nat_le (length (record_of c)) kept) ≡ whole
-decided c kept whole (inl none) torn within =
-    let less = torn none in
-    let is : nat_le (length (record_of c)) kept ≡ false = grind (arith, nat_tests) in
-    ap (entered_of (Some c)) is ∙ sym none
-decided c kept whole (inr one) torn within =
-    let le = within one in
-    let is : nat_le (length (record_of c)) kept ≡ true = grind (arith, nat_tests) in
-    ap (entered_of (Some c)) is ∙ sym one
+-- a call of a peer whose device isn't to fail, in the world as it was
+calm_call : (w : World) (n : ℕ) (p q q' : PeerData) (named : call.Call) (made : peer.Call) (answer : peer.Reply) → HasPeer w n p → IsCall (with_peer w n (arming p false)) named made → peer.PeerStep q made answer q'
+    → (own : peer.Call) × IsCall w named own × peer.PeerStep q own answer q'
+calm_call w n p q q' (call.Alone own) made answer stands is step = (made, is, step)
+calm_call w n p q q' (call.Deliver entry) made answer stands is step = (made, is, step)
+calm_call w n p q q' (call.Merge from) made answer stands is step = elim (slice_get-set w.peers n from (arming p false) is.0 is.1) [
+  | inl same ↦ (
+    peer.Merge p,
+    (p, subst (λ k. HasPeer w k p) (sym same.0) stands, refl),
+    merge_calm q p false answer q' (subst (λ m. peer.PeerStep q m answer q') (is.2 ∙ ap peer.Merge same.1) step),
+  )
+  | inr still ↦ (made, (is.0, still.1, is.2), step)
+]
 
-one_record : (c : ChangeParts) → length (records_of (c ∷ [])) ≡ length (record_of c)
-one_record c = ap length (append-nil (record_of c))
-
--- during a call
-pub during_meets : (w m : World) (n : ℕ) (named : call.Call) (kept len cut : ℕ) (actor : Actor) (change : Option ChangeParts) (answer : peer.Reply) (flag : Bool) (all : List ChangeParts) (peers : List PeerData)
-    (used : List Actor) (reply : Reply) → Carried w → MayHappen w (Crash n (Some named) kept actor) → IsWould w (Crash n (Some named) kept actor) change → AnswersAt w n named answer m
-    → ((p : PeerData) → HasPeer w n p → len ≡ min (2 ^ 64 - 1) (length p.journal)) → cut ≡ min (len + kept) (2 ^ 64 - 1) → flag ≡ (is_made answer && is_kept_in change kept)
+-- during a call, once the peer's device isn't to fail
+pub during_meets : (w v m : World) (n : ℕ) (named : call.Call) (kept len cut : ℕ) (actor : Actor) (change : Option ChangeParts) (answer : peer.Reply) (flag : Bool) (all : List ChangeParts) (peers : List PeerData)
+    (used : List Actor) (reply : Reply) → Carried w → MayHappen w (Crash n (Some named) kept actor) → IsWould w (Crash n (Some named) kept actor) change
+    → (a : ArmsAt w.peers n false v.peers) → v ≡ with_peer w n (arming a.before false) → AnswersAt v n named answer m
+    → ((p : PeerData) → HasPeer v n p → len ≡ length p.journal) → cut ≡ min (len + kept) (2 ^ 64 - 1) → flag ≡ (is_made answer && is_kept_in change kept)
     → all ≡ m.made ++ entered_of change flag → OpensAgainAt m.peers n cut actor reply peers → used ≡ m.used ++ actor ∷ []
     → Meets w (Crash n (Some named) kept actor) reply (record m { peers = peers; made = all; used = used })
-during_meets w m n named kept len cut actor change answer flag all peers used reply h may would s is cut_is flag_is e o f =
-    let p = s.before in
+during_meets w v m n named kept len cut actor change answer flag all peers used reply h may would a v_is s len_is cut_is flag_is e o f =
+    let p = a.before in
     let at = s.after in
-    let made = s.made in
-    let q = h.peers n p s.stands in
-    let i = interrupted w n p named at kept actor h may s.stands (made, answer, s.is, s.steps) in
+    let calm = arming p false in
+    let calm_stands : HasPeer v n calm = subst (λ (x : World). HasPeer x n calm) (sym v_is) (slice_get-set_same w.peers n p calm a.stands) in
+    let before_is : s.before ≡ calm = let both : Some s.before ≡ Some calm = sym s.stands ∙ calm_stands in cc in
+    let own = calm_call w n p calm at named s.made answer a.stands (subst (λ (x : World). IsCall x named s.made) v_is s.is) (subst (λ (x : PeerData). peer.PeerStep x s.made answer at) before_is s.steps) in
+    let made = own.0 in
+    let i = interrupted w n p named at kept actor h may a.stands (made, answer, own.1, own.2) in
     let whole = i.cut.whole in
     let others = i.cut.others in
-    let there : slice_get m.peers n ≡ Some at = subst (λ (x : World). slice_get x.peers n ≡ Some at) (sym s.left) (slice_get-set_same w.peers n p at s.stands) in
+    let m_is : m ≡ with_peer (with_peer w n calm) n at = s.left ∙ ap (λ (x : World). with_peer x n at) v_is in
+    let peers_at : m.peers ≡ slice_set w.peers n at = ap (λ (x : World). x.peers) m_is ∙ set_set w.peers n calm at in
+    let there : slice_get m.peers n ≡ Some at = subst (λ (l : List PeerData). slice_get l n ≡ Some at) (sym peers_at) (slice_get-set_same w.peers n p at a.stands) in
     let same : o.before ≡ at = let both : Some o.before ≡ Some at = sym o.stands ∙ there in cc in
     let small : length at.journal < 2 ^ 64 = subst (λ (x : PeerData). length x.journal < 2 ^ 64) same o.small in
     let opens : OpensOn at.id at.actor (take cut at.journal) actor reply o.after = subst (λ (x : PeerData). OpensOn x.id x.actor (take cut x.journal) actor reply o.after) same o.opens in
-    let kept_opens = subst (λ b. OpensOn at.id at.actor b actor reply o.after) (take_capped at.journal (length p.journal) kept cut len small (is p s.stands) cut_is) opens in
-    let back = comes_back p at o.after (kept_bytes p at kept) (p.applied ++ whole) i.cut.keep actor reply q.quiet i.enters.id i.enters.actor i.cut.recovers kept_opens in
+    let cut_at : cut ≡ min (length p.journal + kept) (2 ^ 64 - 1) = cut_is ∙ ap (λ k. min (k + kept) (2 ^ 64 - 1)) (len_is calm calm_stands) in
+    let kept_opens = subst (λ b. OpensOn at.id at.actor b actor reply o.after) (take_capped at.journal (length p.journal) kept cut small cut_at) opens in
+    let back = comes_back p at o.after (kept_bytes p at kept) (p.applied ++ whole) i.cut.keep actor reply i.enters.id i.enters.actor i.cut.recovers kept_opens in
     let gain : entered_of change flag ≡ made_during (Some named) (gained p o.after) =
     ap (entered_of change) flag_is
-    ∙ gains w (Crash n (Some named) kept actor) n named made answer p change i.enters.new whole (λ x. is_kept_in x kept) h s.stands i.runs refl s.is would i.enters.entered
+    ∙ gains w (Crash n (Some named) kept actor) n named made answer p change i.enters.new whole (λ x. is_kept_in x kept) h a.stands i.runs refl own.1 would i.enters.entered
     (λ none. nothing_left whole others (sym none ∙ i.cut.split))
     (λ c one.
     let split = sym one ∙ i.cut.split in
     decided c kept whole (one_cut c whole others split)
     (λ none. subst (λ k. kept < k) (ap (λ l. length (records_of (l ++ c ∷ []))) none ∙ one_record c) (i.cut.torn c [] (sym (split ∙ ap (λ l. l ++ others) none))))
     (λ all_of. subst (λ k. k ≤ kept) (ap (λ l. length (records_of l)) all_of ∙ one_record c) i.cut.within))
-    ∙ ap (made_by made) (sym (gained_back p at o.after kept i.enters.new actor reply i.cut back))
-    ∙ sym (during_is w named made (gained p o.after) s.is) in
-    let peers_are : peers ≡ slice_set w.peers n o.after = o.left ∙ ap (λ (x : World). slice_set x.peers n o.after) s.left ∙ set_set w.peers n at o.after in
-    let made_is : all ≡ w.made ++ made_during (Some named) (gained p o.after) = e ∙ ap (λ (x : World). x.made ++ entered_of change flag) s.left ∙ ap (λ l. w.made ++ l) gain in
-    let used_is : used ≡ w.used ++ actor ∷ [] = f ∙ ap (λ (x : World). x.used ++ actor ∷ []) s.left in
+    ∙ ap (made_by made) (sym (gained_back p o.after (kept_bytes p at kept) whole i.cut.keep actor reply i.cut.recovers back))
+    ∙ sym (during_is w named made (gained p o.after) own.1) in
+    let peers_are : peers ≡ slice_set w.peers n o.after = o.left ∙ ap (λ (l : List PeerData). slice_set l n o.after) peers_at ∙ set_set w.peers n at o.after in
+    let made_is : all ≡ w.made ++ made_during (Some named) (gained p o.after) = e ∙ ap (λ (x : World). x.made ++ entered_of change flag) m_is ∙ ap (λ l. w.made ++ l) gain in
+    let used_is : used ≡ w.used ++ actor ∷ [] = f ∙ ap (λ (x : World). x.used ++ actor ∷ []) m_is in
     inr (
       record {
         before = p;
-        stands = s.stands;
+        stands = a.stands;
         at = at;
-        might = (made, answer, s.is, s.steps);
+        might = (made, answer, own.1, own.2);
         after = o.after;
         back = back;
       },
-      ap (λ (x : World). record x { peers = peers; made = all; used = used }) s.left
+      ap (λ (x : World). record x { peers = peers; made = all; used = used }) m_is
           ∙ crashed_world w n o.after peers all (made_during (Some named) (gained p o.after)) used actor peers_are made_is used_is,
     )
 

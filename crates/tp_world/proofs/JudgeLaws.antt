@@ -1,29 +1,6 @@
 -- From the tests of an event to whether it may happen, and else why not.
-use Rattle.std.proofs.Common.{◌≡◌, inl, inr, ℕ, ◌+◌, ◌==◌, ◌<◌, ◌≤◌, List, [], ◌∷◌, length, true, false, Bool, ◌||◌, not, nat_le, nat_lt, if◌then◌else◌, zero, suc, IsSome, Option, Some, None, refl, sym, ap, ◌∙◌, subst, arith}
-use Rattle.std.proofs.lemmas.Bool.Decides.{nat_tests}
-use Rattle.std.specs.Prelude.{MatchBool}
-use Rattle.std.specs.Option.{option_to_list}
-use Rattle.std.specs.List.{slice_get}
-use Rattle.tp_list.specs.Members.{In}
-use Rattle.tp_list.proofs.Tests.{both, both_left, both_right, never, or_left, or_right, truth}
-use Rattle.tp_opid.specs.declared.actor.Actor.{Actor}
+use Rattle.tp_world.proofs.Common.{◌≡◌, inl, inr, ℕ, ◌+◌, ◌==◌, ◌<◌, ◌≤◌, List, [], ◌∷◌, length, true, false, Bool, ◌||◌, not, nat_lt, if◌then◌else◌, zero, suc, IsSome, Option, Some, None, refl, sym, ap, ◌∙◌, subst, arith, nat_tests, MatchBool, option_to_list, slice_get, In, both, both_left, both_right, never, or_left, or_right, truth, Actor, same_actor-itself, same_actor-same, ChangeParts, hash_of, has, has-In, In-has, PeerData, WorldError, NoPeer, ActorUsed, ForeignChange, HashClash, Stopped, NoEntry, OutOfMemory, code_of, Carried, Event, entries_of, peers_of, running_of, IsRefusal, MayHappen, Passes, WouldMake, keeps_whole, World, edit_is_new, AllThere, IsFresh, PassesBefore, clashes_in, is_named, IsWould}
 use Rattle.tp_opid.specs.Same.{same_actor}
-use Rattle.tp_opid.proofs.Orders.{same_actor-itself, same_actor-same}
-use Rattle.tp_change.specs.declared.parts.ChangeParts.{ChangeParts}
-use Rattle.tp_change.specs.ChangeHash.{hash_of}
-use Rattle.tp_graph.specs.Named.{has}
-use Rattle.tp_graph.proofs.NamedLaws.{has-In, In-has}
-use Rattle.tp_peer.specs.PeerData.{PeerData}
-use Rattle.tp_headline.specs.declared.error.WorldError.{WorldError}
-use Rattle.tp_headline.specs.declared.error.WorldError.TheVariants.{NoPeer, ActorUsed, ForeignChange, HashClash, Stopped, NoEntry, OutOfMemory}
-use Rattle.tp_headline.specs.WorldError.{code_of}
-use Rattle.tp_headline.specs.Carried.{Carried}
-use Rattle.tp_headline.specs.Event.{Event, entries_of, peers_of, running_of}
-use Rattle.tp_headline.specs.Refusing.{IsRefusal, MayHappen, Passes, WouldMake, keeps_whole}
-use Rattle.tp_headline.specs.World.{World}
-use Rattle.tp_headline.proofs.MakingLaws.{edit_is_new}
-use Rattle.tp_world.specs.Judging.{AllThere, IsFresh, PassesBefore, clashes_in, is_named}
-use Rattle.tp_world.specs.Making.{IsWould}
 use Rattle.tp_world.proofs.Happenings.{one_would}
 
 true-lt : (a b : ℕ) → nat_lt a b ≡ true → a < b

@@ -1,3 +1,4 @@
+pub mod Common
 pub mod RefusedEdits
 pub mod MemberLaws
 pub mod Happenings

@@ -1,61 +1,45 @@
 -- What calls on the peers of a world did.
-use Rattle.std.proofs.Common.{◌≡◌, inl, inr, ℕ, zero, suc, ◌^◌, ◌<◌, List, [], ◌∷◌, length, take, slice_set, Bool, true, false, cond, Some, Result, refl, sym, ap, ◌∙◌, subst, arith}
-use Rattle.std.specs.List.{slice_get}
-use Rattle.std.specs.Prelude.{MatchBool}
-use Rattle.tp_list.specs.Members.{AllIn}
-use Rattle.tp_opid.specs.declared.actor.Actor.{Actor}
-use Rattle.tp_opid.specs.declared.doc_id.DocId.{DocId}
-use Rattle.tp_change.specs.declared.parts.ChangeParts.{ChangeParts}
-use Rattle.tp_change.specs.ChangeHash.{hash_of}
+use Rattle.tp_world.proofs.Common.{◌≡◌, inl, inr, ℕ, zero, suc, ◌^◌, ◌<◌, List, [], ◌∷◌, length, take, slice_set, Bool, true, false, ◌||◌, cond, Some, refl, sym, ap, ◌∙◌, subst, arith, MatchBool, slice_get, AllIn, Actor, DocId, ChangeParts, hash_of, has, In-has, journal, PeerError, PeerData, arming, opened, Merge, Merged, Refused, Runs, needs_stopped, Takes, journal_of, in_memory, slice_get-set, MergesAt, OpensAgainAt, OpensOn, left_with, or_right, neither}
 use Rattle.tp_document.specs.Merging.{absent}
-use Rattle.tp_graph.specs.Named.{has}
-use Rattle.tp_graph.proofs.NamedLaws.{In-has}
+use Rattle.tp_journal.specs.Journal.{no_device}
 use Rattle.tp_receive.proofs.TakingLaws.{Stops-still}
-use Rattle.tp_peer.specs.declared.error.PeerError.TheVariants.{JournalFailed, Stopped, Doc, OutOfMemory}
-use Rattle.tp_peer.specs.Appending.{AppendsRecord, RefusesRecord}
+use Rattle.tp_peer.specs.declared.error.PeerError.TheVariants.{ActorInUse, JournalFailed, JournalNotEmpty, Stopped, Doc, Store, OutOfMemory}
+use Rattle.tp_peer.specs.Appending.{AppendsRecord, JournalState, RefusesRecord}
+use Rattle.tp_peer.specs.Opening.{NotBegun, NotCopied, NotForked, NotReopened}
 use Rattle.tp_peer.specs.declared.call.Call.{Call as OwnCall}
-use Rattle.tp_peer.specs.declared.call.Call.TheVariants as own
 use Rattle.tp_peer.specs.Calls.{call_of}
-use Rattle.tp_peer.specs.PeerData.{PeerData, opened}
-use Rattle.tp_peer.specs.PeerStep.{Call, Merge, Reply, Merged, Refused, PeerStep, Runs, needs_stopped}
-use Rattle.tp_receive.specs.declared.error.ReceiveError.TheVariants as receive
+use Rattle.tp_peer.specs.PeerStep.{Call, Reply, PeerStep}
 use Rattle.tp_receive.specs.Intake.{begin}
-use Rattle.tp_receive.specs.Outcome as outcome
-use Rattle.tp_peer.specs.Taking.{Takes, journal_of}
-use Rattle.tp_peer.proofs.StepLaws.{either_stopped, none_stopped, step_runs, step_stopped}
-use Rattle.tp_headline.specs.Calling.{IsAlone, Steps}
+use Rattle.tp_peer.proofs.StepLaws.{step_runs, step_stopped}
 use Rattle.tp_headline.specs.Reply.{Reply as Told}
-use Rattle.tp_headline.proofs.PlaceLaws.{slice_get-set}
-use Rattle.tp_world.specs.Members.{MergesAt, OpensAgainAt, OpensOn, left_with}
+use Rattle.tp_peer.specs.declared.call.Call.TheVariants as own
+use Rattle.tp_receive.specs.declared.error.ReceiveError.TheVariants as receive
+use Rattle.tp_receive.specs.Outcome as outcome
 
 -- the same step, named otherwise
-pub steps_as : (p q p' q' : PeerData) (call : Call) (a b : Reply) → p ≡ q → a ≡ b → p' ≡ q' → Steps p call a p' → Steps q call b q'
+pub steps_as : (p q p' q' : PeerData) (call : Call) (a b : Reply) → p ≡ q → a ≡ b → p' ≡ q' → PeerStep p call a p' → PeerStep q call b q'
 steps_as p q p' q' call a b e f g h =
-    subst (λ (x : PeerData). Steps q call b x) g (subst (λ (r : Reply). Steps q call r p') f (subst (λ (x : PeerData). Steps x call a p') e h))
+    subst (λ (x : PeerData). PeerStep q call b x) g (subst (λ (r : Reply). PeerStep q call r p') f (subst (λ (x : PeerData). PeerStep x call a p') e h))
 
 -- a peer of which its journal is left answers that it has stopped
 pub left_steps : (p : PeerData) (id : DocId) (actor : Actor) (bytes : List ℕ) → p ≡ left_with id actor bytes → (call : Call) → needs_stopped (left_with id actor bytes) call ≡ true
-    → Steps p call (Refused Stopped) p
+    → PeerStep p call (Refused Stopped) p
 left_steps p id actor bytes e call h =
     let q = left_with id actor bytes in
-    subst (λ (x : PeerData). Steps x call (Refused Stopped) x) (sym e) (record { step = step_stopped q call h; no_failure = refl })
+    subst (λ (x : PeerData). PeerStep x call (Refused Stopped) x) (sym e) (step_stopped q call h)
 
 -- a call of the program asks for no other peer
 pub alone_stopped : (c : OwnCall) (p : PeerData) → needs_stopped p (call_of c) ≡ p.stopped
 alone_stopped (own.Receive link bytes) p = refl
 alone_stopped c p = refl
 
-pub is_alone : (c : OwnCall) → IsAlone (call_of c)
-is_alone (own.Receive link bytes) = tt
-is_alone c = tt
-
 -- one that takes from itself too, where it has stopped
-pub itself_stopped : (p : PeerData) → p.stopped ≡ true → p.failures ≡ 0 → Steps p (Merge p) (Refused Stopped) p
-itself_stopped p h quiet = record { step = step_stopped p (Merge p) (either_stopped p.stopped p.stopped h); no_failure = quiet }
+pub itself_stopped : (p : PeerData) → p.stopped ≡ true → PeerStep p (Merge p) (Refused Stopped) p
+itself_stopped p h = step_stopped p (Merge p) (or_right p.stopped p.stopped h)
 
 -- one that runs, where the other has stopped
-pub other_stopped : (p other : PeerData) → other.stopped ≡ true → p.failures ≡ 0 → Steps p (Merge other) (Refused Stopped) p
-other_stopped p other h quiet = record { step = step_stopped p (Merge other) (either_stopped p.stopped other.stopped h); no_failure = quiet }
+pub other_stopped : (p other : PeerData) → other.stopped ≡ true → PeerStep p (Merge other) (Refused Stopped) p
+other_stopped p other h = step_stopped p (Merge other) (or_right p.stopped other.stopped h)
 
 -- ---- merges from itself
 
@@ -74,7 +58,7 @@ runs_of : (p : PeerData) (call : Call) (reply : Reply) (p' : PeerData) → needs
 unfolding PeerStep
 runs_of p call reply p' e h = subst (λ b. MatchBool b ((reply ≡ Refused Stopped) × (p' ≡ p)) (Runs p call reply p')) e h
 
-empty_to_itself : (p : PeerData) (reply : Reply) (p' : PeerData) → Runs p (Merge (opened p.id p.actor [] 0)) reply p' → Runs p (Merge p) reply p'
+empty_to_itself : (p : PeerData) (reply : Reply) (p' : PeerData) → Runs p (Merge (opened p.id p.actor [] no_device)) reply p' → Runs p (Merge p) reply p'
 empty_to_itself p (Merged r) p' h = (refl, subst (λ K. Takes p K (outcome.Done r) p') (nothing_absent p.applied) h.1)
 empty_to_itself p (Refused (Doc e)) p' h = absurd (h.0.1 refl)
 empty_to_itself p (Refused JournalFailed) p' h = (refl, subst (λ K. Takes p K (outcome.Stopped receive.NotKept) p') (nothing_absent p.applied) h.1)
@@ -82,28 +66,40 @@ empty_to_itself p (Refused OutOfMemory) p' h = (refl, subst (λ K. Takes p K (ou
 empty_to_itself p _ p' h = absurd h
 
 -- what is taken from a peer with no changes is what is taken from itself
-pub takes_from_itself : (p empty : PeerData) (reply : Reply) (p' : PeerData) → p.stopped ≡ false → empty ≡ opened p.id p.actor [] 0 → Steps p (Merge empty) reply p' → Steps p (Merge p) reply p'
+pub takes_from_itself : (p empty : PeerData) (reply : Reply) (p' : PeerData) → p.stopped ≡ false → empty ≡ opened p.id p.actor [] no_device → PeerStep p (Merge empty) reply p' → PeerStep p (Merge p) reply p'
 takes_from_itself p empty reply p' runs is h =
-    let e = opened p.id p.actor [] 0 in
-    let steps = subst (λ (x : PeerData). Steps p (Merge x) reply p') is h in
-    record {
-      step = step_runs p (Merge p) reply p' (none_stopped p.stopped p.stopped runs runs)
-          (empty_to_itself p reply p' (runs_of p (Merge e) reply p' (none_stopped p.stopped e.stopped runs refl) steps.step));
-      no_failure = steps.no_failure;
-    }
+    let e = opened p.id p.actor [] no_device in
+    let steps = subst (λ (x : PeerData). PeerStep p (Merge x) reply p') is h in
+    step_runs p (Merge p) reply p' (neither p.stopped p.stopped runs runs) (empty_to_itself p reply p' (runs_of p (Merge e) reply p' (neither p.stopped e.stopped runs refl) steps))
 
 -- memory was refused before anything was taken
-pub takes_nothing : (p : PeerData) → p.stopped ≡ false → p.failures ≡ 0 → Steps p (Merge p) (Refused OutOfMemory) p
-takes_nothing p runs quiet = record {
-  step = step_runs p (Merge p) (Refused OutOfMemory) p (none_stopped p.stopped p.stopped runs runs) (
-    refl,
-    record {
-      receives = (λ full. refl, Stops-still AppendsRecord RefusesRecord (begin (journal_of p) p.applied p.waiting (absent p.applied p.applied)) (journal_of p) p.applied p.waiting refl refl refl);
-      left = refl;
-    },
-  );
-  no_failure = quiet;
-}
+pub takes_nothing : (p : PeerData) → p.stopped ≡ false → PeerStep p (Merge p) (Refused OutOfMemory) p
+takes_nothing p runs = step_runs p (Merge p) (Refused OutOfMemory) p (neither p.stopped p.stopped runs runs) (
+  refl,
+  record {
+    receives = (λ full. refl, Stops-still AppendsRecord RefusesRecord (begin (journal_of p) p.applied p.waiting (absent p.applied p.applied)) (journal_of p) p.applied p.waiting refl refl refl);
+    left = refl;
+  },
+)
+
+-- ---- devices that aren't to fail
+
+-- what is taken from a peer doesn't depend on its device
+takes_calm : (p q : PeerData) (can_fail : Bool) (reply : Reply) (p' : PeerData) → Runs p (Merge (arming q can_fail)) reply p' → Runs p (Merge q) reply p'
+takes_calm p q can_fail (Merged r) p' h = h
+takes_calm p q can_fail (Refused (Doc e)) p' h = h
+takes_calm p q can_fail (Refused JournalFailed) p' h = h
+takes_calm p q can_fail (Refused OutOfMemory) p' h = h
+takes_calm p q can_fail _ p' h = absurd h
+
+match_runs : (A B C : Type 0) (b : Bool) → (B → C) → MatchBool b A B → MatchBool b A C
+match_runs A B C true f h = h
+match_runs A B C false f h = f h
+
+pub merge_calm : (p q : PeerData) (can_fail : Bool) (reply : Reply) (p' : PeerData) → PeerStep p (Merge (arming q can_fail)) reply p' → PeerStep p (Merge q) reply p'
+unfolding PeerStep
+merge_calm p q can_fail reply p' h =
+    match_runs ((reply ≡ Refused Stopped) × (p' ≡ p)) (Runs p (Merge (arming q can_fail)) reply p') (Runs p (Merge q) reply p') (p.stopped || q.stopped) (takes_calm p q can_fail reply p') h
 
 -- ---- by their numbers
 
@@ -114,7 +110,7 @@ set_set (a ∷ xs) (suc n) x y = ap (λ l. a ∷ l) (set_set xs n x y)
 
 -- a peer that was taken out took from another one, and was put back
 pub merge_other : (peers mid after : List PeerData) (n m : ℕ) (p nobody other p' : PeerData) (answer : Reply) → slice_get peers n ≡ Some p → mid ≡ slice_set peers n nobody → slice_get mid m ≡ Some other
-    → (n ≡ m → ⊥) → Steps p (Merge other) answer p' → after ≡ slice_set mid n p' → MergesAt peers n m answer after
+    → (n ≡ m → ⊥) → PeerStep p (Merge other) answer p' → after ≡ slice_set mid n p' → MergesAt peers n m answer after
 merge_other peers mid after n m p nobody other p' answer stands out there apart steps back = record {
   other = other;
   there = elim (slice_get-set peers n m nobody other (subst (λ l. slice_get l m ≡ Some other) out there)) [
@@ -151,6 +147,6 @@ set_below xs ys n m x e h = subst (λ l. m < length l) (sym e) (below xs n m x h
   below (a ∷ xs) (suc n) (suc m) x h = let more = below xs n m x (omega arith) in omega arith
 
 -- what is taken from itself is what is taken from what it is
-pub steps_itself : (p q p' q' : PeerData) (a b : Reply) → p ≡ q → a ≡ b → p' ≡ q' → Steps p (Merge p) a p' → Steps q (Merge q) b q'
+pub steps_itself : (p q p' q' : PeerData) (a b : Reply) → p ≡ q → a ≡ b → p' ≡ q' → PeerStep p (Merge p) a p' → PeerStep q (Merge q) b q'
 steps_itself p q p' q' a b e f g h =
-    subst (λ (x : PeerData). Steps q (Merge q) b x) g (subst (λ (r : Reply). Steps q (Merge q) r p') f (subst (λ (x : PeerData). Steps x (Merge x) a p') e h))
+    subst (λ (x : PeerData). PeerStep q (Merge q) b x) g (subst (λ (r : Reply). PeerStep q (Merge q) r p') f (subst (λ (x : PeerData). PeerStep x (Merge x) a p') e h))

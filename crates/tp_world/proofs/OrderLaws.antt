@@ -1,25 +1,14 @@
 -- The changes that were made, entered one after another.
-use Rattle.std.proofs.Common.{◌≡◌, ℕ, zero, suc, ◌+◌, ◌<◌, List, [], ◌∷◌, ◌++◌, length, take, drop, get_or, Some, None, sym, ap, ◌∙◌, subst, add-one, arith, take-append-drop}
-use Rattle.std.specs.List.{slice_get}
-use Rattle.std.specs.Option.{option_map}
+use Rattle.tp_world.proofs.Common.{◌≡◌, ℕ, zero, suc, ◌+◌, ◌<◌, List, [], ◌∷◌, ◌++◌, length, take, drop, get_or, Some, None, sym, ap, ◌∙◌, subst, add-one, arith, take-append-drop, slice_get, option_map, element_of, pairs_of, take_more, Insert, ChangeParts, inserts, IsInOrder, Sound, Fits-at, Sound-prefix}
+use Rattle.std.proofs.Math.Seq.{drop-cons}
+use Rattle.tp_graph.proofs.TreeLaws.{inserts_tree}
 use Rattle.tp_opid.specs.declared.op_id.OpId.{OpId}
 use Rattle.tp_rga.specs.declared.element.Element.{Element}
-use Rattle.tp_rga.specs.Shown.{element_of}
-use Rattle.tp_world.specs.Order.{pairs_of}
-use Rattle.std.proofs.lemmas.List.{take_more}
-use Rattle.std.proofs.Math.Seq.{drop-cons}
-use Rattle.tp_opid.specs.Insert.{Insert}
-use Rattle.tp_change.specs.declared.parts.ChangeParts.{ChangeParts}
-use Rattle.tp_change.specs.Elements.{inserts}
 use Rattle.tp_change.specs.Operations.{ops_of}
 use Rattle.tp_change.proofs.ElementLaws.{inserts-push}
-use Rattle.tp_rga.specs.Order.{IsInOrder}
 use Rattle.tp_text.specs.Applying.{CanApply, Extends}
 use Rattle.tp_text.proofs.Applied.{CanApply-same}
 use Rattle.tp_document.proofs.SoundText.{CanApply-fits}
-use Rattle.tp_graph.specs.Sound.{Sound}
-use Rattle.tp_graph.proofs.SoundLaws.{Fits-at, Sound-prefix}
-use Rattle.tp_graph.proofs.TreeLaws.{inserts_tree}
 
 split_at : (C : List ChangeParts) (i : ℕ) (x : ChangeParts) → i < length C → x ≡ get_or C i x → C ≡ take i C ++ x ∷ drop (i + 1) C
 split_at C i x lt is =

@@ -1,61 +1,18 @@
 -- A refused edit makes no change.
-use Rattle.std.proofs.Common.{◌≡◌, ℕ, ◌+◌, ◌<◌, ◌≤◌, inl, inr, List, [], ◌∷◌, ◌++◌, length, refl, sym, ap, ◌∙◌, subst, arith}
-use Rattle.std.specs.Prelude.{encode_utf8_all}
-use Rattle.std.proofs.lemmas.List.{length-append, length-map}
-use Rattle.tp_list.proofs.Tests.{never}
-use Rattle.tp_opid.specs.declared.actor.Actor.{Actor}
-use Rattle.tp_opid.specs.declared.hash.Hash.{Hash}
-use Rattle.tp_opid.specs.Insert.{Insert}
-use Rattle.tp_change.specs.declared.parts.ChangeParts.{ChangeParts}
-use Rattle.tp_change.specs.declared.record.Record.{Record}
-use Rattle.tp_change.specs.ChangeHash.{hash_of}
-use Rattle.tp_change.specs.Elements.{inserts, deletes, next_counter}
+use Rattle.tp_world.proofs.Common.{◌≡◌, ℕ, ◌+◌, ◌<◌, ◌≤◌, inl, inr, List, [], ◌∷◌, ◌++◌, length, refl, sym, ap, ◌∙◌, subst, arith, encode_utf8_all, length-append, length-map, never, Actor, Insert, ChangeParts, hash_of, deletes, next_counter, spelling, shown, has, Sound, IsHistory, PeerData, Edit, IsRunningEdit}
 use Rattle.tp_change.specs.Operations as operations
-use Rattle.tp_change.specs.Spelling.{spelling}
-use Rattle.tp_rga.specs.Shown.{shown}
-use Rattle.tp_rga.proofs.OneOrder.{one_order}
 use Rattle.tp_graph.specs.Fit.{most_changes}
-use Rattle.tp_graph.specs.Named.{has}
 use Rattle.tp_graph.proofs.KeptLaws.{Fits-from_cause}
-use Rattle.tp_graph.proofs.TreeLaws.{inserts_tree}
-use Rattle.tp_graph.specs.Sound.{Sound}
 use Rattle.tp_edit.specs.Splices.{AllInRange, total_count}
-use Rattle.tp_edit.specs.EditRecords.{records_of, visible_ids}
+use Rattle.tp_edit.specs.EditRecords.{visible_ids}
 use Rattle.tp_edit.proofs.RecordLimits.{count_of-records_of}
 use Rattle.tp_document.specs.declared.error.DocError.{DocError}
 use Rattle.tp_document.specs.declared.error.DocError.TheVariants.{OutOfRange, CounterLimit, TooManyOps, TooManyHeads, UnknownHead, UnknownElement, PendingFull, HashTaken, OutOfMemory, OtherDocument, TooLong, Full, NotKept}
-use Rattle.tp_document.specs.Editing.{Asked, Edited, IsEdit, IsRefused, IsTooLong, asking}
-use Rattle.tp_document.proofs.EditFits.{range_of}
+use Rattle.tp_document.specs.Editing.{Asked, Edited, IsRefused, IsTooLong, asking}
+use Rattle.tp_document.proofs.EditFits.{range_of, edit_determined}
 use Rattle.tp_document.proofs.ShowingLaws.{one_text}
 use Rattle.tp_edit.specs.declared.splice.Splice.{Splice}
-use Rattle.tp_journal.specs.Recovery.{IsHistory}
-use Rattle.tp_peer.specs.PeerData.{PeerData}
-use Rattle.tp_peer.specs.PeerStep.{Edit}
-use Rattle.tp_world.specs.Making.{IsRunningEdit}
 use Rattle.tp_journal.proofs.HistoryLaws.{history_push}
-
--- ---- what an edit asks determines its change
-
-parts_of : Actor → ℕ → ℕ → ℕ → List ℕ → List Hash → List Record → ChangeParts
-parts_of a seq start time message deps records = record { actor = a; seq = seq; start = start; time = time; message = message; deps = deps; records = records }
-
-same_parts : (c d : ChangeParts) → c.actor ≡ d.actor → c.seq ≡ d.seq → c.start ≡ d.start → c.time ≡ d.time → c.message ≡ d.message → c.deps ≡ d.deps → c.records ≡ d.records → c ≡ d
-unfolding parts_of
-same_parts c d a s n t m h r =
-    let one : c ≡ parts_of d.actor c.seq c.start c.time c.message c.deps c.records = ap (λ x. parts_of x c.seq c.start c.time c.message c.deps c.records) a in
-    let two : parts_of d.actor c.seq c.start c.time c.message c.deps c.records ≡ parts_of d.actor d.seq d.start c.time c.message c.deps c.records =
-    ap (λ x. parts_of d.actor x c.start c.time c.message c.deps c.records) s ∙ ap (λ x. parts_of d.actor d.seq x c.time c.message c.deps c.records) n in
-    let three : parts_of d.actor d.seq d.start c.time c.message c.deps c.records ≡ parts_of d.actor d.seq d.start d.time d.message c.deps c.records =
-    ap (λ x. parts_of d.actor d.seq d.start x c.message c.deps c.records) t ∙ ap (λ x. parts_of d.actor d.seq d.start d.time x c.deps c.records) m in
-    let four : parts_of d.actor d.seq d.start d.time d.message c.deps c.records ≡ d =
-    ap (λ x. parts_of d.actor d.seq d.start d.time d.message x c.records) h ∙ ap (λ x. parts_of d.actor d.seq d.start d.time d.message d.deps x) r in
-    one ∙ two ∙ three ∙ four
-
-edit_is_one : (C : List ChangeParts) (asked : Asked) (c d : ChangeParts) → Sound C → IsEdit C asked c → IsEdit C asked d → c ≡ d
-edit_is_one C asked c d s e f =
-    let same = one_order (inserts C) e.elements f.elements (inserts_tree C s) e.order f.order in
-    same_parts c d (e.actor ∙ sym f.actor) (e.seq ∙ sym f.seq) (e.start ∙ sym f.start) (e.time ∙ sym f.time) (e.message ∙ sym f.message) (e.deps ∙ sym f.deps)
-    (e.records ∙ ap (λ L. records_of asked.actor (next_counter C) (visible_ids (deletes C) L) asked.splices) same ∙ sym f.records)
 
 -- ---- each refusal
 
@@ -78,7 +35,7 @@ too_long : (C : List ChangeParts) (asked : Asked) (c : ChangeParts) → Sound C 
 too_long C asked c s x (inl message) =
     above 65535 (length (encode_utf8_all asked.message)) (length (encode_utf8_all c.message)) message x.limits.message.bytes (ap (λ m. length (encode_utf8_all m)) x.edit.message)
 too_long C asked c s x (inr long) =
-    let same = edit_is_one C asked c long.0 s x.edit long.1 in
+    let same = edit_determined C asked c long.0 s x.edit long.1 in
     above 4194304 (length (spelling long.0)) (length (spelling c)) long.2 x.limits.size (ap (λ d. length (spelling d)) same)
 
 full : (C : List ChangeParts) (c : ChangeParts) → IsHistory (C ++ c ∷ []) → length C ≡ most_changes → ⊥
@@ -97,7 +54,7 @@ not_refused C asked c TooLong h x other r = too_long C asked c h.sound x r.1
 not_refused C asked c Full h x other r = full C c (history_push C c h x.limits x.enters) r.1
 not_refused C asked c HashTaken h x other r =
     let taken = r.2 in
-    let same = edit_is_one C asked c taken.0 h.sound x.edit taken.1 in
+    let same = edit_determined C asked c taken.0 h.sound x.edit taken.1 in
     never (ap (λ d. has C (hash_of d)) same ∙ taken.2) (Fits-from_cause C c x.enters).new
 not_refused C asked c UnknownHead h x other r = r
 not_refused C asked c UnknownElement h x other r = r

@@ -1,15 +1,10 @@
 -- Runs of a world, event by event.
-use Rattle.std.proofs.Common.{◌≡◌, ℕ, ◌+◌, ◌<◌, ◌≤◌, List, [], ◌∷◌, ◌++◌, length, take, map, get_or, refl, sym, ap, ◌∙◌, subst}
-use Rattle.std.proofs.lemmas.List.{map-append, take_all, take_more}
+use Rattle.tp_world.proofs.Common.{◌≡◌, ℕ, ◌+◌, ◌<◌, ◌≤◌, List, [], ◌∷◌, ◌++◌, length, take, map, get_or, refl, sym, ap, ◌∙◌, subst, map-append, take_all, take_more, Next, GoesOnWith, Met, World, event_of, reply_of}
 use Rattle.tp_list.proofs.TraceLaws.{trace_push}
 use Rattle.tp_headline.specs.Event as event
-use Rattle.tp_headline.specs.Happening.{Next}
 use Rattle.tp_headline.specs.Reply as reply
-use Rattle.tp_headline.specs.Running.{GoesOnWith, Met}
-use Rattle.tp_headline.specs.World.{World}
 use Rattle.tp_world.specs.declared.event.Event.{Event}
 use Rattle.tp_world.specs.declared.reply.Reply.{Reply}
-use Rattle.tp_world.specs.Told.{event_of, reply_of}
 
 -- nothing happened yet
 pub goes_none : (w : World) (R : List Reply) → R ≡ [] → GoesOnWith w [] (map reply_of R) w

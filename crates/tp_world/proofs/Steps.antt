@@ -1,16 +1,6 @@
 -- Steps of a world that is carried.
-use Rattle.std.proofs.Common.{inl, inr, List, refl}
-use Rattle.tp_headline.specs.declared.error.WorldError.{WorldError}
-use Rattle.tp_headline.specs.declared.error.WorldError.TheVariants.{OutOfMemory}
-use Rattle.tp_headline.specs.Carried.{Carried}
-use Rattle.tp_headline.specs.Event.{Event}
-use Rattle.tp_headline.specs.Happening.{Next}
-use Rattle.tp_headline.specs.Refusing.{IsRefusal, MayHappen}
-use Rattle.tp_headline.specs.Reply.{Reply, Refused}
-use Rattle.tp_headline.specs.Running.{GoesOnWith}
-use Rattle.tp_headline.specs.World.{World}
-use Rattle.tp_headline.proofs.EventLaws.{goes_on_carries, next_carries}
-use Rattle.tp_world.specs.Judging.{Meets}
+use Rattle.tp_world.proofs.Common.{inl, inr, List, refl, WorldError, OutOfMemory, Carried, Event, Next, IsRefusal, MayHappen, Reply, GoesOnWith, World, goes_on_carries, next_carries, Meets}
+use Rattle.tp_headline.specs.Reply.{Refused}
 
 -- an event that may happen, and did or was refused memory
 pub meets_next : (w : World) (e : Event) (reply : Reply) (w' : World) → MayHappen w e → Meets w e reply w' → Next w e reply w'

@@ -1,20 +1,5 @@
 -- What the tests of an event say, each after those before it.
-use Rattle.std.proofs.Common.{◌≡◌, ℕ, ◌+◌, List, true, false, Bool, Option, Some, None, Result, Ok, Err, refl, sym, ◌∙◌, subst}
-use Rattle.std.specs.Prelude.{IfOk, MatchBool}
-use Rattle.tp_list.specs.Members.{AllIn}
-use Rattle.tp_opid.specs.declared.actor.Actor.{Actor}
-use Rattle.tp_change.specs.declared.parts.ChangeParts.{ChangeParts}
-use Rattle.tp_peer.specs.Laws.{changes_in}
-use Rattle.tp_peer.specs.PeerData.{PeerData}
-use Rattle.tp_headline.specs.declared.error.WorldError.{WorldError}
-use Rattle.tp_headline.specs.declared.error.WorldError.TheVariants.{NoPeer, ActorUsed, ForeignChange, HashClash, Stopped, NoEntry}
-use Rattle.tp_headline.specs.WorldError.{code_of}
-use Rattle.tp_headline.specs.Carried.{Carried}
-use Rattle.tp_headline.specs.Event.{Event, actor_of, bytes_of, entries_of, peers_of, running_of}
-use Rattle.tp_headline.specs.Refusing.{IsRefusal, Passes}
-use Rattle.tp_headline.specs.World.{Entry, World}
-use Rattle.tp_world.specs.Judging.{AllRun, AllThere, IsFresh, Judges, PassesBefore, clashes_in}
-use Rattle.tp_world.specs.Making.{IsWould}
+use Rattle.tp_world.proofs.Common.{◌≡◌, ℕ, ◌+◌, List, true, false, Bool, Option, Some, Result, Ok, Err, refl, sym, ◌∙◌, subst, IfOk, MatchBool, AllIn, Actor, ChangeParts, changes_in, PeerData, WorldError, NoPeer, ActorUsed, ForeignChange, HashClash, Stopped, NoEntry, code_of, Carried, Event, actor_of, bytes_of, entries_of, peers_of, running_of, IsRefusal, Passes, Entry, World, AllRun, AllThere, IsFresh, Judges, PassesBefore, clashes_in, IsWould}
 use Rattle.tp_world.proofs.JudgeLaws.{a_clash, fails_first, no_clash, passes_next}
 
 passes_if : (w : World) (e : Event) (why : WorldError) (b : Bool) → Judges w e why b → b ≡ true → Passes w e why
@@ -71,7 +56,3 @@ judges_bytes w e bytes at (Ok true) brings same all = λ other is.
     subst (λ (b : List ℕ). AllIn (changes_in b) w.made) one (subst (λ (l : List ChangeParts). AllIn (changes_in bytes) l) same all)
 judges_bytes w e bytes at (Ok false) brings same none = λ passes. none (subst (λ (l : List ChangeParts). AllIn (changes_in bytes) l) (sym same) (passes bytes brings))
 judges_bytes w e bytes at (Err x) brings same h = tt
-
--- it brings no bytes of any origin
-pub brings_none : (w : World) (e : Event) → bytes_of e ≡ None → Passes w e ForeignChange
-brings_none w e none bytes is = absurd (let same : None ≡ Some bytes = sym none ∙ is in cc)

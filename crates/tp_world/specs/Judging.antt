@@ -1,23 +1,15 @@
 -- What an event names, and what is asked of it before it happens.
-use Rattle.std.specs.Prelude.{◌≡◌, ◌⊎◌, ℕ, ◌<◌, List, [], ◌∷◌, ◌++◌, Bool, true, false, length, nat_le, ◌&&◌, ◌||◌, Option, Some, None, IsSome, MatchBool}
-use Rattle.std.specs.List.{slice_get}
+use Rattle.std.specs.Prelude.{◌≡◌, ◌⊎◌, ℕ, ◌<◌, List, [], ◌∷◌, ◌++◌, Bool, false, ◌&&◌, ◌||◌, Option, Some, None, IsSome, MatchBool}
+use Rattle.tp_world.specs.Common.{slice_get, Actor, ChangeParts, PeerData, OutOfMemory, Event, Passes, keeps_whole, Reply, Refused, World}
 use Rattle.std.specs.Option.{option_to_list}
 use Rattle.tp_list.specs.Members.{In}
-use Rattle.tp_opid.specs.declared.actor.Actor.{Actor}
 use Rattle.tp_opid.specs.Same.{same_actor}
-use Rattle.tp_change.specs.declared.parts.ChangeParts.{ChangeParts}
 use Rattle.tp_change.specs.ChangeHash.{hash_of}
 use Rattle.tp_graph.specs.Named.{has}
-use Rattle.tp_peer.specs.PeerData.{PeerData}
 use Rattle.tp_peer.specs.PeerStep as peer
 use Rattle.tp_headline.specs.declared.error.WorldError.{WorldError}
-use Rattle.tp_headline.specs.declared.error.WorldError.TheVariants.{OutOfMemory}
 use Rattle.tp_headline.specs.WorldError.{code_of}
-use Rattle.tp_headline.specs.Event.{Event}
 use Rattle.tp_headline.specs.Happening.{Happens}
-use Rattle.tp_headline.specs.Refusing.{Passes, keeps_whole}
-use Rattle.tp_headline.specs.Reply.{Reply, Refused}
-use Rattle.tp_headline.specs.World.{World}
 use Rattle.tp_world.specs.Making.{IsRunningEdit}
 
 -- the numbers of two peers at most

@@ -1,3 +1,4 @@
+pub mod Common
 pub mod Told
 pub mod Members
 pub mod Lives

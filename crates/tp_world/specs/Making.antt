@@ -1,20 +1,11 @@
 -- The change that an event would make, and what is noted of an answer.
 use Rattle.std.specs.Prelude.{◌≡◌, ◌⊎◌, ℕ, List, [], ◌∷◌, ◌++◌, length, Bool, true, false, nat_le, Option, Some, None, Result, Ok, Err}
-use Rattle.tp_opid.specs.declared.actor.Actor.{Actor}
+use Rattle.tp_world.specs.Common.{Actor, ChangeParts, PeerError, PeerData, OutOfMemory, IsCall, heads_at, noting, Event, IsEditOf, WouldEdit, Reply, Peer, Answered, Refused, reply_to, World, HasPeer, with_new_peer, with_peer, with_used}
 use Rattle.tp_opid.specs.declared.hash.Hash.{Hash}
-use Rattle.tp_change.specs.declared.parts.ChangeParts.{ChangeParts}
 use Rattle.tp_graph.specs.Heads.{heads}
 use Rattle.tp_journal.specs.Layout.{record_of}
-use Rattle.tp_peer.specs.declared.error.PeerError.{PeerError}
-use Rattle.tp_peer.specs.PeerData.{PeerData}
 use Rattle.tp_peer.specs.PeerStep as peer
-use Rattle.tp_headline.specs.declared.error.WorldError.TheVariants.{OutOfMemory}
 use Rattle.tp_headline.specs.Call as call
-use Rattle.tp_headline.specs.Calling.{IsCall, Steps, heads_at, noting}
-use Rattle.tp_headline.specs.Event.{Event}
-use Rattle.tp_headline.specs.Refusing.{IsEditOf, WouldEdit}
-use Rattle.tp_headline.specs.Reply.{Reply, Peer, Answered, Refused, reply_to}
-use Rattle.tp_headline.specs.World.{World, HasPeer, with_new_peer, with_peer, with_used}
 
 -- c is the change of an edit of the peer, which runs.
 pub record IsRunningEdit (p : PeerData) (made : peer.Call) (c : ChangeParts) : Type 0 where
@@ -59,7 +50,7 @@ pub record AnswersAt (w : World) (n : ℕ) (named : call.Call) (answer : peer.Re
   pub made : peer.Call
   pub is : IsCall w named made
   pub after : PeerData
-  pub steps : Steps before made answer after
+  pub steps : peer.PeerStep before made answer after
   pub left : w' ≡ with_peer w n after
 
 -- The answer was noted, or memory for the text that was read was refused and nothing changed.

@@ -1,16 +1,11 @@
 -- The peers of a world, by their numbers, and what becomes of one that crashes.
-use Rattle.std.specs.Prelude.{◌≡◌, ◌⊎◌, ℕ, ◌<◌, ◌^◌, List, [], length, take, slice_set, true, Option, Some, None, Result, Ok, Err}
-use Rattle.std.specs.List.{slice_get}
-use Rattle.tp_opid.specs.declared.actor.Actor.{Actor}
+use Rattle.std.specs.Prelude.{◌≡◌, ◌⊎◌, ℕ, ◌<◌, ◌^◌, List, [], length, take, slice_set, Bool, true, Option, Some, None, Result, Ok, Err}
+use Rattle.tp_world.specs.Common.{slice_get, Actor, ChangeParts, PeerError, PeerData, arming, in_memory, Reply, Answered, Reopened}
 use Rattle.tp_opid.specs.declared.doc_id.DocId.{DocId}
-use Rattle.tp_change.specs.declared.parts.ChangeParts.{ChangeParts}
+use Rattle.tp_journal.specs.Journal.{no_device}
 use Rattle.tp_journal.specs.Recovery.{recovered}
-use Rattle.tp_peer.specs.declared.error.PeerError.{PeerError}
 use Rattle.tp_peer.specs.Opening.{Forks, NotForked, NotReopened, Reopens}
-use Rattle.tp_peer.specs.PeerData.{PeerData}
 use Rattle.tp_peer.specs.PeerStep as peer
-use Rattle.tp_headline.specs.Calling.{Steps, in_memory}
-use Rattle.tp_headline.specs.Reply.{Reply, Answered, Reopened}
 
 -- the changes that were recovered, if any
 abbrev pub changes_in : Option (DocId × List ChangeParts × ℕ) → List ChangeParts
@@ -21,7 +16,7 @@ changes_in (Some x) = x.1
 -- links
 abbrev pub left_with : DocId → Actor → List ℕ → PeerData
 left_with id actor bytes =
-    record { id = id; actor = actor; applied = changes_in (recovered bytes); waiting = []; links = []; journal = bytes; failures = 0; stopped = true }
+    record { id = id; actor = actor; applied = changes_in (recovered bytes); waiting = []; links = []; journal = bytes; device = no_device; stopped = true }
 
 -- What a peer comes to, of this document and actor, where the bytes were opened again under another actor: one that
 -- runs, or what is left of it.
@@ -43,7 +38,7 @@ pub record StepsAt (peers : List PeerData) (n : ℕ) (call : peer.Call) (answer 
   pub before : PeerData
   pub stands : slice_get peers n ≡ Some before
   pub after : PeerData
-  pub steps : Steps before call answer after
+  pub steps : peer.PeerStep before call answer after
   pub left : peers' ≡ slice_set peers n after
 
 -- A merge into the peer numbered n from that numbered m.
@@ -51,6 +46,12 @@ pub record MergesAt (peers : List PeerData) (n m : ℕ) (answer : peer.Reply) (p
   pub other : PeerData
   pub there : slice_get peers m ≡ Some other
   pub at : StepsAt peers n (peer.Merge other) answer peers'
+
+-- The device of the peer numbered n is set to fail, or not to, and nothing else changed.
+pub record ArmsAt (peers : List PeerData) (n : ℕ) (can_fail : Bool) (peers' : List PeerData) : Type 0 where
+  pub before : PeerData
+  pub stands : slice_get peers n ≡ Some before
+  pub left : peers' ≡ slice_set peers n (arming before can_fail)
 
 -- The journal of the peer numbered n kept `keep` bytes at most, and was opened again under the actor.
 pub record OpensAgainAt (peers : List PeerData) (n keep : ℕ) (actor : Actor) (reply : Reply) (peers' : List PeerData) : Type 0 where

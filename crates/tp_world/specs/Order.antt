@@ -1,8 +1,8 @@
 -- The one list of all elements.
 use Rattle.std.specs.Prelude.{◌≡◌, ℕ, List, map}
+use Rattle.tp_world.specs.Common.{ChangeParts}
 use Rattle.tp_opid.specs.declared.op_id.OpId.{OpId}
 use Rattle.tp_opid.specs.Insert.{Insert}
-use Rattle.tp_change.specs.declared.parts.ChangeParts.{ChangeParts}
 use Rattle.tp_change.specs.Elements.{inserts}
 use Rattle.tp_rga.specs.Order.{IsInOrder}
 

@@ -1,5 +1,5 @@
 -- The world that its parts make.
-use Rattle.tp_headline.specs.World.{World}
+use Rattle.tp_world.specs.Common.{World}
 use Rattle.tp_world.specs.declared.state.State.{State}
 
 abbrev pub world_of : State → World

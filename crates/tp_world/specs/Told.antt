@@ -32,6 +32,7 @@ event_of (happened.Start actor) = event.Start actor
 event_of (happened.Fork of actor) = event.Fork of actor
 event_of (happened.Call peer made) = event.Call peer (call_of made)
 event_of (happened.Crash peer during kept actor) = event.Crash peer (during_of during) kept actor
+event_of (happened.Fail peer kept) = event.Fail peer kept
 
 -- what a peer answered
 abbrev pub answer_of : Answer → peer.Reply
@@ -43,5 +44,6 @@ abbrev pub reply_of : Reply → reply.Reply
 reply_of (told.Peer n) = reply.Peer n
 reply_of (told.Wire n) = reply.Wire n
 reply_of told.Reopened = reply.Reopened
+reply_of told.Armed = reply.Armed
 reply_of (told.Answered answer) = reply.Answered (answer_of answer)
 reply_of (told.Refused why) = reply.Refused why

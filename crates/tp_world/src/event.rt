@@ -56,4 +56,12 @@ pub enum Event<'a> {
         /// The actor under which it is opened.
         actor: Actor,
     },
+    /// The device of a peer's journal is to fail in the next append, in whatever call that is. A crash before takes that
+    /// away. It takes the place of one before.
+    Fail {
+        /// The peer's number.
+        peer: usize,
+        /// How many bytes of what is appended the journal keeps, all where there are fewer.
+        kept: u64,
+    },
 }

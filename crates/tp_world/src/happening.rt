@@ -17,7 +17,9 @@ ghost use Rattle.tp_world.specs.Told.{answer_of, call_of, during_of, event_of, r
 use crate::entry::Entry;
 use crate::event::{Call, Event};
 use crate::member::{Member, record_len};
-use crate::members::{call_at, fork_at, heads_at, journal_len_at, merge_at, receive_at, reopen_at};
+use crate::members::{
+    arm_at, call_at, disarm_at, fork_at, heads_at, journal_len_at, merge_at, receive_at, reopen_at,
+};
 use crate::read_record::ReadRecord;
 use crate::reply::{Answer, Reply};
 use crate::state::State;
@@ -189,7 +191,8 @@ impl State {
         }
     }
 
-    // A peer makes a call. The change is the one that it would make.
+    // A peer makes a call. The change is the one that it would make: it counts as made where its whole record is in the
+    // journal then, also where the device failed.
     fn call(&mut self, n: usize, call: Call, change: Option<Change>) -> Reply
         requires carried { Carried (world_of self.old) }
         requires may { MayHappen (world_of self.old) (events.Call n (call_of call)) }
@@ -210,8 +213,11 @@ impl State {
             Ok(heads) => heads,
             Err(_) => return Reply::Refused(WorldError::OutOfMemory),
         };
+        let before = journal_len_at(&self.peers, n);
         let answer = self.answer(n, call);
-        add_if(&mut self.made, change, answer.is_made());
+        let grown = journal_len_at(&self.peers, n).saturating_sub(before);
+        let whole = is_kept(&change, grown);
+        add_if(&mut self.made, change, whole);
         self.note(n, heads, answer)
     }
 
@@ -255,11 +261,12 @@ impl State {
         if self.made.reserve(1).is_err() {
             return Reply::Refused(WorldError::OutOfMemory);
         }
-        let len = journal_len_at(&self.peers, n).saturating_add(kept as usize);
+        disarm_at(&mut self.peers, n);
+        let len = journal_len_at(&self.peers, n).saturating_add(kept);
         let answer = self.answer(n, call);
         let whole = is_made_whole(&answer, &change, kept);
         add_if(&mut self.made, change, whole);
-        let opened = reopen_at(self.alloc, &mut self.peers, n, len, actor);
+        let opened = reopen_at(self.alloc, &mut self.peers, n, len as usize, actor);
         self.used.push_reserved(actor);
         opened
     }
@@ -287,6 +294,16 @@ impl State {
         }
     }
 
+    // The device of a peer's journal is to fail.
+    fn fail(&mut self, n: usize, kept: u64) -> Reply
+        requires { MayHappen (world_of self.old) (events.Fail n kept) }
+        ensures { Meets (world_of self.old) (events.Fail n kept) (reply_of result)
+            (world_of self.new) }
+    {
+        arm_at(&mut self.peers, n, kept);
+        Reply::Armed
+    }
+
     // The event happens. The change is that of the edit that it is, or during which a peer crashes in it.
     fn happen(&mut self, event: &Event, change: Option<Change>) -> Reply
         requires carried { Carried (world_of self.old) }
@@ -305,6 +322,7 @@ impl State {
                 kept,
                 actor,
             } => self.crash(*peer, *during, *kept, *actor, change),
+            Event::Fail { peer, kept } => self.fail(*peer, *kept),
         }
     }
 

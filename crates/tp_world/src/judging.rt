@@ -63,6 +63,7 @@ pub(crate) fn peers_of(event: &Event) -> (Option<usize>, Option<usize>)
     match event {
         Event::Start { .. } => (None, None),
         Event::Fork { of, .. } => (Some(*of), None),
+        Event::Fail { peer, .. } => (Some(*peer), None),
         Event::Call { peer, call } => (Some(*peer), named_by(call)),
         Event::Crash {
             peer,
@@ -84,6 +85,7 @@ pub(crate) fn running_of(event: &Event) -> (Option<usize>, Option<usize>)
     match event {
         Event::Start { .. } => (None, None),
         Event::Fork { of, .. } => (Some(*of), None),
+        Event::Fail { peer, .. } => (Some(*peer), None),
         Event::Call { peer, call } => (Some(*peer), needed_by(call)),
         Event::Crash { during: None, .. } => (None, None),
         Event::Crash {
@@ -136,6 +138,7 @@ pub(crate) fn actor_of(event: &Event) -> Option<Actor>
         Event::Start { actor } => Some(*actor),
         Event::Fork { actor, .. } => Some(*actor),
         Event::Call { .. } => None,
+        Event::Fail { .. } => None,
         Event::Crash { actor, .. } => Some(*actor),
     }
 }

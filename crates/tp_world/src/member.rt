@@ -1,15 +1,16 @@
 //! A peer of a world.
 
-ghost use Rattle.std.specs.Prelude.{◌≡◌, ◌<◌, ◌^◌, [], length, take, min, false, IfOk, IfErr, IsOkUnless};
+ghost use Rattle.std.specs.Prelude.{◌≡◌, ◌<◌, ◌^◌, [], length, take, true, false, None, IfOk, IfErr, IsOkUnless};
 ghost use Rattle.std.specs.Str.{chars};
 ghost use Rattle.tp_graph.specs.Heads.{heads};
-ghost use Rattle.tp_journal.specs.Layout.{header_of, record_of, records_of};
+ghost use Rattle.tp_journal.specs.Journal.{no_device};
+ghost use Rattle.tp_journal.specs.Layout.{header_of, record_of};
 ghost use Rattle.tp_peer.specs.Calls.{call_of, reply_of};
 ghost use Rattle.tp_peer.specs.Opening.{Forks, NotBegun, NotForked};
-ghost use Rattle.tp_peer.specs.PeerData.{opened};
-ghost use Rattle.tp_peer.specs.PeerStep.{Edit, Merge, Merged, replied};
+ghost use Rattle.tp_peer.specs.PeerData.{arming, opened};
+ghost use Rattle.tp_peer.specs.PeerStep.{Edit, Merge, Merged, PeerStep, replied};
 ghost use Rattle.tp_peer.specs.Taking.{report_of};
-ghost use Rattle.tp_headline.specs.Calling.{Steps, in_memory};
+ghost use Rattle.tp_headline.specs.Calling.{in_memory};
 ghost use Rattle.tp_headline.specs.declared.error.WorldError.TheVariants.{OutOfMemory};
 ghost use Rattle.tp_world.specs.Making.{IsJustEdit};
 ghost use Rattle.tp_world.specs.Members.{OpensOn, left_with};
@@ -22,18 +23,17 @@ use tp_change::Change;
 use tp_document::{Applied, DocError};
 use tp_edit::Splice;
 use tp_headline::WorldError;
-use tp_journal::{DIGEST_BYTES, HEADER_BYTES, MemJournal};
+use tp_journal::{DIGEST_BYTES, FuseJournal, MemJournal};
 use tp_opid::{Actor, DocId, Hash};
-use tp_peer::laws::a_peer_in_memory_never_fails;
 use tp_peer::{Call as PeerCall, Peer, PeerError, Reply as PeerReply};
 
 /// What has become of a peer.
 #[derive(Drop)]
 pub(crate) enum Life {
     /// It runs.
-    Running(Peer<MemJournal>),
+    Running(Peer<FuseJournal>),
     /// It crashed and wasn't opened again: its document's identifier, its actor, and its journal are left.
-    Stopped(DocId, Actor, MemJournal),
+    Stopped(DocId, Actor, FuseJournal),
 }
 
 /// A peer of a world, that runs or has stopped.
@@ -54,31 +54,19 @@ impl Model for Member {
     ghost view = { λ m. member_data m.life };
 }
 
-// The peer makes the call.
-fn call_running(peer: &mut Peer<MemJournal>, call: PeerCall) -> PeerReply
-    ensures { Steps peer.old (call_of call.entry) (reply_of result) peer.new }
+// A journal with the bytes, whose device isn't to fail.
+fn journal_with(bytes: Vec<u8>) -> FuseJournal
+    ensures content { result.content ≡ bytes.items }
+    ensures failures { result.failures ≡ 0 }
+    ensures append { result.append ≡ None }
+    ensures cut { result.cut ≡ false }
 {
-    let reply = peer.call(call);
-    a_peer_in_memory_never_fails(peer);
-    reply
-}
-
-// The peer takes what another one has.
-fn merge_running(
-    peer: &mut Peer<MemJournal>,
-    other: &Peer<MemJournal>,
-) -> Result<Applied, PeerError>
-    ensures { Steps peer.old (Merge other.now)
-        (replied (λ a. Merged (report_of a)) result) peer.new }
-{
-    let merged = peer.merge(other);
-    a_peer_in_memory_never_fails(peer);
-    merged
+    FuseJournal::new(MemJournal::new(bytes))
 }
 
 // The change that an edit of the peer would make, if any.
 fn edit_change_of(
-    peer: &Peer<MemJournal>,
+    peer: &Peer<FuseJournal>,
     splices: &[Splice],
     time: u64,
     message: &str,
@@ -103,8 +91,8 @@ fn edit_change_of(
 }
 
 // A peer with no changes, of the same document.
-fn empty_like(alloc: Global, peer: &Peer<MemJournal>) -> Result<Peer<MemJournal>, PeerError>
-    ensures ok { IfOk result (λ p. p ≡ opened peer.now.id peer.now.actor [] 0) }
+fn empty_like(alloc: Global, peer: &Peer<FuseJournal>) -> Result<Peer<MemJournal>, PeerError>
+    ensures ok { IfOk result (λ p. p ≡ opened peer.now.id peer.now.actor [] no_device) }
     ensures err { IsOkUnless result PeerError.OutOfMemory }
 {
     let id = peer.document().id();
@@ -116,16 +104,15 @@ fn empty_like(alloc: Global, peer: &Peer<MemJournal>) -> Result<Peer<MemJournal>
 
 // The peer takes what one with no changes has, which is what a merge from itself comes to: just what waits is tried
 // again.
-fn merge_nothing(alloc: Global, peer: &mut Peer<MemJournal>) -> Result<Applied, PeerError>
-    ensures { Steps peer.old (Merge peer.old)
+fn merge_nothing(alloc: Global, peer: &mut Peer<FuseJournal>) -> Result<Applied, PeerError>
+    ensures { PeerStep peer.old (Merge peer.old)
         (replied (λ a. Merged (report_of a)) result) peer.new }
 {
-    a_peer_in_memory_never_fails(peer);
     if peer.is_stopped() {
         return Err(PeerError::Stopped);
     }
     match empty_like(alloc, peer) {
-        Ok(empty) => merge_running(peer, &empty),
+        Ok(empty) => peer.merge(&empty),
         Err(error) => Err(error),
     }
 }
@@ -134,24 +121,13 @@ fn merge_nothing(alloc: Global, peer: &mut Peer<MemJournal>) -> Result<Applied, 
 fn open_again(alloc: Global, id: DocId, old: Actor, bytes: Vec<u8>, actor: Actor) -> (Member, Reply)
     ensures { OpensOn id old bytes.items actor (told result.1) result.0 }
 {
-    match Peer::reopen(alloc, MemJournal::new(bytes), actor) {
+    match Peer::reopen(alloc, journal_with(bytes), actor) {
         Ok(peer) => (Member::running(peer), Reply::Reopened),
         Err(unopened) => (
             Member::stopped(id, old, unopened.journal),
             Reply::unopened(unopened.error),
         ),
     }
-}
-
-// How many bytes the records of the changes have, or `usize::MAX`.
-fn records_len(changes: &[Change]) -> usize
-    ensures { result ≡ min usize.MAX (length (records_of changes.now)) }
-{
-    let mut len: usize = 0;
-    for change in changes {
-        len = len.saturating_add(record_len(change));
-    }
-    len
 }
 
 /// How many bytes the record of a change has.
@@ -163,20 +139,19 @@ pub(crate) fn record_len(change: &Change) -> usize
 }
 
 // The peer takes what another one of the world has.
-fn merge_member(peer: &mut Peer<MemJournal>, other: &Member) -> Result<Applied, PeerError>
-    ensures { Steps peer.old (Merge other.now)
+fn merge_member(peer: &mut Peer<FuseJournal>, other: &Member) -> Result<Applied, PeerError>
+    ensures { PeerStep peer.old (Merge other.now)
         (replied (λ a. Merged (report_of a)) result) peer.new }
 {
-    a_peer_in_memory_never_fails(peer);
     match &other.life {
-        Life::Running(other) => merge_running(peer, other),
+        Life::Running(other) => peer.merge(other),
         Life::Stopped(_, _, _) => Err(PeerError::Stopped),
     }
 }
 
 impl Member {
     // One that runs.
-    fn running(peer: Peer<MemJournal>) -> Member
+    fn running(peer: Peer<FuseJournal>) -> Member
         ensures { result ≡ peer }
     {
         Member {
@@ -185,8 +160,8 @@ impl Member {
     }
 
     // One of which its journal is left.
-    fn stopped(id: DocId, actor: Actor, journal: MemJournal) -> Member
-        ensures { result ≡ left_with id actor journal }
+    fn stopped(id: DocId, actor: Actor, journal: FuseJournal) -> Member
+        ensures { result ≡ left_with id actor journal.content }
     {
         Member {
             life: Life::Stopped(id, actor, journal),
@@ -195,10 +170,10 @@ impl Member {
 
     /// A peer with an empty document joins.
     pub(crate) fn begin(alloc: Global, id: DocId, actor: Actor) -> Result<Member, PeerError>
-        ensures ok { IfOk result (λ m. m ≡ opened id actor [] 0) }
+        ensures ok { IfOk result (λ m. m ≡ opened id actor [] no_device) }
         ensures err { IfErr result (λ e. NotBegun (header_of id) (in_memory []) e (in_memory [])) }
     {
-        match Peer::create(alloc, MemJournal::new(Vec::new(alloc)), id, actor) {
+        match Peer::create(alloc, journal_with(Vec::new(alloc)), id, actor) {
             Ok(peer) => Ok(Member::running(peer)),
             Err(unopened) => Err(unopened.error),
         }
@@ -209,7 +184,7 @@ impl Member {
         Member::stopped(
             DocId([0; 16]),
             Actor([0; 16]),
-            MemJournal::new(Vec::new(alloc)),
+            journal_with(Vec::new(alloc)),
         )
     }
 
@@ -229,7 +204,7 @@ impl Member {
         ensures err { IfErr result (λ e. NotForked self.now actor (in_memory []) e (in_memory [])) }
     {
         match &self.life {
-            Life::Running(peer) => match peer.fork(MemJournal::new(Vec::new(alloc)), actor) {
+            Life::Running(peer) => match peer.fork(journal_with(Vec::new(alloc)), actor) {
                 Ok(peer) => Ok(Member::running(peer)),
                 Err(unopened) => Err(unopened.error),
             },
@@ -239,17 +214,17 @@ impl Member {
 
     /// It makes the call.
     pub(crate) fn call(&mut self, call: PeerCall) -> PeerReply
-        ensures { Steps self.old (call_of call.entry) (reply_of result) self.new }
+        ensures { PeerStep self.old (call_of call.entry) (reply_of result) self.new }
     {
         match &mut self.life {
-            Life::Running(peer) => call_running(peer, call),
+            Life::Running(peer) => peer.call(call),
             Life::Stopped(_, _, _) => PeerReply::Refused(PeerError::Stopped),
         }
     }
 
     /// It takes what another one has.
     pub(crate) fn merge(&mut self, other: &Member) -> Result<Applied, PeerError>
-        ensures { Steps self.old (Merge other.now)
+        ensures { PeerStep self.old (Merge other.now)
             (replied (λ a. Merged (report_of a)) result) self.new }
     {
         match &mut self.life {
@@ -260,7 +235,7 @@ impl Member {
 
     /// It takes what it has itself: what waits is tried again.
     pub(crate) fn merge_itself(&mut self, alloc: Global) -> Result<Applied, PeerError>
-        ensures { Steps self.old (Merge self.old)
+        ensures { PeerStep self.old (Merge self.old)
             (replied (λ a. Merged (report_of a)) result) self.new }
     {
         match &mut self.life {
@@ -298,25 +273,42 @@ impl Member {
         }
     }
 
-    /// How many bytes its journal has, or `usize::MAX`.
-    pub(crate) fn journal_len(&self) -> usize
-        requires { self.now.stopped ≡ false }
-        ensures { result ≡ min usize.MAX (length self.now.journal) }
+    /// How many bytes its journal has.
+    pub(crate) fn journal_len(&self) -> u64
+        ensures { result ≡ length self.now.journal }
     {
         match &self.life {
-            Life::Running(peer) => {
-                let document = peer.document();
-                records_len(document.changes()).saturating_add(HEADER_BYTES)
-            }
+            Life::Running(peer) => peer.journal_len(),
+            Life::Stopped(_, _, journal) => journal.len(),
+        }
+    }
+
+    /// The device of its journal is to fail in the next append, and to keep so many bytes.
+    pub(crate) fn arm(&mut self, kept: u64)
+        requires { self.old.stopped ≡ false }
+        ensures { self.new ≡ arming self.old true }
+    {
+        match &mut self.life {
+            Life::Running(peer) => peer.arm(kept),
             Life::Stopped(_, _, _) => unreachable!(),
         }
     }
 
+    /// The device of its journal isn't to fail.
+    pub(crate) fn disarm(&mut self)
+        ensures { self.new ≡ arming self.old false }
+    {
+        match &mut self.life {
+            Life::Running(peer) => peer.disarm(),
+            Life::Stopped(_, _, _) => {}
+        }
+    }
+
     // What is left of it: its document's identifier, its actor, its journal.
-    fn into_remains(self) -> (DocId, Actor, MemJournal)
+    fn into_remains(self) -> (DocId, Actor, FuseJournal)
         ensures id { result.0 ≡ self.id }
         ensures actor { result.1 ≡ self.actor }
-        ensures journal { result.2 ≡ self.journal }
+        ensures journal { result.2.content ≡ self.journal }
     {
         match self.life {
             Life::Running(peer) => {

@@ -51,6 +51,8 @@ pub enum Reply {
     Wire(usize),
     /// The peer that crashed runs again.
     Reopened,
+    /// The device of the peer's journal is to fail.
+    Armed,
     /// What the peer answered otherwise, or why it couldn't be opened.
     Answered(Answer),
     /// The world refused the event, and is as it was.

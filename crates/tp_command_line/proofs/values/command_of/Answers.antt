@@ -47,15 +47,6 @@ text_of-requires-in-show c = named_value (codes "show") (codes "LOG") c.in-show.
 pub text_of-requires-in-simulate : goal.text_of-requires-in-simulate
 text_of-requires-in-simulate c = named_value (codes "simulate") (codes "SCRIPT") c.in-simulate.is c.requires refl
 
-pub text_of-requires-in-serve : goal.text_of-requires-in-serve
-text_of-requires-in-serve c = named_value (codes "serve") (codes "FILE") c.in-serve.is c.requires refl
-
-pub text_of-requires-in-serve-2 : goal.text_of-requires-in-serve-2
-text_of-requires-in-serve-2 c = named_value (codes "serve") (codes "ADDR") c.in-serve.is c.requires refl
-
-pub number_of-requires-in-serve : goal.number_of-requires-in-serve
-number_of-requires-in-serve c = named_number (codes "serve") (codes "sessions") c.in-serve.is c.requires refl refl
-
 pub text_of-requires-in-sync : goal.text_of-requires-in-sync
 text_of-requires-in-sync c = named_value (codes "sync") (codes "FILE") c.in-sync.is c.requires refl
 

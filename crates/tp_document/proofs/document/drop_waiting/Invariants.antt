@@ -1,4 +1,4 @@
-use Rattle.std.proofs.Common.{◌≡◌, length}
+use Rattle.tp_document.proofs.Common.{◌≡◌, length}
 use Rattle.tp_document.proofs.document.drop_waiting.Given as goal
 
 -- the other parts stay

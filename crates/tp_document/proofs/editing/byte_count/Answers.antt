@@ -1,5 +1,4 @@
-use Rattle.std.proofs.Common.{length, sym, ap}
-use Rattle.std.proofs.lemmas.Str.{encodes-chars, scalars-chars}
+use Rattle.tp_document.proofs.Common.{length, sym, ap, encodes-chars, scalars-chars}
 use Rattle.tp_document.proofs.editing.byte_count.Goals as goal
 
 pub returns-clause-count : goal.returns-clause-count

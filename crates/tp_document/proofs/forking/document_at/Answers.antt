@@ -1,5 +1,5 @@
 use Rattle.tp_document.proofs.Common.{◌≡◌, None, ◌∙◌, ◌∷◌, [], ◌++◌, ap, sym, refl, subst, List, get_or, ChangeParts, cause, slice_get_read}
-use Rattle.tp_document.proofs.ClockLaws.{place_at, changes_at-more}
+use Rattle.tp_document.proofs.ChangePlaces.{place_at, changes_at-more}
 use Rattle.tp_document.proofs.ForkLaws.{next_enters}
 use Rattle.tp_document.proofs.forking.document_at.Goals as goal
 

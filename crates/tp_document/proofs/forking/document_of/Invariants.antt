@@ -1,5 +1,4 @@
-use Rattle.std.proofs.Common.{take}
-use Rattle.tp_document.specs.DocState.{HasJust}
+use Rattle.tp_document.proofs.Common.{take, HasJust}
 use Rattle.tp_document.proofs.forking.document_of.Given as goal
 
 -- the changes so far have entered

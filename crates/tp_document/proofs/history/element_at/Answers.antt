@@ -1,5 +1,5 @@
 use Rattle.tp_document.proofs.Common.{◌+◌, ◌∙◌, sym, ap, drop, length, ◌<◌, arith, slice_get, shown_by}
-use Rattle.tp_document.proofs.SnapshotLaws.{no_place, found_here, found_later, found_after}
+use Rattle.tp_document.proofs.SnapshotLaws.{found_here, found_later, found_after, no_place}
 use Rattle.tp_document.proofs.history.element_at.Goals as goal
 use Rattle.tp_document.proofs.history.element_at.Goals.{in-Some+then-shows+else-left-eq0, in-Some+else-shows, in_default}
 

@@ -1,5 +1,5 @@
-use Rattle.std.proofs.Common.{◌+◌, ◌∙◌, sym, ap, length, ◌<◌, arith}
-use Rattle.tp_document.proofs.SnapshotLaws.{no_place, length_by-shown, length_by-hidden}
+use Rattle.tp_document.proofs.Common.{◌+◌, ◌∙◌, sym, ap, length, ◌<◌, arith}
+use Rattle.tp_document.proofs.SnapshotLaws.{length_by-shown, hidden_by, no_place}
 use Rattle.tp_document.proofs.history.length_of.Goals as goal
 use Rattle.tp_document.proofs.history.length_of.Goals.{in-Some+then-shows, in-Some+else-shows, in_default}
 
@@ -19,7 +19,7 @@ loop-index-preserved g c =
       | in-Some+else-shows w ↦ record {
         few = omega arith;
         counted = w.count-is ∙ c.loop-index.invariant.counted
-            ∙ sym (length_by-hidden K R T L k w.in-Some.element c.requires w.in-Some.ensures (sym w.shows.ensures ∙ w.if-shows.false));
+            ∙ sym (ap length (hidden_by K R T L k w.in-Some.element c.requires w.in-Some.ensures (sym w.shows.ensures ∙ w.if-shows.false)));
       }
       | in_default w ↦
           let within : k < length L = omega arith in

@@ -1,5 +1,4 @@
-use Rattle.std.proofs.Common.{◌≡◌, ◌≤◌, length, take}
-use Rattle.tp_document.specs.History.{shown_by}
+use Rattle.tp_document.proofs.Common.{◌≡◌, ◌≤◌, length, take, shown_by}
 use Rattle.tp_document.proofs.history.length_of.Given as goal
 
 -- as many as are shown of the elements so far

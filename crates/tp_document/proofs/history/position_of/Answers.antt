@@ -1,6 +1,5 @@
-use Rattle.std.proofs.Common.{◌+◌, ◌∙◌, sym, ap, drop, length, ◌<◌, arith}
-use Rattle.std.specs.Option.{option_map}
-use Rattle.tp_document.proofs.SnapshotLaws.{no_place, before_by, before_none, before_here, before_shown, before_hidden}
+use Rattle.tp_document.proofs.Common.{◌+◌, ◌∙◌, sym, ap, drop, length, ◌<◌, arith, option_map}
+use Rattle.tp_document.proofs.SnapshotLaws.{before_by, before_none, before_here, before_shown, before_hidden, no_place}
 use Rattle.tp_document.proofs.history.position_of.Goals as goal
 use Rattle.tp_document.proofs.history.position_of.Goals.{in-Some+else-is+then-shows, in-Some+else-is+else-shows, in_default}
 

@@ -1,5 +1,4 @@
-use Rattle.std.proofs.Common.{◌≡◌, ◌≤◌, ◌+◌, drop}
-use Rattle.std.specs.Option.{option_map}
+use Rattle.tp_document.proofs.Common.{◌≡◌, ◌≤◌, ◌+◌, drop, option_map}
 use Rattle.tp_document.proofs.SnapshotLaws.{before_by}
 use Rattle.tp_document.proofs.history.position_of.Given as goal
 

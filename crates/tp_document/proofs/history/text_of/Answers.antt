@@ -1,7 +1,5 @@
-use Rattle.std.proofs.Common.{◌++◌, ◌∙◌, sym, ap, length, ◌<◌, arith}
-use Rattle.std.specs.Prelude.{encode_utf8}
-use Rattle.std.specs.String.{string_bytes}
-use Rattle.tp_document.proofs.SnapshotLaws.{no_place, bytes_by-shown, bytes_by-hidden}
+use Rattle.tp_document.proofs.Common.{◌++◌, ◌∙◌, sym, ap, length, ◌<◌, arith, encode_utf8, string_bytes, encode_utf8_all, chars_of}
+use Rattle.tp_document.proofs.SnapshotLaws.{bytes_by-shown, hidden_by, no_place}
 use Rattle.tp_document.proofs.history.text_of.Goals as goal
 use Rattle.tp_document.proofs.history.text_of.Goals.{in-Some+then-shows+in_ok-push, in-Some+else-shows, in_default}
 
@@ -18,7 +16,7 @@ loop-index-preserved g c =
           ∙ sym (bytes_by-shown K R T L k w.in-Some.element c.requires w.in-Some.ensures (sym w.shows.ensures ∙ w.if-shows.true))
       | in-Some+else-shows w ↦
           ap string_bytes w.text-is ∙ c.loop-index.invariant
-          ∙ sym (bytes_by-hidden K R T L k w.in-Some.element c.requires w.in-Some.ensures (sym w.shows.ensures ∙ w.if-shows.false))
+          ∙ sym (ap (λ l. encode_utf8_all (chars_of l)) (hidden_by K R T L k w.in-Some.element c.requires w.in-Some.ensures (sym w.shows.ensures ∙ w.if-shows.false)))
       | in_default w ↦
           let within : k < length L = omega arith in
           absurd (no_place R L k within (sym w.in_default.is ∙ c.element.ensures))

@@ -1,5 +1,4 @@
-use Rattle.tp_document.proofs.Common.{◌≡◌, take, string_bytes, chars_of, shown_by}
-use Rattle.std.specs.Prelude.{encode_utf8_all}
+use Rattle.tp_document.proofs.Common.{◌≡◌, take, string_bytes, chars_of, shown_by, encode_utf8_all}
 use Rattle.tp_document.proofs.history.text_of.Given as goal
 
 -- the text so far is that of the elements so far

@@ -1,4 +1,4 @@
-use Rattle.std.proofs.Common.{◌≡◌, take}
+use Rattle.tp_document.proofs.Common.{◌≡◌, take}
 use Rattle.tp_document.specs.Merging as merging
 use Rattle.tp_document.proofs.merging.absent.Given as goal
 

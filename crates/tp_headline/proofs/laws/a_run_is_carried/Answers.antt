@@ -1,5 +1,5 @@
+use Rattle.tp_headline.proofs.Common.{beginning}
 use Rattle.tp_headline.proofs.EventLaws.{beginning_carried, goes_on_carries, next_carries}
-use Rattle.tp_headline.specs.World.{beginning}
 use Rattle.tp_headline.proofs.laws.a_run_is_carried.Goals as goal
 
 pub returns : goal.returns

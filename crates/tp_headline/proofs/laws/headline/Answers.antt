@@ -1,4 +1,4 @@
-use Rattle.tp_headline.specs.World.{beginning}
+use Rattle.tp_headline.proofs.Common.{beginning}
 use Rattle.tp_headline.proofs.EventLaws.{beginning_carried, goes_on_carries}
 use Rattle.tp_headline.proofs.OneList.{carried_headline}
 use Rattle.tp_headline.proofs.laws.headline.Goals as goal

@@ -1,5 +1,4 @@
-use Rattle.tp_list.proofs.TraceLaws.{trace_join, trace_split}
-use Rattle.tp_headline.specs.Running.{Met}
+use Rattle.tp_headline.proofs.Common.{trace_join, trace_split, Met}
 use Rattle.tp_headline.proofs.laws.runs_part_by_part.Goals as goal
 
 pub returns : goal.returns

@@ -1,4 +1,4 @@
-use Rattle.tp_headline.specs.World.{beginning}
+use Rattle.tp_headline.proofs.Common.{beginning}
 use Rattle.tp_headline.proofs.EventLaws.{beginning_carried, goes_on_carries}
 use Rattle.tp_headline.proofs.laws.the_wire_carries_what_was_made.Goals as goal
 

@@ -1,4 +1,4 @@
-use Rattle.tp_headline.specs.World.{beginning}
+use Rattle.tp_headline.proofs.Common.{beginning}
 use Rattle.tp_headline.proofs.EventLaws.{beginning_carried, goes_on_carries}
 use Rattle.tp_headline.proofs.FollowLaws.{carried_follows}
 use Rattle.tp_headline.proofs.laws.what_was_shown_lasts.Goals as goal

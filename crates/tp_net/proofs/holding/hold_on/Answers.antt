@@ -1,6 +1,5 @@
+use Rattle.tp_net.proofs.Common.{SeatState, Meets}
 use Rattle.std.proofs.Common.{rules}
-use Rattle.tp_served.specs.Seats.{SeatState}
-use Rattle.tp_net.specs.Sessions.{Meets}
 use Rattle.tp_net.proofs.Counting.{meets}
 use Rattle.tp_net.proofs.holding.hold_on.Goals as goal
 

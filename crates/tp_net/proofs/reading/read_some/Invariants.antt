@@ -1,5 +1,4 @@
-use Rattle.std.proofs.Common.{◌≡◌, length}
-use Rattle.std.specs.Io.KnownBytes.{Keeps}
+use Rattle.tp_net.proofs.Common.{◌≡◌, length, Keeps}
 use Rattle.tp_net.proofs.reading.read_some.Given as goal
 
 -- an interrupted read took nothing

@@ -1,7 +1,4 @@
-use Rattle.std.proofs.Common.{◌++◌, inl, inr, refl, ap}
-use Rattle.std.specs.Prelude.{Err, option_to_list}
-use Rattle.std.proofs.lemmas.Result.{err_from_is_err_and}
-use Rattle.tp_session.specs.NetError.{refusal_of}
+use Rattle.tp_net.proofs.Common.{◌++◌, inl, inr, refl, ap, Err, option_to_list, err_from_is_err_and, refusal_of}
 use Rattle.tp_net.proofs.Bytes.{sends_more}
 use Rattle.tp_net.proofs.run.hold.Goals as goal
 

@@ -1,7 +1,4 @@
-use Rattle.std.proofs.Common.{[], ap, inl, inr, refl}
-use Rattle.std.specs.Prelude.{Err}
-use Rattle.std.proofs.KnownBytes.{Appends-nil, Consumes-nil}
-use Rattle.std.proofs.lemmas.Result.{err_from_is_err_and}
+use Rattle.tp_net.proofs.Common.{[], ap, inl, inr, refl, Err, Appends-nil, Consumes-nil, err_from_is_err_and}
 use Rattle.tp_net.proofs.run.run_session.Goals as goal
 
 pub returns-in_err-forget-clause-session : goal.returns-in_err-forget-clause-session

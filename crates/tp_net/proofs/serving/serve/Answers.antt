@@ -1,5 +1,5 @@
-use Rattle.std.proofs.Common.{inr, refl, rules}
-use Rattle.tp_net.specs.Sessions.{AllSit}
+use Rattle.tp_net.proofs.Common.{inr, refl, AllSit}
+use Rattle.std.proofs.Common.{rules}
 use Rattle.tp_net.proofs.SeatLists.{all_stay, still_of}
 use Rattle.tp_net.proofs.serving.serve.Goals as goal
 

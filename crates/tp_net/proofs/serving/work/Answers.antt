@@ -1,4 +1,4 @@
-use Rattle.std.proofs.Common.{◌∙◌}
+use Rattle.tp_net.proofs.Common.{◌∙◌}
 use Rattle.tp_net.proofs.SeatLists.{joins, stays}
 use Rattle.tp_net.proofs.serving.work.Goals as goal
 

@@ -1,4 +1,4 @@
-use Rattle.tp_net.specs.Sessions.{Sits}
+use Rattle.tp_net.proofs.Common.{Sits}
 use Rattle.tp_net.proofs.serving.work.Given as goal
 
 -- the seat went on by the sessions so far

@@ -1,5 +1,4 @@
-use Rattle.std.proofs.Common.{◌∙◌, ap}
-use Rattle.tp_served.specs.Seats.{SeatData}
+use Rattle.tp_net.proofs.Common.{◌∙◌, ap, SeatData}
 use Rattle.tp_net.proofs.SeatLists.{seat_is_of}
 use Rattle.tp_net.proofs.serving.work_on_all.Goals as goal
 

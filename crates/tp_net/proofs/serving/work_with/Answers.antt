@@ -1,6 +1,5 @@
-use Rattle.std.proofs.Common.{◌≡◌, ◌∙◌, List, ap, length, rules, subst}
-use Rattle.tp_served.specs.Seats.{SeatData}
-use Rattle.tp_net.specs.Sessions.{AllSit}
+use Rattle.tp_net.proofs.Common.{◌≡◌, ◌∙◌, List, ap, length, subst, SeatData, AllSit}
+use Rattle.std.proofs.Common.{rules}
 use Rattle.tp_net.proofs.SeatLists.{all_sit, given_back}
 use Rattle.tp_net.proofs.serving.work_with.Goals as goal
 

@@ -1,4 +1,4 @@
-use Rattle.std.proofs.Common.{◌≡◌, drop}
+use Rattle.tp_peer.proofs.Common.{◌≡◌, drop}
 use Rattle.tp_peer.specs.Actors as actors
 use Rattle.tp_peer.proofs.actors.has_actor.Given as goal
 

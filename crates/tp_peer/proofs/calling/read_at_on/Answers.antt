@@ -1,6 +1,4 @@
-use Rattle.std.proofs.Common.{◌≡◌, false, sym, subst}
-use Rattle.tp_peer.specs.declared.error.PeerError.{PeerError}
-use Rattle.tp_peer.specs.PeerError.{is_failed}
+use Rattle.tp_peer.proofs.Common.{◌≡◌, false, sym, subst, PeerError, is_failed}
 use Rattle.tp_peer.proofs.ReplyLaws.{text_goes_on}
 use Rattle.tp_peer.proofs.calling.read_at_on.Goals as goal
 

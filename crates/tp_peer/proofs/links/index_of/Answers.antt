@@ -1,4 +1,4 @@
-use Rattle.std.proofs.Common.{◌<◌, length, take, add-one}
+use Rattle.tp_peer.proofs.Common.{◌<◌, length, take, add-one}
 use Rattle.std.proofs.Math.Seq.{take-suc}
 use Rattle.tp_peer.proofs.LinkLaws.{has_last, not_same}
 use Rattle.tp_peer.proofs.links.index_of.Goals as goal

@@ -1,5 +1,4 @@
-use Rattle.std.proofs.Common.{◌≡◌, take, false}
-use Rattle.tp_peer.specs.Links.{has_link}
+use Rattle.tp_peer.proofs.Common.{◌≡◌, take, false, has_link}
 use Rattle.tp_peer.proofs.links.index_of.Given as goal
 
 abbrev pub invariant-loop-i : goal.invariant-loop-i

@@ -1,5 +1,4 @@
-use Rattle.std.proofs.Common.{◌≡◌, ℕ, ap, ◌∙◌, refl}
-use Rattle.tp_sync.specs.State.{SyncParts}
+use Rattle.tp_peer.proofs.Common.{◌≡◌, ℕ, ap, ◌∙◌, refl, SyncParts}
 use Rattle.tp_peer.proofs.LinkLaws.{at_with}
 use Rattle.tp_peer.proofs.links.put.Goals as goal
 

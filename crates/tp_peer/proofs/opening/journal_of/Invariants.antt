@@ -1,5 +1,4 @@
-use Rattle.std.proofs.Common.{◌≡◌, take}
-use Rattle.tp_journal.specs.Layout.{journal}
+use Rattle.tp_peer.proofs.Common.{◌≡◌, take, journal}
 use Rattle.tp_peer.proofs.opening.journal_of.Given as goal
 
 -- the bytes so far are the journal of the changes so far

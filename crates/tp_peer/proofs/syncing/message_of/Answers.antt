@@ -1,6 +1,4 @@
-use Rattle.std.proofs.Common.{sym, subst}
-use Rattle.tp_peer.specs.declared.error.PeerError.{PeerError}
-use Rattle.tp_peer.specs.PeerStep.{RefusesDecoding}
+use Rattle.tp_peer.proofs.Common.{sym, subst, PeerError, RefusesDecoding}
 use Rattle.tp_peer.proofs.ReceivingLaws.{decoding_refused}
 use Rattle.tp_peer.proofs.syncing.message_of.Goals as goal
 

@@ -1,5 +1,4 @@
-use Rattle.std.proofs.Common.{◌||◌, ap, sym, ◌∙◌}
-use Rattle.tp_receive.specs.HashSets.{has_hash}
+use Rattle.tp_receive.proofs.Common.{◌||◌, ap, sym, ◌∙◌, has_hash}
 use Rattle.tp_receive.proofs.ComingLaws.{has-both}
 use Rattle.tp_receive.proofs.coming.is_there.Goals as goal
 

@@ -1,4 +1,4 @@
-use Rattle.std.proofs.Common.{sym, ◌∙◌}
+use Rattle.tp_receive.proofs.Common.{sym, ◌∙◌}
 use Rattle.tp_receive.proofs.ComingLaws.{noted_delivers, noted_again, noted_slots}
 use Rattle.tp_receive.proofs.coming.note.Goals as goal
 

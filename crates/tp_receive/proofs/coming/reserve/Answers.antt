@@ -1,4 +1,4 @@
-use Rattle.std.proofs.Common.{inl, inr, refl, arith}
+use Rattle.tp_receive.proofs.Common.{inl, inr, refl, arith}
 use Rattle.tp_receive.proofs.RunLaws.{slots-most}
 use Rattle.tp_receive.proofs.ComingLaws.{AreNoted-first, AreNoted-next, slots_pushed}
 use Rattle.tp_receive.proofs.coming.reserve.Goals as goal

@@ -1,5 +1,4 @@
-use Rattle.std.proofs.Common.{◌≡◌}
-use Rattle.tp_receive.specs.Delivery.{slots}
+use Rattle.tp_receive.proofs.Common.{◌≡◌, slots}
 use Rattle.tp_receive.proofs.ComingLaws.{AreNoted}
 use Rattle.tp_receive.proofs.coming.reserve.Given as goal
 

@@ -1,5 +1,4 @@
-use Rattle.std.proofs.Common.{◌∙◌, ap}
-use Rattle.tp_change.specs.ChangeHash.{hash_of}
+use Rattle.tp_receive.proofs.Common.{◌∙◌, ap, hash_of}
 use Rattle.tp_receive.proofs.ComingLaws.{IsHashSetOf-more}
 use Rattle.tp_receive.proofs.hashes.hashes_of.Goals as goal
 

@@ -1,5 +1,4 @@
-use Rattle.std.proofs.Common.{take}
-use Rattle.tp_receive.specs.HashSets.{IsHashSetOf}
+use Rattle.tp_receive.proofs.Common.{take, IsHashSetOf}
 use Rattle.tp_receive.proofs.hashes.hashes_of.Given as goal
 
 abbrev pub invariant-loop-change : goal.invariant-loop-change

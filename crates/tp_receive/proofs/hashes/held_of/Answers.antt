@@ -1,5 +1,4 @@
-use Rattle.std.proofs.Common.{◌∙◌, ap, ◌++◌, ◌∷◌, []}
-use Rattle.tp_change.specs.declared.parts.ChangeParts.{ChangeParts}
+use Rattle.tp_receive.proofs.Common.{◌∙◌, ap, ◌++◌, ◌∷◌, [], ChangeParts}
 use Rattle.tp_receive.specs.Receiving as receiving
 use Rattle.tp_receive.proofs.HashLaws.{held_of-more}
 use Rattle.tp_receive.proofs.hashes.held_of.Goals as goal

@@ -1,5 +1,4 @@
-use Rattle.std.proofs.Common.{◌∙◌, ◌++◌, List, sym, ap, append-nil}
-use Rattle.tp_opid.specs.declared.hash.Hash.{Hash}
+use Rattle.tp_receive.proofs.Common.{◌∙◌, ◌++◌, List, sym, ap, append-nil, Hash}
 use Rattle.tp_receive.proofs.ComingLaws.{held_of-here, held_of-none}
 use Rattle.tp_receive.proofs.hashes.note_held.Goals as goal
 

@@ -1,5 +1,4 @@
-use Rattle.std.proofs.Common.{◌≡◌, drop}
-use Rattle.tp_graph.specs.Named.{has_all}
+use Rattle.tp_receive.proofs.Common.{◌≡◌, drop, has_all}
 use Rattle.tp_receive.proofs.lacking.lack_of.Given as goal
 
 abbrev pub invariant-loop-hash : goal.invariant-loop-hash

@@ -1,5 +1,4 @@
-use Rattle.std.proofs.Common.{refl}
-use Rattle.tp_receive.specs.Intake.{begin}
+use Rattle.tp_receive.proofs.Common.{refl, begin}
 use Rattle.tp_receive.proofs.AlikeLaws.{one_outcome}
 use Rattle.tp_receive.proofs.laws.one_outcome.Goals as goal
 

@@ -1,4 +1,4 @@
-use Rattle.std.proofs.Common.{◌∙◌}
+use Rattle.tp_receive.proofs.Common.{◌∙◌}
 use Rattle.tp_receive.proofs.TurnLaws.{Run-one, Run-then}
 use Rattle.tp_receive.proofs.TakingLaws.{stops_on}
 use Rattle.tp_receive.proofs.settle.settle.Goals as goal

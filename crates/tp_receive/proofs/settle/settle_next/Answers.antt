@@ -1,5 +1,4 @@
-use Rattle.tp_receive.proofs.Common.{ap, sym, subst, ◌∙◌, Hash, hash_of, GainsOnly}
-use Rattle.tp_receive.proofs.WaitLaws.{slice_get_there}
+use Rattle.tp_receive.proofs.Common.{ap, sym, subst, ◌∙◌, Hash, hash_of, GainsOnly, slice_get-there}
 use Rattle.tp_receive.proofs.LackingLaws.{entry_within, knows_behind, read_at}
 use Rattle.tp_receive.proofs.settle.settle_next.Goals as goal
 
@@ -13,7 +12,7 @@ returns-clause-knows g c =
     let D = g.R.Replica.applied c.settle_one.new.replica in
     let W = g.R.Replica.waiting c.args.replica.now in
     let V = g.R.Replica.waiting c.settle_one.new.replica in
-    let there = slice_get_there W c.args.i c.requires.earliest.within in
+    let there = slice_get-there W c.args.i c.requires.earliest.within in
     let same = read_at c.pending.result.now W c.args.i c.index-pending-i.result there.0 c.pending.ensures.pending c.index-pending-i.is there.1 in
     let is = c.hash-hash.ensures.hash ∙ ap hash_of same in
     c.forget_lacked.ensures.knows C D V (subst (λ (x : Hash). GainsOnly C D x) (sym is) (c.in_ok-settle_one.ensures.gains there.0 there.1))

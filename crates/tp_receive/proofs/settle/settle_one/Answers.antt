@@ -1,12 +1,7 @@
-use Rattle.tp_receive.proofs.Common.{◌≡◌, List, true, false, ap, sym, subst, refl, ◌∙◌, Result, Ok, Err, OnOk, IsOk, ChangeParts, hash_of, GraphError, cause, lacks_deps, intake, GainsOnly}
-use Rattle.tp_receive.proofs.WaitLaws.{slice_get_there}
-use Rattle.tp_receive.proofs.TakingLaws.{OnOk-map, stops_for_memory, turn_entered, turn_refused, turn_stopped, turn_unreported}
+use Rattle.tp_receive.proofs.Common.{◌≡◌, List, true, false, ap, sym, subst, refl, ◌∙◌, ChangeParts, hash_of, cause, lacks_deps, intake, GainsOnly, slice_get-there}
+use Rattle.tp_receive.proofs.TakingLaws.{OnOk-map, stops_for_memory, turn_entered, turn_refused, turn_stopped, turn_unreported, from_ok}
 use Rattle.tp_receive.proofs.LackingLaws.{gains_last}
 use Rattle.tp_receive.proofs.settle.settle_one.Goals as goal
-
-from_ok : (P : Type 0) (r : Result (Unit {0}) GraphError) → OnOk r P → IsOk r → P
-from_ok P (Ok x) h k = h
-from_ok P (Err e) h k = cc
 
 pub enter_waiting-requires-clause-room : goal.enter_waiting-requires-clause-room
 enter_waiting-requires-clause-room g c x get =
@@ -15,7 +10,7 @@ enter_waiting-requires-clause-room g c x get =
 
 pub unreachable-requires : goal.unreachable-requires
 unreachable-requires g c =
-    let there = slice_get_there (g.R.Replica.waiting c.args.replica.now) c.args.i c.requires.within in
+    let there = slice_get-there (g.R.Replica.waiting c.args.replica.now) c.args.i c.requires.within in
     let waits = rw c.in-Waits.is at (c.in_ok-judge.ensures.ok (cause (g.R.Replica.applied c.args.replica.now) there.0) (c.ready_waiting.ensures.answers there.0 there.1)) in
     let no : true ≡ false = sym (ap lacks_deps waits) ∙ c.requires.ready there.0 there.1 in
     cc

@@ -1,5 +1,4 @@
-use Rattle.tp_receive.proofs.Common.{◌≡◌, Some, true, false, ap, sym, subst, ◌∙◌, ChangeParts, hash_of, has, has_all, KnowsLack, Lacks}
-use Rattle.tp_receive.proofs.WaitLaws.{slice_get_there}
+use Rattle.tp_receive.proofs.Common.{◌≡◌, Some, true, false, ap, sym, subst, ◌∙◌, ChangeParts, hash_of, has, has_all, KnowsLack, Lacks, slice_get-there}
 use Rattle.tp_receive.proofs.LackingLaws.{entry_within, known_at, known_enters, known_waits, read_at, whole_enters, zipped_set}
 use Rattle.tp_receive.proofs.settle.waits_at.Goals as goal
 
@@ -23,7 +22,7 @@ pub returns-in-Some-clause-knows : goal.returns-in-Some-clause-knows
 returns-in-Some-clause-knows g c =
     let C = g.R.Replica.applied c.args.replica.now in
     let W = g.R.Replica.waiting c.args.replica.now in
-    let there = slice_get_there W c.args.i c.requires.within in
+    let there = slice_get-there W c.args.i c.requires.within in
     let same = read_at c.pending.result.now W c.args.i c.index-pending-i.result there.0 c.pending.ensures.pending c.index-pending-i.is there.1 in
     let new : has C (hash_of c.index-pending-i.result) ≡ false = ap (has C) (sym c.hash.ensures.hash) ∙ sym c.contains.ensures ∙ c.if-contains.false in
     let lacks : Lacks C c.index-pending-i.result (Some c.in-Some.hash) = (new, c.in-Some.ensures.0, c.in-Some.ensures.1) in

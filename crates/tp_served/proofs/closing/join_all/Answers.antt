@@ -1,9 +1,4 @@
-use Rattle.std.proofs.Common.{[], ◌∷◌, ◌++◌, ◌<◌, ap, sym, ◌∙◌, subst, arith, List}
-use Rattle.tp_served.specs.Seats.{SeatData, states_of}
-use Rattle.tp_served.specs.Rule.{alone}
-use Rattle.tp_served.specs.Sitting.{seat_of}
-use Rattle.tp_served.specs.Steps.{Token, joined}
-use Rattle.tp_served.specs.Calls.{AreOf}
+use Rattle.tp_served.proofs.Common.{[], ◌∷◌, ◌++◌, ◌<◌, ap, sym, ◌∙◌, subst, arith, List, SeatData, states_of, alone, seat_of, Token, joined, AreOf}
 use Rattle.tp_served.proofs.RuleLaws.{joins_at}
 use Rattle.tp_served.proofs.TokenLaws.{token_is}
 use Rattle.tp_served.proofs.SeatLaws.{AreOf-push, states_last, states_push}

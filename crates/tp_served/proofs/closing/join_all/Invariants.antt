@@ -1,7 +1,4 @@
-use Rattle.std.proofs.Common.{◌≡◌, [], ◌∷◌, ◌++◌, List}
-use Rattle.tp_served.specs.Seats.{SeatState, states_of}
-use Rattle.tp_served.specs.Rule.{idle}
-use Rattle.tp_served.specs.Calls.{AreOf}
+use Rattle.tp_served.proofs.Common.{◌≡◌, [], ◌∷◌, ◌++◌, List, SeatState, states_of, idle, AreOf}
 use Rattle.tp_served.proofs.closing.join_all.Given as goal
 
 -- the last seats are joined in the token, in their order

@@ -1,6 +1,4 @@
-use Rattle.std.proofs.Common.{ap, ◌∙◌}
-use Rattle.atomic_table.specs.declared.badge.Badge.{Badge}
-use Rattle.tp_served.specs.Rule.{ViewState, alone}
+use Rattle.tp_served.proofs.Common.{ap, ◌∙◌, Badge, ViewState, alone}
 use Rattle.tp_served.proofs.TokenLaws.{token_is}
 use Rattle.tp_served.proofs.meeting.token_out.Goals as goal
 

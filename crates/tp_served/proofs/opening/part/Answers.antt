@@ -1,7 +1,4 @@
-use Rattle.std.proofs.Common.{[], ◌∷◌, ◌++◌, ◌-◌, ◌<◌, ap, sym, ◌∙◌, subst, arith, refl}
-use Rattle.tp_served.specs.Seats.{fresh, fresh_from}
-use Rattle.tp_served.specs.Sitting.{seat_data}
-use Rattle.tp_served.specs.Steps.{Token, first_of, others_of}
+use Rattle.tp_served.proofs.Common.{[], ◌∷◌, ◌++◌, ◌-◌, ◌<◌, ap, sym, ◌∙◌, subst, arith, refl, fresh, fresh_from, seat_data, Token, first_of, others_of}
 use Rattle.tp_served.proofs.RuleLaws.{splits_at}
 use Rattle.tp_served.proofs.TokenLaws.{seat_at}
 use Rattle.tp_served.proofs.SeatLaws.{first_fresh, others_fresh, seats_push}

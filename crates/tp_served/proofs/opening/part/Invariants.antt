@@ -1,8 +1,4 @@
-use Rattle.std.proofs.Common.{◌≡◌, ◌+◌, ◌-◌, ◌≤◌, []}
-use Rattle.std.specs.Prelude.{vec_len, vec_capacity}
-use Rattle.tp_peer.specs.PeerData.{PeerData}
-use Rattle.tp_served.specs.Seats.{fresh_from, seats_of}
-use Rattle.tp_served.specs.Rule.{idle}
+use Rattle.tp_served.proofs.Common.{◌≡◌, ◌+◌, ◌-◌, ◌≤◌, [], vec_len, vec_capacity, PeerData, fresh_from, seats_of, idle}
 use Rattle.tp_served.proofs.opening.part.Given as goal
 
 -- the seats below the number are parted, and the others are joined in the token

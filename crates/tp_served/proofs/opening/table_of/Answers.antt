@@ -1,4 +1,4 @@
-use Rattle.std.proofs.Common.{[], ◌∷◌, ◌++◌, ◌∙◌, Some}
+use Rattle.tp_served.proofs.Common.{[], ◌∷◌, ◌++◌, ◌∙◌, Some}
 use Rattle.tp_served.proofs.SeatLaws.{opens_at}
 use Rattle.tp_served.proofs.opening.table_of.Goals as goal
 

@@ -14,7 +14,7 @@ returns g c =
     let begins : BeginsJournal id [] c.in_ok-journal.field-0.content c.in_ok-journal-2.journal.content =
     record { unused = c.in_ok-journal-2.ensures.unused; begun = c.in_ok-journal-2.ensures.begun } in
     of_line c.id_line.result string_bytes (line (encode_lower id.0))
-    (λ printed. ChangesFile (g.D.Disk.reads c.args.rt.now) (g.D.Disk.leaves c.args.rt.now) c.args.file.now (λ before after. IsNewLine c.args.key before after printed))
+    (λ printed. ChangesFile (g.D.Disk.takes c.args.rt.now) (g.D.Disk.leaves c.args.rt.now) c.args.file.now (λ before after. IsNewLine c.args.key before after printed))
     (λ printed spelled. (
       c.in_ok-journal.field-0.content,
       c.in_ok-journal-2.journal.content,
@@ -29,4 +29,4 @@ returns g c =
       },
       subst (g.D.Disk.leaves c.args.rt.now c.args.file.now) c.in_ok-sync.ensures.stays c.in_ok-sync.ensures.left,
     ))
-    c.id_line.ensures
+    c.id_line.ensures.line

@@ -1,5 +1,4 @@
-use Rattle.std.proofs.Common.{◌≡◌, drop}
-use Rattle.std.specs.List.{list_any}
+use Rattle.tp_sync.proofs.Common.{◌≡◌, drop, list_any}
 use Rattle.tp_sync.proofs.due.is_any_from.Given as goal
 
 abbrev pub invariant-loop-i : goal.invariant-loop-i

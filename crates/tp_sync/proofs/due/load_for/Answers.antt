@@ -1,4 +1,4 @@
-use Rattle.std.proofs.Common.{◌∙◌}
+use Rattle.tp_sync.proofs.Common.{◌∙◌}
 use Rattle.tp_sync.proofs.LoadLaws.{carries_none}
 use Rattle.tp_sync.proofs.due.load_for.Goals as goal
 

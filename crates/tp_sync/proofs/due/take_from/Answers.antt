@@ -1,6 +1,4 @@
-use Rattle.std.proofs.Common.{◌∙◌, ◌+◌, refl, sym, subst}
-use Rattle.std.proofs.lemmas.Option.{slice_get_read}
-use Rattle.tp_list.proofs.Members.{slice_get-there}
+use Rattle.tp_sync.proofs.Common.{◌∙◌, ◌+◌, refl, sym, subst, slice_get_read, slice_get-there}
 use Rattle.tp_sync.specs.declared.due.Taken.{Taken}
 use Rattle.tp_sync.proofs.TakeLaws.{TakesOn, TakesOn-by, TakesOn-laden, TakesOn-on}
 use Rattle.tp_sync.proofs.due.take_from.Goals.{then-marks-place+in_ok-take, else-marks-place}

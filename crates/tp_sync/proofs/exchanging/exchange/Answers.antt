@@ -1,5 +1,4 @@
-use Rattle.tp_sync.proofs.Common.{◌≡◌, ◌∙◌, sym, SyncError, Stops, OtherDocument}
-use Rattle.tp_opid.proofs.Orders.{same_doc-apart, same_doc-same}
+use Rattle.tp_sync.proofs.Common.{◌≡◌, ◌∙◌, sym, SyncError, Stops, OtherDocument, same_doc-apart, same_doc-same}
 use Rattle.tp_sync.proofs.ExchangeLaws.{if_err, only_other, stops_not_other}
 use Rattle.tp_sync.proofs.exchanging.exchange.Goals as goal
 

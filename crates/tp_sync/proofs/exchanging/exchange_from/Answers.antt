@@ -1,5 +1,4 @@
-use Rattle.tp_sync.proofs.Common.{inr, subst, SyncError, Exchanged, SyncParts, fresh, Exchanges, Passes, ReplyFails, Stops, side}
-use Rattle.tp_sync.specs.Exchange.{Replies}
+use Rattle.tp_sync.proofs.Common.{inr, subst, SyncError, Exchanged, SyncParts, fresh, Exchanges, Passes, ReplyFails, Stops, side, Replies}
 use Rattle.tp_sync.proofs.ExchangeLaws.{if_err, if_ok}
 use Rattle.tp_sync.proofs.exchanging.exchange_from.Goals as goal
 

@@ -1,4 +1,4 @@
-use Rattle.std.proofs.Common.{inr}
+use Rattle.tp_sync.proofs.Common.{inr}
 use Rattle.tp_sync.proofs.exchanging.reply.Goals as goal
 
 pub returns-in-Err-close-clause-err : goal.returns-in-Err-close-clause-err

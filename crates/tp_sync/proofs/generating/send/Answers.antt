@@ -1,6 +1,5 @@
-use Rattle.tp_sync.proofs.Common.{◌≡◌, ◌≤◌, ◌∙◌, List, length, sym, subst, In, IsRising, Hash, hash_cmp, ChangeParts, MAX_CHANGES, MAX_HASHES, MAX_KNOWN}
+use Rattle.tp_sync.proofs.Common.{◌≡◌, ◌≤◌, ◌∙◌, List, length, sym, subst, In, IsRising, Hash, hash_cmp, ChangeParts, MAX_CHANGES, MAX_HASHES, MAX_KNOWN, heads_rise}
 use Rattle.tp_graph.specs.Heads as head
-use Rattle.tp_graph.proofs.HeadsLaws.{heads_rise}
 use Rattle.tp_sync.proofs.KnownLaws.{known_few, known_rises}
 use Rattle.tp_sync.proofs.TakeLaws.{carried-In, carried_few}
 use Rattle.tp_sync.proofs.WantLaws.{wanted_few, wanted_rises}

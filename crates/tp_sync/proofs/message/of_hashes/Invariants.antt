@@ -1,6 +1,4 @@
-use Rattle.std.proofs.Common.{take}
-use Rattle.std.specs.List.{AllByRecursion}
-use Rattle.tp_change.specs.Limits.{IsHash}
+use Rattle.tp_sync.proofs.Common.{take, AllByRecursion, IsHash}
 use Rattle.tp_sync.proofs.message.of_hashes.Given as goal
 
 abbrev pub invariant-loop-hash : goal.invariant-loop-hash

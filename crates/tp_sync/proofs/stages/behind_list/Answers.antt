@@ -1,5 +1,5 @@
+use Rattle.tp_sync.proofs.Common.{parts_in}
 use Rattle.tp_sync.proofs.StepLaws.{behind_heads, behind_known}
-use Rattle.tp_sync.specs.Lists.{parts_in}
 use Rattle.tp_sync.proofs.stages.behind_list.Goals as goal
 
 pub returns-in-Heads : goal.returns-in-Heads

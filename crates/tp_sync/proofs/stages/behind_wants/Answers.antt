@@ -1,5 +1,5 @@
+use Rattle.tp_sync.proofs.Common.{parts_in}
 use Rattle.tp_sync.proofs.StepLaws.{behind_wants_2, behind_wants_1}
-use Rattle.tp_sync.specs.Lists.{parts_in}
 use Rattle.tp_sync.proofs.stages.behind_wants.Goals as goal
 
 pub returns-then-lists-eq2 : goal.returns-then-lists-eq2

@@ -1,4 +1,4 @@
-use Rattle.std.proofs.Common.{arith}
+use Rattle.tp_sync.proofs.Common.{arith}
 use Rattle.tp_sync.proofs.StepLaws.{no_entries, some_entries}
 use Rattle.tp_sync.proofs.stages.changes_left.Goals as goal
 

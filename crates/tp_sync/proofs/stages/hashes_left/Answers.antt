@@ -1,4 +1,4 @@
-use Rattle.std.proofs.Common.{◌∙◌, arith}
+use Rattle.tp_sync.proofs.Common.{◌∙◌, arith}
 use Rattle.tp_sync.proofs.StepLaws.{no_hashes, some_hashes}
 use Rattle.tp_sync.proofs.stages.hashes_left.Goals as goal
 

@@ -1,4 +1,4 @@
-use Rattle.std.proofs.lemmas.Result.{err_from_is_err_and}
+use Rattle.tp_sync.proofs.Common.{err_from_is_err_and}
 use Rattle.tp_sync.proofs.JudgeLaws.{moves_of_steps}
 use Rattle.tp_sync.proofs.stages.next_stage.Goals as goal
 

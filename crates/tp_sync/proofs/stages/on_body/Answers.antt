@@ -1,6 +1,5 @@
-use Rattle.tp_sync.proofs.Common.{◌∙◌, ap, sym, refl, List, err_from_is_err_and, ChangeParts, parts_in, MessageParts}
+use Rattle.tp_sync.proofs.Common.{◌∙◌, ap, sym, refl, List, err_from_is_err_and, ChangeParts, parts_in, MessageParts, entries_from}
 use Rattle.tp_sync.proofs.StepLaws.{body_step, body_fails}
-use Rattle.tp_sync.specs.Stages.{entries_from}
 use Rattle.tp_sync.proofs.stages.on_body.Goals as goal
 
 pub returns-in_err-change : goal.returns-in_err-change

@@ -1,4 +1,4 @@
-use Rattle.std.proofs.Common.{◌∙◌}
+use Rattle.tp_sync.proofs.Common.{◌∙◌}
 use Rattle.tp_sync.proofs.StepLaws.{change_count_step, change_count_fault}
 use Rattle.tp_sync.proofs.stages.on_change_count.Goals as goal
 

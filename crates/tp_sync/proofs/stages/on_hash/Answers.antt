@@ -1,6 +1,5 @@
-use Rattle.tp_sync.proofs.Common.{◌∙◌, ap, sym, Some, parts_in, MessageParts}
+use Rattle.tp_sync.proofs.Common.{◌∙◌, ap, sym, Some, parts_in, MessageParts, hashes_from}
 use Rattle.tp_sync.proofs.StepLaws.{hash_step, hash_fault}
-use Rattle.tp_sync.specs.Stages.{hashes_from}
 use Rattle.tp_sync.proofs.stages.on_hash.Goals as goal
 
 pub returns-then-not-follows : goal.returns-then-not-follows

@@ -1,5 +1,5 @@
+use Rattle.tp_sync.proofs.Common.{parts_in}
 use Rattle.tp_sync.proofs.StepLaws.{version_step, version_fault}
-use Rattle.tp_sync.specs.Lists.{parts_in}
 use Rattle.tp_sync.proofs.stages.on_version.Goals as goal
 
 pub returns-then-version-eq1 : goal.returns-then-version-eq1

@@ -1,5 +1,4 @@
-use Rattle.std.proofs.Common.{◌∙◌, ap, sym, Vec, Global}
-use Rattle.tp_opid.specs.declared.hash.Hash.{Hash}
+use Rattle.tp_sync.proofs.Common.{◌∙◌, ap, sym, Vec, Global, Hash}
 use Rattle.tp_sync.proofs.WantLaws.{HasPut-more, HasPut-less}
 use Rattle.tp_sync.proofs.wanting.put_absent.Goals.{then-is_absent+in_ok-put, else-is_absent}
 use Rattle.tp_sync.proofs.wanting.put_absent.Goals as goal

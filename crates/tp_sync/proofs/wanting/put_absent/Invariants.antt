@@ -1,5 +1,4 @@
-use Rattle.std.proofs.Common.{take}
-use Rattle.tp_sync.specs.Wanting.{HasPut}
+use Rattle.tp_sync.proofs.Common.{take, HasPut}
 use Rattle.tp_sync.proofs.wanting.put_absent.Given as goal
 
 abbrev pub invariant-loop-hash : goal.invariant-loop-hash

@@ -1,5 +1,4 @@
-use Rattle.std.proofs.Common.{take}
-use Rattle.tp_list.specs.Members.{AllIn}
+use Rattle.tp_world.proofs.Common.{take, AllIn}
 use Rattle.tp_world.proofs.foreign.are_made.Given as goal
 
 -- those so far

@@ -1,7 +1,4 @@
-use Rattle.std.proofs.Common.{List, sym, subst, ◌∙◌}
-use Rattle.std.specs.Prelude.{IfOk, MatchBool}
-use Rattle.tp_list.specs.Members.{AllIn}
-use Rattle.tp_change.specs.declared.parts.ChangeParts.{ChangeParts}
+use Rattle.tp_world.proofs.Common.{List, sym, subst, ◌∙◌, IfOk, MatchBool, AllIn, ChangeParts}
 use Rattle.tp_world.proofs.ForeignLaws.{carries_changes, carries_none}
 use Rattle.tp_world.proofs.foreign.carry_made.Goals as goal
 

@@ -1,5 +1,4 @@
-use Rattle.std.proofs.Common.{sym, ◌∙◌}
-use Rattle.tp_opid.proofs.Orders.{same_hash-same}
+use Rattle.tp_world.proofs.Common.{sym, ◌∙◌, same_hash-same}
 use Rattle.tp_world.proofs.ForeignLaws.{made_if_same, not_made}
 use Rattle.tp_world.proofs.foreign.is_made.Goals as goal
 

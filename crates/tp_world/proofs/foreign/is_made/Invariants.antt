@@ -1,5 +1,4 @@
-use Rattle.std.proofs.Common.{◌≡◌, drop}
-use Rattle.tp_graph.specs.Named.{has}
+use Rattle.tp_world.proofs.Common.{◌≡◌, drop, has}
 use Rattle.tp_world.proofs.foreign.is_made.Given as goal
 
 -- what is left decides it

@@ -1,5 +1,4 @@
-use Rattle.std.proofs.Common.{◌∙◌}
-use Rattle.std.proofs.lemmas.Bool.Decides.{Decides-eqb}
+use Rattle.tp_world.proofs.Common.{◌∙◌, Decides-eqb}
 use Rattle.std.proofs.lemmas.Slice.Eq.{slice_eq-Decides}
 use Rattle.tp_world.proofs.ForeignLaws.{same_by_bytes}
 use Rattle.tp_world.proofs.foreign.is_same.Goals as goal

@@ -1,5 +1,4 @@
-use Rattle.std.proofs.Common.{◌≡◌, drop}
-use Rattle.tp_world.specs.Judging.{is_named}
+use Rattle.tp_world.proofs.Common.{◌≡◌, drop, is_named}
 use Rattle.tp_world.proofs.judging.is_named.Given as goal
 
 -- what is left decides it

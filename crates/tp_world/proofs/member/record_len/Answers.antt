@@ -1,5 +1,4 @@
-use Rattle.std.proofs.Common.{arith}
-use Rattle.tp_journal.proofs.RecordLaws.{length-record_of}
+use Rattle.tp_world.proofs.Common.{arith, length-record_of}
 use Rattle.tp_world.proofs.member.record_len.Goals as goal
 
 pub returns : goal.returns

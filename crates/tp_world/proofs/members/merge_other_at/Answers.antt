@@ -1,5 +1,4 @@
-use Rattle.std.proofs.Common.{refl}
-use Rattle.std.proofs.lemmas.Option.{slice_get_read}
+use Rattle.tp_world.proofs.Common.{refl, slice_get_read}
 use Rattle.tp_world.proofs.MemberLaws.{merge_other, set_below}
 use Rattle.tp_world.proofs.members.merge_other_at.Goals as goal
 

@@ -1,4 +1,4 @@
-use Rattle.tp_world.specs.Told.{reply_of}
+use Rattle.tp_world.proofs.Common.{reply_of}
 use Rattle.tp_world.proofs.MemberLaws.{reopened_at}
 use Rattle.tp_world.proofs.members.reopen_at.Goals as goal
 

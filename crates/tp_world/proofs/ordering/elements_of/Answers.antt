@@ -1,4 +1,4 @@
-use Rattle.std.proofs.Common.{◌++◌, ◌∷◌, [], ◌∙◌, sym, ap, length, ◌<◌, arith}
+use Rattle.tp_world.proofs.Common.{◌++◌, ◌∷◌, [], ◌∙◌, sym, ap, length, ◌<◌, arith}
 use Rattle.tp_world.proofs.OrderLaws.{no_more, pairs_more}
 use Rattle.tp_world.proofs.ordering.elements_of.Goals as goal
 use Rattle.tp_world.proofs.ordering.elements_of.Goals.{in-Some+in_ok-push, in_default}

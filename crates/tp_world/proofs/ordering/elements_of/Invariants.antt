@@ -1,5 +1,4 @@
-use Rattle.std.proofs.Common.{◌≡◌, take}
-use Rattle.tp_world.specs.Order.{pairs_of}
+use Rattle.tp_world.proofs.Common.{◌≡◌, take, pairs_of}
 use Rattle.tp_world.proofs.ordering.elements_of.Given as goal
 
 -- the elements so far

@@ -1,8 +1,4 @@
-use Rattle.std.proofs.Common.{◌≤◌, List, sym, subst, ◌∙◌}
-use Rattle.tp_change.specs.Elements.{inserts}
-use Rattle.tp_opid.specs.Insert.{Insert}
-use Rattle.tp_rga.specs.Order.{IsInOrder}
-use Rattle.std.proofs.Common.{take}
+use Rattle.tp_world.proofs.Common.{◌≤◌, List, sym, subst, ◌∙◌, inserts, Insert, IsInOrder, take}
 use Rattle.tp_change.proofs.OpsLaws.{length-ops_of}
 use Rattle.tp_world.proofs.OrderLaws.{next_applies, next_placed}
 use Rattle.tp_world.proofs.ordering.sequence_of.Goals as goal

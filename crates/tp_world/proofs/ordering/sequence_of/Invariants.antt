@@ -1,6 +1,4 @@
-use Rattle.std.proofs.Common.{take}
-use Rattle.tp_change.specs.Elements.{inserts}
-use Rattle.tp_rga.specs.Order.{IsInOrder}
+use Rattle.tp_world.proofs.Common.{take, inserts, IsInOrder}
 use Rattle.tp_world.proofs.ordering.sequence_of.Given as goal
 
 -- the elements of the changes so far are in

@@ -1,5 +1,4 @@
-use Rattle.tp_document.proofs.Common.{◌≡◌, List, [], ◌∷◌, ◌++◌, Option, subst, sym, ap, ◌∙◌, chars, ChangeParts, IsTextOf, asking, Edited, all_spliced, AsksNothing}
-use Rattle.std.specs.Prelude.{MatchOption}
+use Rattle.tp_document.proofs.Common.{◌≡◌, List, [], ◌∷◌, ◌++◌, Option, subst, sym, ap, ◌∙◌, chars, ChangeParts, IsTextOf, asking, Edited, all_spliced, AsksNothing, MatchOption}
 use Rattle.tp_document.proofs.EditFits.{edit_text, nothing_spliced}
 use Rattle.tp_document.proofs.document.Document.edit.Goals as goal
 

@@ -1,6 +1,6 @@
 use Rattle.tp_document.proofs.Common.{◌≡◌, ◌<◌, ◌≤◌, ap, sym, ◌∙◌, subst, List, length, IfOk, In, ChangeParts, most_changes, past, Sound, sound_pasts, DocState, HasJust}
 use Rattle.tp_document.proofs.ForkLaws.{past_of_places, few_in_past}
-use Rattle.tp_document.proofs.ClockLaws.{past_places-within}
+use Rattle.tp_document.proofs.ChangePlaces.{past_places-within}
 use Rattle.tp_document.proofs.document.Document.fork_at.Goals as goal
 
 pub document_at-requires-clause-within : goal.document_at-requires-clause-within

@@ -1,5 +1,4 @@
-use Rattle.tp_document.proofs.Common.{Ok, subst, sym, chars, ChangeParts, DocState, asking, Edited, AreInRange, IsRefused, AsksNothing}
-use Rattle.tp_document.specs.Making.{IsAllowed, IsWithinSize}
+use Rattle.tp_document.proofs.Common.{Ok, subst, sym, chars, ChangeParts, DocState, asking, Edited, AreInRange, IsRefused, AsksNothing, IsAllowed, IsWithinSize}
 use Rattle.tp_document.proofs.EditFits.{edit_enters}
 use Rattle.tp_document.proofs.document.Document.make_edit.Goals as goal
 

@@ -1,10 +1,4 @@
-use Rattle.tp_document.proofs.Common.{◌≡◌, List, ap, sym, subst, ◌∙◌, true, refl, ChangeParts, Sound, DocState, DocId, HasOutcome, receiving, absent, HasMergeOutcome}
-use Rattle.tp_opid.specs.Same.{same_doc}
-use Rattle.tp_opid.proofs.Orders.{same_doc-same, same_doc-apart}
-use Rattle.tp_receive.specs.Intake.{begin}
-use Rattle.tp_receive.specs.Outcome.{ReceivesWith}
-use Rattle.tp_receive.proofs.TakingLaws.{Stops-still}
-use Rattle.tp_document.specs.Applying.{kept_by}
+use Rattle.tp_document.proofs.Common.{◌≡◌, List, ap, sym, subst, ◌∙◌, true, refl, ChangeParts, Sound, DocState, DocId, HasOutcome, receiving, absent, same_doc, same_doc-same, same_doc-apart, ReceivesWith, kept_by, begin, Stops-still}
 use Rattle.tp_document.proofs.MergeLaws.{never_full}
 use Rattle.tp_document.proofs.ApplyLaws.{merged_so}
 use Rattle.tp_document.proofs.document.Document.merge_with.Goals as goal

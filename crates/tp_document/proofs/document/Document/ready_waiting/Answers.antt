@@ -1,6 +1,4 @@
-use Rattle.tp_document.proofs.Common.{◌≡◌, ◌≤◌, Some, ap, subst, ◌∙◌, slice_get, ChangeParts, hash_of, op_count, DocState}
-use Rattle.std.proofs.lemmas.Option.{get_or_from_slice_get}
-use Rattle.tp_receive.proofs.TakingLaws.{OnOk-map}
+use Rattle.tp_document.proofs.Common.{◌≡◌, ◌≤◌, Some, ap, subst, ◌∙◌, slice_get, ChangeParts, hash_of, op_count, DocState, get_or_from_slice_get, OnOk-map}
 use Rattle.tp_document.proofs.document.Document.ready_waiting.Goals as goal
 
 pub returns-clause-room : goal.returns-clause-room

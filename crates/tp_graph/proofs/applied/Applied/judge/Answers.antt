@@ -7,5 +7,5 @@ use Rattle.tp_graph.proofs.applied.Applied.judge.Goals as goal
 pub returns-in_err-part-clause-answers : goal.returns-in_err-part-clause-answers
 returns-in_err-part-clause-answers c =
     let new : has c.args.self.now.changes (hash_of c.args.change.now) ≡ false = ap (has c.args.self.now.changes) (sym c.hash.ensures.hash) ∙ sym c.contains.ensures ∙ c.if-contains.false in
-    let there : has_all c.args.self.now.changes c.args.change.now.deps ≡ true = ap (has_all c.args.self.now.changes) (sym c.deps.ensures) ∙ sym c.has_all.ensures ∙ c.if-not-has_all.false in
+    let there : has_all c.args.self.now.changes c.args.change.now.deps ≡ true = ap (has_all c.args.self.now.changes) (sym c.deps.ensures) ∙ c.in-Some.ensures.0 in
     Answers-behind c.args.self.now.changes c.args.change.now c.in_err-part.field-0.0 c.from_residual.result new there c.in_err-part.ensures.answers c.from_residual.ensures.1

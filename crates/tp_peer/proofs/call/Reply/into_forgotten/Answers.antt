@@ -1,4 +1,4 @@
-use Rattle.std.proofs.Common.{inl, inr}
+use Rattle.tp_peer.proofs.Common.{inl, inr}
 use Rattle.tp_peer.proofs.ReplyLaws.{forgotten_or_refused}
 use Rattle.tp_peer.proofs.call.Reply.into_forgotten.Goals as goal
 

@@ -1,4 +1,4 @@
-use Rattle.std.proofs.Common.{sym}
+use Rattle.tp_peer.proofs.Common.{sym}
 use Rattle.tp_peer.proofs.LinkLaws.{links_without, at_without, none_without}
 use Rattle.tp_peer.proofs.links.Links.forget.Goals as goal
 

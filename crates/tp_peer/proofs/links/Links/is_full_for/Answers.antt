@@ -1,4 +1,4 @@
-use Rattle.std.proofs.Common.{◌≡◌, length, sym}
+use Rattle.tp_peer.proofs.Common.{◌≡◌, length, sym}
 use Rattle.tp_peer.proofs.LinkLaws.{new_is_one_too_many, old_is_none_too_many}
 use Rattle.tp_peer.proofs.links.Links.is_full_for.Goals as goal
 

@@ -1,5 +1,4 @@
-use Rattle.std.proofs.Common.{◌≡◌, false, sym, subst}
-use Rattle.tp_peer.specs.Links.{LinksState, is_one_too_many}
+use Rattle.tp_peer.proofs.Common.{◌≡◌, false, sym, subst, LinksState, is_one_too_many}
 use Rattle.tp_peer.proofs.LinkLaws.{links_with, none_with}
 use Rattle.tp_peer.proofs.links.Links.set.Goals as goal
 

@@ -1,6 +1,4 @@
-use Rattle.std.proofs.Common.{refl, ap, sym, subst, ◌∙◌}
-use Rattle.tp_peer.specs.PeerData.{PeerData, peer_data}
-use Rattle.tp_peer.specs.PeerStep.{Heads, PeerStep, ReadHeads}
+use Rattle.tp_peer.proofs.Common.{refl, ap, sym, subst, ◌∙◌, PeerData, peer_data, Heads, PeerStep, ReadHeads}
 use Rattle.tp_peer.proofs.StepLaws.{step_runs, step_stopped}
 use Rattle.tp_peer.proofs.peer.Peer.heads.Goals as goal
 

@@ -1,12 +1,5 @@
-use Rattle.std.proofs.Common.{Bool, false, ap, sym, subst, ◌∙◌, ◌||◌}
-use Rattle.tp_document.specs.Merging.{absent}
-use Rattle.tp_receive.specs.Outcome.{Done}
-use Rattle.tp_peer.specs.PeerData.{PeerData, peer_data}
-use Rattle.tp_peer.specs.PeerError.{refusal_of_document, is_failed}
-use Rattle.tp_peer.specs.declared.error.PeerError.{PeerError}
-use Rattle.tp_peer.specs.PeerStep.{Call, Merge, Merged, PeerStep, Refused, Reply, Runs}
-use Rattle.tp_peer.specs.Taking.{report_of}
-use Rattle.tp_peer.proofs.StepLaws.{either_stopped, keeping_leaves_peer, none_stopped, runs_keep, step_runs, step_stopped}
+use Rattle.tp_peer.proofs.Common.{Bool, false, ap, sym, subst, ◌∙◌, ◌||◌, absent, Done, PeerData, peer_data, is_failed, PeerError, Merge, Merged, PeerStep, Refused, Reply, Runs, report_of, or_right, neither}
+use Rattle.tp_peer.proofs.StepLaws.{keeping_leaves_peer, runs_keep, step_runs, step_stopped}
 use Rattle.tp_peer.proofs.TakingLaws.{merge_refused, took}
 use Rattle.tp_peer.proofs.peer.Peer.merge.Goals as goal
 use Rattle.tp_peer.proofs.peer.Peer.merge.Goals.{then-self-via-then-self, then-self-via-else-self+then-other}
@@ -17,7 +10,7 @@ returns-then-self g c =
     let q : PeerData = c.args.other.now in
     elim c.then-self.branch [
       | then-self-via-then-self w ↦ step_stopped p (Merge q) (ap (λ b. b || q.stopped) (ap (λ (x : PeerData). x.stopped) (sym c.self.view_is) ∙ w.if-self.true))
-      | then-self-via-else-self+then-other w ↦ step_stopped p (Merge q) (either_stopped p.stopped q.stopped (ap (λ (x : PeerData). x.stopped) (sym c.other.view_is) ∙ w.if-other.true))
+      | then-self-via-else-self+then-other w ↦ step_stopped p (Merge q) (or_right p.stopped q.stopped (ap (λ (x : PeerData). x.stopped) (sym c.other.view_is) ∙ w.if-other.true))
     ]
 
 pub invariant_of-self : goal.invariant_of-self
@@ -61,7 +54,7 @@ returns-in-Ok g c =
     let done : Runs p (Merge q) reply p' =
     (c.in-Ok.ensures.outcome.0, took s.actor s.document new.self s.links.known s.appender new.keeper s.stopped (absent s.document.applied o.document.applied) (Done (report_of c.in-Ok.applied)) c.in-Ok.ensures.id c.in-Ok.ensures.outcome.1) in
     subst (λ (x : PeerData). PeerStep x (Merge c.args.other.now) reply p') c.self.view_is
-    (subst (λ (y : PeerData). PeerStep p (Merge y) reply p') c.other.view_is (step_runs p (Merge q) reply p' (none_stopped s.stopped o.stopped c.if-self.false c.if-other.false) done))
+    (subst (λ (y : PeerData). PeerStep p (Merge y) reply p') c.other.view_is (step_runs p (Merge q) reply p' (neither s.stopped o.stopped c.if-self.false c.if-other.false) done))
 
 pub returns-in-Err : goal.returns-in-Err
 returns-in-Err g c =
@@ -78,4 +71,4 @@ returns-in-Err g c =
     (subst (λ (e : PeerError). Runs (peer_data s.actor s.document s.links.known s.appender false) (Merge q) (Refused e) (peer_data s.actor new.self s.links.known new.keeper (is_failed e))) (sym c.from-error.ensures)
     (merge_refused s.actor s.document new.self s.links.known s.appender new.keeper q c.in-Err.error c.in-Err.ensures.id c.in-Err.ensures.space c.in-Err.ensures.outcome))) in
     subst (λ (x : PeerData). PeerStep x (Merge c.args.other.now) reply p') c.self.view_is
-    (subst (λ (y : PeerData). PeerStep p (Merge y) reply p') c.other.view_is (step_runs p (Merge q) reply p' (none_stopped s.stopped o.stopped c.if-self.false c.if-other.false) refused))
+    (subst (λ (y : PeerData). PeerStep p (Merge y) reply p') c.other.view_is (step_runs p (Merge q) reply p' (neither s.stopped o.stopped c.if-self.false c.if-other.false) refused))

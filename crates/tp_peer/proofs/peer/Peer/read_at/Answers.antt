@@ -1,7 +1,4 @@
-use Rattle.std.proofs.Common.{inl, inr, refl, ap, sym, subst, ◌∙◌}
-use Rattle.tp_peer.specs.Calls.{reply_of}
-use Rattle.tp_peer.specs.PeerData.{PeerData, peer_data}
-use Rattle.tp_peer.specs.PeerStep.{PeerStep, ReadAt, Reply}
+use Rattle.tp_peer.proofs.Common.{inr, refl, ap, sym, subst, ◌∙◌, reply_of, PeerData, peer_data, PeerStep, ReadAt, Reply}
 use Rattle.tp_peer.proofs.StepLaws.{step_runs, step_stopped}
 use Rattle.tp_peer.proofs.peer.Peer.read_at.Goals as goal
 

@@ -1,5 +1,4 @@
-use Rattle.std.proofs.Common.{◌∙◌, ◌<◌, None, arith, ap, sym, length}
-use Rattle.std.proofs.lemmas.List.{length-set}
+use Rattle.tp_receive.proofs.Common.{◌∙◌, ◌<◌, None, arith, ap, sym, length, length-set}
 use Rattle.tp_receive.proofs.LackingLaws.{all_known, forget_end, forgets_one, keeps_one, known_before, known_more}
 use Rattle.tp_receive.proofs.lacking.Lacking.forget_lacked.Goals as goal
 use Rattle.tp_receive.proofs.lacking.Lacking.forget_lacked.Goals.{then-is_lacked, else-is_lacked+then-known-i+then-is_some, else-is_lacked+else-known-i}

@@ -1,5 +1,5 @@
-use Rattle.std.proofs.Common.{rules, ◌≡◌, None, length, replicate, subst, sym}
-use Rattle.tp_receive.specs.Lacking.{KnowsLack, Lacks}
+use Rattle.tp_receive.proofs.Common.{◌≡◌, None, length, replicate, subst, sym, KnowsLack, Lacks}
+use Rattle.std.proofs.Common.{rules}
 use Rattle.tp_receive.proofs.LackingLaws.{zipped_none}
 use Rattle.tp_receive.proofs.lacking.Lacking.new.Goals as goal
 

@@ -1,10 +1,4 @@
-use Rattle.std.proofs.Common.{◌∙◌, ap, sym, subst}
-use Rattle.atomic_table.specs.declared.badge.Badge.{Badge}
-use Rattle.tp_peer.specs.Calls.{call_of}
-use Rattle.tp_served.specs.Calls.{IsOnlyOn}
-use Rattle.tp_served.specs.Seats.{SeatData, missed_by}
-use Rattle.tp_served.specs.Rule.{ViewState}
-use Rattle.tp_served.specs.Sitting.{seat_of}
+use Rattle.tp_served.proofs.Common.{◌∙◌, ap, sym, subst, Badge, call_in, IsOnlyOn, SeatData, missed_by, ViewState, seat_of}
 use Rattle.tp_served.proofs.TokenLaws.{seat_at, shows_turn}
 use Rattle.tp_served.proofs.served.Served.call.Goals as goal
 
@@ -13,7 +7,7 @@ call_on-badge-requires-clause-turn g c =
     let t = seat_of c.seat.inside.badge.views in
     let views = ap (λ (b : Badge ViewState). b.views) c.replace-badge.ensures.value ∙ c.seat.invariant.alone in
     let turn = c.wait-turn.ensures.taken t views in
-    (missed_by turn.0 t, turn.1, subst (λ (s : SeatData). IsOnlyOn s.state.number (call_of c.args.call)) (sym c.seat.view_is) c.requires.link)
+    (missed_by turn.0 t, turn.1, subst (λ (s : SeatData). IsOnlyOn s.state.number (call_in c.args.request)) (sym c.seat.view_is) c.requires.link)
 
 pub invariant_of-seat : goal.invariant_of-seat
 invariant_of-seat g c =

@@ -1,4 +1,4 @@
-use Rattle.std.proofs.Common.{arith}
+use Rattle.tp_served.proofs.Common.{arith}
 use Rattle.tp_served.proofs.SeatLaws.{last_is}
 use Rattle.tp_served.proofs.served.Served.close.Goals as goal
 

@@ -1,7 +1,4 @@
-use Rattle.std.proofs.Common.{refl, sym, subst}
-use Rattle.std.specs.Str.{chars}
-use Rattle.tp_peer.specs.PeerStep.{Edit, Reply}
-use Rattle.tp_served.specs.Seats.{Shows}
+use Rattle.tp_served.proofs.Common.{refl, sym, subst, chars, Edit, Reply, Shows}
 use Rattle.tp_served.proofs.served.Served.edit.Goals as goal
 
 pub call-reply-requires-clause-link : goal.call-reply-requires-clause-link

@@ -1,9 +1,5 @@
-use Rattle.std.proofs.Common.{[], ◌∷◌, ◌++◌, ap, sym, ◌∙◌, subst}
+use Rattle.tp_served.proofs.Common.{[], ◌∷◌, ◌++◌, ap, sym, ◌∙◌, subst, PeerData, ServedData, states_of, Token, Closes}
 use mathlib.Core.Option as maybe
-use Rattle.tp_peer.specs.PeerData.{PeerData}
-use Rattle.tp_served.specs.Seats.{ServedData, states_of}
-use Rattle.tp_served.specs.Steps.{Token}
-use Rattle.tp_served.specs.Calls.{Closes}
 use Rattle.tp_served.proofs.RuleLaws.{closes_at, not_idle}
 use Rattle.tp_served.proofs.TokenLaws.{some_same}
 use Rattle.tp_served.proofs.SeatLaws.{length_states}

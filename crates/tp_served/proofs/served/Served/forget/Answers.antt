@@ -1,7 +1,4 @@
-use Rattle.std.proofs.Common.{ne_eqb, ◌∙◌, sym, subst}
-use Rattle.tp_peer.specs.Calls.{reply_of}
-use Rattle.tp_peer.specs.PeerStep.{Forget, Reply}
-use Rattle.tp_served.specs.Seats.{Shows}
+use Rattle.tp_served.proofs.Common.{ne_eqb, ◌∙◌, sym, subst, reply_of, Forget, Reply, Shows}
 use Rattle.tp_served.proofs.served.Served.forget.Goals as goal
 
 pub call-reply-requires-clause-link : goal.call-reply-requires-clause-link

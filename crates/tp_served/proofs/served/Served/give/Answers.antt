@@ -1,6 +1,4 @@
-use Rattle.std.proofs.Common.{[], ◌∷◌, ap, sym, ◌∙◌, subst, ◌<◌, arith}
-use Rattle.tp_served.specs.Seats.{ServedData}
-use Rattle.tp_served.specs.Steps.{Token}
+use Rattle.tp_served.proofs.Common.{[], ◌∷◌, ap, sym, ◌∙◌, subst, ◌<◌, arith, ServedData, Token}
 use Rattle.tp_served.proofs.RuleLaws.{gives_back}
 use Rattle.tp_served.proofs.TokenLaws.{any_step, put_is}
 use Rattle.tp_served.proofs.served.Served.give.Goals as goal

@@ -1,7 +1,4 @@
-use Rattle.std.proofs.Common.{[], ◌∷◌, ap, sym, ◌∙◌, subst, ◌<◌, arith}
-use Rattle.tp_served.specs.Seats.{HaveMet, SeatData, ServedData}
-use Rattle.tp_served.specs.Sitting.{seat_data, seat_of}
-use Rattle.tp_served.specs.Steps.{Token, first_of, others_of}
+use Rattle.tp_served.proofs.Common.{[], ◌∷◌, ap, sym, ◌∙◌, subst, ◌<◌, arith, HaveMet, SeatData, ServedData, seat_data, seat_of, Token, first_of, others_of}
 use Rattle.tp_served.proofs.RuleLaws.{joins_at, looks, splits_at}
 use Rattle.tp_served.proofs.TokenLaws.{any_step, joined_token, seat_at}
 use Rattle.tp_served.proofs.served.Served.meet.Goals as goal

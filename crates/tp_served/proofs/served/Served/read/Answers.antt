@@ -1,6 +1,4 @@
-use Rattle.std.proofs.Common.{refl, inl, sym, subst}
-use Rattle.tp_peer.specs.PeerStep.{Read, Reply}
-use Rattle.tp_served.specs.Seats.{Shows}
+use Rattle.tp_served.proofs.Common.{refl, inl, sym, subst, Read, Reply, Shows}
 use Rattle.tp_served.proofs.served.Served.read.Goals as goal
 
 pub call-reply-requires-clause-link : goal.call-reply-requires-clause-link

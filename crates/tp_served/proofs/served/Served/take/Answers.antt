@@ -1,7 +1,4 @@
-use Rattle.std.proofs.Common.{[], ◌∷◌, ap, sym, ◌∙◌, subst, ◌<◌, arith}
-use Rattle.tp_served.specs.Seats.{ServedData}
-use Rattle.tp_served.specs.Rule.{alone}
-use Rattle.tp_served.specs.Steps.{Token}
+use Rattle.tp_served.proofs.Common.{[], ◌∷◌, ap, sym, ◌∙◌, subst, ◌<◌, arith, ServedData, alone, Token}
 use Rattle.tp_served.proofs.RuleLaws.{tries, not_idle}
 use Rattle.tp_served.proofs.TokenLaws.{any_step, slot_has, slot_out, token_is, tried_miss, tried_take, turn_is}
 use Rattle.tp_served.proofs.served.Served.take.Goals as goal

@@ -1,8 +1,4 @@
-use Rattle.std.proofs.Common.{refl, ◌∙◌, ap, sym, subst}
-use Rattle.std.specs.Str.{chars}
-use Rattle.tp_peer.specs.PeerStep.{Edit}
-use Rattle.tp_served.specs.Calls.{Tries}
-use Rattle.tp_served.specs.ServedError.{Answer, Replied}
+use Rattle.tp_served.proofs.Common.{refl, ◌∙◌, ap, sym, subst, chars, Edit, Tries, Answer, Replied}
 use Rattle.tp_served.proofs.served.Served.try_edit.Goals as goal
 
 pub try_call-requires-clause-link : goal.try_call-requires-clause-link

@@ -1,7 +1,4 @@
-use Rattle.std.proofs.Common.{refl, inl, ◌∙◌, ap, sym, subst}
-use Rattle.tp_peer.specs.PeerStep.{Read}
-use Rattle.tp_served.specs.Calls.{Tries}
-use Rattle.tp_served.specs.ServedError.{Answer, Replied}
+use Rattle.tp_served.proofs.Common.{refl, inl, ◌∙◌, ap, sym, subst, Read, Tries, Answer, Replied}
 use Rattle.tp_served.proofs.served.Served.try_read.Goals as goal
 
 pub try_call-requires-clause-link : goal.try_call-requires-clause-link

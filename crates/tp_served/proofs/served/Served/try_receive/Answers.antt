@@ -1,8 +1,4 @@
-use Rattle.std.proofs.Common.{ne_eqb, ◌∙◌, ap, sym, subst}
-use Rattle.tp_peer.specs.Calls.{reply_of}
-use Rattle.tp_peer.specs.PeerStep.{Receive}
-use Rattle.tp_served.specs.Calls.{Tries}
-use Rattle.tp_served.specs.ServedError.{Answer, Replied}
+use Rattle.tp_served.proofs.Common.{ne_eqb, ◌∙◌, ap, sym, subst, reply_of, Receive, Tries, Answer, Replied}
 use Rattle.tp_served.proofs.served.Served.try_receive.Goals as goal
 
 pub try_call-requires-clause-link : goal.try_call-requires-clause-link

@@ -1,6 +1,4 @@
-use Rattle.std.proofs.Common.{[], ◌∷◌, ◌+◌, ap, ◌∙◌}
-use Rattle.tp_served.specs.Seats.{SeatState, missed_by}
-use Rattle.tp_served.specs.Rule.{alone}
+use Rattle.tp_served.proofs.Common.{[], ◌∷◌, ◌+◌, ap, ◌∙◌, SeatState, missed_by, alone}
 use Rattle.tp_served.proofs.TokenLaws.{missed_more}
 use Rattle.tp_served.proofs.served.Served.wait.Goals as goal
 

@@ -1,6 +1,4 @@
-use Rattle.std.proofs.Common.{◌≡◌, ℕ, [], ◌∷◌}
-use Rattle.tp_served.specs.Seats.{SeatState, missed_by}
-use Rattle.tp_served.specs.Rule.{alone}
+use Rattle.tp_served.proofs.Common.{◌≡◌, ℕ, [], ◌∷◌, SeatState, missed_by, alone}
 use Rattle.tp_served.proofs.served.Served.wait.Given as goal
 
 -- the seat is what it was, but for its misses

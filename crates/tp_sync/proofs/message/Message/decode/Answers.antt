@@ -1,5 +1,4 @@
-use Rattle.tp_sync.proofs.Common.{◌≡◌, ◌-◌, take, drop, length, Result, Ok, sym, ap, subst, ◌∙◌, refl, arith, err_from_is_err_and, SyncError, FailsWith, MessageParts, message_at, reads}
-use Rattle.std.proofs.lemmas.List.{drop_all, take_rest}
+use Rattle.tp_sync.proofs.Common.{◌≡◌, ◌-◌, take, drop, length, Result, Ok, sym, ap, subst, ◌∙◌, refl, arith, err_from_is_err_and, SyncError, FailsWith, MessageParts, message_at, reads, drop_all, take_rest}
 use Rattle.tp_sync.proofs.ReaderLaws.{fails_by, fails_of_answers, taken_on}
 use Rattle.tp_sync.proofs.WholeMessage.{message_takes, message_again}
 use Rattle.tp_sync.proofs.message.Message.decode.Goals as goal

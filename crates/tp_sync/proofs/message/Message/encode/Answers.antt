@@ -1,5 +1,4 @@
-use Rattle.std.proofs.Common.{refl, ap}
-use Rattle.tp_sync.specs.Message.{MessageParts}
+use Rattle.tp_sync.proofs.Common.{refl, ap, MessageParts}
 use Rattle.tp_sync.proofs.WholeMessage.{written}
 use Rattle.tp_sync.proofs.message.Message.encode.Goals as goal
 

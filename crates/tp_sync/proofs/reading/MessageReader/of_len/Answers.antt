@@ -1,4 +1,4 @@
-use Rattle.std.proofs.Common.{arith, refl}
+use Rattle.tp_sync.proofs.Common.{arith, refl}
 use Rattle.tp_sync.proofs.ReaderLaws.{begun_is, begun_reads}
 use Rattle.tp_sync.proofs.ShortLaws.{message_short}
 use Rattle.tp_sync.proofs.reading.MessageReader.of_len.Goals as goal

@@ -1,11 +1,7 @@
-use Rattle.std.proofs.Common.{refl, sym, ap, ◌∙◌}
-use Rattle.tp_world.specs.Lives.{member_data}
-use Rattle.tp_peer.specs.PeerStep.{Merge, Merged, replied}
-use Rattle.tp_peer.specs.Taking.{report_of}
-use Rattle.tp_world.specs.contracts.member.Member.{the_view}
+use Rattle.tp_world.proofs.Common.{refl, sym, ap, ◌∙◌, member_data, Merge, Merged, replied, report_of, the_view}
 use Rattle.tp_world.proofs.MemberLaws.{left_steps, steps_as, steps_itself}
-use Rattle.tp_world.proofs.member.Member.merge_itself.Goals as goal
 use Rattle.tp_world.proofs.member.Member.merge_itself.Goals.{in-Running, in-Stopped}
+use Rattle.tp_world.proofs.member.Member.merge_itself.Goals as goal
 
 pub returns : goal.returns
 returns c = elim c.match-self.branch [
@@ -14,5 +10,5 @@ returns c = elim c.match-self.branch [
       (ap (replied (λ a. Merged (report_of a))) (sym w.result-is)) (ap the_view (sym w.self-inside-is)) w.merge_nothing.ensures
   | in-Stopped w ↦
       steps_as c.args.self.now c.args.self.now c.args.self.now (the_view c.match-self.self-inside) (Merge c.args.self.now) _ _ refl (ap (replied (λ a. Merged (report_of a))) (sym w.result-is)) (sym c.self.view_is ∙ ap the_view (sym w.self-inside-is))
-      (left_steps c.args.self.now w.in-Stopped.field-0 w.in-Stopped.field-1 w.in-Stopped.field-2 (sym c.self.view_is ∙ ap member_data w.in-Stopped.is) (Merge c.args.self.now) refl)
+      (left_steps c.args.self.now w.in-Stopped.field-0 w.in-Stopped.field-1 w.in-Stopped.field-2.content (sym c.self.view_is ∙ ap member_data w.in-Stopped.is) (Merge c.args.self.now) refl)
 ]

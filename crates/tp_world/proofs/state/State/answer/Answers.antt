@@ -1,12 +1,6 @@
-use Rattle.std.proofs.Common.{◌<◌, inl, inr, refl, sym, subst}
-use Rattle.std.proofs.lemmas.Option.{slice_get_read}
-use Rattle.tp_list.specs.Members.{In}
+use Rattle.tp_world.proofs.Common.{◌<◌, inl, inr, refl, sym, subst, slice_get_read, In, Call, AnswersAt, world_of, call_of}
 use Rattle.tp_peer.specs.Calls as own
 use Rattle.tp_headline.specs.Event as events
-use Rattle.tp_world.specs.declared.event.Call.{Call}
-use Rattle.tp_world.specs.Making.{AnswersAt}
-use Rattle.tp_world.specs.States.{world_of}
-use Rattle.tp_world.specs.Told.{call_of}
 use Rattle.tp_world.proofs.Happenings.{deliver_answers}
 use Rattle.tp_world.proofs.state.State.answer.Goals as goal
 

@@ -1,10 +1,4 @@
-use Rattle.std.proofs.Common.{List, sym, ap, ◌∙◌, subst}
-use Rattle.std.specs.Option.{option_map}
-use Rattle.tp_change.specs.declared.parts.ChangeParts.{ChangeParts}
-use Rattle.tp_graph.specs.Named.{HashesApart}
-use Rattle.tp_graph.proofs.SoundLaws.{hashes_apart}
-use Rattle.tp_world.specs.Told.{event_of}
-use Rattle.tp_world.specs.States.{world_of}
+use Rattle.tp_world.proofs.Common.{List, sym, ap, ◌∙◌, subst, option_map, ChangeParts, HashesApart, hashes_apart, event_of, world_of}
 use Rattle.tp_world.proofs.Verdicts.{judges_bytes}
 use Rattle.tp_world.proofs.state.State.brings_made.Goals as goal
 

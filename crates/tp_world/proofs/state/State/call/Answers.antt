@@ -1,13 +1,7 @@
-use Rattle.std.proofs.Common.{◌≡◌, ◌<◌, List, length, Some, false, inl, refl, sym, subst}
-use Rattle.std.specs.List.{slice_get}
-use Rattle.tp_peer.specs.PeerData.{PeerData}
-use Rattle.tp_headline.specs.Event as events
-use Rattle.tp_headline.specs.World.{Entry, World}
-use Rattle.tp_world.specs.Making.{AnswersAt}
-use Rattle.tp_world.specs.States.{world_of}
-use Rattle.tp_world.specs.Told.{answer_of, call_of, reply_of}
+use Rattle.tp_world.proofs.Common.{◌≡◌, ◌<◌, List, length, Some, false, inl, refl, sym, subst, slice_get, PeerData, Entry, World, AnswersAt, world_of, answer_of, call_of, reply_of}
 use Rattle.tp_world.proofs.Happenings.{call_meets, roomy}
 use Rattle.tp_world.proofs.JudgeLaws.{runs_there, sent_below, there_below}
+use Rattle.tp_headline.specs.Event as events
 use Rattle.tp_world.proofs.state.State.call.Goals as goal
 
 pub heads_for-requires : goal.heads_for-requires
@@ -22,13 +16,21 @@ pub answer-answer-requires-clause-entries : goal.answer-answer-requires-clause-e
 answer-answer-requires-clause-entries c = λ k i.
     subst (λ (l : List Entry). k < length l) (sym c.reserve-2.ensures.items) (sent_below (world_of c.args.self.now) (events.Call c.args.n (call_of c.args.call)) k c.requires.may i)
 
+pub journal_len_at-before-requires : goal.journal_len_at-before-requires
+journal_len_at-before-requires c =
+    subst (λ (l : List PeerData). c.args.n < length l) (sym c.deref-2.ensures.value) (there_below (world_of c.args.self.now) (events.Call c.args.n (call_of c.args.call)) c.args.n c.requires.may (inl refl))
+
 pub returns : goal.returns
 returns c =
     let w = world_of c.args.self.now in
     let m = world_of c.answer-answer.new.self in
     let answer = answer_of c.answer-answer.result in
     let room = roomy w c.reserve.new.self.items c.reserve-2.new.self.items c.reserve-3.new.self.items c.reserve.ensures.items c.reserve-2.ensures.items c.reserve-3.ensures.items in
-    call_meets w m c.args.n (call_of c.args.call) c.args.change c.in-Ok.heads.items answer c.add_if.new.made.items c.is_made.result (reply_of c.note.result) (world_of c.note.new.self)
+    call_meets w m c.args.n (call_of c.args.call) c.args.change c.in-Ok.heads.items answer c.add_if.new.made.items c.journal_len_at-before.result c.journal_len_at.result c.saturating_sub-grown.result c.is_kept-whole.result
+    (reply_of c.note.result) (world_of c.note.new.self)
     c.requires.carried c.requires.may c.requires.change
     (λ p stands. c.in-Ok.ensures p (subst (λ (l : List PeerData). slice_get l c.args.n ≡ Some p) (sym c.deref.ensures.value) stands))
-    (subst (λ (x : World). AnswersAt x c.args.n (call_of c.args.call) answer m) room c.answer-answer.ensures.answers) c.is_made.ensures c.add_if.ensures c.note.ensures
+    (λ p stands. c.journal_len_at-before.ensures p (subst (λ (l : List PeerData). slice_get l c.args.n ≡ Some p) (sym c.deref-2.ensures.value) stands))
+    (subst (λ (x : World). AnswersAt x c.args.n (call_of c.args.call) answer m) room c.answer-answer.ensures.answers)
+    (λ p stands. c.journal_len_at.ensures p (subst (λ (l : List PeerData). slice_get l c.args.n ≡ Some p) (sym c.deref-3.ensures.value) stands))
+    c.saturating_sub-grown.ensures c.is_kept-whole.ensures c.add_if.ensures c.note.ensures

@@ -1,11 +1,5 @@
-use Rattle.std.proofs.Common.{Option, sym, subst}
+use Rattle.tp_world.proofs.Common.{Option, sym, subst, Call, MayHappen, Meets, IsWould, world_of, during_of, reply_of}
 use Rattle.tp_headline.specs.Event as events
-use Rattle.tp_world.specs.declared.event.Call.{Call}
-use Rattle.tp_headline.specs.Refusing.{MayHappen}
-use Rattle.tp_world.specs.Judging.{Meets}
-use Rattle.tp_world.specs.Making.{IsWould}
-use Rattle.tp_world.specs.States.{world_of}
-use Rattle.tp_world.specs.Told.{during_of, reply_of}
 use Rattle.tp_world.proofs.state.State.crash.Goals as goal
 
 pub returns-in-None : goal.returns-in-None

@@ -1,8 +1,5 @@
-use Rattle.std.proofs.Common.{◌++◌, ◌∷◌, [], List, inl, refl, ap, ◌∙◌, None}
-use Rattle.tp_opid.specs.declared.actor.Actor.{Actor}
+use Rattle.tp_world.proofs.Common.{◌++◌, ◌∷◌, [], List, inl, refl, ap, ◌∙◌, None, Actor, reply_of, world_of}
 use Rattle.tp_headline.specs.Event as events
-use Rattle.tp_world.specs.Told.{reply_of}
-use Rattle.tp_world.specs.States.{world_of}
 use Rattle.tp_world.proofs.Happenings.{between_meets, room_for}
 use Rattle.tp_world.proofs.JudgeLaws.{there_below}
 use Rattle.tp_world.proofs.state.State.crash_between.Goals as goal

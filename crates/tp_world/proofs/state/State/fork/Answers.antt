@@ -1,7 +1,5 @@
-use Rattle.std.proofs.Common.{◌<◌, List, length, inl, refl, sym, ◌∙◌, subst}
-use Rattle.tp_peer.specs.PeerData.{PeerData}
+use Rattle.tp_world.proofs.Common.{◌<◌, List, length, inl, refl, sym, ◌∙◌, subst, PeerData, world_of}
 use Rattle.tp_headline.specs.Event as events
-use Rattle.tp_world.specs.States.{world_of}
 use Rattle.tp_world.proofs.JudgeLaws.{there_below}
 use Rattle.tp_world.proofs.state.State.fork.Goals as goal
 

@@ -1,10 +1,5 @@
-use Rattle.std.proofs.Common.{sym, subst}
-use Rattle.tp_headline.specs.Refusing.{MayHappen}
+use Rattle.tp_world.proofs.Common.{sym, subst, MayHappen, Meets, IsWould, world_of, event_of, reply_of}
 use Rattle.tp_world.specs.declared.event.Event.{Event}
-use Rattle.tp_world.specs.Judging.{Meets}
-use Rattle.tp_world.specs.Making.{IsWould}
-use Rattle.tp_world.specs.States.{world_of}
-use Rattle.tp_world.specs.Told.{event_of, reply_of}
 use Rattle.tp_world.proofs.state.State.happen.Goals as goal
 
 pub fork-requires : goal.fork-requires
@@ -27,3 +22,9 @@ returns-in-Call c = subst (λ (x : Event). Meets (world_of c.args.self.now) (eve
 
 pub returns-in-Crash : goal.returns-in-Crash
 returns-in-Crash c = subst (λ (x : Event). Meets (world_of c.args.self.now) (event_of x) (reply_of c.crash.result) (world_of c.crash.new.self)) (sym c.in-Crash.is) c.crash.ensures
+
+pub fail-requires : goal.fail-requires
+fail-requires c = subst (λ (x : Event). MayHappen (world_of c.args.self.now) (event_of x)) c.in-Fail.is c.requires.may
+
+pub returns-in-Fail : goal.returns-in-Fail
+returns-in-Fail c = subst (λ (x : Event). Meets (world_of c.args.self.now) (event_of x) (reply_of c.fail.result) (world_of c.fail.new.self)) (sym c.in-Fail.is) c.fail.ensures

@@ -1,9 +1,5 @@
-use Rattle.std.proofs.Common.{◌≡◌, true, false, refl}
+use Rattle.tp_world.proofs.Common.{◌≡◌, true, false, refl, NoPeer, ActorUsed, ForeignChange, HashClash, PassesBefore, event_of, world_of}
 use Rattle.std.proofs.Common.{rules}
-use Rattle.tp_headline.specs.declared.error.WorldError.TheVariants.{NoPeer, ActorUsed, ForeignChange, HashClash}
-use Rattle.tp_world.specs.Judging.{PassesBefore}
-use Rattle.tp_world.specs.Told.{event_of}
-use Rattle.tp_world.specs.States.{world_of}
 use Rattle.tp_world.proofs.JudgeLaws.{passes_none}
 use Rattle.tp_world.proofs.Verdicts.{passes_more, refuses}
 use Rattle.tp_world.proofs.state.State.judge_brought.Goals as goal

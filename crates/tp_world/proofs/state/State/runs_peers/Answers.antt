@@ -1,5 +1,4 @@
-use Rattle.tp_world.specs.Told.{event_of}
-use Rattle.tp_world.specs.States.{world_of}
+use Rattle.tp_world.proofs.Common.{event_of, world_of}
 use Rattle.tp_world.proofs.Verdicts.{judges_running}
 use Rattle.tp_world.proofs.state.State.runs_peers.Goals as goal
 

@@ -1,5 +1,4 @@
-use Rattle.tp_world.specs.States.{world_of}
-use Rattle.tp_world.specs.Told.{event_of, reply_of}
+use Rattle.tp_world.proofs.Common.{world_of, event_of, reply_of}
 use Rattle.tp_world.proofs.Steps.{meets_next, refused_next}
 use Rattle.tp_world.proofs.state.State.step.Goals as goal
 

@@ -1,7 +1,4 @@
-use Rattle.std.proofs.Common.{subst, sym}
-use Rattle.tp_headline.specs.Carried.{Carried}
-use Rattle.tp_headline.specs.World.{World}
-use Rattle.tp_headline.proofs.EventLaws.{beginning_carried}
+use Rattle.tp_world.proofs.Common.{subst, sym, Carried, World, beginning_carried}
 use Rattle.tp_world.proofs.world.World.new.Goals as goal
 
 pub invariant_of-result : goal.invariant_of-result

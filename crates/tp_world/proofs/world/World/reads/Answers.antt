@@ -1,7 +1,4 @@
-use Rattle.std.proofs.Common.{subst}
-use Rattle.tp_headline.specs.Carried.{Carried}
-use Rattle.tp_headline.specs.World.{World}
-use Rattle.tp_headline.proofs.OneList.{carried_headline}
+use Rattle.tp_world.proofs.Common.{subst, Carried, World, carried_headline}
 use Rattle.tp_world.proofs.world.World.reads.Goals as goal
 
 pub returns-clause-headline : goal.returns-clause-headline

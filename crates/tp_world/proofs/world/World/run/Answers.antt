@@ -1,8 +1,4 @@
-use Rattle.std.proofs.Common.{subst, arith}
-use Rattle.tp_headline.specs.Carried.{Carried}
-use Rattle.tp_headline.specs.World.{World}
-use Rattle.tp_headline.proofs.FollowLaws.{carried_follows}
-use Rattle.tp_headline.proofs.OneList.{carried_headline}
+use Rattle.tp_world.proofs.Common.{subst, arith, Carried, World, carried_follows, carried_headline}
 use Rattle.tp_world.proofs.Runs.{goes_none, goes_push, goes_whole}
 use Rattle.tp_world.proofs.Steps.{run_carried}
 use Rattle.tp_world.proofs.world.World.run.Goals as goal

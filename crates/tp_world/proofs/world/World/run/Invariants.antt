@@ -1,7 +1,5 @@
-use Rattle.std.proofs.Common.{◌≡◌, ◌≤◌, length, take, map}
+use Rattle.tp_world.proofs.Common.{◌≡◌, ◌≤◌, length, take, map, GoesOnWith, event_of, reply_of}
 use Rattle.std.specs.Vec.{vec_capacity, vec_len}
-use Rattle.tp_headline.specs.Running.{GoesOnWith}
-use Rattle.tp_world.specs.Told.{event_of, reply_of}
 use Rattle.tp_world.proofs.world.World.run.Given as goal
 
 -- the events so far happened, and there is room for the replies to the others

@@ -1,10 +1,4 @@
-use Rattle.std.proofs.Common.{subst}
-use Rattle.tp_headline.specs.Happening.{Next}
-use Rattle.tp_headline.specs.World.{World}
-use Rattle.tp_headline.proofs.FollowLaws.{carried_follows}
-use Rattle.tp_headline.proofs.OneList.{carried_headline}
-use Rattle.tp_world.specs.States.{world_of}
-use Rattle.tp_world.specs.Told.{event_of, reply_of}
+use Rattle.tp_world.proofs.Common.{subst, Next, World, carried_follows, carried_headline, world_of, event_of, reply_of}
 use Rattle.tp_world.proofs.Steps.{step_carried}
 use Rattle.tp_world.proofs.world.World.step.Goals as goal
 

@@ -1,7 +1,0 @@
-use Rattle.std.proofs.Common.{take}
-use Rattle.tp_document.specs.History.{AreTargets}
-use Rattle.tp_document.proofs.clock.targets_of.Given as goal
-
--- the targets so far are those of the deletes so far
-abbrev pub invariant-loop-delete : goal.invariant-loop-delete
-invariant-loop-delete l = AreTargets l.targets l.clock (take l.delete-index l.deletes)

@@ -1,0 +1,9 @@
+use Rattle.std.proofs.Common.{◌≡◌, IfOk, List, subst, rules}
+use Rattle.tp_list.specs.Members.{In}
+use Rattle.tp_change.specs.declared.parts.ChangeParts.{ChangeParts}
+use Rattle.tp_graph.proofs.applied.Applied.actors.Goals as goal
+
+pub returns : goal.returns
+returns c =
+    let same : c.as_slice.result.now ≡ c.args.self.now.changes = search rules in
+    subst (λ (C : List ChangeParts). IfOk c.actors.result (λ v. (x : ChangeParts) → In x C → In x.actor v.items)) same c.actors.ensures

@@ -1,0 +1,8 @@
+use Rattle.std.proofs.Common.{take}
+use Rattle.tp_graph.specs.Clocks.{HasEnds}
+use Rattle.tp_graph.specs.Parts.{picked}
+use Rattle.tp_graph.proofs.applied.Applied.ends.Given as goal
+
+-- the ends of the actors so far
+abbrev pub invariant-loop-actor : goal.invariant-loop-actor
+invariant-loop-actor l = HasEnds (picked l.part l.self.changes) l.clock (take l.actor-index l.actors)

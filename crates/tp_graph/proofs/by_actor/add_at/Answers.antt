@@ -1,0 +1,25 @@
+use Rattle.std.proofs.Common.{◌≡◌, ◌++◌, ◌∷◌, [], ◌<◌, ◌∙◌, Some, length, ap, sym, subst, refl, arith, rules}
+use Rattle.std.specs.List.{slice_get}
+use Rattle.std.proofs.lemmas.Option.{slice_get_read}
+use Rattle.tp_list.specs.Members.{In}
+use Rattle.tp_list.proofs.Members.{In-last, In-left}
+use Rattle.tp_opid.specs.declared.actor.Actor.{Actor}
+use Rattle.tp_change.specs.declared.parts.ChangeParts.{ChangeParts}
+use Rattle.tp_graph.proofs.by_actor.add_at.Goals as goal
+
+pub returns-clause-before : goal.returns-clause-before
+returns-clause-before c =
+    let grown : c.push.new.self.items ≡ c.args.actors.now.items ++ c.actor.result ∷ [] = search rules in
+    λ a i. subst (In a) (sym grown) (In-left a c.args.actors.now.items (c.actor.result ∷ []) i)
+
+pub returns-clause-at : goal.returns-clause-at
+returns-clause-at c =
+    let C = c.args.changes.now in
+    let d : ChangeParts = c.index-changes-place.result in
+    let grown : c.push.new.self.items ≡ c.args.actors.now.items ++ c.actor.result ∷ [] = search rules in
+    let small : c.args.place < length C = omega arith in
+    let there : slice_get C c.args.place ≡ Some d = slice_get_read C (length C) c.args.place d refl small c.index-changes-place.is in
+    λ x at.
+    let both : Some d ≡ Some x = sym there ∙ at in
+    let same : d ≡ x = cc in
+    subst (In x.actor) (sym grown) (subst (λ (a : Actor). In a (c.args.actors.now.items ++ c.actor.result ∷ [])) (c.actor.ensures ∙ ap (λ (y : ChangeParts). y.actor) same) (In-last c.actor.result c.args.actors.now.items))

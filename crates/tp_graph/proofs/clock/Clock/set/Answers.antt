@@ -1,0 +1,15 @@
+use Rattle.std.proofs.Common.{◌≡◌, ◌∙◌, ap, ℕ, List, Some, cond}
+use Rattle.std.specs.Map.{lookup}
+use Rattle.std.specs.Option.{unwrap_or}
+use Rattle.tp_opid.specs.declared.actor.Actor.{Actor}
+use Rattle.tp_opid.specs.Order.{actor_cmp}
+use Rattle.tp_opid.specs.Same.{same_actor}
+use Rattle.tp_graph.proofs.ClockLaws.{end_set}
+use Rattle.tp_graph.proofs.clock.Clock.set.Goals as goal
+
+pub returns : goal.returns
+unfolding same_actor actor_cmp
+returns c = λ other.
+    ap (λ o. unwrap_or o 0) (c.in_ok-insert.ensures.updates.0 other)
+    ∙ ap (λ (es : List (Actor × ℕ)). unwrap_or (cond (same_actor c.args.actor other) (Some c.args.end) (lookup (same_actor other) es)) 0) c.self.view_is
+    ∙ end_set (same_actor c.args.actor other) c.args.end (lookup (same_actor other) c.args.self.now)

@@ -1,0 +1,37 @@
+//! Peers on a journal that fails when it is told to.
+
+ghost use Rattle.std.specs.Prelude.{◌≡◌, length, true, false};
+ghost use Rattle.tp_peer.specs.PeerData.{arming};
+
+use crate::peer::Peer;
+use tp_journal::FuseJournal;
+
+impl Peer<FuseJournal> {
+    /// Lets the next append to the journal fail, as [`FuseJournal::arm`] does. Nothing else changes.
+    pub fn arm(&mut self, kept: u64)
+        ensures { self.new ≡ arming self.old true }
+    {
+        self.appender.arm(kept);
+    }
+
+    /// Lets the next cut of the journal fail, as [`FuseJournal::arm_cut`] does. Nothing else changes.
+    pub fn arm_cut(&mut self)
+        ensures { self.new ≡ arming self.old true }
+    {
+        self.appender.arm_cut();
+    }
+
+    /// Lets neither fail. Nothing else changes.
+    pub fn disarm(&mut self)
+        ensures { self.new ≡ arming self.old false }
+    {
+        self.appender.disarm();
+    }
+
+    /// How many bytes the journal has, also that of a peer that has stopped.
+    pub fn journal_len(&self) -> u64
+        ensures { result ≡ length self.now.journal }
+    {
+        self.appender.len()
+    }
+}

@@ -1,0 +1,213 @@
+-- What the pieces of a sync frame make of a reader, and of the session that reads.
+use Rattle.std.proofs.Common.{◌≡◌, ◌⊎◌, inl, inr, ℕ, suc, zero, ◌+◌, ◌-◌, ◌<◌, ◌≤◌, List, [], ◌++◌, length, take, drop, Bool, false, true, Option, Some, None, Result, Ok, Err, refl, sym, ap, subst, ◌∙◌, append_assoc, append-nil, length-append, arith}
+use Rattle.std.specs.Prelude.{◌↔◌, IfOk, IsOkUnless, IsSome}
+use Rattle.std.proofs.lemmas.List.{drop-drop, drop_all, length-drop, take-append-drop}
+use Rattle.tp_codec.proofs.Fields.{AreBytes, AreBytes-append}
+use Rattle.tp_frame.specs.declared.frame.Frame.{Frame}
+use Rattle.tp_frame.specs.declared.frame.Frame.TheVariants.{Sync}
+use Rattle.tp_frame.specs.declared.parts.Part.TheVariants.{Begin, Piece, End, Whole}
+use Rattle.tp_frame.specs.Parts.{Opened}
+use Rattle.tp_sync.specs.declared.error.SyncError.{SyncError}
+use Rattle.tp_sync.specs.declared.error.SyncError.TheVariants.{BadMessage, OutOfMemory}
+use Rattle.tp_sync.specs.Gives.{FailsWith}
+use Rattle.tp_sync.specs.Message.{MessageParts}
+use Rattle.tp_sync.specs.Reading.{message_at}
+use Rattle.tp_sync.specs.ReaderState.{Answers, ReaderState, Takes, reads}
+use Rattle.tp_sync.specs.Spelling.{message_spelling}
+use Rattle.tp_sync.specs.Stages.{fault_of, is_whole}
+use Rattle.tp_sync.proofs.ShortLaws.{message_short}
+use Rattle.tp_sync.proofs.WholeMessage.{message_takes}
+use Rattle.tp_peer.specs.PeerError.{refusal_of_sync}
+use Rattle.tp_peer.specs.PeerStep.{Reply}
+use Rattle.tp_peer.proofs.ReceivingLaws.{decoding_refused}
+use Rattle.tp_session.specs.declared.error.NetError.{NetError}
+use Rattle.tp_session.specs.declared.error.NetError.TheVariants.{Peer, Unexpected}
+use Rattle.tp_session.specs.NetError.{refusal_of}
+use Rattle.tp_session.specs.declared.session.Phase.{Phase}
+use Rattle.tp_session.specs.declared.session.Phase.TheVariants.{AwaitsHello, Exchanges, SaidDone, Over}
+use Rattle.tp_session.specs.declared.turn.Turn.{Turn}
+use Rattle.tp_session.specs.declared.turn.Ended.{Ended}
+use Rattle.tp_session.specs.PartStep.{Awaits, GoesOn, IsAt, IsReading, OnBegin, PartStep, Reads, and_given, none_of}
+use Rattle.tp_session.specs.SessionData.{SessionData}
+use Rattle.tp_session.specs.HostCalls.{HostCall, Receive}
+use Rattle.tp_session.specs.SessionStep.{Fails, Heard, Hears, OnFrame, SessionStep}
+
+-- ---- the reader
+
+-- nothing was read
+pub reads_none : (len : ℕ) (r : Result ReaderState SyncError) → IfOk r (λ s. (s.left ≡ len) × ((bytes : List ℕ) → reads s bytes ≡ message_at bytes)) → ((r ≡ Err BadMessage) ↔ (len < 13)) → IsOkUnless r BadMessage
+    → Reads (none_of len) r
+reads_none len (Ok s) ok short err = (omega (arith, ok.0), λ i. omega arith, λ rest. sym (ok.1 rest))
+reads_none len (Err e) ok short err = λ more is.
+    let few : len < 13 = short.0 (ap (λ (d : SyncError). (let r : Result ReaderState SyncError = Err d in r)) err) in
+    subst (λ (d : SyncError). FailsWith d (message_at more)) (sym err) (message_short more (omega (arith, few, is)))
+
+-- So many bytes of the piece were taken since.
+pub record ReadsOn (before : ReaderState) (piece : List ℕ) (at : ℕ) (now : ReaderState) : Type 0 where
+  pub few : at ≤ length piece
+  pub left : now.left + at ≡ before.left
+  pub same : (rest : List ℕ) → reads before (piece ++ rest) ≡ reads now (drop at piece ++ rest)
+
+pub reads_begin : (s : ReaderState) (piece : List ℕ) → ReadsOn s piece 0 s
+reads_begin s piece = record { few = omega arith; left = omega arith; same = λ rest. refl }
+
+pub reads_step : (before now then : ReaderState) (piece rest_of : List ℕ) (at count : ℕ) → rest_of ≡ drop at piece → ReadsOn before piece at now → Takes now rest_of count then → ReadsOn before piece (at + count) then
+reads_step before now then piece rest_of at count is on takes =
+    let size : length rest_of ≡ length piece - at = ap length is ∙ length-drop at piece in
+    let behind : drop count rest_of ≡ drop (at + count) piece = ap (λ (l : List ℕ). drop count l) is ∙ drop-drop count at piece in
+    record {
+      few = omega (arith, on.few, takes.few, size);
+      left = omega (arith, on.left, takes.left);
+      same = λ rest.
+          on.same rest
+          ∙ ap (λ (l : List ℕ). reads now (l ++ rest)) (sym is)
+          ∙ ap (reads now) (sym (ap (λ (l : List ℕ). l ++ rest) (take-append-drop count rest_of)) ∙ append_assoc (take count rest_of) (drop count rest_of) rest)
+          ∙ takes.same (drop count rest_of ++ rest)
+          ∙ ap (λ (l : List ℕ). reads then (l ++ rest)) behind;
+    }
+
+-- a call takes some bytes where there are some, of a message that isn't whole
+pub takes_some : (s t : ReaderState) (piece : List ℕ) (count : ℕ) → Takes s piece count t → 0 < length piece → is_whole s.stage ≡ false → t.left < s.left
+takes_some s t piece count takes more not_whole = go count takes.left takes.some where
+  never : is_whole s.stage ≡ true → ⊥
+  never w = let e : (let b : Bool = true in b) ≡ false = sym w ∙ not_whole in cc
+
+  go : (n : ℕ) → t.left + n ≡ s.left → (n ≡ 0 → (piece ≡ []) ⊎ (s.left ≡ 0)) → t.left < s.left
+  go zero left some = elim (some refl) [
+    | inl none ↦ absurd (let e : length piece ≡ 0 = ap length none in omega arith)
+    | inr none ↦ absurd (never (takes.whole none))
+  ]
+  go (suc n) left some = omega arith
+
+-- all of the piece was taken
+pub reads_all : (before now : ReaderState) (piece : List ℕ) (at : ℕ) (frame : Opened) → AreBytes piece → ReadsOn before piece at now → (length piece ≤ at) ⊎ (now.left ≡ 0) → Reads frame (Ok before)
+    → length (frame.given ++ piece) ≤ frame.len → Reads (and_given frame piece) (Ok now)
+reads_all before now piece at frame fits on end r few =
+    let size : length (frame.given ++ piece) ≡ length frame.given + length piece = length-append frame.given piece in
+    let all : length piece ≤ at = elim end [ inl le ↦ le | inr none ↦ omega (arith, none, on.left, r.0, size, few) ] in
+    let same : (rest : List ℕ) → message_at ((frame.given ++ piece) ++ rest) ≡ reads now rest = λ rest.
+    ap message_at (append_assoc frame.given piece rest) ∙ r.2 (piece ++ rest) ∙ on.same rest ∙ ap (λ (l : List ℕ). reads now (l ++ rest)) (drop_all at piece all) in
+    (omega (arith, on.left, on.few, all, r.0, size), AreBytes-append frame.given piece r.1 fits, same)
+
+-- some of it is refused
+pub reads_refused : (before now then : ReaderState) (piece rest_of : List ℕ) (at : ℕ) (frame : Opened) (e : SyncError) → rest_of ≡ drop at piece → ReadsOn before piece at now → Answers now rest_of (Err e) then → Reads frame (Ok before)
+    → Reads (and_given frame piece) (let r : Result ReaderState SyncError = Err e in r)
+reads_refused before now then piece rest_of at frame OutOfMemory is on a r = λ more len. tt
+reads_refused before now then piece rest_of at frame e is on a r = λ more len.
+    let size : length rest_of ≡ length piece - at = ap length is ∙ length-drop at piece in
+    let whole : length ((frame.given ++ piece) ++ more) ≡ (length frame.given + length piece) + length more = length-append (frame.given ++ piece) more ∙ ap (λ n. n + length more) (length-append frame.given piece) in
+    let behind : length (drop a.count rest_of ++ more) ≡ then.left =
+    length-append (drop a.count rest_of) more ∙ omega (arith, length-drop a.count rest_of, size, whole, len, r.0, on.left, on.few, a.left, a.few) in
+    ap message_at (append_assoc frame.given piece more) ∙ r.2 (piece ++ more) ∙ on.same more
+    ∙ ap (λ (l : List ℕ). reads now (l ++ more)) (sym is)
+    ∙ ap (reads now) (sym (ap (λ (l : List ℕ). l ++ more) (take-append-drop a.count rest_of)) ∙ append_assoc (take a.count rest_of) (drop a.count rest_of) more)
+    ∙ a.every (drop a.count rest_of ++ more) behind
+
+-- ---- its end
+
+none_left : (s : ReaderState) (frame : Opened) → Reads frame (Ok s) → length frame.given ≡ frame.len → s.left ≡ 0
+none_left s frame r all = omega (arith, r.0, all)
+
+all_read : (s : ReaderState) (frame : Opened) → Reads frame (Ok s) → message_at frame.given ≡ reads s []
+all_read s frame r = ap message_at (sym (append-nil frame.given)) ∙ r.2 []
+
+pub reads_end : (s : ReaderState) (frame : Opened) (m : MessageParts) → Reads frame (Ok s) → reads s [] ≡ Ok m → message_at frame.given ≡ Ok m
+reads_end s frame m r is = all_read s frame r ∙ is
+
+take_none : (n : ℕ) → n ≤ 0 → take n (let l : List ℕ = [] in l) ++ [] ≡ []
+take_none zero h = refl
+take_none (suc n) h = absurd (omega arith)
+
+pub ends_refused : (s t : ReaderState) (frame : Opened) (e : SyncError) → Answers s [] (Err e) t → Reads frame (Ok s) → length frame.given ≡ frame.len → FailsWith e (message_at frame.given)
+ends_refused s t frame OutOfMemory a r all = tt
+ends_refused s t frame e a r all =
+    let none = none_left s frame r all in
+    let few : a.count ≤ 0 = a.few in
+    all_read s frame r ∙ ap (reads s) (sym (take_none a.count few)) ∙ a.every [] (omega (arith, a.left, none))
+
+-- A message that isn't whole once all its bytes were taken is refused again.
+pub not_open : {A : Type 0} (s : ReaderState) (frame : Opened) (r : Result ℕ SyncError) (count : ℕ) → Reads frame (Ok s) → length frame.given ≡ frame.len → is_whole s.stage ≡ false
+    → (s.left ≡ 0 → (is_whole s.stage ≡ true) ⊎ IsSome (fault_of s.stage)) → ((e : SyncError) → fault_of s.stage ≡ Some e → r ≡ Err e) → r ≡ Ok count → A
+not_open s frame r count reads_so all not_whole ended again is = elim (ended (none_left s frame reads_so all)) [
+  | inl whole ↦ let e : (let b : Bool = true in b) ≡ false = sym whole ∙ not_whole in absurd cc
+  | inr fault ↦ faulty (fault_of s.stage) refl fault
+] where
+  faulty : {A : Type 0} (x : Option SyncError) → fault_of s.stage ≡ x → IsSome x → A
+  faulty (Some e) at some = let k : (let q : Result ℕ SyncError = Ok count in q) ≡ Err e = sym is ∙ again e at in absurd cc
+  faulty None at some = absurd cc
+
+-- ---- the session
+
+-- the reader that is taken out of a session is the one that reads its frame
+pub taken : (s now : SessionData) (frame : Opened) (reader : ReaderState) → IsReading s frame now → now.reading ≡ Some reader → Reads frame (Ok reader)
+taken s now frame reader is at =
+    let both : (let x : Option ReaderState = Some is.reader in x) ≡ Some reader = sym is.reading ∙ at in
+    let same : is.reader ≡ reader = cc in
+    subst (λ (r : ReaderState). Reads frame (Ok r)) same is.reads
+
+-- what is left of the session then is what it was as the frame began
+pub idle_now : (s now : SessionData) (frame : Opened) (inside : SessionData) (left : Option ReaderState) → IsReading s frame now → inside ≡ now → left ≡ None → record inside { reading = left } ≡ s
+idle_now s now frame inside left is view taken =
+    ap (λ (x : Option ReaderState). record inside { reading = x }) taken ∙ ap (λ (q : SessionData). record q { reading = None }) view ∙ sym is.began
+
+pub none_taken : {A : Type 0} (s now : SessionData) (frame : Opened) → IsReading s frame now → now.reading ≡ None → A
+none_taken s now frame is none = let e : (let x : Option ReaderState = None in x) ≡ Some is.reader = sym none ∙ is.reading in absurd cc
+
+-- a session that ends for an error
+abbrev ends : NetError → Option Frame → Result Turn Ended
+ends e send = Err (record { error = e; send = send })
+
+module _ {H : Type 0} (steps : H → HostCall → Reply → H → Type 0) where
+  -- reading that goes on, or was refused, as the answer to a part
+  pub awaits : (s : SessionData) (h : H) (frame : Opened) (read : Result ReaderState SyncError) (answer : Result Turn Ended) (s' : SessionData) → s.phase ≡ Exchanges → s.reading ≡ None → Reads frame read → GoesOn s read answer s'
+      → Awaits steps (s, h) frame answer (s', h)
+  awaits s h frame (Ok reader) answer s' at none r goes =
+      let began : s ≡ record s' { reading = None } = sym (ap (λ (q : SessionData). record q { reading = None }) goes.1 ∙ ap (λ (x : Option ReaderState). record s { reading = x }) (sym none)) in
+      subst (λ (a : Result Turn Ended). Awaits steps (s, h) frame a (s', h)) (sym goes.0)
+      (refl, record { reader = reader; phase = at; began = began; reading = ap (λ (q : SessionData). q.reading) goes.1; reads = r }, refl)
+  awaits s h frame (Err e) answer s' at none r goes =
+      subst (λ (a : Result Turn Ended). Awaits steps (s, h) frame a (s', h)) (sym goes.0)
+      (λ more len. subst (λ (ph : Phase). OnFrame steps ph (Sync (frame.given ++ more)) (s, h) (ends (Peer (refusal_of_sync e)) (refusal_of (Peer (refusal_of_sync e)))) (s', h)) (sym at)
+      (inr (refusal_of_sync e, decoding_refused (frame.given ++ more) e (r more len), (refl, goes.1), refl)))
+
+  begins : (s : SessionData) (h : H) (len : ℕ) (answer : Result Turn Ended) (s' : SessionData) (phase : Phase) → s.phase ≡ phase → s.reading ≡ None → OnBegin phase s len answer s' → Awaits steps (s, h) (none_of len) answer (s', h)
+  begins s h len answer s' AwaitsHello at none o =
+      subst (λ (a : Result Turn Ended). Awaits steps (s, h) (none_of len) a (s', h)) (sym o.0) (λ more is. subst (λ (ph : Phase). OnFrame steps ph (Sync more) (s, h) (ends Unexpected (refusal_of Unexpected)) (s', h)) (sym at) ((refl, o.1), refl))
+  begins s h len answer s' Exchanges at none o = awaits s h (none_of len) o.0 answer s' at none o.1 o.2
+  begins s h len answer s' SaidDone at none o =
+      subst (λ (a : Result Turn Ended). Awaits steps (s, h) (none_of len) a (s', h)) (sym o.0) (λ more is. subst (λ (ph : Phase). OnFrame steps ph (Sync more) (s, h) (ends Unexpected (refusal_of Unexpected)) (s', h)) (sym at) ((refl, o.1), refl))
+  begins s h len answer s' Over at none o =
+      subst (λ (a : Result Turn Ended). Awaits steps (s, h) (none_of len) a (s', h)) (sym o.0) (λ more is. subst (λ (ph : Phase). OnFrame steps ph (Sync more) (s, h) (ends Unexpected None) (s', h)) (sym at) ((refl, o.1), refl))
+
+  pub part_begins : (s now : SessionData) (h : H) (opened : Option Opened) (len : ℕ) (answer : Result Turn Ended) (s' : SessionData) → OnBegin now.phase now len answer s' → IsAt s opened now → PartStep steps (s, h) opened (Begin len) answer (s', h)
+  part_begins s now h None len answer s' o is =
+      subst (λ (q : SessionData). Awaits steps (q, h) (none_of len) answer (s', h)) (sym is.1) (begins now h len answer s' now.phase refl is.0 o)
+  part_begins s now h (Some frame) len answer s' o is = tt
+
+  pub part_goes_on : (s now : SessionData) (h : H) (opened : Option Opened) (bytes : List ℕ) (answer : Result Turn Ended) (s' : SessionData)
+      → ((s : SessionData) (frame : Opened) → IsReading s frame now → length (frame.given ++ bytes) ≤ frame.len → (read : Result ReaderState SyncError) × Reads (and_given frame bytes) read × GoesOn s read answer s')
+      → IsAt s opened now → PartStep steps (s, h) opened (Piece bytes) answer (s', h)
+  part_goes_on s now h None bytes answer s' piece is = tt
+  part_goes_on s now h (Some frame) bytes answer s' piece is = λ few.
+      let x = piece s frame is few in
+      awaits s h (and_given frame bytes) x.0 answer s' is.phase (ap (λ (q : SessionData). q.reading) is.began) x.1 x.2
+
+  pub part_ends : (s now : SessionData) (h h' : H) (opened : Option Opened) (answer : Result Turn Ended) (s' : SessionData) → ((s : SessionData) (frame : Opened) → IsReading s frame now → length frame.given ≡ frame.len → Hears steps frame.given (s, h) answer (s', h'))
+      → IsAt s opened now → PartStep steps (s, h) opened End answer (s', h')
+  part_ends s now h h' None answer s' step is = tt
+  part_ends s now h h' (Some frame) answer s' step is = λ all. subst (λ (ph : Phase). OnFrame steps ph (Sync frame.given) (s, h) answer (s', h')) (sym is.phase) (step s frame is all)
+
+  pub part_is_whole : (s now : SessionData) (h h' : H) (opened : Option Opened) (f : Frame) (answer : Result Turn Ended) (s' : SessionData) → SessionStep steps (now, h) f answer (s', h') → IsAt s opened now
+      → PartStep steps (s, h) opened (Whole f) answer (s', h')
+  part_is_whole s now h h' None f answer s' step is = subst (λ (q : SessionData). SessionStep steps (q, h) f answer (s', h')) (sym is.1) step
+  part_is_whole s now h h' (Some frame) f answer s' step is = tt
+
+  -- the message was received
+  pub hears_message : (s : SessionData) (bytes : List ℕ) (m : MessageParts) (h mid : H) (reply : Reply) (answer : Result Turn Ended) (b : SessionData × H) → AreBytes bytes → message_at bytes ≡ Ok m → steps h (Receive (message_spelling m)) reply mid
+      → Heard steps reply (s, mid) answer b → Hears steps bytes (s, h) answer b
+  hears_message s bytes m h mid reply answer b fits is received heard =
+      inl (reply, mid, subst (λ (x : List ℕ). steps h (Receive x) reply mid) (sym (message_takes bytes m fits is).1) received, heard)
+
+  -- or it is none
+  pub hears_none : (s : SessionData) (bytes : List ℕ) (e : SyncError) (h : H) (answer : Result Turn Ended) (s' : SessionData) → FailsWith e (message_at bytes) → Fails s (Peer (refusal_of_sync e)) answer s' → Hears steps bytes (s, h) answer (s', h)
+  hears_none s bytes e h answer s' fails over = inr (refusal_of_sync e, decoding_refused bytes e fails, over, refl)

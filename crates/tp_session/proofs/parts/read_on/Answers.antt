@@ -1,0 +1,15 @@
+use Rattle.std.proofs.Common.{◌-◌, length, take, drop}
+use Rattle.std.proofs.lemmas.Result.{err_from_is_err_and}
+use Rattle.std.proofs.lemmas.List.{take_rest}
+use Rattle.tp_session.proofs.ReadingLaws.{reads_refused, reads_step}
+use Rattle.tp_session.proofs.parts.read_on.Goals as goal
+
+pub returns-in_err-at : goal.returns-in_err-at
+returns-in_err-at c = λ frame reads few.
+    let p = err_from_is_err_and c.from_residual.result c.from_residual.ensures.1 in
+    rw (p.1, p.2)
+    (reads_refused c.args.reader c.loop-at.taking c.take.new.self c.args.piece.now (take (length c.args.piece.now - c.loop-at.at) (drop c.loop-at.at c.args.piece.now)) c.loop-at.at frame c.in_err-at.field-0.0 (take_rest c.args.piece.now c.loop-at.at) c.loop-at.invariant c.in_err-at.ensures.answers reads)
+
+pub loop-at-preserved : goal.loop-at-preserved
+loop-at-preserved c =
+    reads_step c.args.reader c.loop-at.taking c.take.new.self c.args.piece.now (take (length c.args.piece.now - c.loop-at.at) (drop c.loop-at.at c.args.piece.now)) c.loop-at.at c.in_ok-at.field-0 (take_rest c.args.piece.now c.loop-at.at) c.loop-at.invariant c.in_ok-at.ensures.answers

@@ -1,0 +1,143 @@
+//! A frame that comes in parts.
+
+ghost use Rattle.std.specs.Prelude.{◌≡◌, ◌≤◌, ◌++◌, length, Ok, Option, Result};
+ghost use Rattle.tp_frame.specs.Parts.{Opened};
+ghost use Rattle.tp_sync.specs.Gives.{Gives};
+ghost use Rattle.tp_sync.specs.declared.error.SyncError.{SyncError as Refusal};
+ghost use Rattle.tp_sync.specs.Reading.{message_at};
+ghost use Rattle.tp_sync.specs.ReaderState.{ReaderState};
+ghost use Rattle.tp_session.specs.PartStep.{GoesOn, IsAt, IsReading, OnBegin, PartStep, Reads, and_given, none_of};
+ghost use Rattle.tp_session.specs.SessionData.{SessionData};
+ghost use Rattle.tp_session.specs.SessionStep.{Hears};
+
+use crate::error::NetError;
+use crate::host::Host;
+use crate::session::{Phase, Session, late};
+use crate::turn::{Ended, Turn};
+use std::alloc::Global;
+use tp_frame::Part;
+use tp_peer::PeerError;
+use tp_sync::{Message, MessageReader, SyncError};
+
+// A reader of a message that has so many bytes.
+fn reader_of(alloc: Global, len: u32) -> Result<MessageReader, SyncError>
+    ensures { Reads (none_of len) result }
+{
+    MessageReader::new(alloc, len)
+}
+
+// The reader, once it took all of the piece.
+fn read_on(reader: MessageReader, piece: &[u8]) -> Result<MessageReader, SyncError>
+    ensures { (frame : Opened) → Reads frame (Ok reader)
+        → length (frame.given ++ piece.now) ≤ frame.len
+        → Reads (and_given frame piece.now) result }
+{
+    let mut taking = reader;
+    let mut at = 0;
+    while at < piece.len() && !taking.whole() {
+        at += taking.take(&piece[at..])?;
+    }
+    Ok(taking)
+}
+
+// The message whose bytes the reader took. One that isn't whole was refused, and is refused so again, or has no end yet.
+fn message_in(mut reader: MessageReader) -> Result<Message, SyncError>
+    ensures { (frame : Opened) → Reads frame (Ok reader) → length frame.given ≡ frame.len
+        → Gives (λ m. m) result (message_at frame.given) }
+{
+    if reader.whole() {
+        return Ok(reader.finish());
+    }
+    reader.take(&[])?;
+    Err(SyncError::BadMessage)
+}
+
+impl Session {
+    // Goes on reading, or ends where what came is refused.
+    fn go_on(&mut self, read: Result<MessageReader, SyncError>) -> Result<Turn, Ended>
+        ensures { GoesOn self.old read result self.new }
+    {
+        match read {
+            Ok(reader) => {
+                self.reading = Some(reader);
+                Ok(Turn {
+                    send: None,
+                    ended: false,
+                })
+            }
+            Err(error) => self.fail(NetError::Peer(PeerError::from(error))),
+        }
+    }
+
+    // A sync frame begins.
+    fn on_begin(&mut self, alloc: Global, len: u32) -> Result<Turn, Ended>
+        ensures { OnBegin self.old.phase self.old len result self.new }
+    {
+        match self.phase {
+            Phase::Exchanges => self.go_on(reader_of(alloc, len)),
+            Phase::AwaitsHello | Phase::SaidDone => self.fail(NetError::Unexpected),
+            Phase::Over => late(),
+        }
+    }
+
+    // The next bytes of a sync frame come.
+    fn on_piece(&mut self, piece: &[u8]) -> Result<Turn, Ended>
+        ensures { (s : SessionData) (frame : Opened) → IsReading s frame self.old
+            → length (frame.given ++ piece.now) ≤ frame.len
+            → (read : Result ReaderState Refusal) × Reads (and_given frame piece.now) read
+            × GoesOn s read result self.new }
+    {
+        match self.reading.take() {
+            Some(reader) => self.go_on(read_on(reader, piece)),
+            None => late(),
+        }
+    }
+
+    // A sync frame ends.
+    fn on_end<H: Host>(&mut self, host: &mut H) -> Result<Turn, Ended>
+        ensures step { (s : SessionData) (frame : Opened) → IsReading s frame self.old
+            → length frame.given ≡ frame.len
+            → Hears H.steps frame.given (s, H.seen host.old) result (self.new, H.seen host.new) }
+        ensures host { H.goes_on host.old host.new }
+    {
+        match self.reading.take() {
+            Some(reader) => match message_in(reader) {
+                Ok(message) => {
+                    let received = host.receive_message(message);
+                    self.answer(received, host)
+                }
+                Err(error) => self.fail(NetError::Peer(PeerError::from(error))),
+            },
+            None => late(),
+        }
+    }
+
+    /// Takes a part of a frame of the other, and says what to send and whether the session has ended: over the parts of
+    /// one frame that come in order, the last answer is [`on_frame`](Session::on_frame)'s for the frame, and those before
+    /// send nothing.
+    ///
+    /// The message of a sync frame is decoded as its bytes come, and received by the host once it is whole. Where it is
+    /// refused as no message, and where memory is refused for it, the host isn't asked: the session ends as where the host
+    /// refuses it so, and at the part whose bytes show it, since every frame of this length that begins so is refused. A
+    /// sync frame that may not come is refused at its begin.
+    ///
+    /// Of the bytes of a message those of one hash or change at most are held, which are 4,194,304 at most, and what was
+    /// decoded. A byte is copied only where its field comes in several pieces.
+    pub fn on_part<H: Host>(
+        &mut self,
+        alloc: Global,
+        part: Part,
+        host: &mut H,
+    ) -> Result<Turn, Ended>
+        ensures step { (s : SessionData) (opened : Option Opened) → IsAt s opened self.old
+            → PartStep H.steps (s, H.seen host.old) opened part result (self.new, H.seen host.new) }
+        ensures host { H.goes_on host.old host.new }
+    {
+        match part {
+            Part::Begin(len) => self.on_begin(alloc, len),
+            Part::Piece(bytes) => self.on_piece(bytes.as_slice()),
+            Part::End => self.on_end(host),
+            Part::Whole(frame) => self.on_frame(frame, host),
+        }
+    }
+}
