@@ -1,6 +1,7 @@
 //! The call `meet`: two sides that hand each other their frames.
 
 use crate::answers::end;
+use crate::reads::text;
 use crate::running::forked;
 use crate::world::{RowPeer, World};
 use std::alloc::Global;
@@ -11,23 +12,22 @@ use tp_test_runner::{Fault, Shelf, Words};
 
 /// A side, and what it has sent.
 #[derive(Drop)]
-struct Side {
-    peer: RowPeer,
+struct Side<'a> {
+    peer: &'a mut RowPeer,
     session: Session,
     sent: Vec<u8>,
     error: Option<NetError>,
 }
 
-// A side at its begin, over a fork of the peer.
-fn begun(alloc: Global, peer: &RowPeer, role: Role) -> Result<Side, Fault> {
-    let peer = forked(alloc, peer)?;
+// A side at its begin.
+fn begun(alloc: Global, peer: &mut RowPeer, role: Role) -> Side<'_> {
     let session = Session::new(role, peer.document().id());
-    Ok(Side {
+    Side {
         peer,
         session,
         sent: Vec::new(alloc),
         error: None,
-    })
+    }
 }
 
 // Keeps the bytes of a frame that goes out, if there is one.
@@ -41,7 +41,7 @@ fn sends(alloc: Global, side: &mut Side, frame: Option<Frame>) -> Result<Option<
 
 // Takes a frame of the other, and gives the frame that answers it, if there is one.
 fn takes(alloc: Global, side: &mut Side, frame: Frame) -> Result<Option<Frame>, Fault> {
-    let mut host = LinkedPeer::new(&mut side.peer, Link(0));
+    let mut host = LinkedPeer::new(side.peer, Link(0));
     match side.session.on_frame(frame, &mut host) {
         Ok(Turn { send, ended: _ }) => sends(alloc, side, send),
         Err(Ended { error, send }) => {
@@ -87,7 +87,7 @@ fn outcome(side: &Side) -> Result<u64, NetError> {
 }
 
 fn ends(shelf: &Shelf<Vec<u8>>, side: &Side) -> Result<String, Fault> {
-    end(shelf, outcome(side), &side.peer, &side.sent)
+    end(shelf, outcome(side), side.peer, &side.sent)
 }
 
 // How each side ended, the client first.
@@ -98,14 +98,34 @@ fn both(shelf: &Shelf<Vec<u8>>, client: &Side, server: &Side) -> Result<String, 
     Ok(out)
 }
 
-fn hold(shelf: &Shelf<Vec<u8>>, client: &mut Side, server: &mut Side) -> Result<String, Fault> {
-    exchange(shelf.alloc(), client, server)?;
-    both(shelf, client, server)
+// The sides behind a session between the peers.
+fn met<'a>(
+    alloc: Global,
+    client: &'a mut RowPeer,
+    server: &'a mut RowPeer,
+) -> Result<(Side<'a>, Side<'a>), Fault> {
+    let mut client = begun(alloc, client, Role::Client);
+    let mut server = begun(alloc, server, Role::Server);
+    exchange(alloc, &mut client, &mut server)?;
+    Ok((client, server))
+}
+
+fn hold(
+    shelf: &Shelf<Vec<u8>>,
+    client: &mut RowPeer,
+    server: &mut RowPeer,
+) -> Result<String, Fault> {
+    let (client, server) = met(shelf.alloc(), client, server)?;
+    both(shelf, &client, &server)
 }
 
 // A session with a fork of the peer as the server.
-fn hold_with(shelf: &Shelf<Vec<u8>>, client: &mut Side, server: &RowPeer) -> Result<String, Fault> {
-    let mut server = begun(shelf.alloc(), server, Role::Server)?;
+fn hold_with(
+    shelf: &Shelf<Vec<u8>>,
+    client: &mut RowPeer,
+    server: &RowPeer,
+) -> Result<String, Fault> {
+    let mut server = forked(shelf.alloc(), server)?;
     hold(shelf, client, &mut server)
 }
 
@@ -115,8 +135,23 @@ fn hold_between(
     client: &RowPeer,
     server: &RowPeer,
 ) -> Result<String, Fault> {
-    let mut client = begun(shelf.alloc(), client, Role::Client)?;
+    let mut client = forked(shelf.alloc(), client)?;
     hold_with(shelf, &mut client, server)
+}
+
+// The text that both read, whose sessions have ended well.
+fn agreed(alloc: Global, client: &Side, server: &Side) -> Result<String, Fault> {
+    let (read, other) = (text(alloc, client.peer)?, text(alloc, server.peer)?);
+    if outcome(client).is_ok() && outcome(server).is_ok() && read.as_str() == other.as_str() {
+        return Ok(read);
+    }
+    Err(Fault::Row("a second session doesn't mend it"))
+}
+
+/// The text that both peers read behind a session between them.
+pub fn agree(alloc: Global, client: &mut RowPeer, server: &mut RowPeer) -> Result<String, Fault> {
+    let (client, server) = met(alloc, client, server)?;
+    agreed(alloc, &client, &server)
 }
 
 /// `meet CLIENT SERVER`: how each side ends, the client first.

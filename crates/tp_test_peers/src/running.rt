@@ -1,6 +1,7 @@
 //! Calls that run a session over bytes.
 
 use crate::answers::end;
+use crate::meeting::agree;
 use crate::parts::{Framing, Side};
 use crate::world::{RowPeer, World};
 use std::alloc::Global;
@@ -14,13 +15,15 @@ use tp_test_runner::{Fault, Input, Judge, Output, Runs, Shelf, Words, actor_of, 
 // The number of the actor of each fork.
 const FORKED: u16 = 999;
 
-/// A session to be run over a fork of a peer, where the other side sends these bytes.
+/// A session to be run over a fork of a peer, where the other side sends these bytes: a fork of the other peer, if there
+/// is one, which then takes what was sent, and meets the first again.
 #[derive(Clone, Copy)]
 struct Plan<'a> {
     shelf: &'a Shelf<Vec<u8>>,
     role: Role,
     peer: &'a RowPeer,
     bytes: &'a [u8],
+    other: Option<&'a RowPeer>,
 }
 
 /// How a session ended, and whether the writer failed.
@@ -38,13 +41,17 @@ fn role(word: &str) -> Result<Role, Fault> {
     }
 }
 
-// `ROLE PEER BYTES`.
+// `ROLE PEER BYTES [PEER]`.
 fn planned<'a>(world: &'a World, words: &mut Words) -> Result<Plan<'a>, Fault> {
     Ok(Plan {
         shelf: &world.bytes,
         role: role(words.next()?)?,
         peer: world.peers.get(words.next()?)?,
         bytes: world.bytes.get(words.next()?)?,
+        other: match words.take() {
+            Some(name) => Some(world.peers.get(name)?),
+            None => None,
+        },
     })
 }
 
@@ -69,16 +76,74 @@ fn hold(
     run_session(plan.shelf.alloc(), input, output, plan.role, id, &mut host)
 }
 
-fn outcome_of(
-    shelf: &Shelf<Vec<u8>>,
-    ended: Result<u64, NetError>,
-    peer: &RowPeer,
-    output: &Output,
-) -> Result<Outcome, Fault> {
+// How the session ended over these streams.
+fn run_on(
+    plan: Plan,
+    peer: &mut RowPeer,
+    mut input: Input,
+    output: &mut Output,
+) -> Result<String, Fault> {
+    let ended = hold(plan, peer, &mut input, output);
     if output.refused {
         return Err(Fault::Memory);
     }
-    let answer = end(shelf, ended, peer, &output.bytes)?;
+    end(plan.shelf, ended, peer, &output.bytes)
+}
+
+// How the other side's session ended, which took what the first side sent.
+fn answered(plan: Plan, other: &mut RowPeer, sent: &[u8]) -> Result<String, Fault> {
+    let role = match plan.role {
+        Role::Client => Role::Server,
+        Role::Server => Role::Client,
+    };
+    let mut output = Output::new(Vec::new(plan.shelf.alloc()));
+    run_on(Plan { role, ..plan }, other, Input::new(sent), &mut output)
+}
+
+// The text that both read behind a second session, over streams that don't fail.
+fn mended(plan: Plan, peer: &mut RowPeer, other: &mut RowPeer) -> Result<String, Fault> {
+    match plan.role {
+        Role::Client => agree(plan.shelf.alloc(), peer, other),
+        Role::Server => agree(plan.shelf.alloc(), other, peer),
+    }
+}
+
+// Adds what became of the other side, and what both read in the end.
+fn put_met(
+    plan: Plan,
+    peer: &mut RowPeer,
+    other: &mut RowPeer,
+    sent: &[u8],
+    answer: &mut String,
+) -> Result<(), Fault> {
+    let there = answered(plan, other, sent)?;
+    let text = mended(plan, peer, other)?;
+    write!(answer, ", {there}, then {text}")?;
+    Ok(())
+}
+
+// The same, where there is another side.
+fn put_other(
+    plan: Plan,
+    peer: &mut RowPeer,
+    sent: &[u8],
+    answer: &mut String,
+) -> Result<(), Fault> {
+    let Some(other) = plan.other else {
+        return Ok(());
+    };
+    let mut other = forked(plan.shelf.alloc(), other)?;
+    put_met(plan, peer, &mut other, sent, answer)
+}
+
+fn outcome_of(
+    plan: Plan,
+    peer: &mut RowPeer,
+    input: Input,
+    output: &mut Output,
+) -> Result<Outcome, Fault> {
+    let mut answer = run_on(plan, peer, input, output)?;
+    put_other(plan, peer, &output.bytes, &mut answer)?;
     Ok(Outcome {
         answer,
         failed: output.failed,
@@ -86,12 +151,11 @@ fn outcome_of(
 }
 
 // Runs the session over a reader, and a writer with so many calls that succeed.
-fn run_over(plan: Plan, mut input: Input, succeeds: Option<usize>) -> Result<Outcome, Fault> {
+fn run_over(plan: Plan, input: Input, succeeds: Option<usize>) -> Result<Outcome, Fault> {
     let mut peer = forked(plan.shelf.alloc(), plan.peer)?;
     let mut output = Output::new(Vec::new(plan.shelf.alloc()));
     output.succeeds = succeeds;
-    let ended = hold(plan, &mut peer, &mut input, &mut output);
-    outcome_of(plan.shelf, ended, &peer, &output)
+    outcome_of(plan, &mut peer, input, &mut output)
 }
 
 impl Judge for Plan<'_> {
@@ -182,7 +246,7 @@ fn run_as(word: &str, plan: Plan) -> Result<String, Fault> {
     }
 }
 
-/// Makes a call `run ROLE PEER BYTES` or one of its kin; `None` where the word is none of these.
+/// Makes a call `run ROLE PEER BYTES [PEER]` or one of its kin; `None` where the word is none of these.
 pub fn call(world: &World, word: &str, words: &mut Words) -> Option<Result<String, Fault>> {
     match word {
         "run"

@@ -52,13 +52,14 @@ const HELLOS: [Answered; 2] = [
     ),
 ];
 
-// What clients send behind Dora's hello.
+// What clients send behind Dora's hello. The second and the third leave within a frame, the third within one of sixteen
+// megabytes. An answer is due at the last byte, not before.
 const BEHIND: [Answered; 6] = [
     (b"", b""),
     (b"\x01\x00\x00", b""),
-    (b"\x01\x00\x00\x00\x01sixteen megabytes, and then", b""),
+    (b"\x01\x00\x00\x00\x01\x02\x00\x00", b""),
     (HELLO, b"\x00\x00\x00\x02\x03\x03"),
-    (b"\x00\x00\x00\x03\x01\xff\xff", b"\x00\x00\x00\x02\x03\x03"),
+    (b"\x00\x00\x00\x02\x01\xff", b"\x00\x00\x00\x02\x03\x03"),
     (b"\x00\x00\x00\x01\x02", b"\x00\x00\x00\x01\x02"),
 ];
 

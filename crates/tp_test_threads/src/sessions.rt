@@ -2,7 +2,7 @@
 
 use crate::hold::{Broken, Hold};
 use crate::sides::{client, server};
-use crate::strangers::{Answered, Pace, UNKNOWN, first_other};
+use crate::strangers::{Answered, Pace, UNKNOWN, first_other, leaves};
 use std::net::{Ipv4Addr, OpenListener, SocketAddr, TcpListener};
 use std::test::Fail;
 use std::thread::join;
@@ -80,6 +80,29 @@ fn strangers_are_refused(rt: HostRuntime) -> Result<(), Fail> {
         },
     );
     assert_eq!(rt; (first, second), (None, None));
+    let (applied, text) = last.ok_or("the last client")?;
+    assert_eq!(rt; (applied, text.as_str()), (1, "qabc"));
+    assert_eq!(rt; served.ok_or("the server")?.as_str(), "qabc");
+    Ok(())
+}
+
+// What a client whose document is empty sends first: its hello, and its first message.
+const FIRST: &[u8] =
+    b"\x00\x00\x00\x12\x00\x02\x00\x00\x00\x00\x00\x00\x00\x00\x00\x00\x00\x00\x00\x00\x00\x00\
+    \x00\x00\x00\x12\x01\x02\x00\x00\x00\x00\x00\x00\x00\x00\x00\x00\x00\x00\x00\x00\x00\x00";
+
+// The session of a client that closes its connection behind its first message ends alone: another client is served on
+// the same seat.
+#[test]
+fn a_client_leaves(rt: HostRuntime) -> Result<(), Fail> {
+    let listener = TcpListener::bind(&rt, here())?;
+    let addr = listener.local_addr()?;
+    let (served, (was_sent, last)) = join(
+        &rt,
+        || server(&rt, &listener, 1, 2, &AlwaysOpen),
+        || (leaves(&rt, addr, FIRST), client(&rt, addr, 2, "q")),
+    );
+    assert!(rt; was_sent);
     let (applied, text) = last.ok_or("the last client")?;
     assert_eq!(rt; (applied, text.as_str()), (1, "qabc"));
     assert_eq!(rt; served.ok_or("the server")?.as_str(), "qabc");

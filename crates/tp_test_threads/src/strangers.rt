@@ -18,7 +18,7 @@ pub const UNKNOWN: [Answered; 9] = [
     (b"\x00\x00\x00\x00", b"\x00\x00\x00\x02\x03\x03"),
     (b"\x00\x00\x00\x01\x04", b"\x00\x00\x00\x02\x03\x03"),
     (b"\x00\x00\x00\x01\x02", b"\x00\x00\x00\x02\x03\x03"),
-    (b"\x00\x00\x00\x02\x01\x00", b"\x00\x00\x00\x02\x03\x03"),
+    (b"\x00\x00\x00\x01\x01", b"\x00\x00\x00\x02\x03\x03"),
     (b"\x00\x00\x00\x02\x03\x05", b""),
 ];
 
@@ -107,6 +107,20 @@ pub fn first_other<R: AllocGlobal + Net + Clock>(
         }
     }
     other
+}
+
+// Sends the bytes at once, and closes the connection. Whether they were sent.
+fn is_left<S: Write + Drop>(stream: S, bytes: &[u8]) -> bool {
+    let mut stream = stream;
+    send(&mut stream, bytes, Pace::AtOnce).is_some()
+}
+
+/// A client that sends the bytes, and closes its connection with no look at an answer. Whether they were sent.
+pub fn leaves<R: Net + Clock>(rt: &R, addr: SocketAddr, bytes: &[u8]) -> bool {
+    match connected(rt, addr) {
+        Some(stream) => is_left(stream, bytes),
+        None => false,
+    }
 }
 
 /// Says nothing on the connection until another client is done. Whether it was in time; the connection is closed then.
