@@ -90,11 +90,8 @@ fn take_all(
     host: &mut LinkedPeer<MemJournal>,
     bytes: &[u8],
 ) -> Result<(), NetError> {
-    let mut at = 0;
-    while at < bytes.len() {
-        let end = at.saturating_add(PIECE).min(bytes.len());
-        take(alloc, framing, session, host, &bytes[at..end])?;
-        at = end;
+    for piece in bytes.chunks(PIECE) {
+        take(alloc, framing, session, host, piece)?;
     }
     Ok(())
 }
