@@ -1,6 +1,6 @@
 -- What the parser's matches say of the subcommand that was found, and of its values.
 use Rattle.std.proofs.Common.{◌≡◌, ◌∙◌, ap, Bool, true, false, refl, sym, subst, List, [], ◌∷◌, Option, Some, None, codes}
-use Rattle.std.specs.Prelude.{IsErrAnd, IsSome, ℕ, Ok, Err, Result, find, if◌then◌else◌, option_map}
+use Rattle.std.specs.Prelude.{◌||◌, IsErrAnd, IsSome, ℕ, Ok, Err, Result, find, if◌then◌else◌, option_map}
 use Rattle.std.specs.Str.{bytes_eq}
 use Rattle.std.proofs.lemmas.Slice.Eq.{bytes_eq-Decides}
 use Rattle.clap.specs.Simple.{Shape, built}
@@ -14,6 +14,7 @@ use Rattle.clap.specs.ValueTests.{accepts}
 use Rattle.clap.proofs.ValueTestLemmas.{accepts-Accepts}
 use Rattle.clap.proofs.WalkLemmas.{one_text-rows}
 use Rattle.clap.specs.Words.{App, HasKind, HasMatchesOf, Row, Text, found_of, is_simple, is_simple_and_free, one_text, rows_of, subcommand_name_of, subcommand_of, subcommand_rows_of}
+use Rattle.clap.specs.declared.builder.value_parser.ValueParser.TheVariants as parser
 use Rattle.clap.specs.declared.parser.matches.ArgMatches.{ArgMatches}
 use Rattle.clap.specs.declared.parser.matches.Found.{Found}
 use Rattle.clap.specs.declared.parser.matches.ArgMatches.TheViews.{out-ArgMatches}
@@ -22,7 +23,7 @@ use Rattle.tp_command_line.specs.CommandLine.{few, numbers, textpeer_app}
 use Rattle.tp_command_line.specs.LineError.{FailsAs, parser_fault}
 use Rattle.tp_command_line.specs.declared.command.Command.{Command}
 use Rattle.tp_command_line.specs.declared.error.LineError.{LineError}
-use Rattle.tp_command_line.specs.Values.{HasNumber, HasValue, IsNumber, IsUse}
+use Rattle.tp_command_line.specs.Values.{HasFlag, HasNumber, HasValue, IsNumber, IsUse}
 use Rattle.tp_command_line.proofs.Rows.{HasFirst, parser_named}
 use Rattle.tp_command_line.proofs.Uses.{IsUseOf, required_of, requires_value, use_of}
 
@@ -42,6 +43,23 @@ pub few_of : (id : Text) (rows : List Row) → HasFirst id rows → parser_named
 few_of id rows has is =
     let taken : Accepts false few has.value = accepts-Accepts false few has.value (ap (λ p. accepts false p has.value) (sym is) ∙ has.taken) in
     (digits_value 10 (without_leading_plus has.value), (has.value, has.one, record { digits = taken.0; small = taken.1; value = refl }))
+
+-- a value that the parser of flags takes says whether the flag was given
+pub flag_given : (id : Text) (rows : List Row) → HasFirst id rows → parser_named id ≡ parser.Bool → (given : Bool) × HasFlag id rows given
+flag_given id rows has is =
+    let taken : Accepts false parser.Bool has.value = accepts-Accepts false parser.Bool has.value (ap (λ p. accepts false p has.value) (sym is) ∙ has.taken) in
+    go (bytes_eq has.value (codes "true")) (bytes_eq has.value (codes "false")) refl refl taken
+  where
+    go : (b d : Bool) → bytes_eq has.value (codes "true") ≡ b → bytes_eq has.value (codes "false") ≡ d → (b || d) ≡ true → (given : Bool) × HasFlag id rows given
+    go true d is_true is_false either = (true, has.one ∙ ap Some ((bytes_eq-Decides has.value (codes "true")).0 is_true))
+    go false true is_true is_false either = (false, has.one ∙ ap Some ((bytes_eq-Decides has.value (codes "false")).0 is_false))
+    go false false is_true is_false either = absurd (cc)
+
+-- what a flag is read as
+pub flag_read : (given result : Bool) (f : Found) (id : Text) → HasFlag id (rows_of f) given → (one_text f id ≡ Some (codes "true") → result ≡ true)
+    → (one_text f id ≡ Some (codes "false") → result ≡ false) → HasFlag id (rows_of f) result
+flag_read true result f id has is_true is_false = subst (λ (b : Bool). HasFlag id (rows_of f) b) (sym (is_true (one_text-rows f id ∙ has))) has
+flag_read false result f id has is_true is_false = subst (λ (b : Bool). HasFlag id (rows_of f) b) (sym (is_false (one_text-rows f id ∙ has))) has
 
 -- a text that is known was given
 pub text_given : (o : Option (Bor Text)) (t : Text) → option_map (λ s. s.now) o ≡ Some t → IsSome o
@@ -95,9 +113,9 @@ not_found name (s ∷ shapes) none = go (bytes_eq s.name name) refl (not_found n
 pub no_other_name : (name : Text) (rows : List Row) → IsUse name rows → (name ≡ codes "new" → ⊥) → (name ≡ codes "edit" → ⊥) → (name ≡ codes "text" → ⊥)
     → (name ≡ codes "heads" → ⊥) → (name ≡ codes "log" → ⊥) → (name ≡ codes "graph" → ⊥) → (name ≡ codes "cursor" → ⊥) → (name ≡ codes "merge" → ⊥) → (name ≡ codes "save" → ⊥)
     → (name ≡ codes "load" → ⊥) → (name ≡ codes "show" → ⊥) → (name ≡ codes "simulate" → ⊥)
-    → (name ≡ codes "serve" → ⊥) → (name ≡ codes "sync" → ⊥) → ⊥
-no_other_name name rows found a b c d e f g h i j k l m n =
-    let none = not_found name (built textpeer_app).subs (a, (b, (c, (d, (e, (f, (g, (h, (i, (j, (k, (l, (m, (n, tt)))))))))))))) in
+    → (name ≡ codes "serve" → ⊥) → (name ≡ codes "sync" → ⊥) → (name ≡ codes "session" → ⊥) → ⊥
+no_other_name name rows found a b c d e f g h i j k l m n o =
+    let none = not_found name (built textpeer_app).subs (a, (b, (c, (d, (e, (f, (g, (h, (i, (j, (k, (l, (m, (n, (o, tt))))))))))))))) in
     let bad : None ≡ Some found.shape = sym none ∙ found.named in
     absurd (cc)
 

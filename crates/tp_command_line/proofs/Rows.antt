@@ -25,7 +25,7 @@ is_numeric id = list_any (λ n. bytes_eq n id) (codes "AT" ∷ codes "at" ∷ co
 
 -- what reads the values of an argument
 abbrev pub parser_named : Text → ValueParser
-parser_named id = if is_numeric id then numbers else if bytes_eq (codes "workers") id then few else parser.String
+parser_named id = if is_numeric id then numbers else if bytes_eq (codes "workers") id then few else if bytes_eq (codes "client") id then parser.Bool else parser.String
 
 -- the argument takes each of the values
 abbrev pub AllTaken : Text → List Text → Type 0

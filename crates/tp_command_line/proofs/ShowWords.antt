@@ -16,7 +16,7 @@ use Rattle.tp_command_line.specs.CommandOf.{AskToShow, IsCommandOf, IsFoundAs, I
 use Rattle.tp_command_line.specs.LineError.{parser_fault}
 use Rattle.tp_command_line.proofs.Found.{some_is}
 use Rattle.tp_command_line.specs.declared.command.Command.{Command}
-use Rattle.tp_command_line.specs.declared.command.Command.TheVariants.{New, Edit, Text as ReadText, Heads, Log, Graph, Cursor, Merge, Save, Load, Show, Simulate, Serve, Sync}
+use Rattle.tp_command_line.specs.declared.command.Command.TheVariants.{New, Edit, Text as ReadText, Heads, Log, Graph, Cursor, Merge, Save, Load, Show, Simulate, Serve, Session, Sync}
 use Rattle.tp_command_line.specs.declared.error.LineError.{LineError}
 
 -- the name of a subcommand, and the value of its `LOG`
@@ -83,6 +83,7 @@ show_of_name path name rows (Show shown) is log of = let same : Some shown.now �
 show_of_name path name rows (Simulate script) is log of = other_name (codes "simulate") refl (sym of.0 ∙ is)
 show_of_name path name rows (Serve file addr sessions workers key) is log of = other_name (codes "serve") refl (sym of.0 ∙ is)
 show_of_name path name rows (Sync file addr key) is log of = other_name (codes "sync") refl (sym of.0 ∙ is)
+show_of_name path name rows (Session file is_client key) is log of = other_name (codes "session") refl (sym of.0 ∙ is)
 
 -- words that ask to show a path give that
 pub show_path : (path : Text) (words : List Text) (command : Command) → AskToShow path words → IsFoundAs (subcommand_of textpeer_app words) command → IsShow path command

@@ -10,11 +10,12 @@ use Rattle.clap.specs.Simple.{App, Shape, argument_words, built, entered, filled
 use Rattle.clap.specs.Walk.{Row, Rule, Text, answers_to, nothing_held, rows_after, walk}
 use Rattle.clap.specs.Values.{reading_of}
 use Rattle.clap.specs.ValueTests.{accepts}
-use Rattle.clap.specs.declared.builder.action.ArgAction.TheVariants.{Append, Set}
+use Rattle.clap.specs.declared.builder.action.ArgAction.TheVariants.{Append, Set, SetTrue}
 use Rattle.clap.specs.declared.builder.value_parser.Reading.TheVariants.{AsWritten}
 use Rattle.clap.specs.declared.builder.value_parser.ValueParser.{ValueParser}
+use Rattle.clap.specs.declared.builder.value_parser.ValueParser.TheVariants as parser
 use Rattle.clap.specs.declared.builder.value_parser.ValueParser.TheVariants.{String}
-use Rattle.tp_command_line.specs.CommandLine.{few, file_rule, key_rule, mandatory, message_rule, numbers, numeric, option_rule, required_rule, sessions_rule, several, textpeer_app, time_rule, workers_rule}
+use Rattle.tp_command_line.specs.CommandLine.{few, file_rule, flag_rule, key_rule, mandatory, message_rule, numbers, numeric, option_rule, required_rule, sessions_rule, several, textpeer_app, time_rule, workers_rule}
 use Rattle.tp_command_line.specs.Values.{IsUse, shape_named}
 use Rattle.tp_command_line.proofs.Rows.{AllTaken, HasFirst, has_default, or_else_none, parser_named, values_taken, with_values_filled, without_filled}
 use Rattle.tp_command_line.proofs.Words.{Fills}
@@ -42,6 +43,26 @@ many_fills a is again [] rows e h = absurd (cc)
 many_fills a is again (v ∷ vs) rows e h =
     let taken : AllTaken a.id (v ∷ vs) = subst (λ (q : ValueParser). list_all (accepts false q) (v ∷ vs) ≡ true) is (values_taken String (v ∷ vs) (or_else_none _ _ e).1) in
     with_values_filled _ _ _ v vs rows refl taken h
+
+-- a flag
+abbrev flag : Rule → Rule
+flag a = record a {
+  action = Some SetTrue;
+  range = Some (record { start_inclusive = 0; end_inclusive = 0 });
+  parser = Some parser.Bool;
+  ignore_case = false;
+  defaults = codes "false" ∷ [];
+  missing = codes "true" ∷ [];
+}
+
+flag_fills : (a : Rule) → parser.Bool ≡ parser_named a.id → Fills (flag a)
+flag_fills a is again [] rows e h =
+    let taken : AllTaken a.id (codes "true" ∷ []) = subst (λ (q : ValueParser). list_all (accepts false q) (codes "true" ∷ []) ≡ true) is refl in
+    with_values_filled _ _ _ (codes "true") [] _ refl taken (without_filled _ rows h)
+flag_fills a is again (v ∷ vs) rows e h =
+    let used_on = or_else_none _ _ (or_else_none _ _ e).1 in
+    let taken : AllTaken a.id (v ∷ vs) = subst (λ (q : ValueParser). list_all (accepts false q) (v ∷ vs) ≡ true) is (values_taken parser.Bool (v ∷ vs) used_on.1) in
+    with_values_filled _ _ _ v vs _ refl taken (without_filled _ rows h)
 
 single_sound : (p : ValueParser) (a : Rule) → p ≡ parser_named a.id → reading_of p ≡ AsWritten → AllTaken a.id a.defaults → IsSound (single p a)
 single_sound p a is reading defaults = record { fills = single_fills p a is reading; defaults = defaults; reading = reading }
@@ -101,6 +122,9 @@ sessions_sound = single_sound numbers (placed 2 sessions_rule) refl refl refl
 workers_sound : IsSound (placed 2 workers_rule)
 workers_sound = single_sound few (placed 2 workers_rule) refl refl refl
 
+client_sound : IsSound (placed 2 (flag_rule (codes "client")))
+client_sound = record { fills = flag_fills (placed 2 (flag_rule (codes "client"))) refl; defaults = refl; reading = refl }
+
 heads_sound : (i : ℕ) (required : Bool) → IsSound (placed i (record (several (codes "HASH")) { required = required }))
 heads_sound i required = record { fills = many_fills (placed i (record (several (codes "HASH")) { required = required })) refl; defaults = refl; reading = refl }
 
@@ -150,7 +174,7 @@ all_sound = (
                         (script_sound, (help_sound, tt)),
                         (
                           (file_sound, (addr_sound, (sessions_sound, (workers_sound, (key_sound, (help_sound, tt)))))),
-                          ((file_sound, (addr_sound, (key_sound, (help_sound, tt)))), tt),
+                          ((file_sound, (addr_sound, (key_sound, (help_sound, tt)))), ((file_sound, (client_sound, (key_sound, (help_sound, tt)))), tt)),
                         ),
                       ),
                     ),
@@ -171,7 +195,7 @@ AllNamed [] = Unit {0}
 AllNamed (s ∷ shapes) = (shape_named s.name ≡ Some s) × AllNamed shapes
 
 all_named : AllNamed (built textpeer_app).subs
-all_named = (refl, (refl, (refl, (refl, (refl, (refl, (refl, (refl, (refl, (refl, (refl, (refl, (refl, (refl, tt))))))))))))))
+all_named = (refl, (refl, (refl, (refl, (refl, (refl, (refl, (refl, (refl, (refl, (refl, (refl, (refl, (refl, (refl, tt)))))))))))))))
 
 found_named : (test : Shape → Bool) (shapes : List Shape) → AllNamed shapes → (s : Shape) → find test shapes ≡ Some s → shape_named s.name ≡ Some s
 found_named test [] named s e = absurd (cc)

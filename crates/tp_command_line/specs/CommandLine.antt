@@ -3,7 +3,7 @@ use Rattle.std.specs.Prelude.{◌≡◌, List, [], ◌∷◌, ◌++◌, Some, tr
 use Rattle.clap.specs.Lexer.{usize_max}
 use Rattle.clap.specs.Words.{App, Rule, Shape, Text, app_of, new_rule}
 use Rattle.clap.specs.Simple.{new_shape as named_shape}
-use Rattle.clap.specs.declared.builder.action.ArgAction.TheVariants.{Append, Set}
+use Rattle.clap.specs.declared.builder.action.ArgAction.TheVariants.{Append, Set, SetTrue}
 use Rattle.clap.specs.declared.builder.command.Command.{Command}
 use Rattle.clap.specs.declared.builder.command.Command.TheViews.{out-Command}
 use Rattle.clap.specs.declared.builder.value_parser.ValueParser.{ValueParser}
@@ -18,6 +18,10 @@ required_rule id = record (new_rule id) { required = true; action = Some Set }
 -- `--id VALUE`
 abbrev pub option_rule : Text → Rule
 option_rule id = record (new_rule id) { long = Some id; action = Some Set; value_names = 1 }
+
+-- `--id`
+abbrev pub flag_rule : Text → Rule
+flag_rule id = record (new_rule id) { long = Some id; action = Some SetTrue }
 
 -- an argument that has to be given
 abbrev pub mandatory : Rule → Rule
@@ -138,6 +142,10 @@ serve_shape = with_rules (codes "serve") (serve_at_shape.rules ++ sessions_rule 
 abbrev pub sync_shape : Shape
 sync_shape = with_rules (codes "sync") (file_rule ∷ required_rule (codes "ADDR") ∷ key_rule ∷ [])
 
+-- `session FILE [--client] [--key HEX]`
+abbrev pub session_shape : Shape
+session_shape = with_rules (codes "session") (file_rule ∷ flag_rule (codes "client") ∷ key_rule ∷ [])
+
 -- the command has this shape, and no subcommand and no argument that subcommands have too
 pub record IsLeaf (s : Shape) (c : Command) : Type 0 where
   pub app : app_of c ≡ record { top = s; subs = [] }
@@ -169,4 +177,4 @@ files_app = record journals_app {
 
 -- `textpeer` with all its subcommands
 abbrev pub textpeer_app : App
-textpeer_app = record files_app { subs = files_app.subs ++ serve_shape ∷ sync_shape ∷ [] }
+textpeer_app = record files_app { subs = files_app.subs ++ serve_shape ∷ sync_shape ∷ session_shape ∷ [] }

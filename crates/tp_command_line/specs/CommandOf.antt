@@ -3,8 +3,8 @@ use Rattle.std.specs.Prelude.{◌≡◌, ◌≢◌, List, [], ◌∷◌, Option,
 use Rattle.std.specs.Borrow.{Bor}
 use Rattle.clap.specs.Words.{Row, Text, all_of, first_of}
 use Rattle.tp_command_line.specs.declared.command.Command.{Command}
-use Rattle.tp_command_line.specs.declared.command.Command.TheVariants.{New, Edit, Text as ReadText, Heads, Log, Graph, Cursor, Merge, Save, Load, Show, Simulate, Serve, Sync}
-use Rattle.tp_command_line.specs.Values.{HasNumber}
+use Rattle.tp_command_line.specs.declared.command.Command.TheVariants.{New, Edit, Text as ReadText, Heads, Log, Graph, Cursor, Merge, Save, Load, Show, Simulate, Serve, Session, Sync}
+use Rattle.tp_command_line.specs.Values.{HasFlag, HasNumber}
 
 -- the first value of an argument is the text
 abbrev pub HasText : Text → List Row → Bor Text → Type 0
@@ -43,6 +43,8 @@ IsCommandOf name rows (Simulate script) = (name ≡ codes "simulate") × HasText
 IsCommandOf name rows (Serve file addr sessions workers key) = (name ≡ codes "serve") × HasText (codes "FILE") rows file
     × HasText (codes "ADDR") rows addr × HasNumber (codes "sessions") rows sessions
     × HasNumber (codes "workers") rows workers × HasKey rows key
+IsCommandOf name rows (Session file is_client key) = (name ≡ codes "session") × HasText (codes "FILE") rows file
+    × HasFlag (codes "client") rows is_client × HasKey rows key
 IsCommandOf name rows (Sync file addr key) = (name ≡ codes "sync") × HasText (codes "FILE") rows file
     × HasText (codes "ADDR") rows addr × HasKey rows key
 

@@ -1,5 +1,5 @@
 -- What a parse without a fault leaves of a subcommand's arguments.
-use Rattle.std.specs.Prelude.{◌≡◌, ℕ, ◌^◌, ◌<◌, false, List, [], Option, Some, find}
+use Rattle.std.specs.Prelude.{◌≡◌, ℕ, ◌^◌, ◌<◌, Bool, true, false, List, [], Option, Some, codes, find}
 use Rattle.std.specs.Str.{bytes_eq}
 use Rattle.std.specs.Str.Parse.{IsNumeral, digits_value, without_leading_plus}
 use Rattle.clap.specs.Faults.{level_fault}
@@ -21,6 +21,15 @@ pub record IsNumber (text : Text) (n : ℕ) : Type 0 where
 -- the first value of an argument is the number n
 abbrev pub HasNumber : Text → List Row → ℕ → Type 0
 HasNumber id rows n = (text : Text) × (one_of id rows ≡ Some text) × IsNumber text n
+
+-- what a flag has as its value
+abbrev pub flag_text : Bool → Text
+flag_text true = codes "true"
+flag_text false = codes "false"
+
+-- the flag was given, or not
+abbrev pub HasFlag : Text → List Row → Bool → Type 0
+HasFlag id rows given = one_of id rows ≡ Some (flag_text given)
 
 -- the subcommand of `textpeer` with this name, as it is built
 abbrev pub shape_named : Text → Option Shape

@@ -105,6 +105,15 @@ pub enum Command<'a> {
         /// The key of the generator of random numbers, where it is given.
         key: Option<&'a str>,
     },
+    /// Holds one session over the standard input and output.
+    Session {
+        /// The path of the journal.
+        file: &'a str,
+        /// Whether it is the client's side of the session, and not the server's.
+        is_client: bool,
+        /// The key of the generator of random numbers, where it is given.
+        key: Option<&'a str>,
+    },
     /// Exchanges changes with a server, once.
     Sync {
         /// The path of the journal.

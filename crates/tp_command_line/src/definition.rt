@@ -2,9 +2,9 @@
 
 ghost use Rattle.std.specs.Prelude.{◌≡◌, IfOk, [], false, codes};
 ghost use Rattle.clap.specs.Words.{App, Shape, app_of, rule_of, with_subcommand};
-ghost use Rattle.tp_command_line.specs.CommandLine.{mandatory, message_rule, numeric, option_rule, required_rule, several, sessions_rule, time_rule, workers_rule};
+ghost use Rattle.tp_command_line.specs.CommandLine.{flag_rule, mandatory, message_rule, numeric, option_rule, required_rule, several, sessions_rule, time_rule, workers_rule};
 ghost use Rattle.tp_command_line.specs.CommandLine.{IsLeaf, bare_app, files_app, journals_app, textpeer_app, with_rules};
-ghost use Rattle.tp_command_line.specs.CommandLine.{cursor_shape, edit_at_shape, edit_shape, graph_shape, heads_shape, load_shape, log_shape, merge_shape, new_shape, save_shape, serve_at_shape, serve_shape, show_shape, simulate_shape, sync_shape, text_shape};
+ghost use Rattle.tp_command_line.specs.CommandLine.{cursor_shape, edit_at_shape, edit_shape, graph_shape, heads_shape, load_shape, log_shape, merge_shape, new_shape, save_shape, serve_at_shape, serve_shape, session_shape, show_shape, simulate_shape, sync_shape, text_shape};
 
 use clap::builder::ValueParser;
 use clap::{Arg, ArgAction, Command, value_parser};
@@ -16,7 +16,8 @@ pub(crate) fn textpeer_command<'a>(alloc: Global) -> Result<Command<'a>, AllocEr
 {
     let on_files = file_commands(alloc);
     let served = with(on_files, serve_command(alloc));
-    with(served, sync_command(alloc))
+    let synced = with(served, sync_command(alloc));
+    with(synced, session_command(alloc))
 }
 
 // The program with the commands that need no network.
@@ -207,6 +208,17 @@ fn workers<'a>(alloc: Global) -> Arg<'a>
     )
     .value_parser(ValueParser::unsigned(1, 64))
     .default_value("2")
+}
+
+// Which side of a session is held.
+fn client<'a>(alloc: Global) -> Arg<'a>
+    ensures rule { rule_of result ≡ flag_rule (codes "client") }
+    ensures local { result.global ≡ false }
+{
+    Arg::new(alloc, "client")
+        .long("client")
+        .help("holds the client's side; the server's if left out")
+        .action(ArgAction::SetTrue)
 }
 
 fn message<'a>(alloc: Global) -> Arg<'a>
@@ -456,5 +468,19 @@ fn sync_command<'a>(alloc: Global) -> Result<Command<'a>, AllocError>
     )
     .arg(journal(alloc))?
     .arg(address(alloc, "the address of the server, as IP:PORT"))?
+    .arg(key(alloc))
+}
+
+fn session_command<'a>(alloc: Global) -> Result<Command<'a>, AllocError>
+    ensures { IfOk result (IsLeaf session_shape) }
+{
+    named(
+        alloc,
+        "session",
+        "Holds one session over the standard input and output, and says on the standard error how many changes entered here",
+        "Example:\n  mkfifo back\n  textpeer session copy.journal --client <back | ssh host textpeer session notes.journal >back",
+    )
+    .arg(journal(alloc))?
+    .arg(client(alloc))?
     .arg(key(alloc))
 }

@@ -1,8 +1,8 @@
 //! What the parser found, as the values of a command.
 
-ghost use Rattle.std.specs.Prelude.{◌≡◌, ℕ, IfOk, Some, map, option_map, unwrap_or, [], codes};
+ghost use Rattle.std.specs.Prelude.{◌≡◌, ℕ, Bool, IfOk, Some, map, option_map, unwrap_or, [], codes};
 ghost use Rattle.clap.specs.Words.{all_of, first_of, found_of, rows_of};
-ghost use Rattle.tp_command_line.specs.Values.{HasNumber, HasValue, IsUse};
+ghost use Rattle.tp_command_line.specs.Values.{HasFlag, HasNumber, HasValue, IsUse};
 ghost use Rattle.tp_command_line.specs.CommandOf.{IsCommandOf};
 
 use crate::command::Command;
@@ -23,6 +23,14 @@ fn number_of(found: &ArgMatches<'_>, id: &str) -> u64
     ensures { HasNumber id.now (rows_of (found_of found.now)) result }
 {
     found.get_one(id).unwrap()
+}
+
+// Whether a flag is given.
+fn flag_of(found: &ArgMatches<'_>, id: &str) -> bool
+    requires { (given : Bool) × HasFlag id.now (rows_of (found_of found.now)) given }
+    ensures { HasFlag id.now (rows_of (found_of found.now)) result }
+{
+    found.get_flag(id)
 }
 
 // The value of an option, where it is given.
@@ -70,6 +78,18 @@ fn serve_of<'a>(found: &ArgMatches<'a>) -> Command<'a>
         addr: text_of(found, "ADDR"),
         sessions: number_of(found, "sessions"),
         workers: number_of(found, "workers"),
+        key: key_of(found),
+    }
+}
+
+// The session that `session` asks for.
+fn session_of<'a>(found: &ArgMatches<'a>) -> Command<'a>
+    requires { IsUse (codes "session") (rows_of (found_of found.now)) }
+    ensures { IsCommandOf (codes "session") (rows_of (found_of found.now)) result }
+{
+    Command::Session {
+        file: text_of(found, "FILE"),
+        is_client: flag_of(found, "client"),
         key: key_of(found),
     }
 }
@@ -132,6 +152,7 @@ pub(crate) fn command_of<'a>(
             addr: text_of(found, "ADDR"),
             key: key_of(found),
         }),
+        "session" => Ok(session_of(found)),
         _ => unreachable!(),
     }
 }

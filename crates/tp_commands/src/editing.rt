@@ -1,17 +1,21 @@
 //! What is done to a journal.
 
-ghost use Rattle.std.specs.Prelude.{◌≡◌, [], length, IfOk, IfErr, OnOk};
+ghost use Rattle.std.specs.Prelude.{◌≡◌, ◌⊎◌, [], length, IfOk, IfErr, OnOk};
 ghost use Rattle.std.specs.Str.{chars};
 ghost use Rattle.tp_journal.specs.Journal.{no_device};
 ghost use Rattle.tp_journal.specs.Layout.{journal as journal_bytes};
+ghost use Rattle.tp_journal.specs.Recovery.{Recovers};
+ghost use Rattle.tp_journal.specs.Refusals.{IsRefusal};
 ghost use Rattle.tp_peer.specs.Opening.{IsUnused, Reopens};
 ghost use Rattle.tp_peer.specs.Appending.{journal_state};
 ghost use Rattle.tp_peer.specs.PeerStep.{PeerStep, Merge, Merged};
 ghost use Rattle.tp_peer.specs.Taking.{Report};
 ghost use Rattle.tp_commands.specs.Editing.{EditsJournal, TakesJournal};
 ghost use Rattle.tp_commands.specs.Refusing.{IsUnbegun, IsUnedited, IsUnmerged, IsUnopened, RefusesCall};
+ghost use Rattle.tp_store.specs.declared.error.StoreError.TheVariants.{OutOfMemory as Lack};
 
 use crate::error::CommandError;
+use crate::reading::Recovery;
 use std::alloc::Global;
 use tp_edit::Splice;
 use tp_journal::{Journal, MemJournal};
@@ -36,23 +40,27 @@ pub fn begin<J: Journal>(
     }
 }
 
-/// Makes one change under the actor, which is appended to the journal. `None` where the splice is in range and changes
-/// nothing.
+/// Makes one change under the actor, which is appended to the journal; it comes with what its content recovered to. `None`
+/// where the splice is in range and changes nothing.
 pub fn edit<J: Journal>(
     alloc: Global,
-    journal: J,
+    opened: (J, Recovery),
     actor: Actor,
     splice: Splice,
     time: u64,
     message: &str,
 ) -> Result<(J, Option<Hash>), CommandError>
-    ensures edits { IfOk result (λ r. EditsJournal (J.content journal) actor splice.entry time
+    requires recovers { IfOk opened.1 (λ r.
+        Recovers (J.content opened.0) r.document.id r.document.applied r.keep
+        × (r.document.waiting ≡ [])) }
+    requires refused { IfErr opened.1 (λ e. (e ≡ Lack) ⊎ IsRefusal (J.content opened.0) e) }
+    ensures edits { IfOk result (λ r. EditsJournal (J.content opened.0) actor splice.entry time
         (chars message.now) r.1 (J.content r.0)) }
     ensures err { IfErr result
-        (λ e. IsUnedited (journal_state (J.content journal) (J.device journal)) actor splice.entry
+        (λ e. IsUnedited (journal_state (J.content opened.0) (J.device opened.0)) actor splice.entry
         time (chars message.now) e) }
 {
-    match Peer::reopen(alloc, journal, actor) {
+    match reopen(alloc, opened, actor) {
         Ok(mut peer) => {
             let made = peer.edit(&[splice], time, message);
             let journal = peer.stop();
@@ -61,18 +69,42 @@ pub fn edit<J: Journal>(
                 Err(error) => Err(CommandError::from(error)),
             }
         }
+        Err(error) => Err(error),
+    }
+}
+
+/// A peer on the journal, which comes with what its content recovered to.
+pub fn reopen<J: Journal>(
+    alloc: Global,
+    opened: (J, Recovery),
+    actor: Actor,
+) -> Result<Peer<J>, CommandError>
+    requires recovers { IfOk opened.1 (λ r.
+        Recovers (J.content opened.0) r.document.id r.document.applied r.keep
+        × (r.document.waiting ≡ [])) }
+    requires refused { IfErr opened.1 (λ e. (e ≡ Lack) ⊎ IsRefusal (J.content opened.0) e) }
+    ensures ok { IfOk result
+        (λ p. Reopens (journal_state (J.content opened.0) (J.device opened.0)) actor p) }
+    ensures err { IfErr result
+        (λ e. IsUnopened (journal_state (J.content opened.0) (J.device opened.0)) actor e) }
+{
+    let (journal, recovered) = opened;
+    match Peer::open_recovered(alloc, journal, recovered, actor) {
+        Ok(peer) => Ok(peer),
         Err(unopened) => Err(CommandError::from(unopened.error)),
     }
 }
 
-/// A peer on the journal.
-pub fn reopen<J: Journal>(alloc: Global, journal: J, actor: Actor) -> Result<Peer<J>, CommandError>
-    ensures ok { IfOk result
-        (λ p. Reopens (journal_state (J.content journal) (J.device journal)) actor p) }
-    ensures err { IfErr result
-        (λ e. IsUnopened (journal_state (J.content journal) (J.device journal)) actor e) }
+// A peer on a journal of these bytes.
+fn reopen_bytes(
+    alloc: Global,
+    bytes: Vec<u8>,
+    actor: Actor,
+) -> Result<Peer<MemJournal>, CommandError>
+    ensures ok { IfOk result (λ p. Reopens (journal_state bytes.items no_device) actor p) }
+    ensures err { IfErr result (λ e. IsUnopened (journal_state bytes.items no_device) actor e) }
 {
-    match Peer::reopen(alloc, journal, actor) {
+    match Peer::reopen(alloc, MemJournal::new(bytes), actor) {
         Ok(peer) => Ok(peer),
         Err(unopened) => Err(CommandError::from(unopened.error)),
     }
@@ -107,7 +139,7 @@ pub fn merge<J: Journal>(
     ensures takes { IfOk result (λ r. TakesJournal peer other.items actor r.1 (J.content r.0)) }
     ensures err { IfErr result (λ e. IsUnmerged peer (journal_state other.items no_device) actor e) }
 {
-    match reopen(alloc, MemJournal::new(other), actor) {
+    match reopen_bytes(alloc, other, actor) {
         Ok(other) => {
             let merged = merge_from(&mut peer, other);
             let journal = peer.stop();

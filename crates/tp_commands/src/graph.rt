@@ -13,7 +13,9 @@ use crate::log::{deleted, inserted, put_message};
 use crate::reading::{Text, digits, document_in};
 use std::alloc::{AllocError, Global};
 use tp_change::Change;
+use tp_journal::Recovering;
 use tp_opid::Hash;
+use tp_peer::PeerSequence;
 
 // Whether a hash is one of the heads, which rise.
 fn is_head(document: &Text, hash: &Hash) -> bool
@@ -155,18 +157,18 @@ fn graph(alloc: Global, document: &Text) -> Result<String, CommandError>
     Ok(lines)
 }
 
-/// The changes of a journal's bytes as a graph in DOT, the language of Graphviz: for each change, in the order in which they
+/// The changes of a journal as a graph in DOT, the language of Graphviz: for each change, in the order in which they
 /// entered, a node and then an edge to each change that it depends on. A node is named by the whole hash; it shows the
 /// first eight digits of it, the time, `+` and how many characters the change inserts, `-` and how many it deletes, and
 /// its message as [`log_lines`](crate::log_lines) prints it. A head has a thick border. Whatever a message holds, it is
 /// shown as text and ends no label.
 ///
 /// One pass over the changes, their characters and their dependencies; whether a change is a head is searched by halves.
-pub fn graph_lines(alloc: Global, journal: &[u8]) -> Result<String, CommandError>
-    ensures lines { IfOk result (λ lines. IsChangeGraph journal.now (string_bytes lines)) }
-    ensures err { IfErr result (λ e. IsUnread journal.now e) }
+pub fn graph_lines(alloc: Global, journal: Recovering<PeerSequence>) -> Result<String, CommandError>
+    ensures lines { IfOk result (λ lines. IsChangeGraph journal (string_bytes lines)) }
+    ensures err { IfErr result (λ e. IsUnread journal e) }
 {
-    let document = document_in(alloc, journal)?;
+    let document = document_in(journal)?;
     let lines = graph(alloc, &document);
     drop(document);
     lines

@@ -12,4 +12,4 @@ pub use editing::{begin, edit, merge, reopen};
 pub use error::CommandError;
 pub use graph::graph_lines;
 pub use log::log_lines;
-pub use reading::{cursor_line, hash_line, head_lines, id_line, saved, text_line};
+pub use reading::{Recovery, cursor_line, hash_line, head_lines, id_line, saved, text_line};

@@ -12,6 +12,8 @@ use crate::error::CommandError;
 use crate::reading::{digits, document_in};
 use std::alloc::{AllocError, Global};
 use tp_change::{Change, Record};
+use tp_journal::Recovering;
+use tp_peer::PeerSequence;
 
 // How many deletes a record is.
 fn deletes(entry: &Record) -> usize
@@ -115,14 +117,14 @@ fn change_lines(alloc: Global, changes: &[Change]) -> Result<String, CommandErro
     Ok(lines)
 }
 
-/// A line for each change of a journal's bytes, in the order in which they entered: its hash, actor, sequence number,
+/// A line for each change of a journal, in the order in which they entered: its hash, actor, sequence number,
 /// time, `+` and how many characters it inserts, `-` and how many it deletes, and its message if it has one, with control
 /// characters escaped.
-pub fn log_lines(alloc: Global, journal: &[u8]) -> Result<String, CommandError>
-    ensures lines { IfOk result (λ lines. AreChangeLines journal.now (string_bytes lines)) }
-    ensures err { IfErr result (λ e. IsUnread journal.now e) }
+pub fn log_lines(alloc: Global, journal: Recovering<PeerSequence>) -> Result<String, CommandError>
+    ensures lines { IfOk result (λ lines. AreChangeLines journal (string_bytes lines)) }
+    ensures err { IfErr result (λ e. IsUnread journal e) }
 {
-    let document = document_in(alloc, journal)?;
+    let document = document_in(journal)?;
     let lines = change_lines(alloc, document.changes());
     drop(document);
     lines

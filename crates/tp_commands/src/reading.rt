@@ -1,4 +1,4 @@
-//! What is read of the bytes of a journal or of a saved file, as the text to print.
+//! What is read of a journal, as the text to print. A journal is what was recovered while its bytes came.
 
 ghost use Rattle.std.specs.Prelude.{◌≡◌, ◌⊎◌, ℕ, Some, None, Ok, IfOk, IfErr, IsOkUnless, false};
 ghost use Rattle.std.specs.List.{flat_map};
@@ -18,20 +18,23 @@ ghost use Rattle.tp_commands.specs.Reading.{AreHeadLines, IsCursorLine, IsTextLi
 use crate::error::CommandError;
 use std::alloc::{AllocError, Global};
 use tp_document::{DocError, Document};
-use tp_journal::recover;
+use tp_journal::{Recovered, Recovering};
 use tp_opid::{DocId, Hash, HexError};
 use tp_peer::PeerSequence;
-use tp_store::save;
+use tp_store::{StoreError, save};
 
-/// A document as it is read of bytes.
+/// A document as it is read of a journal.
 pub(crate) type Text = Document<PeerSequence>;
 
-/// The document of a journal's bytes, as `recover` gives it.
-pub(crate) fn document_in(alloc: Global, journal: &[u8]) -> Result<Text, CommandError>
-    ensures ok { IfOk result (λ d. (keep : ℕ) × Recovers journal.now d.id d.applied keep) }
-    ensures err { IfErr result (λ e. IsUnread journal.now e) }
+/// What a journal recovers to.
+pub type Recovery = Result<Recovered<PeerSequence>, StoreError>;
+
+/// The document of a journal, as `recover` gives it of its bytes.
+pub(crate) fn document_in(journal: Recovering<PeerSequence>) -> Result<Text, CommandError>
+    ensures ok { IfOk result (λ d. (keep : ℕ) × Recovers journal d.id d.applied keep) }
+    ensures err { IfErr result (λ e. IsUnread journal e) }
 {
-    match recover(alloc, journal) {
+    match journal.finish() {
         Ok(recovered) => Ok(recovered.document),
         Err(error) => Err(CommandError::from(error)),
     }
@@ -59,12 +62,16 @@ fn text_in(document: &Text, heads: &[Hash]) -> Result<String, DocError>
     }
 }
 
-/// The text of a journal's bytes and a newline: as it is now, or at the heads where any are given.
-pub fn text_line(alloc: Global, journal: &[u8], heads: &[Hash]) -> Result<String, CommandError>
-    ensures text { IfOk result (λ l. IsTextLine journal.now heads.now (string_bytes l)) }
-    ensures err { IfErr result (λ e. HasNoText journal.now heads.now e) }
+/// The text of a journal and a newline: as it is now, or at the heads where any are given.
+pub fn text_line(
+    alloc: Global,
+    journal: Recovering<PeerSequence>,
+    heads: &[Hash],
+) -> Result<String, CommandError>
+    ensures text { IfOk result (λ l. IsTextLine journal heads.now (string_bytes l)) }
+    ensures err { IfErr result (λ e. HasNoText journal heads.now e) }
 {
-    let document = document_in(alloc, journal)?;
+    let document = document_in(journal)?;
     let text = text_in(&document, heads);
     drop(document);
     Ok(line(text?)?)
@@ -109,12 +116,12 @@ fn hash_lines(alloc: Global, hashes: &[Hash]) -> Result<String, CommandError>
     Ok(lines)
 }
 
-/// The heads of a journal's bytes, rising, a line each.
-pub fn head_lines(alloc: Global, journal: &[u8]) -> Result<String, CommandError>
-    ensures lines { IfOk result (λ lines. AreHeadLines journal.now (string_bytes lines)) }
-    ensures err { IfErr result (λ e. IsUnread journal.now e) }
+/// The heads of a journal, rising, a line each.
+pub fn head_lines(alloc: Global, journal: Recovering<PeerSequence>) -> Result<String, CommandError>
+    ensures lines { IfOk result (λ lines. AreHeadLines journal (string_bytes lines)) }
+    ensures err { IfErr result (λ e. IsUnread journal e) }
 {
-    let document = document_in(alloc, journal)?;
+    let document = document_in(journal)?;
     let lines = hash_lines(alloc, document.heads());
     drop(document);
     lines
@@ -139,14 +146,14 @@ fn position_in(document: &Text, at: usize, heads: &[Hash]) -> Result<usize, DocE
 /// Where the character at a position of the text at the heads stands now, and a newline.
 pub fn cursor_line(
     alloc: Global,
-    journal: &[u8],
+    journal: Recovering<PeerSequence>,
     at: usize,
     heads: &[Hash],
 ) -> Result<String, CommandError>
-    ensures line { IfOk result (λ l. IsCursorLine journal.now at heads.now (string_bytes l)) }
-    ensures err { IfErr result (λ e. HasNoPosition journal.now at heads.now e) }
+    ensures line { IfOk result (λ l. IsCursorLine journal at heads.now (string_bytes l)) }
+    ensures err { IfErr result (λ e. HasNoPosition journal at heads.now e) }
 {
-    let document = document_in(alloc, journal)?;
+    let document = document_in(journal)?;
     let position = position_in(&document, at, heads);
     drop(document);
     let position = position?;
@@ -154,11 +161,11 @@ pub fn cursor_line(
 }
 
 /// The saved file of a journal's document.
-pub fn saved(alloc: Global, journal: &[u8]) -> Result<Vec<u8>, CommandError>
-    ensures saves { IfOk result (λ bytes. Saves journal.now bytes.items) }
-    ensures err { IfErr result (λ e. IsUnread journal.now e) }
+pub fn saved(alloc: Global, journal: Recovering<PeerSequence>) -> Result<Vec<u8>, CommandError>
+    ensures saves { IfOk result (λ bytes. Saves journal bytes.items) }
+    ensures err { IfErr result (λ e. IsUnread journal e) }
 {
-    let document = document_in(alloc, journal)?;
+    let document = document_in(journal)?;
     let bytes = save(alloc, &document);
     drop(document);
     Ok(bytes?)

@@ -1,16 +1,5 @@
 -- Laws of the marks of deletes.
-use Rattle.std.proofs.Common.{◌≡◌, ℕ, ◌+◌, ◌<◌, ◌≤◌, inl, inr, List, [], ◌∷◌, ◌++◌, length, Bool, true, false, ◌||◌, ◌&&◌, nat_lt, nat_le, not, set, get_or, take, replicate, ◌≢◌, ◌-◌, ◌==◌, subst, refl, sym, ap, ◌∙◌, arith}
-use Rattle.std.proofs.lemmas.List.{get_or-set_same, get_or-set_other, get_or-replicate, get_or_past, length-replicate, take_more}
-use Rattle.std.proofs.lemmas.Bool.{eqb-true, eq-eqb}
-use Rattle.std.proofs.lemmas.Bool.Decides.{nat_tests}
-use Rattle.tp_list.proofs.Tests.{truth}
-use Rattle.tp_opid.specs.declared.op_id.OpId.{OpId}
-use Rattle.tp_opid.specs.declared.op_id.Place.{Place}
-use Rattle.tp_change.specs.declared.record.Record.{Record}
-use Rattle.tp_change.specs.declared.record.Record.TheVariants.{Insert, Delete, DeleteRun}
-use Rattle.tp_change.specs.Operations.{count_in, count_of}
-use Rattle.tp_graph.specs.Before.{IsClear, AreSet, Marks}
-use Rattle.tp_graph.specs.Covers.{covers}
+use Rattle.tp_graph.proofs.Common.{◌≡◌, ℕ, ◌+◌, ◌<◌, ◌≤◌, inl, inr, List, [], ◌∷◌, ◌++◌, length, Bool, true, false, ◌||◌, ◌&&◌, nat_lt, nat_le, not, set, get_or, take, replicate, ◌≢◌, ◌-◌, ◌==◌, subst, refl, sym, ap, ◌∙◌, arith, get_or-set_same, get_or-set_other, get_or-replicate, get_or_past, length-replicate, take_more, eqb-true, eq-eqb, nat_tests, truth, OpId, Place, Record, Insert, Delete, DeleteRun, count_in, count_of, IsClear, AreSet, Marks, covers}
 use Rattle.tp_graph.proofs.InsertLaws.{count_of-take}
 
 or_assoc : (a b c : Bool) → (a || (b || c)) ≡ ((a || b) || c)

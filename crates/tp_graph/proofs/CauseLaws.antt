@@ -1,16 +1,8 @@
 -- How a cause comes of its parts, and when the first two faults come.
-use Rattle.std.proofs.Common.{Option, ◌≡◌, List, true, false, Some, Result, Ok, Err, refl, sym, subst, ◌+◌, ◌==◌, ◌↔◌, Bool, cond, None}
+use Rattle.tp_graph.proofs.Common.{Option, ◌≡◌, List, true, false, Some, Result, Ok, Err, refl, sym, subst, ◌+◌, ◌==◌, ◌↔◌, Bool, cond, None, ChangeParts, hash_of, GraphError, Known, MissingDeps, BadSeq, BadStart, BadReference, SeqClash, UnknownHead, Full, OutOfMemory, has, has_all, past, or_clash, clashes, count_by, ops_of, inserts, refers, next_counter}
 use Rattle.std.specs.Result.{IsErrAnd}
-use Rattle.tp_change.specs.declared.parts.ChangeParts.{ChangeParts}
-use Rattle.tp_change.specs.ChangeHash.{hash_of}
-use Rattle.tp_graph.specs.declared.error.GraphError.{GraphError}
-use Rattle.tp_graph.specs.declared.error.GraphError.TheVariants.{Known, MissingDeps, BadSeq, BadStart, BadReference, SeqClash, UnknownHead, Full, OutOfMemory}
-use Rattle.tp_graph.specs.Named.{has, has_all}
-use Rattle.tp_graph.specs.Past.{past}
-use Rattle.tp_graph.specs.Fit.{defect, defect_behind, cause, or_clash, clashes, count_by}
+use Rattle.tp_graph.specs.Fit.{defect, defect_behind, cause}
 use Rattle.tp_graph.specs.Answers.{IsCause, Answers}
-use Rattle.tp_change.specs.Operations.{ops_of}
-use Rattle.tp_change.specs.Elements.{inserts, refers, next_counter}
 
 -- a fault behind the past is the cause, where the change is new and its dependencies are there
 cause_behind : (C : List ChangeParts) (c : ChangeParts) (e : GraphError) → has C (hash_of c) ≡ false → has_all C c.deps ≡ true → defect_behind (past C c.deps) c ≡ Some e → cause C c ≡ Some e

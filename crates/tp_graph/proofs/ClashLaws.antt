@@ -1,11 +1,5 @@
 -- Laws of clashes: two changes with one actor and one sequence number.
-use Rattle.std.proofs.Common.{◌≡◌, ◌==◌, inl, inr, List, [], ◌∷◌, true, ◌&&◌, refl, subst, false, ◌++◌, Bool, ◌||◌}
-use Rattle.std.proofs.lemmas.Bool.{eqb-true, eq-eqb}
-use Rattle.tp_list.specs.Members.{In, AllIn}
-use Rattle.tp_list.proofs.Tests.{or_cases, both_left, both_right, or_left, or_right, both, never, not_true}
-use Rattle.tp_opid.specs.Same.{same_actor}
-use Rattle.tp_change.specs.declared.parts.ChangeParts.{ChangeParts}
-use Rattle.tp_graph.specs.Fit.{clashes}
+use Rattle.tp_graph.proofs.Common.{◌≡◌, ◌==◌, inl, inr, List, [], ◌∷◌, true, ◌&&◌, refl, subst, false, ◌++◌, Bool, ◌||◌, eqb-true, eq-eqb, In, AllIn, or_cases, both_left, both_right, or_left, or_right, both, never, not_true, same_actor, ChangeParts, clashes}
 
 pub clash_of : (D : List ChangeParts) (c : ChangeParts) → clashes D c ≡ true → (d : ChangeParts) × In d D × (same_actor d.actor c.actor ≡ true) × (d.seq ≡ c.seq)
 clash_of [] c e = cc

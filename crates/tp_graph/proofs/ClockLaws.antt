@@ -1,27 +1,5 @@
 -- Clocks of pasts.
-use Rattle.std.proofs.Common.{◌≡◌, ◌⊎◌, ℕ, suc, zero, ◌+◌, ◌-◌, ◌<◌, ◌≤◌, inl, inr, List, [], ◌∷◌, ◌++◌, length, take, get_or, Bool, true, false, cond, nat_lt, Option, Some, None, refl, sym, ap, ◌∙◌, subst, arith}
-use Rattle.std.proofs.lemmas.Bool.{cases_lt}
-use Rattle.std.proofs.lemmas.Bool.Decides.{nat_tests}
-use Rattle.std.proofs.lemmas.List.{take_more}
-use Rattle.std.specs.List.{slice_get}
-use Rattle.std.specs.Option.{unwrap_or}
-use Rattle.tp_list.specs.Members.{In, AllIn}
-use Rattle.tp_list.proofs.Tests.{truth}
-use Rattle.tp_list.proofs.Members.{In-push}
-use Rattle.tp_opid.specs.declared.actor.Actor.{Actor}
-use Rattle.tp_opid.specs.Same.{same_actor}
-use Rattle.tp_opid.proofs.Orders.{same_actor-same, same_actor-itself}
-use Rattle.tp_change.specs.declared.parts.ChangeParts.{ChangeParts}
-use Rattle.tp_change.specs.Elements.{later}
-use Rattle.tp_change.specs.Operations.{op_count}
-use Rattle.tp_change.proofs.ElementLaws.{later-left}
-use Rattle.tp_graph.specs.declared.part.Part.{Part}
-use Rattle.tp_graph.specs.ByActor.{IsOwn}
-use Rattle.tp_graph.specs.Clocks.{end_at, end_of, HasEnds, IsClockOf}
-use Rattle.tp_graph.specs.Fit.{count_by}
-use Rattle.tp_graph.specs.Parts.{picked}
-use Rattle.tp_graph.specs.Places.{ends_of}
-use Rattle.tp_graph.specs.Sound.{Sound}
+use Rattle.tp_graph.proofs.Common.{◌≡◌, ◌⊎◌, ℕ, suc, zero, ◌+◌, ◌-◌, ◌<◌, ◌≤◌, inl, inr, List, [], ◌∷◌, length, take, get_or, Bool, true, false, cond, nat_lt, Option, Some, refl, sym, ap, ◌∙◌, subst, arith, cases_lt, nat_tests, take_more, slice_get, unwrap_or, In, AllIn, truth, In-push, Actor, same_actor, same_actor-same, same_actor-itself, ChangeParts, later, op_count, later-left, Part, IsOwn, end_at, end_of, HasEnds, IsClockOf, count_by, picked, ends_of, Sound}
 use Rattle.tp_graph.proofs.EndLaws as end
 use Rattle.tp_graph.proofs.CountLaws.{count_by-le}
 use Rattle.tp_graph.proofs.MarksLaws.{hashes_once, holds-picked, picked-In}

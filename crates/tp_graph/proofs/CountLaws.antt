@@ -1,23 +1,6 @@
 -- Laws of counts and counters in sound lists.
-use Rattle.std.proofs.Common.{◌≡◌, ℕ, ◌+◌, ◌<◌, ◌≤◌, ◌==◌, ◌⊎◌, inl, inr, List, [], ◌∷◌, ◌++◌, Bool, true, false, cond, nat_lt, Some, None, refl, sym, ap, ◌∙◌, subst, arith, length, nat_le}
-use Rattle.std.proofs.lemmas.Bool.Decides.{nat_tests}
-use Rattle.tp_list.specs.Members.{In, AllIn}
-use Rattle.tp_list.proofs.Tests.{truth, never, same_test}
-use Rattle.tp_list.proofs.Members.{In-left, In-right, In-append, In-push, In-last, In-split}
-use Rattle.tp_opid.specs.declared.actor.Actor.{Actor}
-use Rattle.tp_opid.specs.declared.op_id.OpId.{OpId}
-use Rattle.tp_opid.specs.Same.{same_actor}
-use Rattle.tp_opid.proofs.Orders.{same_actor-same, same_actor-itself, same_actor-flip}
-use Rattle.tp_change.specs.declared.parts.ChangeParts.{ChangeParts}
-use Rattle.tp_change.specs.ChangeHash.{hash_of}
-use Rattle.tp_change.specs.Operations.{ops_of}
-use Rattle.tp_change.specs.Elements.{inserts, is_inserted, refers, next_counter}
-use Rattle.tp_change.proofs.ElementLaws.{is_inserted-more, refers-same, inserts-more, le_both, next_counter-same}
-use Rattle.tp_graph.specs.declared.error.GraphError.TheVariants.{BadSeq, BadStart, BadReference}
-use Rattle.tp_graph.specs.Past.{past}
-use Rattle.tp_graph.specs.Fit.{count_by, defect_behind, clashes}
-use Rattle.tp_graph.specs.Sound.{Sound, Fits}
-use Rattle.tp_graph.specs.GraphState.{HashesOnce}
+use Rattle.tp_graph.proofs.Common.{◌≡◌, ℕ, ◌+◌, ◌<◌, ◌≤◌, ◌==◌, ◌⊎◌, inl, inr, List, [], ◌∷◌, ◌++◌, Bool, true, false, cond, nat_lt, Some, None, refl, sym, ap, ◌∙◌, subst, arith, length, nat_le, nat_tests, In, AllIn, truth, never, same_test, In-left, In-right, In-append, In-push, In-last, In-split, Actor, OpId, same_actor, same_actor-same, same_actor-itself, same_actor-flip, ChangeParts, hash_of, ops_of, inserts, is_inserted, refers, next_counter, is_inserted-more, refers-same, inserts-more, le_both, next_counter-same, BadSeq, BadStart, BadReference, past, count_by, clashes, Sound, Fits, HashesOnce}
+use Rattle.tp_graph.specs.Fit.{defect_behind}
 use Rattle.tp_graph.proofs.NamedLaws.{In-has}
 use Rattle.tp_graph.proofs.PastLaws.{past-In}
 use Rattle.tp_graph.proofs.SoundLaws.{sound-induct, sound_pasts}

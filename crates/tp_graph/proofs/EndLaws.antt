@@ -1,27 +1,7 @@
 -- The next counter of a past is that of the changes that are named: what they depend on ends before they start.
-use Rattle.std.proofs.Common.{◌≡◌, ◌⊎◌, length-append, ℕ, suc, zero, ◌+◌, ◌<◌, ◌≤◌, inl, inr, List, [], ◌∷◌, ◌++◌, length, true, false, ◌||◌, cond, Some, drop, get_or, refl, sym, ap, ◌∙◌, subst, arith, add-one, drop-cons}
-use Rattle.std.specs.List.{slice_get}
-use Rattle.std.proofs.lemmas.List.{drop_all}
-use Rattle.std.proofs.lemmas.Option.{slice_get_within, get_or_from_slice_get}
-use Rattle.std.proofs.lemmas.Bool.Decides.{nat_tests}
-use Rattle.tp_list.specs.Members.{In, AllIn}
-use Rattle.tp_list.proofs.Tests.{truth, never, not_true, or_cases}
-use Rattle.tp_list.proofs.Members.{In-left, In-split}
-use Rattle.tp_opid.specs.declared.hash.Hash.{Hash}
-use Rattle.tp_opid.specs.Same.{same_hash}
-use Rattle.tp_opid.proofs.Orders.{same_hash-same, same_hash-itself}
-use Rattle.tp_change.specs.declared.parts.ChangeParts.{ChangeParts}
-use Rattle.tp_change.specs.ChangeHash.{hash_of}
-use Rattle.tp_change.specs.Operations.{op_count}
-use Rattle.tp_change.specs.Elements.{later, next_counter}
-use Rattle.tp_change.proofs.ElementLaws.{later-left, later-right, later-most, next_counter-above, one-next_counter, next_counter-least, le_both, later-assoc, later-end}
-use Rattle.tp_graph.specs.declared.lists.TheConstants.{WIDE}
+use Rattle.tp_graph.proofs.Common.{◌≡◌, ◌⊎◌, length-append, ℕ, suc, zero, ◌+◌, ◌<◌, ◌≤◌, inl, inr, List, [], ◌∷◌, ◌++◌, length, true, false, ◌||◌, cond, Some, drop, get_or, refl, sym, ap, ◌∙◌, subst, arith, add-one, drop-cons, slice_get, drop_all, slice_get_within, get_or_from_slice_get, nat_tests, In, AllIn, truth, never, not_true, or_cases, In-left, In-split, Hash, same_hash, same_hash-same, same_hash-itself, ChangeParts, hash_of, op_count, later, next_counter, later-left, later-right, later-most, next_counter-above, one-next_counter, next_counter-least, le_both, later-assoc, later-end, HashesOnce, names, has, is_needed, past, place_from, ends_of, Sound}
 use Rattle.tp_graph.specs.Ends.{end_named, latest_end, AreEnds}
-use Rattle.tp_graph.specs.GraphState.{HashesOnce}
-use Rattle.tp_graph.specs.Named.{names, has, is_needed}
-use Rattle.tp_graph.specs.Past.{past}
-use Rattle.tp_graph.specs.Places.{place_from, ends_of}
-use Rattle.tp_graph.specs.Sound.{Sound}
+use Rattle.tp_graph.specs.declared.lists.TheConstants.{WIDE}
 use Rattle.tp_graph.proofs.NamedLaws.{names-In, In-has, has-In, has_all-In}
 use Rattle.tp_graph.proofs.PastLaws.{past-In, past-named, with_reached-In}
 use Rattle.tp_graph.proofs.SoundLaws.{Fits-at, hashes_apart}

@@ -1,30 +1,6 @@
 -- Laws of extents: how they are joined, tidied and kept while changes enter.
-use Rattle.std.proofs.Common.{◌≡◌, ◌↔◌, ◌⊎◌, ℕ, suc, zero, ◌+◌, ◌<◌, ◌≤◌, inl, inr, List, [], ◌∷◌, ◌++◌, length, get_or, take, drop, filter, Bool, true, false, ◌||◌, ◌&&◌, cond, nat_lt, nat_le, Option, Some, None, refl, sym, ap, ◌∙◌, subst, arith, add-one, drop-cons, length-append, ext_get_or}
-use Rattle.std.specs.List.{slice_get}
-use Rattle.std.proofs.lemmas.Bool.Decides.{nat_tests}
-use Rattle.std.proofs.lemmas.Option.{slice_get_within, get_or_from_slice_get}
-use Rattle.std.proofs.lemmas.List.{take_more, get_or-take, length-take-le, take-append-drop}
-use Rattle.tp_list.specs.Members.{In, AllIn}
-use Rattle.tp_list.proofs.Tests.{truth, never, same_test, or_cases, or_left, or_right, both, both_left, both_right}
-use Rattle.tp_list.proofs.Members.{In-left, In-right, In-append, In-slice_get, In-get_or, In-index, slice_get-there}
-use Rattle.tp_opid.specs.declared.hash.Hash.{Hash}
-use Rattle.tp_opid.specs.Same.{same_actor}
-use Rattle.tp_opid.proofs.Orders.{same_actor-same, same_actor-itself, same_actor-flip}
-use Rattle.tp_change.specs.declared.parts.ChangeParts.{ChangeParts}
-use Rattle.tp_change.specs.ChangeHash.{hash_of}
-use Rattle.tp_change.specs.Elements.{later}
-use Rattle.tp_graph.specs.declared.extent.Extent.{Extent}
-use Rattle.tp_graph.specs.declared.part.Part.{Part}
+use Rattle.tp_graph.proofs.Common.{◌≡◌, ◌↔◌, ◌⊎◌, ℕ, suc, zero, ◌+◌, ◌<◌, ◌≤◌, inl, inr, List, [], ◌∷◌, ◌++◌, length, get_or, take, drop, filter, Bool, true, false, ◌||◌, ◌&&◌, cond, nat_lt, nat_le, Option, Some, None, refl, sym, ap, ◌∙◌, subst, arith, add-one, drop-cons, length-append, ext_get_or, slice_get, nat_tests, slice_get_within, get_or_from_slice_get, take_more, get_or-take, length-take-le, take-append-drop, In, AllIn, truth, never, same_test, or_cases, or_left, or_right, both, both_left, both_right, In-left, In-right, In-append, In-slice_get, In-get_or, In-index, slice_get-there, Hash, same_actor, same_actor-same, same_actor-itself, same_actor-flip, ChangeParts, hash_of, later, Extent, Part, bits, picked, prefix_of, IsPartOf, has, has_all, past, Chain, marks, pick, same_author_of, same_author, reaches, is_reached, taken, is_held, held_from, ArePlaces, IsPlaced, IsExtent, place_from, HashesOnce, Sound, Fits}
 use Rattle.tp_graph.specs.declared.part.Part.TheVariants.{Within, Marked}
-use Rattle.tp_graph.specs.Parts.{bits, picked, prefix_of, IsPartOf}
-use Rattle.tp_graph.specs.Named.{has, has_all}
-use Rattle.tp_graph.specs.Past.{past}
-use Rattle.tp_graph.specs.Reach.{Chain}
-use Rattle.tp_graph.specs.Marks.{marks, pick}
-use Rattle.tp_graph.specs.Extents.{same_author_of, same_author, reaches, is_reached, taken, is_held, held_from, ArePlaces, IsPlaced, IsExtent}
-use Rattle.tp_graph.specs.Places.{place_from}
-use Rattle.tp_graph.specs.GraphState.{HashesOnce}
-use Rattle.tp_graph.specs.Sound.{Sound, Fits}
 use Rattle.tp_graph.proofs.NamedLaws.{In-has}
 use Rattle.tp_graph.proofs.PastLaws.{past-In, past-named, past-more, past-push_other}
 use Rattle.tp_graph.proofs.PlacesLaws.{at_left, at_push, place_from-some, has-from_place}

@@ -1,27 +1,10 @@
 -- Laws of heads.
-use Rattle.std.proofs.Common.{◌≡◌, ◌⊎◌, inl, inr, List, [], ◌∷◌, ◌++◌, true, false, ◌||◌, cond, refl, sym, ap, ◌∙◌, subst, ℕ, ◌+◌, ◌<◌, ◌≤◌, length, not, take, drop, get_or, arith, add-one, append_assoc, drop-cons}
-use Rattle.tp_list.specs.Members.{In, AllIn}
-use Rattle.tp_list.specs.Rising.{IsRising, IsBelowAll, put, put_at}
-use Rattle.tp_list.proofs.Tests.{truth, never, not_true, or_cases, or_left, or_right, neither_left, neither_right, neither}
-use Rattle.tp_list.proofs.Members.{In-left, In-right, In-append, In-last}
-use Rattle.tp_list.proofs.RisingLaws.{put-In, In-put_other, In-put, rising-In, In-rising, put-rises, rising-rises, one_list}
-use Rattle.tp_opid.specs.declared.hash.Hash.{Hash}
-use Rattle.tp_opid.specs.Order.{hash_cmp}
-use Rattle.tp_opid.specs.Same.{same_hash}
-use Rattle.tp_opid.proofs.Orders.{hash_total, hash_exact, same_hash-same, same_hash-itself}
-use Rattle.tp_change.specs.declared.parts.ChangeParts.{ChangeParts}
-use Rattle.tp_change.specs.ChangeHash.{hash_of}
-use Rattle.tp_graph.specs.Named.{among, names, has_all, is_needed}
-use Rattle.tp_graph.specs.Past.{past, with_reached}
-use Rattle.tp_graph.specs.Heads.{not_needed, heads, without}
-use Rattle.tp_graph.specs.Sound.{Sound, Fits}
+use Rattle.tp_graph.proofs.Common.{◌≡◌, ◌⊎◌, inl, inr, List, [], ◌∷◌, ◌++◌, true, false, ◌||◌, cond, refl, sym, ap, ◌∙◌, subst, ℕ, ◌+◌, ◌<◌, ◌≤◌, length, not, take, drop, get_or, arith, add-one, append_assoc, drop-cons, In, AllIn, IsRising, IsBelowAll, put, put_at, truth, never, not_true, or_cases, or_left, or_right, neither_left, neither_right, neither, In-left, In-right, In-append, In-last, put-In, In-put_other, In-put, rising-In, In-rising, put-rises, rising-rises, one_list, Hash, hash_cmp, same_hash, hash_total, hash_exact, same_hash-same, same_hash-itself, ChangeParts, hash_of, among, names, has_all, is_needed, past, with_reached, not_needed, heads, without, Sound, Fits, insert, Less, Equal, Greater, take_more, take_all, drop_all, take-append-drop}
 use Rattle.tp_graph.proofs.NamedLaws.{In-names, In-has, In-has_all, is_needed-In, In-is_needed, is_needed-append, is_needed-more}
 use Rattle.tp_graph.proofs.PastLaws.{kept}
 use Rattle.tp_graph.proofs.SoundLaws.{not_among, deps_there, DepsFirst}
-use Rattle.std.specs.List.{filter, insert}
+use Rattle.std.specs.List.{filter}
 use Rattle.std.specs.declared.cmp.Ordering.{Ordering}
-use Rattle.std.specs.declared.cmp.Ordering.TheVariants.{Less, Equal, Greater}
-use Rattle.std.proofs.lemmas.List.{take_more, take_all, drop_all, take-append-drop}
 
 -- ---- members
 

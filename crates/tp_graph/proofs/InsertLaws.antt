@@ -1,25 +1,8 @@
 -- Laws of inserts and references.
-use Rattle.std.proofs.Common.{◌≡◌, ℕ, suc, zero, ◌+◌, ◌-◌, ◌<◌, ◌≤◌, ◌==◌, inl, inr, List, [], ◌∷◌, ◌++◌, length, Bool, true, false, ◌||◌, ◌&&◌, nat_lt, nat_le, refl, sym, ap, ◌∙◌, subst, arith, take, drop, get_or, add-one, drop-cons}
-use Rattle.std.proofs.lemmas.List.{append-nil, take_more, drop_all}
-use Rattle.std.proofs.lemmas.Bool.{eqb-true, eq-eqb}
-use Rattle.std.proofs.lemmas.Bool.Decides.{nat_tests}
-use Rattle.std.specs.List.{AllByRecursion}
-use Rattle.tp_list.proofs.Tests.{truth, same_test, or_left, or_right, both_left, both_right, both}
-use Rattle.tp_opid.specs.declared.actor.Actor.{Actor}
-use Rattle.tp_opid.specs.declared.op_id.OpId.{OpId}
-use Rattle.tp_opid.specs.declared.op_id.Place.{Place}
-use Rattle.tp_opid.specs.declared.op_id.Place.TheVariants.{After}
+use Rattle.tp_graph.proofs.Common.{◌≡◌, ℕ, suc, zero, ◌+◌, ◌-◌, ◌<◌, ◌≤◌, ◌==◌, inl, inr, List, [], ◌∷◌, ◌++◌, length, Bool, true, false, ◌||◌, ◌&&◌, nat_lt, nat_le, refl, sym, ap, ◌∙◌, subst, arith, take, drop, get_or, add-one, drop-cons, take_more, drop_all, eqb-true, eq-eqb, nat_tests, AllByRecursion, truth, same_test, or_left, or_right, both_left, both_right, both, Actor, OpId, Place, After, same_actor, id_eq, same_actor-same, same_actor-itself, id_eq-same, id_eq-itself, Record, Insert, Delete, DeleteRun, ChangeParts, ops_from, ops_in, run, deletes_from, id_of, count_in, count_of, IsRecord, IsChange, element, inserts_in, is_inserted, is_reference, refers, inserts_in-append, is_inserted-append, ops_from-append, SameIds, is_reference-same, grown, refers-append, grown-ids, covers, only_inserts, all_inserted, is_there, all_there}
+use Rattle.std.proofs.lemmas.List.{append-nil}
 use Rattle.tp_opid.specs.Insert as element_of
-use Rattle.tp_opid.specs.Same.{same_actor, id_eq}
-use Rattle.tp_opid.proofs.Orders.{same_actor-same, same_actor-itself, id_eq-same, id_eq-itself}
-use Rattle.tp_change.specs.declared.record.Record.{Record}
-use Rattle.tp_change.specs.declared.record.Record.TheVariants.{Insert, Delete, DeleteRun}
-use Rattle.tp_change.specs.declared.parts.ChangeParts.{ChangeParts}
-use Rattle.tp_change.specs.Operations.{ops_of, ops_from, ops_in, run, deletes_from, id_of, count_in, count_of, op_count}
-use Rattle.tp_change.specs.Limits.{IsRecord, IsChange}
-use Rattle.tp_change.specs.Elements.{element, inserts_in, is_inserted, is_reference, refers}
-use Rattle.tp_change.proofs.ElementLaws.{inserts_in-append, is_inserted-append, ops_from-append, SameIds, is_reference-same, grown, refers-append, grown-ids}
-use Rattle.tp_graph.specs.Covers.{covers, only_inserts, all_inserted, is_there, all_there}
+use Rattle.tp_change.specs.Operations.{ops_of, op_count}
 
 -- ---- which identifiers are inserted
 

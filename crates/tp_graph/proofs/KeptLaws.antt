@@ -1,21 +1,9 @@
 -- What a graph keeps stays true where a change is made ready for, and where it enters.
-use Rattle.std.proofs.Common.{◌≡◌, ◌⊎◌, inl, inr, ℕ, ◌+◌, ◌<◌, ◌≤◌, ◌==◌, List, [], ◌∷◌, ◌++◌, length, take, Bool, true, false, Option, Some, None, refl, sym, ap, ◌∙◌, subst, arith, length-append}
-use Rattle.std.proofs.lemmas.Bool.Decides.{nat_tests}
-use Rattle.std.proofs.lemmas.List.{take-append-le}
-use Rattle.tp_opid.specs.declared.hash.Hash.{Hash}
-use Rattle.tp_change.specs.declared.parts.ChangeParts.{ChangeParts}
+use Rattle.tp_graph.proofs.Common.{◌≡◌, ◌⊎◌, inl, inr, ℕ, ◌+◌, ◌<◌, ◌≤◌, ◌==◌, List, [], ◌∷◌, ◌++◌, length, take, Bool, true, false, Option, Some, None, refl, sym, ap, ◌∙◌, subst, arith, length-append, nat_tests, take-append-le, Hash, ChangeParts, ByActor, GraphError, listed_places, IsOwn, IsByActor, IsClear, IsKnown, room_hash, IsReady, IsReadyIf, defect, or_full, most_changes, IsNotedAt, Fits}
 use Rattle.tp_graph.specs.declared.applied.Applied.TheInside.{Inside}
-use Rattle.tp_graph.specs.declared.by_actor.ByActor.{ByActor}
 use Rattle.tp_graph.specs.declared.extent.Room.{Room}
-use Rattle.tp_graph.specs.declared.error.GraphError.{GraphError}
-use Rattle.tp_graph.specs.ByActor.{listed_places, IsOwn, IsByActor}
-use Rattle.tp_graph.specs.Before.{IsClear}
-use Rattle.tp_graph.specs.Extents.{IsKnown, room_hash}
-use Rattle.tp_graph.specs.Kept.{IsReady, IsReadyIf}
 use Rattle.tp_graph.specs.Lists.{HasRoom, HasSameItems}
-use Rattle.tp_graph.specs.Fit.{defect, cause, or_full, most_changes}
-use Rattle.tp_graph.specs.Places.{IsNotedAt}
-use Rattle.tp_graph.specs.Sound.{Fits}
+use Rattle.tp_graph.specs.Fit.{cause}
 use Rattle.tp_graph.proofs.SoundLaws.{Fits-from_defect, defect-from_Fits}
 use Rattle.tp_graph.proofs.ListedLaws.{listed-push}
 

@@ -1,3 +1,4 @@
+pub mod Common
 pub mod NamedLaws
 pub mod PastLaws
 pub mod SoundLaws
@@ -19,6 +20,7 @@ pub mod ListedLaws
 pub mod ExtentLaws
 pub mod ClockLaws
 pub mod EndLaws
+pub mod DepsLaws
 pub mod ClashLaws
 pub mod LawRules
 pub mod BeforeLaws

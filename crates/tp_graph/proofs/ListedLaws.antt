@@ -1,24 +1,6 @@
 -- Laws of the places that are listed by actor.
-use Rattle.std.proofs.Common.{◌≡◌, ◌⊎◌, inl, inr, ℕ, suc, zero, ◌+◌, ◌<◌, ◌≤◌, List, [], ◌∷◌, ◌++◌, length, take, drop, map, get_or, subst, Bool, true, false, cond, Option, Some, None, refl, sym, ap, ◌∙◌, arith, append-nil}
-use Rattle.std.specs.Ordering.{is_eq, nat_cmp}
-use Rattle.std.specs.Cmp.{nat_cmp_is}
-use Rattle.std.specs.List.{slice_get}
-use Rattle.std.specs.Map.{keys_of, lookup, values_of}
-use Rattle.std.proofs.lemmas.List.{take-append-drop}
+use Rattle.tp_graph.proofs.Common.{◌≡◌, ◌⊎◌, inl, inr, ℕ, suc, zero, ◌+◌, ◌<◌, ◌≤◌, List, [], ◌∷◌, ◌++◌, length, take, drop, map, get_or, subst, Bool, true, false, cond, Option, Some, None, refl, sym, ap, ◌∙◌, arith, append-nil, is_eq, nat_cmp, nat_cmp_is, slice_get, keys_of, lookup, values_of, take-append-drop, Equal, exact_unsigned, tells_apart, AllIn, In, In-append, In-get_or, In-last, In-left, In-slice_get, Actor, same_actor, same_actor-itself, same_actor-same, ChangeParts, ByActor, actor_word, listed_places, place_by, place_if_by, places_of, list_or_none, AreBelow, HasActorAt, IsByActor, noted_word, Sound}
 use Rattle.std.proofs.lemmas.Map.Entries.{place_from_lookup}
-use Rattle.std.specs.declared.cmp.Ordering.TheVariants.{Equal}
-use Rattle.std.proofs.lemmas.Map.Lookups.{exact_unsigned}
-use Rattle.std.proofs.lemmas.Map.Views.{tells_apart}
-use Rattle.tp_list.specs.Members.{AllIn, In}
-use Rattle.tp_list.proofs.Members.{In-append, In-get_or, In-last, In-left, In-slice_get}
-use Rattle.tp_opid.specs.declared.actor.Actor.{Actor}
-use Rattle.tp_opid.specs.Same.{same_actor}
-use Rattle.tp_opid.proofs.Orders.{same_actor-itself, same_actor-same}
-use Rattle.tp_change.specs.declared.parts.ChangeParts.{ChangeParts}
-use Rattle.tp_graph.specs.declared.by_actor.ByActor.{ByActor}
-use Rattle.tp_graph.specs.ByActor.{actor_word, listed_places, place_by, place_if_by, places_of, list_or_none, AreBelow, HasActorAt, IsByActor}
-use Rattle.tp_graph.specs.Places.{noted_word}
-use Rattle.tp_graph.specs.Sound.{Sound}
 use Rattle.tp_graph.proofs.OwnLaws.{own_there}
 use Rattle.tp_graph.proofs.PlacesLaws.{at_left}
 use Rattle.tp_graph.proofs.SoundLaws.{Sound-prefix}

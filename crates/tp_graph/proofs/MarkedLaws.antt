@@ -1,12 +1,7 @@
 -- Laws of the marks that are kept of applied changes.
-use Rattle.std.proofs.Common.{◌≡◌, ◌⊎◌, ℕ, ◌+◌, ◌<◌, ◌≤◌, inl, inr, List, [], ◌∷◌, ◌++◌, length, Bool, Some, sym, subst, arith, length-append}
-use Rattle.std.specs.List.{slice_get}
-use Rattle.std.proofs.lemmas.Option.{slice_get_within}
-use Rattle.tp_change.specs.declared.parts.ChangeParts.{ChangeParts}
-use Rattle.tp_change.specs.Operations.{op_count, count_of}
+use Rattle.tp_graph.proofs.Common.{◌≡◌, ◌⊎◌, ℕ, ◌+◌, ◌<◌, ◌≤◌, inl, inr, List, [], ◌∷◌, ◌++◌, length, Bool, Some, sym, subst, arith, length-append, slice_get, slice_get_within, ChangeParts, count_of, Marks, IsMarked, IsMarkedAt, AreMarked}
+use Rattle.tp_change.specs.Operations.{op_count}
 use Rattle.tp_graph.specs.declared.marked.Marked.{Marked}
-use Rattle.tp_graph.specs.Before.{Marks}
-use Rattle.tp_graph.specs.Marked.{IsMarked, IsMarkedAt, AreMarked}
 use Rattle.tp_graph.proofs.PlacesLaws.{at_push}
 
 one_more : (C : List ChangeParts) (x : ChangeParts) → length (C ++ x ∷ []) ≡ length C + 1

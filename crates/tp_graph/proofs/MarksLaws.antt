@@ -1,30 +1,11 @@
 -- Laws of marks, and of the walk back that makes them.
-use Rattle.std.proofs.Common.{◌≡◌, ℕ, suc, zero, ◌+◌, ◌-◌, ◌<◌, ◌≤◌, inl, inr, List, [], ◌∷◌, ◌++◌, length, Bool, true, false, ◌||◌, cond, Some, take, drop, get_or, replicate, refl, sym, ap, ◌∙◌, subst, arith, add-one, append_assoc, ◌↔◌}
+use Rattle.tp_graph.proofs.Common.{◌≡◌, ℕ, suc, zero, ◌+◌, ◌-◌, ◌<◌, ◌≤◌, inl, inr, List, [], ◌∷◌, ◌++◌, length, Bool, true, false, ◌||◌, cond, Some, take, drop, get_or, replicate, refl, sym, ap, ◌∙◌, subst, arith, add-one, append_assoc, ◌↔◌, take_more, take_all, drop_all, length-replicate, get_or_from_slice_get, take-append_seam, slice_get, In, truth, never, not_true, neither_left, neither_right, Hash, same_hash, same_hash-same, same_hash-itself, ChangeParts, hash_of, names, has, is_needed, past, place_from, marks, pick, marked_more, marks_for, walked, Sound, HashesOnce, In-slice_get, In-push, Part, bits, holds, picked}
 use Rattle.std.proofs.Math.ListN.{set}
-use Rattle.std.proofs.lemmas.List.{take_more, append-nil, take_all, drop_all, length-replicate}
-use Rattle.std.proofs.lemmas.Option.{get_or_from_slice_get}
-use Rattle.std.proofs.Math.Seq.{take-append_seam}
-use Rattle.std.specs.List.{slice_get}
-use Rattle.tp_list.specs.Members.{In}
-use Rattle.tp_list.proofs.Tests.{truth, never, not_true, neither_left, neither_right}
-use Rattle.tp_opid.specs.declared.hash.Hash.{Hash}
-use Rattle.tp_opid.specs.Same.{same_hash}
-use Rattle.tp_opid.proofs.Orders.{same_hash-same, same_hash-itself}
-use Rattle.tp_change.specs.declared.parts.ChangeParts.{ChangeParts}
-use Rattle.tp_change.specs.ChangeHash.{hash_of}
-use Rattle.tp_graph.specs.Named.{names, has, is_needed}
-use Rattle.tp_graph.specs.Past.{past}
-use Rattle.tp_graph.specs.Places.{place_from}
-use Rattle.tp_graph.specs.Marks.{marks, pick, marked_more, marks_for, walked}
-use Rattle.tp_graph.specs.Sound.{Sound}
-use Rattle.tp_graph.specs.GraphState.{HashesOnce}
+use Rattle.std.proofs.lemmas.List.{append-nil}
 use Rattle.tp_graph.proofs.NamedLaws.{In-has, has-In, names-append, names-In}
 use Rattle.tp_graph.proofs.PastLaws.{kept, left_out}
 use Rattle.tp_graph.proofs.PlacesLaws.{place_from-low}
 use Rattle.tp_graph.proofs.SoundLaws.{sound-induct, DepsFirst}
-use Rattle.tp_list.proofs.Members.{In-slice_get, In-push}
-use Rattle.tp_graph.specs.declared.part.Part.{Part}
-use Rattle.tp_graph.specs.Parts.{bits, holds, picked}
 
 pub length-marks : (C : List ChangeParts) (H : List Hash) → length (marks C H) ≡ length C
 length-marks [] H = refl

@@ -1,13 +1,5 @@
 -- The tests on hashes as membership, and what they say of joined lists.
-use Rattle.std.proofs.Common.{◌≡◌, inl, inr, List, [], ◌∷◌, ◌++◌, true, false, ◌||◌, refl, sym, ◌∙◌}
-use Rattle.tp_list.specs.Members.{In, AllIn}
-use Rattle.tp_list.proofs.Tests.{never, not_true, or_cases, or_left, or_right, both_left, both_right, both}
-use Rattle.tp_opid.specs.declared.hash.Hash.{Hash}
-use Rattle.tp_opid.specs.Same.{same_hash}
-use Rattle.tp_opid.proofs.Orders.{same_hash-same, same_hash-itself}
-use Rattle.tp_change.specs.declared.parts.ChangeParts.{ChangeParts}
-use Rattle.tp_change.specs.ChangeHash.{hash_of}
-use Rattle.tp_graph.specs.Named.{names, has, has_all, is_needed}
+use Rattle.tp_graph.proofs.Common.{◌≡◌, inl, inr, List, [], ◌∷◌, ◌++◌, true, false, ◌||◌, refl, sym, ◌∙◌, In, AllIn, never, not_true, or_cases, or_left, or_right, both_left, both_right, both, Hash, same_hash, same_hash-same, same_hash-itself, ChangeParts, hash_of, names, has, has_all, is_needed}
 
 -- ---- hashes that name a change
 

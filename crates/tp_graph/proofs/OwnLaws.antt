@@ -1,30 +1,6 @@
 -- An actor's changes in a sound list: where they stand, that their numbers and counters rise, and who inserted what.
-use Rattle.std.proofs.Common.{◌≡◌, ◌↔◌, ◌⊎◌, ℕ, ◌+◌, ◌-◌, ◌<◌, ◌≤◌, inl, inr, List, [], ◌∷◌, ◌++◌, length, take, get_or, Bool, true, false, ◌&&◌, cond, nat_lt, Some, None, refl, sym, ap, ◌∙◌, subst, arith, length-append}
-use Rattle.std.specs.List.{slice_get}
-use Rattle.std.proofs.Math.ListN.{get_or-append}
-use Rattle.std.proofs.Math.Seq.{get_or-append_seam}
-use Rattle.std.proofs.lemmas.Bool.Decides.{nat_tests}
-use Rattle.std.proofs.lemmas.List.{append-nil, take_all, take_more, length-take-le}
-use Rattle.std.proofs.lemmas.Option.{slice_get_within}
-use Rattle.tp_list.specs.Members.{In, AllIn}
-use Rattle.tp_list.proofs.Tests.{truth, never, not_true, same_test, or_cases, or_left, or_right, both, both_left, both_right}
-use Rattle.tp_list.proofs.Members.{In-push, In-slice_get}
-use Rattle.tp_opid.specs.declared.actor.Actor.{Actor}
-use Rattle.tp_opid.specs.declared.op_id.OpId.{OpId}
-use Rattle.tp_opid.specs.Same.{same_actor}
-use Rattle.tp_opid.proofs.Orders.{same_actor-same, same_actor-itself, same_actor-flip}
-use Rattle.tp_change.specs.declared.parts.ChangeParts.{ChangeParts}
-use Rattle.tp_change.specs.Operations.{op_count, ops_of}
-use Rattle.tp_change.specs.Elements.{inserts_in, inserts, is_inserted, next_counter}
-use Rattle.tp_change.proofs.ElementLaws.{is_inserted-append, next_counter-above}
-use Rattle.tp_graph.specs.declared.by_actor.ByActor.{ByActor}
-use Rattle.tp_graph.specs.declared.part.Part.{Part}
-use Rattle.tp_graph.specs.ByActor.{listed_places, IsOwn, IsByActor, HasOp, IsMaker}
-use Rattle.tp_graph.specs.Fit.{count_by}
-use Rattle.tp_graph.specs.Parts.{holds, picked}
-use Rattle.tp_graph.specs.Past.{past}
-use Rattle.tp_graph.specs.Places.{ends_of}
-use Rattle.tp_graph.specs.Sound.{Sound, Fits}
+use Rattle.tp_graph.proofs.Common.{◌≡◌, ◌↔◌, ◌⊎◌, ℕ, ◌+◌, ◌-◌, ◌<◌, ◌≤◌, inl, inr, List, [], ◌∷◌, ◌++◌, length, take, get_or, Bool, true, false, ◌&&◌, cond, nat_lt, Some, None, refl, sym, ap, ◌∙◌, subst, arith, length-append, slice_get, get_or-append, get_or-append_seam, nat_tests, take_all, take_more, length-take-le, slice_get_within, In, AllIn, truth, never, not_true, same_test, or_cases, or_left, or_right, both, both_left, both_right, In-push, In-slice_get, Actor, OpId, same_actor, same_actor-same, same_actor-itself, same_actor-flip, ChangeParts, op_count, ops_of, inserts_in, inserts, is_inserted, next_counter, is_inserted-append, next_counter-above, ByActor, Part, listed_places, IsOwn, IsByActor, HasOp, IsMaker, count_by, holds, picked, past, ends_of, Sound, Fits}
+use Rattle.std.proofs.lemmas.List.{append-nil}
 use Rattle.tp_graph.proofs.EndLaws.{end_at}
 use Rattle.tp_graph.proofs.MarksLaws.{holds-picked, picked-In}
 use Rattle.tp_graph.proofs.PlacesLaws.{at_left, at_last}

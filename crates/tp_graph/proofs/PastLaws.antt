@@ -1,12 +1,5 @@
 -- Laws of the past in any list of changes.
-use Rattle.std.proofs.Common.{◌≡◌, ◌⊎◌, inl, inr, List, [], ◌∷◌, ◌++◌, true, false, ◌||◌, cond, refl, sym, ap, ◌∙◌, subst, ◌≤◌, length, arith}
-use Rattle.tp_list.specs.Members.{In, AllIn}
-use Rattle.tp_list.proofs.Tests.{truth, never, not_true, or_cases, or_left, or_right, neither_left, neither_right, neither}
-use Rattle.tp_opid.specs.declared.hash.Hash.{Hash}
-use Rattle.tp_change.specs.declared.parts.ChangeParts.{ChangeParts}
-use Rattle.tp_change.specs.ChangeHash.{hash_of}
-use Rattle.tp_graph.specs.Named.{names, is_needed}
-use Rattle.tp_graph.specs.Past.{past, with_reached}
+use Rattle.tp_graph.proofs.Common.{◌≡◌, ◌⊎◌, inl, inr, List, [], ◌∷◌, ◌++◌, true, false, ◌||◌, cond, refl, sym, ap, ◌∙◌, subst, ◌≤◌, length, arith, In, AllIn, truth, never, not_true, or_cases, or_left, or_right, neither_left, neither_right, neither, Hash, ChangeParts, hash_of, names, is_needed, past, with_reached}
 use Rattle.tp_graph.proofs.NamedLaws.{In-names, names-append, names-more, is_needed-append, is_needed-more}
 
 -- ---- one step

@@ -1,15 +1,7 @@
 -- Laws of how far the pasts of changes reach, as it is kept.
-use Rattle.std.proofs.Common.{◌≡◌, ◌⊎◌, ℕ, ◌+◌, ◌<◌, inl, inr, List, [], ◌∷◌, ◌++◌, length, Some, Result, Ok, Err, IfOk, sym, ◌∙◌, subst, arith, length-append}
-use Rattle.std.specs.List.{slice_get}
-use Rattle.std.proofs.lemmas.Option.{slice_get_within}
-use Rattle.tp_list.proofs.Members.{In-slice_get}
-use Rattle.tp_change.specs.declared.parts.ChangeParts.{ChangeParts}
-use Rattle.tp_graph.specs.declared.extent.Extent.{Extent}
+use Rattle.tp_graph.proofs.Common.{◌≡◌, ◌⊎◌, ℕ, ◌+◌, ◌<◌, inl, inr, List, [], ◌∷◌, ◌++◌, length, Some, Result, Ok, Err, IfOk, sym, ◌∙◌, subst, arith, length-append, slice_get, slice_get_within, In-slice_get, ChangeParts, Extent, IsExtent, IsSpan, IsApart, AreApart, ArePasts, Sound, Fits}
 use Rattle.tp_graph.specs.declared.pasts.Apart.{Apart}
 use Rattle.tp_graph.specs.declared.pasts.TheConstants.{APART}
-use Rattle.tp_graph.specs.Extents.{IsExtent}
-use Rattle.tp_graph.specs.Pasts.{IsSpan, IsApart, AreApart, ArePasts}
-use Rattle.tp_graph.specs.Sound.{Sound, Fits}
 use Rattle.tp_graph.proofs.ExtentLaws.{IsExtent-push}
 use Rattle.tp_graph.proofs.PlacesLaws.{at_push}
 use Rattle.tp_graph.proofs.SoundLaws.{deps_there}

@@ -1,22 +1,5 @@
 -- Laws of the places of a past, and of what stands outside it.
-use Rattle.std.proofs.Common.{◌≡◌, ℕ, suc, zero, ◌+◌, ◌<◌, ◌≤◌, ◌⊎◌, ◌↔◌, inl, inr, List, [], ◌∷◌, Bool, true, false, ◌||◌, cond, Some, sym, ap, subst, arith}
-use Rattle.std.specs.List.{slice_get}
-use Rattle.std.specs.Ordering.{nat_cmp}
-use Rattle.std.specs.Cmp.{nat_cmp_is}
-use Rattle.std.specs.declared.cmp.Ordering.TheVariants.{Less}
-use Rattle.tp_list.specs.Members.{In, AllIn}
-use Rattle.tp_list.specs.Rising.{IsRising, IsBelowAll}
-use Rattle.tp_list.proofs.Tests.{truth, never}
-use Rattle.tp_list.proofs.Members.{In-slice_get}
-use Rattle.tp_opid.specs.declared.hash.Hash.{Hash}
-use Rattle.tp_change.specs.declared.parts.ChangeParts.{ChangeParts}
-use Rattle.tp_change.specs.ChangeHash.{hash_of}
-use Rattle.tp_graph.specs.Named.{names, is_needed}
-use Rattle.tp_graph.specs.Past.{past}
-use Rattle.tp_graph.specs.Marks.{marks, places_from}
-use Rattle.tp_graph.specs.Since.{since, past_places}
-use Rattle.tp_graph.specs.Sound.{Sound}
-use Rattle.tp_graph.specs.GraphState.{HashesOnce}
+use Rattle.tp_graph.proofs.Common.{◌≡◌, ℕ, suc, zero, ◌+◌, ◌<◌, ◌≤◌, ◌⊎◌, ◌↔◌, inl, inr, List, [], ◌∷◌, Bool, true, false, ◌||◌, cond, Some, sym, ap, subst, arith, slice_get, nat_cmp, nat_cmp_is, Less, In, AllIn, IsRising, IsBelowAll, truth, never, In-slice_get, Hash, ChangeParts, hash_of, names, is_needed, past, marks, places_from, since, past_places, Sound, HashesOnce}
 use Rattle.tp_graph.proofs.NamedLaws.{In-has}
 use Rattle.tp_graph.proofs.PastLaws.{past-In, with_reached-In, In-with_reached, kept-In}
 use Rattle.tp_graph.proofs.MarksLaws.{hashes_once}

@@ -1,17 +1,5 @@
 -- Laws of places.
-use Rattle.std.proofs.Common.{◌≡◌, ◌⊎◌, ℕ, suc, zero, ◌+◌, ◌<◌, ◌≤◌, inl, inr, List, [], ◌∷◌, ◌++◌, length, Bool, true, false, ◌||◌, cond, Some, None, refl, sym, ap, ◌∙◌, subst, arith, add-zero, add-one, IsTrue, ◌↔◌, ◌&&◌, drop, get_or, drop-cons, is_some}
-use Rattle.std.specs.List.{slice_get}
-use Rattle.std.proofs.lemmas.Option.{slice_get_past}
-use Rattle.tp_list.specs.Members.{In}
-use Rattle.tp_list.proofs.Tests.{truth, not_true}
-use Rattle.tp_list.proofs.Members.{In-slice_get}
-use Rattle.tp_opid.specs.declared.hash.Hash.{Hash}
-use Rattle.tp_opid.specs.Same.{same_hash}
-use Rattle.tp_opid.proofs.Orders.{same_hash-same, same_hash-itself}
-use Rattle.tp_change.specs.declared.parts.ChangeParts.{ChangeParts}
-use Rattle.tp_change.specs.ChangeHash.{hash_of}
-use Rattle.tp_graph.specs.Named.{has, has_all}
-use Rattle.tp_graph.specs.Places.{place_from, HasAt}
+use Rattle.tp_graph.proofs.Common.{◌≡◌, ◌⊎◌, ℕ, suc, zero, ◌+◌, ◌<◌, ◌≤◌, inl, inr, List, [], ◌∷◌, ◌++◌, length, Bool, true, false, ◌||◌, cond, Some, None, refl, sym, ap, ◌∙◌, subst, arith, add-zero, add-one, IsTrue, ◌↔◌, ◌&&◌, drop, get_or, drop-cons, is_some, slice_get, slice_get_past, In, truth, not_true, In-slice_get, Hash, same_hash, same_hash-same, same_hash-itself, ChangeParts, hash_of, has, has_all, place_from, HasAt}
 use Rattle.tp_graph.proofs.NamedLaws.{In-has}
 
 -- ---- a list with one more

@@ -1,13 +1,5 @@
 -- The past in a sound list is what the dependencies lead to.
-use Rattle.std.proofs.Common.{◌≡◌, ℕ, suc, zero, inl, inr, List, [], ◌∷◌, true, refl, sym, ◌∙◌, subst}
-use Rattle.tp_list.specs.Members.{In, AllIn}
-use Rattle.tp_list.proofs.Tests.{or_cases}
-use Rattle.tp_opid.specs.declared.hash.Hash.{Hash}
-use Rattle.tp_change.specs.declared.parts.ChangeParts.{ChangeParts}
-use Rattle.tp_change.specs.ChangeHash.{hash_of}
-use Rattle.tp_graph.specs.Named.{names, has_all, is_needed, HashesApart}
-use Rattle.tp_graph.specs.Past.{past}
-use Rattle.tp_graph.specs.Reach.{Chain, InPast}
+use Rattle.tp_graph.proofs.Common.{◌≡◌, ℕ, suc, zero, inl, inr, List, [], ◌∷◌, true, refl, sym, ◌∙◌, subst, In, AllIn, or_cases, Hash, ChangeParts, hash_of, names, has_all, is_needed, HashesApart, past, Chain, InPast}
 use Rattle.tp_graph.proofs.NamedLaws.{names-In, has-In, has_all-In, is_needed-In}
 use Rattle.tp_graph.proofs.PastLaws.{past-In, past-named, with_reached-In}
 use Rattle.tp_graph.proofs.SoundLaws.{IsClosed, DepsFirst, past-closed}

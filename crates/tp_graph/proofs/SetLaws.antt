@@ -1,23 +1,6 @@
 -- What depends on the changes as a set, and what stays as changes enter.
-use Rattle.std.proofs.Common.{◌≡◌, ℕ, suc, zero, ◌+◌, ◌≤◌, inl, inr, List, ◌∷◌, ◌++◌, Bool, true, false, ◌||◌, cond, Option, Some, None, refl, sym, ap, ◌∙◌, subst, arith, append_assoc}
-use Rattle.tp_list.specs.Members.{In, AllIn, SameMembers}
-use Rattle.tp_list.proofs.Tests.{truth, never, not_true, same_test, neither}
-use Rattle.tp_list.proofs.Members.{In-left, In-right, In-split}
-use Rattle.tp_opid.specs.declared.hash.Hash.{Hash}
-use Rattle.tp_opid.specs.Same.{same_actor}
-use Rattle.tp_opid.proofs.Orders.{same_actor-same}
-use Rattle.tp_change.specs.declared.parts.ChangeParts.{ChangeParts}
-use Rattle.tp_change.specs.ChangeHash.{hash_of}
-use Rattle.tp_change.specs.Operations.{ops_of}
-use Rattle.tp_change.specs.Elements.{inserts, refers, next_counter}
-use Rattle.tp_graph.specs.declared.error.GraphError.{GraphError}
-use Rattle.tp_graph.specs.declared.error.GraphError.TheVariants.{Known, MissingDeps}
-use Rattle.tp_graph.specs.Named.{has, has_all}
-use Rattle.tp_graph.specs.Past.{past}
-use Rattle.tp_graph.specs.Reach.{Chain}
-use Rattle.tp_graph.specs.Heads.{heads}
-use Rattle.tp_graph.specs.Fit.{defect, defect_behind, or_clash, clashes, count_by}
-use Rattle.tp_graph.specs.Sound.{Sound, Fits}
+use Rattle.tp_graph.proofs.Common.{◌≡◌, ℕ, suc, zero, ◌+◌, ◌≤◌, inl, inr, List, ◌∷◌, ◌++◌, Bool, true, false, ◌||◌, cond, Option, Some, None, refl, sym, ap, ◌∙◌, subst, arith, append_assoc, In, AllIn, SameMembers, truth, never, not_true, same_test, neither, In-left, In-right, In-split, Hash, same_actor, same_actor-same, ChangeParts, hash_of, ops_of, inserts, refers, next_counter, GraphError, Known, MissingDeps, has, has_all, past, Chain, heads, defect_behind, or_clash, clashes, count_by, Sound, Fits}
+use Rattle.tp_graph.specs.Fit.{defect}
 use Rattle.tp_graph.proofs.NamedLaws.{has-In, has-append, has-more, lacks-fewer, has_all-In, has_all-more}
 use Rattle.tp_graph.proofs.PastLaws.{past-In}
 use Rattle.tp_graph.proofs.SoundLaws.{Fits-from_defect, defect-from_Fits, Sound-prefix, Fits-at, hashes_apart, deps_there, IsClosed, deps_first, Sound-before, sound_pasts}

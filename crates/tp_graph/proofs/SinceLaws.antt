@@ -1,19 +1,5 @@
 -- Laws of what stands outside a past, of places, and of what waiting changes want.
-use Rattle.std.proofs.Common.{◌≡◌, ◌⊎◌, ◌↔◌, inl, inr, List, [], ◌∷◌, true, false, ◌||◌, cond, refl, sym, ap, subst, ◌<◌, ℕ, suc, zero, ◌+◌, ◌++◌, length, Bool, Some, drop, get_or, take, map, not, ◌∙◌, arith, add-one, append_assoc}
-use Rattle.std.specs.List.{slice_get}
-use Rattle.std.proofs.lemmas.List.{take_more, get_or-map, length-map}
-use Rattle.tp_list.specs.Members.{In}
-use Rattle.tp_list.specs.Rising.{IsRising, put}
-use Rattle.tp_list.proofs.Tests.{truth, or_cases, or_left, or_right, neither_left, neither_right, neither}
-use Rattle.tp_list.proofs.RisingLaws.{put-In, In-put_other, In-put, put-rises}
-use Rattle.tp_opid.specs.declared.hash.Hash.{Hash}
-use Rattle.tp_opid.specs.Order.{hash_cmp}
-use Rattle.tp_opid.proofs.Orders.{hash_total, hash_exact}
-use Rattle.tp_change.specs.declared.parts.ChangeParts.{ChangeParts}
-use Rattle.tp_graph.specs.Named.{among, names, has, is_needed}
-use Rattle.tp_graph.specs.Past.{past}
-use Rattle.tp_graph.specs.Marks.{marks}
-use Rattle.tp_graph.specs.Since.{since, skip, is_wanted, IsMissing, gather, gather_all}
+use Rattle.tp_graph.proofs.Common.{◌≡◌, ◌⊎◌, ◌↔◌, inl, inr, List, [], ◌∷◌, true, false, ◌||◌, cond, refl, sym, ap, subst, ◌<◌, ℕ, suc, zero, ◌+◌, ◌++◌, length, Bool, Some, drop, get_or, take, map, not, ◌∙◌, arith, add-one, append_assoc, slice_get, take_more, get_or-map, length-map, In, IsRising, put, truth, or_cases, or_left, or_right, neither_left, neither_right, neither, put-In, In-put_other, In-put, put-rises, Hash, hash_cmp, hash_total, hash_exact, ChangeParts, among, names, has, is_needed, past, marks, since, skip, is_wanted, IsMissing, gather, gather_all}
 use Rattle.tp_graph.proofs.HeadsLaws.{among-In, In-among}
 
 pub skip-marks : (C : List ChangeParts) (H : List Hash) → skip (marks C H) C ≡ since C H

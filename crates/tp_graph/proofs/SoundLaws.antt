@@ -1,20 +1,6 @@
 -- Laws of sound lists: prefixes and pushes, induction, hashes apart, dependencies first.
-use Rattle.std.proofs.Common.{◌≡◌, ◌+◌, ◌==◌, inl, inr, List, [], ◌∷◌, ◌++◌, Bool, true, false, ◌||◌, cond, Option, Some, None, refl, sym, ap, ◌∙◌, subst, append_assoc, append-nil}
-use Rattle.std.proofs.lemmas.Bool.{eqb-true, eq-eqb}
-use Rattle.tp_list.specs.Members.{In, AllIn}
-use Rattle.tp_list.proofs.Tests.{truth, never, not_true}
-use Rattle.tp_list.proofs.Members.{In-left, In-right, In-append}
-use Rattle.tp_opid.specs.declared.hash.Hash.{Hash}
-use Rattle.tp_change.specs.declared.parts.ChangeParts.{ChangeParts}
-use Rattle.tp_change.specs.ChangeHash.{hash_of}
-use Rattle.tp_change.specs.Operations.{ops_of}
-use Rattle.tp_change.specs.Elements.{inserts, refers, next_counter}
-use Rattle.tp_graph.specs.declared.error.GraphError.{GraphError}
-use Rattle.tp_graph.specs.declared.error.GraphError.TheVariants.{Known, MissingDeps, BadSeq, BadStart, BadReference, SeqClash}
-use Rattle.tp_graph.specs.Named.{names, has, has_all, is_needed, HashesApart}
-use Rattle.tp_graph.specs.Past.{past}
-use Rattle.tp_graph.specs.Fit.{defect, defect_behind, or_clash, clashes, count_by}
-use Rattle.tp_graph.specs.Sound.{SoundAfter, Sound, Fits}
+use Rattle.tp_graph.proofs.Common.{◌≡◌, ◌+◌, ◌==◌, inl, inr, List, [], ◌∷◌, ◌++◌, Bool, true, false, ◌||◌, cond, Option, Some, None, refl, sym, ap, ◌∙◌, subst, append_assoc, append-nil, eqb-true, eq-eqb, In, AllIn, truth, never, not_true, In-left, In-right, In-append, Hash, ChangeParts, hash_of, ops_of, inserts, refers, next_counter, GraphError, Known, MissingDeps, BadSeq, BadStart, BadReference, SeqClash, names, has, has_all, is_needed, HashesApart, past, or_clash, clashes, count_by, SoundAfter, Sound, Fits}
+use Rattle.tp_graph.specs.Fit.{defect, defect_behind}
 use Rattle.tp_graph.proofs.NamedLaws.{names-In, In-names, has-In, In-has, lacks-fewer, has_all-In, In-has_all, has_all-more, In-is_needed}
 use Rattle.tp_graph.proofs.PastLaws.{past-In, past-push, past-push_other, past-of_part, past-named, with_reached-In, In-with_reached, kept-In}
 use Rattle.tp_graph.proofs.ClashLaws.{clashes-fewer}

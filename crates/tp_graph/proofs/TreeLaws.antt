@@ -1,26 +1,12 @@
 -- The inserts of a sound list are a tree, and so is each prefix of what a change adds.
-use Rattle.std.proofs.Common.{◌≡◌, ℕ, ◌+◌, ◌<◌, ◌≤◌, inl, inr, List, [], ◌∷◌, ◌++◌, length, true, ◌||◌, sym, ap, ◌∙◌, subst, arith}
+use Rattle.tp_graph.proofs.Common.{◌≡◌, ℕ, ◌+◌, ◌<◌, ◌≤◌, inl, inr, List, [], ◌∷◌, ◌++◌, length, true, ◌||◌, sym, ap, ◌∙◌, subst, arith, In, not_true, or_cases, both_left, both_right, In-left, In-right, In-append, OpId, Place, Start, After, same_actor, id_eq, same_actor-itself, id_eq-same, Below-counter, ChangeParts, ops_of, op_count, element, inserts_in, inserts, is_inserted, is_reference, refers, next_counter, inserts_in-append, inserts-append, is_inserted-In, grown, refers-append, grown-ids, inserts-In, inserts-more, next_counter-above, past, Sound, Fits}
 use Rattle.std.proofs.lemmas.List.{append-nil}
-use Rattle.tp_list.specs.Members.{In}
-use Rattle.tp_list.proofs.Tests.{not_true, or_cases, both_left, both_right}
-use Rattle.tp_list.proofs.Members.{In-left, In-right, In-append}
-use Rattle.tp_opid.specs.declared.op_id.OpId.{OpId}
-use Rattle.tp_opid.specs.declared.op_id.Place.{Place}
-use Rattle.tp_opid.specs.declared.op_id.Place.TheVariants.{Start, After}
 use Rattle.tp_opid.specs.Insert as element_of
-use Rattle.tp_opid.specs.Same.{same_actor, id_eq}
 use Rattle.tp_opid.specs.Tree.{IsThere, IsReferenceBelow, IsTree, CanInsert}
-use Rattle.tp_opid.proofs.Orders.{same_actor-itself, id_eq-same, Below-counter}
 use Rattle.tp_opid.proofs.Trees.{IsReferenceBelow-grow}
 use Rattle.tp_change.specs.declared.op.Op.{Op}
 use Rattle.tp_change.specs.declared.op.Op.TheVariants as op_of
-use Rattle.tp_change.specs.declared.parts.ChangeParts.{ChangeParts}
-use Rattle.tp_change.specs.Operations.{ops_of, op_count}
-use Rattle.tp_change.specs.Elements.{element, inserts_in, inserts, is_inserted, is_reference, refers, next_counter}
-use Rattle.tp_change.proofs.ElementLaws.{inserts_in-append, inserts-append, is_inserted-In, grown, refers-append, grown-ids, inserts-In, inserts-more, next_counter-above}
 use Rattle.tp_change.proofs.Numbered.{Numbered, Numbered-prefix, Numbered-rest, Numbered-ops_of, Numbered-In, Numbered-once, inserts-within}
-use Rattle.tp_graph.specs.Past.{past}
-use Rattle.tp_graph.specs.Sound.{Sound, Fits}
 use Rattle.tp_graph.proofs.PastLaws.{past-In}
 use Rattle.tp_graph.proofs.SoundLaws.{sound-induct}
 use Rattle.tp_graph.proofs.CountLaws.{own_past}

@@ -1,14 +1,6 @@
 -- Changes that wait keep each hash once.
-use Rattle.std.proofs.Common.{◌≡◌, ℕ, suc, zero, ◌+◌, ◌<◌, List, [], ◌∷◌, ◌++◌, length, Bool, true, false, if◌then◌else◌, refl, arith, length-append}
-use Rattle.std.specs.List.{remove}
+use Rattle.tp_graph.proofs.Common.{◌≡◌, ℕ, suc, zero, ◌+◌, ◌<◌, List, [], ◌∷◌, ◌++◌, length, Bool, true, false, if◌then◌else◌, refl, arith, length-append, remove, neither_left, neither_right, neither, Hash, same_hash, ChangeParts, hash_of, has, most_waiting, HashesOnce, IsWaiting}
 use Rattle.std.proofs.lemmas.List.Edits.{length-remove}
-use Rattle.tp_list.proofs.Tests.{neither_left, neither_right, neither}
-use Rattle.tp_opid.specs.declared.hash.Hash.{Hash}
-use Rattle.tp_opid.specs.Same.{same_hash}
-use Rattle.tp_change.specs.declared.parts.ChangeParts.{ChangeParts}
-use Rattle.tp_change.specs.ChangeHash.{hash_of}
-use Rattle.tp_graph.specs.Named.{has}
-use Rattle.tp_graph.specs.GraphState.{most_waiting, HashesOnce, IsWaiting}
 use Rattle.tp_graph.proofs.MarksLaws.{HashesOnce-push}
 
 -- one more, whose hash isn't there

@@ -1,7 +1,6 @@
 -- What a call answers, where a cause says whether a change can enter.
 use Rattle.std.specs.Prelude.{◌≡◌, List, true, false, Option, Some, None, Result, Ok, Err}
-use Rattle.tp_change.specs.declared.parts.ChangeParts.{ChangeParts}
-use Rattle.tp_change.specs.ChangeHash.{hash_of}
+use Rattle.tp_graph.specs.Common.{ChangeParts, hash_of}
 use Rattle.tp_graph.specs.declared.error.GraphError.{GraphError}
 use Rattle.tp_graph.specs.declared.error.GraphError.TheVariants.{Known, MissingDeps, BadSeq, BadStart, BadReference, SeqClash, UnknownHead, Full, OutOfMemory}
 use Rattle.tp_graph.specs.Named.{has, has_all}

@@ -1,7 +1,6 @@
 -- What contracts see of applied changes.
 use Rattle.std.specs.Prelude.{List, Option}
-use Rattle.tp_opid.specs.declared.hash.Hash.{Hash}
-use Rattle.tp_change.specs.declared.parts.ChangeParts.{ChangeParts}
+use Rattle.tp_graph.specs.Common.{Hash, ChangeParts}
 
 -- The changes, in the order in which they entered, and the hash of the change for whose entry every growth is made, if
 -- there is one.

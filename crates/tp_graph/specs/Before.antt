@@ -1,7 +1,6 @@
 -- What is marked of the records before a record of their change.
 use Rattle.std.specs.Prelude.{◌≡◌, ℕ, ◌+◌, ◌<◌, ◌≤◌, List, get_or, Bool, true, false, ◌&&◌, nat_lt, not}
-use Rattle.tp_change.specs.declared.record.Record.{Record}
-use Rattle.tp_change.specs.Operations.{count_of}
+use Rattle.tp_graph.specs.Common.{Record, count_of}
 use Rattle.tp_graph.specs.declared.before.Before.{Before}
 use Rattle.tp_graph.specs.Covers.{covers}
 

@@ -1,14 +1,6 @@
 -- Places of changes by their actors.
 use Rattle.std.specs.Prelude.{◌≡◌, ℕ, ◌+◌, ◌<◌, ◌≤◌, List, [], ◌∷◌, ◌++◌, length, take, get_or, slice_index, true, cond, Option, Some, None}
-use Rattle.std.specs.Int.{w32, from_be_bytes}
-use Rattle.std.specs.List.{slice_get}
-use Rattle.std.specs.Map.{lookup}
-use Rattle.tp_list.specs.Members.{In}
-use Rattle.tp_opid.specs.declared.actor.Actor.{Actor}
-use Rattle.tp_opid.specs.declared.op_id.OpId.{OpId}
-use Rattle.tp_opid.specs.Same.{same_actor}
-use Rattle.tp_change.specs.declared.parts.ChangeParts.{ChangeParts}
-use Rattle.tp_change.specs.Operations.{op_count}
+use Rattle.tp_graph.specs.Common.{w32, from_be_bytes, slice_get, lookup, In, Actor, OpId, same_actor, ChangeParts, op_count}
 use Rattle.tp_graph.specs.declared.by_actor.ByActor.{ByActor}
 use Rattle.tp_graph.specs.Fit.{count_by}
 use Rattle.tp_graph.specs.Places.{noted_word}

@@ -1,14 +1,7 @@
 -- Clocks: the operations of a part of the changes, given by counters. Of each actor the part has those below one number.
 use Rattle.std.specs.Prelude.{◌≡◌, ◌⊎◌, ℕ, ◌+◌, List, [], ◌∷◌, Bool, cond, nat_lt}
-use Rattle.std.specs.Map.{lookup}
+use Rattle.tp_graph.specs.Common.{lookup, In, Actor, OpId, same_actor, ChangeParts, later, op_count}
 use Rattle.std.specs.Option.{unwrap_or}
-use Rattle.tp_list.specs.Members.{In}
-use Rattle.tp_opid.specs.declared.actor.Actor.{Actor}
-use Rattle.tp_opid.specs.declared.op_id.OpId.{OpId}
-use Rattle.tp_opid.specs.Same.{same_actor}
-use Rattle.tp_change.specs.declared.parts.ChangeParts.{ChangeParts}
-use Rattle.tp_change.specs.Elements.{later}
-use Rattle.tp_change.specs.Operations.{op_count}
 
 -- one more than the greatest counter that the actor has in the changes, or 0 where it made none
 abbrev pub end_of : List ChangeParts → Actor → ℕ

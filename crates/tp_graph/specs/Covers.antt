@@ -1,12 +1,8 @@
 -- References judged record by record.
 use Rattle.std.specs.Prelude.{ℕ, zero, suc, ◌+◌, List, [], ◌∷◌, ◌++◌, length, Bool, true, false, ◌||◌, ◌&&◌, nat_lt, nat_le}
-use Rattle.tp_opid.specs.declared.actor.Actor.{Actor}
-use Rattle.tp_opid.specs.declared.op_id.OpId.{OpId}
+use Rattle.tp_graph.specs.Common.{Actor, OpId, Record, id_of, ops_from, inserts_in, is_inserted, is_reference}
 use Rattle.tp_opid.specs.Insert as element_of
-use Rattle.tp_change.specs.declared.record.Record.{Record}
 use Rattle.tp_change.specs.declared.record.Record.TheVariants.{Insert, Delete, DeleteRun}
-use Rattle.tp_change.specs.Operations.{id_of, ops_from}
-use Rattle.tp_change.specs.Elements.{inserts_in, is_inserted, is_reference}
 
 -- The records, the first of which has the counter n, insert at the counter k.
 abbrev pub covers : ℕ → List Record → ℕ → Bool

@@ -1,12 +1,6 @@
 -- Where the counters of named changes end.
 use Rattle.std.specs.Prelude.{◌≡◌, ℕ, ◌+◌, ◌<◌, List, [], ◌∷◌, length, Some, cond}
-use Rattle.std.specs.List.{slice_get}
-use Rattle.tp_opid.specs.declared.hash.Hash.{Hash}
-use Rattle.tp_opid.specs.Same.{same_hash}
-use Rattle.tp_change.specs.declared.parts.ChangeParts.{ChangeParts}
-use Rattle.tp_change.specs.ChangeHash.{hash_of}
-use Rattle.tp_change.specs.Operations.{op_count}
-use Rattle.tp_change.specs.Elements.{later}
+use Rattle.tp_graph.specs.Common.{slice_get, Hash, same_hash, ChangeParts, hash_of, op_count, later}
 use Rattle.tp_graph.specs.declared.lists.TheConstants.{WIDE}
 
 -- one more than the last counter of the change with the hash, or 0 where none has it

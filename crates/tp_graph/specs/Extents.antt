@@ -1,11 +1,7 @@
 -- How far a past reaches, by places: it has all changes before a prefix, and of each actor that has a tip those up to
 -- the tip.
 use Rattle.std.specs.Prelude.{◌≡◌, ◌↔◌, ℕ, ◌+◌, ◌<◌, ◌≤◌, List, [], ◌∷◌, length, get_or, drop, Bool, true, false, ◌||◌, ◌&&◌, nat_lt, nat_le, Option, Some, None}
-use Rattle.std.specs.List.{slice_get}
-use Rattle.tp_list.specs.Members.{In}
-use Rattle.tp_opid.specs.declared.hash.Hash.{Hash}
-use Rattle.tp_opid.specs.Same.{same_actor}
-use Rattle.tp_change.specs.declared.parts.ChangeParts.{ChangeParts}
+use Rattle.tp_graph.specs.Common.{slice_get, In, Hash, same_actor, ChangeParts}
 use Rattle.tp_graph.specs.declared.extent.Extent.{Extent}
 use Rattle.tp_graph.specs.declared.extent.Room.{Room}
 use Rattle.tp_graph.specs.Past.{past}

@@ -1,16 +1,11 @@
 -- Whether a change fits behind the changes of a list, and why not.
 use Rattle.std.specs.Prelude.{ℕ, ◌+◌, ◌==◌, List, [], ◌∷◌, length, Bool, false, cond, ◌||◌, ◌&&◌, Option, Some, None}
-use Rattle.tp_opid.specs.declared.actor.Actor.{Actor}
-use Rattle.tp_opid.specs.Same.{same_actor}
-use Rattle.tp_change.specs.declared.parts.ChangeParts.{ChangeParts}
-use Rattle.tp_change.specs.ChangeHash.{hash_of}
-use Rattle.tp_change.specs.Operations.{ops_of}
+use Rattle.tp_graph.specs.Common.{Actor, same_actor, ChangeParts, hash_of, ops_of, inserts, refers, next_counter}
 use Rattle.tp_graph.specs.declared.limits.TheConstants.{MOST_CHANGES}
 use Rattle.tp_graph.specs.declared.error.GraphError.{GraphError}
 use Rattle.tp_graph.specs.declared.error.GraphError.TheVariants.{Known, MissingDeps, BadSeq, BadStart, BadReference, SeqClash, Full}
 use Rattle.tp_graph.specs.Named.{has, has_all}
 use Rattle.tp_graph.specs.Past.{past}
-use Rattle.tp_change.specs.Elements.{inserts, refers, next_counter}
 
 -- how many of the changes the actor made
 abbrev pub count_by : Actor → List ChangeParts → ℕ

@@ -1,8 +1,6 @@
 -- What contracts see of a graph, and of the changes that wait.
 use Rattle.std.specs.Prelude.{◌≡◌, ℕ, ◌≤◌, List, [], ◌∷◌, length, Option, false}
-use Rattle.tp_opid.specs.declared.hash.Hash.{Hash}
-use Rattle.tp_change.specs.declared.parts.ChangeParts.{ChangeParts}
-use Rattle.tp_change.specs.ChangeHash.{hash_of}
+use Rattle.tp_graph.specs.Common.{Hash, ChangeParts, hash_of}
 use Rattle.tp_graph.specs.declared.limits.TheConstants.{MOST_WAITING}
 use Rattle.tp_graph.specs.Named.{has}
 

@@ -1,10 +1,6 @@
 -- The heads of changes.
 use Rattle.std.specs.Prelude.{List, [], ◌∷◌, cond}
-use Rattle.tp_list.specs.Rising.{rising}
-use Rattle.tp_opid.specs.declared.hash.Hash.{Hash}
-use Rattle.tp_opid.specs.Order.{hash_cmp}
-use Rattle.tp_change.specs.declared.parts.ChangeParts.{ChangeParts}
-use Rattle.tp_change.specs.ChangeHash.{hash_of}
+use Rattle.tp_graph.specs.Common.{rising, Hash, hash_cmp, ChangeParts, hash_of}
 use Rattle.tp_graph.specs.Named.{among, is_needed}
 
 -- the hashes of the changes of C on which none of D depends, in the order of C

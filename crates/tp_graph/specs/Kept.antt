@@ -1,7 +1,6 @@
 -- What is kept beside applied changes.
 use Rattle.std.specs.Prelude.{◌≡◌, ◌≤◌, List, length, Option, Some, None}
-use Rattle.tp_change.specs.declared.parts.ChangeParts.{ChangeParts}
-use Rattle.tp_change.specs.ChangeHash.{hash_of}
+use Rattle.tp_graph.specs.Common.{ChangeParts, hash_of}
 use Rattle.tp_change.specs.Elements as made
 use Rattle.tp_graph.specs.declared.applied.Applied.TheInside.{Inside}
 use Rattle.tp_graph.specs.declared.extent.Room.{Room}

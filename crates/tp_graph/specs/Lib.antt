@@ -1,3 +1,4 @@
+pub mod Common
 pub mod GraphError
 pub mod Named
 pub mod Reach
@@ -12,6 +13,7 @@ pub mod GraphState
 pub mod Extents
 pub mod Parts
 pub mod Ends
+pub mod Deps
 pub mod ByActor
 pub mod Clocks
 pub mod AppliedState

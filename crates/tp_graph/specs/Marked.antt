@@ -1,8 +1,6 @@
 -- Marks that are kept of applied changes.
 use Rattle.std.specs.Prelude.{◌≡◌, ℕ, ◌<◌, ◌≤◌, List, length, Bool, Some}
-use Rattle.std.specs.List.{slice_get}
-use Rattle.tp_change.specs.declared.parts.ChangeParts.{ChangeParts}
-use Rattle.tp_change.specs.Operations.{op_count}
+use Rattle.tp_graph.specs.Common.{slice_get, ChangeParts, op_count}
 use Rattle.tp_graph.specs.declared.marked.Marked.{Marked}
 use Rattle.tp_graph.specs.Before.{Marks}
 

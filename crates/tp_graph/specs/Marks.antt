@@ -1,7 +1,6 @@
 -- A past as marks, one for each change of the list.
 use Rattle.std.specs.Prelude.{ℕ, ◌+◌, List, [], ◌∷◌, Bool, ◌||◌, cond, ◌++◌, take, drop}
-use Rattle.tp_opid.specs.declared.hash.Hash.{Hash}
-use Rattle.tp_change.specs.declared.parts.ChangeParts.{ChangeParts}
+use Rattle.tp_graph.specs.Common.{Hash, ChangeParts}
 use Rattle.tp_graph.specs.Named.{names, is_needed}
 use Rattle.tp_graph.specs.Past.{past}
 

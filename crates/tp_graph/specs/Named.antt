@@ -1,11 +1,6 @@
 -- Changes by their hashes.
 use Rattle.std.specs.Prelude.{◌≡◌, List, [], ◌∷◌, Bool, true, false, ◌||◌, ◌&&◌}
-use Rattle.std.specs.List.{list_any}
-use Rattle.tp_list.specs.Members.{In}
-use Rattle.tp_opid.specs.declared.hash.Hash.{Hash}
-use Rattle.tp_opid.specs.Same.{same_hash}
-use Rattle.tp_change.specs.declared.parts.ChangeParts.{ChangeParts}
-use Rattle.tp_change.specs.ChangeHash.{hash_of}
+use Rattle.tp_graph.specs.Common.{list_any, In, Hash, same_hash, ChangeParts, hash_of}
 
 -- the hash is one of the hashes
 abbrev pub among : List Hash → Hash → Bool

@@ -1,7 +1,6 @@
 -- Which changes of a list a past has.
 use Rattle.std.specs.Prelude.{◌≡◌, ℕ, List, length, get_or, Bool, false}
-use Rattle.tp_opid.specs.declared.hash.Hash.{Hash}
-use Rattle.tp_change.specs.declared.parts.ChangeParts.{ChangeParts}
+use Rattle.tp_graph.specs.Common.{Hash, ChangeParts}
 use Rattle.tp_graph.specs.declared.part.Part.{Part}
 use Rattle.tp_graph.specs.declared.part.Part.TheVariants.{Within, Marked}
 use Rattle.tp_graph.specs.Extents.{held_from, ArePlaces, IsExtent}

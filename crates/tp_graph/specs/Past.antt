@@ -1,7 +1,6 @@
 -- The past of hashes in a list of changes where dependencies stand before dependents.
 use Rattle.std.specs.Prelude.{List, [], ◌∷◌, cond, ◌||◌}
-use Rattle.tp_opid.specs.declared.hash.Hash.{Hash}
-use Rattle.tp_change.specs.declared.parts.ChangeParts.{ChangeParts}
+use Rattle.tp_graph.specs.Common.{Hash, ChangeParts}
 use Rattle.tp_graph.specs.Named.{names, is_needed}
 
 -- c before the later changes that are kept, where H names it or one of them depends on it

@@ -1,8 +1,6 @@
 -- How far the pasts of changes reach, as it is kept.
 use Rattle.std.specs.Prelude.{◌≡◌, ℕ, ◌<◌, List, [], length, Some}
-use Rattle.std.specs.List.{slice_get}
-use Rattle.tp_opid.specs.declared.hash.Hash.{Hash}
-use Rattle.tp_change.specs.declared.parts.ChangeParts.{ChangeParts}
+use Rattle.tp_graph.specs.Common.{slice_get, Hash, ChangeParts}
 use Rattle.tp_graph.specs.declared.extent.Extent.{Extent}
 use Rattle.tp_graph.specs.declared.pasts.Apart.{Apart}
 use Rattle.tp_graph.specs.declared.pasts.TheConstants.{APART}

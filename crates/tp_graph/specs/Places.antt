@@ -1,14 +1,7 @@
 -- Places of changes in applied order, counted from 0, and the map from hashes to places.
 use Rattle.std.specs.Prelude.{◌≡◌, ◌⊎◌, ℕ, ◌+◌, List, [], ◌∷◌, slice_index, Option, Some, None, cond}
-use Rattle.std.specs.Int.{w32, from_be_bytes}
+use Rattle.tp_graph.specs.Common.{w32, from_be_bytes, slice_get, lookup, Hash, same_hash, ChangeParts, hash_of, op_count}
 use Rattle.std.specs.Ordering.{is_eq, nat_cmp}
-use Rattle.std.specs.List.{slice_get}
-use Rattle.std.specs.Map.{lookup}
-use Rattle.tp_opid.specs.declared.hash.Hash.{Hash}
-use Rattle.tp_opid.specs.Same.{same_hash}
-use Rattle.tp_change.specs.declared.parts.ChangeParts.{ChangeParts}
-use Rattle.tp_change.specs.ChangeHash.{hash_of}
-use Rattle.tp_change.specs.Operations.{op_count}
 
 -- the place of the first change with the hash, where the first of the list has the place n
 abbrev pub place_from : ℕ → List ChangeParts → Hash → Option ℕ

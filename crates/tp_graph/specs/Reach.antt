@@ -1,9 +1,6 @@
 -- The past of hashes among any changes, as a relation: it needs no order and grows with the changes.
 use Rattle.std.specs.Prelude.{◌≡◌, ℕ, suc, zero, List}
-use Rattle.tp_list.specs.Members.{In}
-use Rattle.tp_opid.specs.declared.hash.Hash.{Hash}
-use Rattle.tp_change.specs.declared.parts.ChangeParts.{ChangeParts}
-use Rattle.tp_change.specs.ChangeHash.{hash_of}
+use Rattle.tp_graph.specs.Common.{In, Hash, ChangeParts, hash_of}
 
 -- From the hash h the hash g is reached in n steps, each from a change of C to one of its dependencies.
 abbrev pub Chain : List ChangeParts → ℕ → Hash → Hash → Type 0

@@ -1,9 +1,6 @@
 -- What stands outside a past, and what waiting changes want.
 use Rattle.std.specs.Prelude.{◌≡◌, ℕ, List, [], ◌∷◌, Bool, true, false, ◌||◌, not, cond, map}
-use Rattle.tp_list.specs.Rising.{put}
-use Rattle.tp_opid.specs.declared.hash.Hash.{Hash}
-use Rattle.tp_opid.specs.Order.{hash_cmp}
-use Rattle.tp_change.specs.declared.parts.ChangeParts.{ChangeParts}
+use Rattle.tp_graph.specs.Common.{put, Hash, hash_cmp, ChangeParts}
 use Rattle.tp_graph.specs.Named.{among, names, has, is_needed}
 use Rattle.tp_graph.specs.Past.{past}
 use Rattle.tp_graph.specs.Marks.{marks, marked_more, places_from}

@@ -1,11 +1,8 @@
 -- Lists of changes in an order in which each fitted when it entered.
 use Rattle.std.specs.Prelude.{◌≡◌, ◌+◌, List, [], ◌∷◌, ◌++◌, true, false, None}
-use Rattle.tp_change.specs.declared.parts.ChangeParts.{ChangeParts}
-use Rattle.tp_change.specs.ChangeHash.{hash_of}
-use Rattle.tp_change.specs.Operations.{ops_of}
+use Rattle.tp_graph.specs.Common.{ChangeParts, hash_of, ops_of, inserts, refers, next_counter}
 use Rattle.tp_graph.specs.Named.{has, has_all}
 use Rattle.tp_graph.specs.Past.{past}
-use Rattle.tp_change.specs.Elements.{inserts, refers, next_counter}
 use Rattle.tp_graph.specs.Fit.{defect, count_by, clashes}
 
 -- Each change fits behind those of `before` and those of the list that stand before it.

@@ -1,19 +1,23 @@
 //! Whether a change can enter behind applied changes.
 
-ghost use Rattle.std.specs.Prelude.{◌≡◌, Err, IfOk};
+ghost use Rattle.std.specs.Prelude.{◌≡◌, cond, Err, IfOk};
 ghost use Rattle.tp_change.specs.Elements as made;
 ghost use Rattle.tp_graph.specs.Answers.{Answers, TakesMemory};
+ghost use Rattle.tp_graph.specs.Deps.{IsBehind};
 ghost use Rattle.tp_graph.specs.Fit as fit;
 ghost use Rattle.tp_graph.specs.Heads as head;
+ghost use Rattle.tp_graph.specs.Named as named;
 ghost use Rattle.tp_graph.specs.Parts.{picked, IsPartOf, IsPartFor};
 ghost use Rattle.tp_graph.specs.Past.{past};
 ghost use Rattle.tp_graph.specs.Sound.{Sound};
 
 use crate::applied::Applied;
+use crate::deps::Behind;
 use crate::error::GraphError;
 use crate::limits::MOST_CHANGES;
 use crate::part::Part;
 use tp_change::Change;
+use tp_opid::Hash;
 
 impl Applied {
     // The numbers and references of the change behind its past, where one that fits starts at `start`.
@@ -40,9 +44,8 @@ impl Applied {
     }
 
     // The numbers and references of the change behind the past of its dependencies; this past, where they are right.
-    // Such a change starts at `start`.
-    fn check_past(&self, start: u64, change: &Change) -> Result<Part, GraphError>
-        requires { start ≡ made.next_counter (past self.now.changes change.now.deps) }
+    fn check_past(&self, behind: Behind, change: &Change) -> Result<Part, GraphError>
+        requires { IsBehind self.now.changes change.now.deps behind }
         ensures answers { Answers result
             (fit.defect_behind (past self.now.changes change.now.deps) change.now) }
         ensures part { IfOk result (λ part. IsPartFor part self.now.changes change.now.deps) }
@@ -50,7 +53,8 @@ impl Applied {
             → change.now.deps ≡ head.heads self.now.changes → ⊥ }
     {
         let _changes = self.changes();
-        let part = self.part(change.deps())?;
+        let Behind { start, past } = behind;
+        let part = self.part_of(change.deps(), past)?;
         self.check_behind(&part, start, change)?;
         Ok(part)
     }
@@ -65,8 +69,21 @@ impl Applied {
         change.seq() <= self.count_by(&change.actor())
     }
 
+    // What a refused growth is told as: where a dependency is missing, that is the cause.
+    fn refused(&self, deps: &[Hash]) -> GraphError
+        ensures { result ≡ cond (named.has_all self.now.changes deps.now) GraphError.OutOfMemory
+            GraphError.MissingDeps }
+    {
+        if self.has_all(deps) {
+            GraphError::OutOfMemory
+        } else {
+            GraphError::MissingDeps
+        }
+    }
+
     /// Why the change can't enter behind the changes, or `OutOfMemory`; the past of its dependencies, where it can. Where
-    /// these are the heads none of them is looked up, and else each is twice: for where it ends, and for its past.
+    /// these are the heads none of them is looked up, and else each is once. Only where the extent of their past isn't known,
+    /// or a growth is refused, are they looked up anew.
     #[tactic(auto, unfolding(crate::specs::Fit::defect, crate::specs::Fit::cause))]
     pub(crate) fn judge(&self, change: &Change) -> Result<Part, GraphError>
         ensures answers { Answers result (fit.cause self.now.changes change.now) }
@@ -77,11 +94,12 @@ impl Applied {
         if self.contains(&change.hash()) {
             return Err(GraphError::Known);
         }
-        let start = match self.start_after(change.deps()) {
-            Some(start) => start,
-            None => return Err(GraphError::MissingDeps),
+        let behind = match self.behind(change.deps()) {
+            Ok(Some(behind)) => behind,
+            Ok(None) => return Err(GraphError::MissingDeps),
+            Err(_) => return Err(self.refused(change.deps())),
         };
-        let part = self.check_past(start, change)?;
+        let part = self.check_past(behind, change)?;
         if self.clashes(change) {
             return Err(GraphError::SeqClash);
         }

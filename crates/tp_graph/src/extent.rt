@@ -116,8 +116,8 @@ impl Extent {
         Ok(())
     }
 
-    // Moves the prefix on, and takes out the tips that it has passed.
-    fn tidy(&mut self, applied: &Applied)
+    /// Moves the prefix on, and takes out the tips that it has passed.
+    pub(crate) fn tidy(&mut self, applied: &Applied)
         requires { IsPlaced applied.now.changes self.old }
         ensures placed { IsPlaced applied.now.changes self.new }
         ensures held { (i : ℕ)
@@ -261,9 +261,9 @@ impl Applied {
         next
     }
 
-    // Puts in the change at the place, and its past. False where its extent isn't known, or where there are too many tips
-    // then.
-    fn take_change(&self, extent: &mut Extent, place: usize) -> Result<bool, AllocError>
+    /// Puts in the change at the place, and its past. False where its extent isn't known, or where there are too many tips
+    /// then.
+    pub(crate) fn take_change(&self, extent: &mut Extent, place: usize) -> Result<bool, AllocError>
         requires extent { IsPlaced self.now.changes extent.old }
         requires place { place < length self.now.changes }
         ensures { IfOk result (λ known. IsTrue known

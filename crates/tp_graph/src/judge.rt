@@ -11,19 +11,15 @@ ghost use Rattle.tp_change.specs.Operations.{count_of, op_count, ops_of, ops_fro
 ghost use Rattle.tp_graph.specs.Before.{Tells, IsClear};
 ghost use Rattle.tp_graph.specs.ByActor.{IsMaker};
 ghost use Rattle.tp_graph.specs.Covers as cover;
-ghost use Rattle.tp_graph.specs.Ends.{end_named};
 ghost use Rattle.tp_graph.specs.Marked.{IsMarked};
-ghost use Rattle.tp_graph.specs.Named as named;
 ghost use Rattle.tp_graph.specs.Parts.{picked, IsPartOf};
-ghost use Rattle.tp_graph.specs.Past.{past};
 
 use crate::applied::Applied;
 use crate::before::{Before, put};
 use crate::part::Part;
-use crate::walk::same_hashes;
 use tp_change::{Change, MAX_OPS, Record};
 use tp_list::char_count;
-use tp_opid::{Hash, OpId, Place};
+use tp_opid::{OpId, Place};
 
 /// So many operations are few: marks for these cost next to nothing, and so does a pass over them.
 pub(crate) const FEW: usize = 64;
@@ -112,50 +108,6 @@ pub(crate) fn later(a: u64, b: u64) -> u64
 }
 
 impl Applied {
-    // One more than the last counter of the change with the hash, where one has it.
-    fn end_of(&self, hash: &Hash) -> Option<u64>
-        ensures { MatchOption result (named.has self.now.changes hash.now ≡ false)
-            (λ end. (named.has self.now.changes hash.now ≡ true)
-            × (end ≡ end_named self.now.changes hash.now)) }
-    {
-        match self.place(hash) {
-            Some(place) => Some(self.end_at(place)),
-            None => None,
-        }
-    }
-
-    // The same of hashes that aren't the heads.
-    fn start_behind(&self, hashes: &[Hash]) -> Option<u64>
-        ensures { MatchOption result (named.has_all self.now.changes hashes.now ≡ false)
-            (λ start. (named.has_all self.now.changes hashes.now ≡ true)
-            × (start ≡ made.next_counter (past self.now.changes hashes.now))) }
-    {
-        let _changes = self.changes();
-        let mut next = 1;
-        for hash in hashes {
-            match self.end_of(hash) {
-                Some(end) => next = later(next, end),
-                None => return None,
-            }
-        }
-        Some(next)
-    }
-
-    /// One more than the greatest counter in the past of the hashes, or 1: that of the changes that have them, since
-    /// what a change depends on ends before it starts. None where no change has one of the hashes. No look-up where they
-    /// are the heads, and else one for each.
-    pub(crate) fn start_after(&self, hashes: &[Hash]) -> Option<u64>
-        ensures { MatchOption result (named.has_all self.now.changes hashes.now ≡ false)
-            (λ start. (named.has_all self.now.changes hashes.now ≡ true)
-            × (start ≡ made.next_counter (past self.now.changes hashes.now))) }
-    {
-        let _changes = self.changes();
-        if same_hashes(hashes, self.heads()) {
-            return Some(self.next_counter());
-        }
-        self.start_behind(hashes)
-    }
-
     // The place of the change that has the operation: of its actor's changes the first that ends behind the counter is
     // the only one that may. A number of comparisons that grows with the logarithm of the number of these changes.
     fn maker(&self, id: &OpId) -> Option<usize>

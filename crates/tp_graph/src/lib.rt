@@ -10,6 +10,7 @@ mod before;
 mod by_actor;
 mod check;
 mod clock;
+mod deps;
 mod error;
 mod extent;
 mod graph;

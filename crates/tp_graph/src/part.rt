@@ -1,6 +1,6 @@
 //! Which of the applied changes a past has.
 
-ghost use Rattle.std.specs.Prelude.{◌≡◌, ◌<◌, ◌≤◌, List, length, IfOk, IsSome, OnErr};
+ghost use Rattle.std.specs.Prelude.{◌≡◌, ◌<◌, ◌≤◌, List, length, None, IfOk, IsSome, OnErr};
 ghost use Rattle.tp_opid.specs.declared.hash.Hash.{Hash};
 ghost use Rattle.tp_change.specs.declared.parts.ChangeParts.{ChangeParts};
 ghost use Rattle.tp_graph.specs.Extents.{IsKnown};
@@ -77,8 +77,24 @@ impl Applied {
         self.extent_of(hashes)
     }
 
-    /// Which of the changes the past of those of the hashes that are known has. Only where its extent isn't known are the
-    /// changes walked back over.
+    /// Which of the changes the past of those of the hashes that are known has, whose extent is given where it is known. Only
+    /// where it isn't are the changes walked back over.
+    pub(crate) fn part_of(&self, hashes: &[Hash], past: Option<Extent>) -> Result<Part, AllocError>
+        requires { IsKnown self.now.changes hashes.now past }
+        ensures bits { IfOk result
+            (λ part. bits part self.now.changes ≡ marked.marks self.now.changes hashes.now) }
+        ensures part { IfOk result (λ part. IsPartOf part self.now.changes) }
+        ensures of { IfOk result (λ part. IsPartFor part self.now.changes hashes.now) }
+        ensures memory { OnErr result (past ≡ None) }
+    {
+        let _changes = self.changes();
+        match past {
+            Some(extent) => Ok(Part::Within(extent)),
+            None => Ok(Part::Marked(self.walk_back(hashes)?)),
+        }
+    }
+
+    /// Which of the changes the past of those of the hashes that are known has.
     pub(crate) fn part(&self, hashes: &[Hash]) -> Result<Part, AllocError>
         ensures bits { IfOk result
             (λ part. bits part self.now.changes ≡ marked.marks self.now.changes hashes.now) }
@@ -86,11 +102,8 @@ impl Applied {
         ensures of { IfOk result (λ part. IsPartFor part self.now.changes hashes.now) }
         ensures memory { OnErr result (hashes.now ≡ head.heads self.now.changes → ⊥) }
     {
-        let _changes = self.changes();
-        match self.known_past(hashes)? {
-            Some(extent) => Ok(Part::Within(extent)),
-            None => Ok(Part::Marked(self.walk_back(hashes)?)),
-        }
+        let past = self.known_past(hashes)?;
+        self.part_of(hashes, past)
     }
 
     /// How many changes of the past the actor made: the sequence number of its latest there. As many questions to the

@@ -4,4 +4,5 @@ pub mod RecoveryLaws
 pub mod CutLaws
 pub mod BytesLaws
 pub mod RecoveredLaws
+pub mod PieceLaws
 mod Laying

@@ -2,5 +2,6 @@ pub mod Layout
 pub mod Reading
 pub mod Recovery
 pub mod Refusals
+pub mod Pieces
 pub mod Laws
 pub mod Journal

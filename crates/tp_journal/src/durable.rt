@@ -1,17 +1,23 @@
 //! A journal in a file that brings to the disk what was appended.
 
-ghost use Rattle.std.specs.Prelude.{◌≡◌, false, IfOk};
+ghost use Rattle.std.specs.Prelude.{◌≡◌, ◌⊎◌, [], false, IfOk, IfErr};
 ghost use Rattle.tp_journal.specs.Journal.{failing};
+ghost use Rattle.tp_journal.specs.Recovery.{Recovers};
+ghost use Rattle.tp_journal.specs.Refusals.{IsRefusal};
+ghost use Rattle.tp_store.specs.declared.error.StoreError.TheVariants.{OutOfMemory as Lack};
 
 use crate::error::JournalError;
 use crate::file::FileJournal;
 use crate::journal::Journal;
 use crate::lock::Lockable;
 use crate::opening::OpenError;
+use crate::recovering::Recovered;
 use std::alloc::Global;
 use std::fs::OpenFile;
 use std::io::{Read, Write};
 use std::rt::Files;
+use tp_rga::Sequence;
+use tp_store::StoreError;
 
 /// A journal in a file, all of which is on the disk once [`settle`](Journal::settle) has answered Ok: many appends take one
 /// sync of the file.
@@ -37,6 +43,35 @@ impl<F: Read + Write + OpenFile + Lockable + Drop> DurableJournal<F> {
                 file,
                 is_ahead: true,
             }),
+            Err(error) => Err(error),
+        }
+    }
+}
+
+impl<F: Read + Write + OpenFile + Lockable + Drop> DurableJournal<F> {
+    /// Opens the file at the path as a journal, and recovers from its bytes, as [`FileJournal::recovering`] does. That
+    /// what it has is on the disk isn't known yet.
+    pub fn recovering<S: Sequence, R: Files<File = F>>(
+        rt: &R,
+        alloc: Global,
+        path: &str,
+        make: bool,
+    ) -> Result<(DurableJournal<F>, Result<Recovered<S>, StoreError>), OpenError>
+        ensures locked { IfOk result (λ _. (file : F) × F.is_locked file) }
+        ensures ok { IfOk result (λ opened. IfOk opened.1 (λ r.
+            Recovers opened.0.file.content r.document.id r.document.applied r.keep
+            × (r.document.waiting ≡ []))) }
+        ensures err { IfOk result (λ opened. IfErr opened.1
+            (λ e. (e ≡ Lack) ⊎ IsRefusal opened.0.file.content e)) }
+    {
+        match FileJournal::recovering(rt, alloc, path, make) {
+            Ok((file, recovered)) => {
+                let journal = DurableJournal {
+                    file,
+                    is_ahead: true,
+                };
+                Ok((journal, recovered))
+            }
             Err(error) => Err(error),
         }
     }

@@ -1,34 +1,43 @@
 //! A journal in a file.
 
-ghost use Rattle.std.specs.Prelude.{◌≡◌, ℕ, ◌+◌, ◌≤◌, ◌++◌, length, take, true, vec_len, OnOk, OnErr, IfOk, IfSome, IsOkUnless};
-ghost use Rattle.std.specs.Vec.{vec_capacity};
-ghost use Rattle.std.specs.Io.KnownBytes.{Appends};
+ghost use Rattle.std.specs.Prelude.{◌≡◌, ◌⊎◌, ◌+◌, [], ◌++◌, length, OnOk, OnErr, IfOk, IfErr, IfSome, IsOkUnless};
 ghost use Rattle.tp_journal.specs.Journal.{HasGrown, failing};
+ghost use Rattle.tp_journal.specs.Recovery.{Recovers};
+ghost use Rattle.tp_journal.specs.Refusals.{IsRefusal};
 ghost use Rattle.tp_journal.specs.declared.error.JournalError.TheVariants.{Io};
+ghost use Rattle.tp_store.specs.declared.error.StoreError.TheVariants.{OutOfMemory as Lack};
 
 use crate::error::JournalError;
 use crate::journal::Journal;
+use crate::kept::Kept;
 use crate::lock::Lockable;
 use crate::opening::OpenError;
+use crate::pieces::Recovering;
+use crate::recovering::Recovered;
 use std::alloc::Global;
 use std::fs::{OpenFile, OpenOptions};
 use std::io;
 use std::io::{Read, Write};
 use std::marker::Model;
 use std::rt::Files;
+use tp_rga::Sequence;
+use tp_store::StoreError;
 
-/// A journal in a file, with a copy in memory of what it read at opening and of what its writes and cuts did. Its
-/// content is that copy: that the file agrees with it is a matter of the device. It has the file's lock from its opening
-/// on until it ends, so no other journal is opened on the file meanwhile, in this process or in another one.
+/// A journal in a file. Its content is what it read at opening and what its writes and cuts did then: that the file agrees
+/// with it is a matter of the device. It has the file's lock from its opening on until it ends, so no other journal is
+/// opened on the file meanwhile, in this process or in another one.
 ///
 /// Each append is one write at the end of the file. A write that took fewer bytes than it was given is a failure of the
 /// device, and the content has what it took. What was written is on the disk once [`sync`](FileJournal::sync) has
 /// answered Ok.
 ///
+/// A copy of the content is held in memory by one that [`at`](FileJournal::at) opened, and none by one that
+/// [`recovering`](FileJournal::recovering) opened.
+///
 /// Contracts see its content and how often its device failed.
 pub struct FileJournal<F: Write + OpenFile + Drop> {
     file: F,
-    copy: Vec<u8>,
+    kept: Kept,
     failures: u64,
 }
 
@@ -36,7 +45,7 @@ impl<F: Write + OpenFile + Drop> Drop for FileJournal<F> {
     fn drop(self) {
         let FileJournal {
             file: _,
-            copy: _,
+            kept: _,
             failures: _,
         } = self;
     }
@@ -47,7 +56,7 @@ impl<F: Write + OpenFile + Drop> Model for FileJournal<F> {
 
     ghost Value = { FileState };
 
-    ghost view = { λ j. record { content = j.copy.items; failures = j.failures } };
+    ghost view = { λ j. record { content = j.kept; failures = j.failures } };
 }
 
 // Takes the file's lock.
@@ -61,6 +70,21 @@ fn lock<F: Lockable>(file: &F) -> Result<(), OpenError>
     }
 }
 
+// Opens the file at the path for reading and appending, and takes its lock.
+fn open<R: Files>(rt: &R, path: &str, make: bool) -> Result<R::File, OpenError>
+where
+    R::File: Lockable,
+    ensures { IfOk result (λ file. R.File.is_locked file) }
+{
+    let file = OpenOptions::new()
+        .read(true)
+        .append(true)
+        .create(make)
+        .open(rt, path)?;
+    lock(&file)?;
+    Ok(file)
+}
+
 // All that the reader has.
 fn read_whole<R: Read>(alloc: Global, reader: &mut R) -> io::Result<Vec<u8>>
     ensures { IfOk result
@@ -71,30 +95,44 @@ fn read_whole<R: Read>(alloc: Global, reader: &mut R) -> io::Result<Vec<u8>>
     Ok(bytes)
 }
 
-// Puts the bytes behind a copy that has room for them.
-fn extend(copy: &mut Vec<u8>, bytes: &[u8])
-    requires { vec_len copy.old + length bytes.now ≤ vec_capacity copy.old }
-    ensures { copy.new.items ≡ copy.old.items ++ bytes.now }
+// Reads all that the reader has, by pieces. Gives how many bytes it was.
+fn read_into<S: Sequence, R: Read>(
+    reader: &mut R,
+    recovering: &mut Recovering<S>,
+) -> Result<u64, OpenError>
+    ensures count { IfOk result
+        (λ count. length recovering.new ≡ length recovering.old + count) }
+    ensures whole { OnOk result (IfSome (R.remaining reader.old)
+        (λ held. recovering.new ≡ recovering.old ++ held)) }
 {
-    match copy.extend_from_slice(bytes) {
-        Ok(()) => {}
-        Err(_) => unreachable!(),
+    let count = io::copy(reader, recovering)?;
+    if count == u64::MAX {
+        return Err(OpenError::Io);
     }
+    Ok(count)
 }
 
-// Writes the bytes, once, and puts behind the copy, which has room, what was written of them: all where it answers so.
-fn write_once<W: Write>(writer: &mut W, copy: &mut Vec<u8>, bytes: &[u8]) -> bool
-    requires { vec_len copy.old + length bytes.now ≤ vec_capacity copy.old }
-    ensures whole { result ≡ true → copy.new.items ≡ copy.old.items ++ bytes.now }
-    ensures same { (k : ℕ) × (copy.new.items ≡ copy.old.items ++ take k bytes.now)
-        × Appends (W.contents writer.old) (W.contents writer.new) (take k bytes.now) }
+// What is kept of all that the reader has, and what it recovers to.
+fn recover_from<S: Sequence, R: Read>(
+    alloc: Global,
+    reader: &mut R,
+) -> Result<(Kept, Result<Recovered<S>, StoreError>), OpenError>
+    ensures whole { IfOk result (λ read. IfSome (R.remaining reader.old)
+        (λ held. read.0 ≡ held)) }
+    ensures ok { IfOk result (λ read. IfOk read.1 (λ r.
+        Recovers read.0 r.document.id r.document.applied r.keep × (r.document.waiting ≡ []))) }
+    ensures err { IfOk result (λ read. IfErr read.1 (λ e. (e ≡ Lack) ⊎ IsRefusal read.0 e)) }
 {
-    match writer.write(bytes) {
+    let mut recovering = Recovering::new(alloc);
+    match read_into(reader, &mut recovering) {
         Ok(count) => {
-            extend(copy, &bytes[..count]);
-            count == bytes.len()
+            let kept = Kept::counted(recovering.content(), count);
+            Ok((kept, recovering.finish()))
         }
-        Err(_) => false,
+        Err(error) => {
+            drop(recovering);
+            Err(error)
+        }
     }
 }
 
@@ -112,18 +150,42 @@ impl<F: Read + Write + OpenFile + Lockable + Drop> FileJournal<F> {
         ensures new { IfOk result (λ j. j.failures ≡ 0) }
         ensures locked { IfOk result (λ _. (file : F) × F.is_locked file) }
     {
-        let mut file = OpenOptions::new()
-            .read(true)
-            .append(true)
-            .create(make)
-            .open(rt, path)?;
-        lock(&file)?;
+        let mut file = open(rt, path, make)?;
         let copy = read_whole(alloc, &mut file)?;
         Ok(FileJournal {
             file,
-            copy,
+            kept: Kept::copied(copy),
             failures: 0,
         })
+    }
+
+    /// Opens the file at the path as a journal, as [`at`](FileJournal::at) does, and recovers from its bytes while they are
+    /// read, by pieces: they are never all in memory, so [`read_all`](Journal::read_all) is refused as `Io`. Who wants them
+    /// opens the file anew. A journal that doesn't recover is opened too, and why is given with it.
+    ///
+    /// The cost is that of [`recover`](crate::recover).
+    pub fn recovering<S: Sequence, R: Files<File = F>>(
+        rt: &R,
+        alloc: Global,
+        path: &str,
+        make: bool,
+    ) -> Result<(FileJournal<F>, Result<Recovered<S>, StoreError>), OpenError>
+        ensures new { IfOk result (λ opened. opened.0.failures ≡ 0) }
+        ensures locked { IfOk result (λ _. (file : F) × F.is_locked file) }
+        ensures ok { IfOk result (λ opened. IfOk opened.1 (λ r.
+            Recovers opened.0.content r.document.id r.document.applied r.keep
+            × (r.document.waiting ≡ []))) }
+        ensures err { IfOk result (λ opened. IfErr opened.1
+            (λ e. (e ≡ Lack) ⊎ IsRefusal opened.0.content e)) }
+    {
+        let mut file = open(rt, path, make)?;
+        let (kept, recovered) = recover_from(alloc, &mut file)?;
+        let journal = FileJournal {
+            file,
+            kept,
+            failures: 0,
+        };
+        Ok((journal, recovered))
     }
 }
 
@@ -153,14 +215,14 @@ impl<F: Write + OpenFile + Drop> Journal for FileJournal<F> {
     ghost is_settled = { λ _. Unit {0} };
 
     fn append(&mut self, bytes: &[u8]) -> Result<(), JournalError> {
-        if self.copy.reserve(bytes.len()).is_err() {
-            return Err(JournalError::OutOfMemory);
+        match self.kept.write(&mut self.file, bytes) {
+            Ok(count) if count == bytes.len() => Ok(()),
+            Ok(_) => {
+                self.failures = self.failures.saturating_add(1);
+                Err(JournalError::Io)
+            }
+            Err(_) => Err(JournalError::OutOfMemory),
         }
-        if !write_once(&mut self.file, &mut self.copy, bytes) {
-            self.failures = self.failures.saturating_add(1);
-            return Err(JournalError::Io);
-        }
-        Ok(())
     }
 
     // Whoever has the file calls `sync` when it has to be.
@@ -169,12 +231,12 @@ impl<F: Write + OpenFile + Drop> Journal for FileJournal<F> {
     }
 
     fn cut(&mut self, len: u64) -> Result<(), JournalError> {
-        if self.copy.len() as u64 <= len {
+        if self.kept.len() <= len {
             return Ok(());
         }
         match self.file.set_len(len) {
             Ok(()) => {
-                self.copy.truncate(len as usize);
+                self.kept.cut(len);
                 Ok(())
             }
             Err(_) => {
@@ -185,9 +247,13 @@ impl<F: Write + OpenFile + Drop> Journal for FileJournal<F> {
     }
 
     fn read_all(&mut self) -> Result<Vec<u8>, JournalError> {
-        match Vec::from_slice(*self.copy.allocator(), self.copy.as_slice()) {
+        match self.kept.read() {
             Ok(bytes) => Ok(bytes),
-            Err(_) => Err(JournalError::OutOfMemory),
+            Err(JournalError::OutOfMemory) => Err(JournalError::OutOfMemory),
+            Err(JournalError::Io) => {
+                self.failures = self.failures.saturating_add(1);
+                Err(JournalError::Io)
+            }
         }
     }
 

@@ -5,16 +5,19 @@
 //! next recovery. docs/FORMATS.md says every byte.
 #![tactic(auto)]
 
+mod content;
 mod durable;
 mod error;
 mod file;
 mod fuse;
 mod journal;
+mod kept;
 mod laws;
 mod layout;
 mod lock;
 mod memory;
 mod opening;
+mod pieces;
 mod reading;
 mod recovering;
 mod writing;
@@ -32,5 +35,6 @@ pub use layout::{DIGEST_BYTES, HEADER_BYTES, MAGIC};
 pub use lock::Lockable;
 pub use memory::MemJournal;
 pub use opening::OpenError;
+pub use pieces::Recovering;
 pub use recovering::{Recovered, recover};
 pub use writing::{header, put_record, record};

@@ -11,12 +11,12 @@ ghost use Rattle.tp_journal.specs.Recovery.{IsHistory, Recovers};
 ghost use Rattle.tp_journal.specs.Refusals.{IsFaultAt, IsFault, IsRefusal};
 ghost use Rattle.tp_store.specs.declared.error.StoreError.TheVariants.{Refused, OutOfMemory};
 
-use crate::reading::{change_of, read_header, split_record};
+use crate::pieces::Recovering;
+use crate::reading::{change_of, split_record};
 use std::alloc::Global;
 use tp_change::Change;
 use tp_document::Document;
 use tp_graph::GraphError;
-use tp_opid::DocId;
 use tp_rga::Sequence;
 use tp_store::StoreError;
 
@@ -48,9 +48,9 @@ fn enter_change<S: Sequence>(document: &mut Document<S>, change: Change) -> Resu
     }
 }
 
-// Enters the change of the record at the prefix of the bytes, which stands at this offset, and gives the bytes behind
-// it; `None` where they are a short tail.
-fn enter_next<'a, S: Sequence>(
+/// Enters the change of the record at the prefix of the bytes, which stands at this offset, and gives the bytes behind
+/// it; `None` where they are a short tail.
+pub(crate) fn enter_next<'a, S: Sequence>(
     alloc: Global,
     document: &mut Document<S>,
     bytes: &'a [u8],
@@ -81,40 +81,11 @@ fn enter_next<'a, S: Sequence>(
     }
 }
 
-// What every document says of the changes that it has applied.
-fn history<S: Sequence>(document: &Document<S>)
+/// What every document says of the changes that it has applied.
+pub(crate) fn history<S: Sequence>(document: &Document<S>)
     ensures { IsHistory document.now.applied }
 {
     let _changes = document.changes();
-}
-
-// Enters the changes of the records behind the header, one after another.
-fn recover_behind<S: Sequence>(
-    alloc: Global,
-    bytes: &[u8],
-    id: DocId,
-    behind: &[u8],
-) -> Result<Recovered<S>, StoreError>
-    requires id { IsDocId id }
-    requires header { bytes.now ≡ header_of id ++ behind.now }
-    ensures ok { IfOk result (λ r. Recovers bytes.now r.document.id r.document.applied r.keep) }
-    ensures waiting { IfOk result (λ r. r.document.waiting ≡ []) }
-    ensures err { IfErr result (λ e. (e ≡ OutOfMemory) ⊎ IsFault bytes.now e) }
-{
-    let mut document = Document::new(alloc, id);
-    let mut rest = behind;
-    loop {
-        history(&document);
-        let at = (bytes.len() - rest.len()) as u64;
-        match enter_next(alloc, &mut document, rest, at) {
-            Ok(Some(next)) => rest = next,
-            Ok(None) => return Ok(Recovered { document, keep: at }),
-            Err(error) => {
-                drop(document);
-                return Err(error);
-            }
-        }
-    }
 }
 
 /// The document of a journal, and how many of its bytes are kept.
@@ -135,11 +106,7 @@ pub fn recover<S: Sequence>(alloc: Global, bytes: &[u8]) -> Result<Recovered<S>,
         → IsOkUnless result OutOfMemory }
     ensures err { IfErr result (λ e. (e ≡ OutOfMemory) ⊎ IsRefusal bytes.now e) }
 {
-    match read_header(bytes) {
-        Ok((id, behind)) => match recover_behind(alloc, bytes, id, behind) {
-            Ok(recovered) => Ok(recovered),
-            Err(error) => Err(error),
-        },
-        Err(error) => Err(error),
-    }
+    let mut recovering = Recovering::new(alloc);
+    recovering.feed(bytes);
+    recovering.finish()
 }

@@ -1,7 +1,7 @@
 -- Laws of traces.
 use Rattle.std.proofs.Common.{◌≡◌, List, [], ◌∷◌, ◌++◌, reverse, refl, sym, ap, subst, ◌∙◌}
 use mathlib.Core.List.{reverse_aux}
-use Rattle.tp_list.specs.Traces.{Trace, Reaches}
+use Rattle.tp_list.specs.Traces.{Trace}
 
 module _ {S L : Type 0} (Step : S → L → S → Type 0) where
   -- one trace after another
@@ -54,11 +54,3 @@ module _ {S L : Type 0} (Step : S → L → S → Type 0) where
   -- a trace from its end is one of the steps backwards
   pub trace_back : (s : S) (ls : List L) (t : S) → Trace Step s ls t → Trace (λ y l x. Step x l y) t (reverse ls) s
   trace_back s ls t trace = back_onto s s ls [] t trace refl
-
-  -- one step
-  pub reaches_one : (s : S) (l : L) (t : S) → Step s l t → Reaches Step s t
-  reaches_one s l t step = (l ∷ [], (t, step, refl))
-
-  -- steps after steps
-  pub reaches_join : (s m t : S) → Reaches Step s m → Reaches Step m t → Reaches Step s t
-  reaches_join s m t first then = (first.0 ++ then.0, trace_join s first.0 m then.0 t first.1 then.1)

@@ -5,7 +5,3 @@ use Rattle.std.specs.Prelude.{◌≡◌, List, [], ◌∷◌}
 abbrev pub Trace : {S L : Type 0} → (S → L → S → Type 0) → S → List L → S → Type 0
 Trace Step s [] t = t ≡ s
 Trace {S} Step s (l ∷ ls) t = (m : S) × Step s l m × Trace Step m ls t
-
--- Some steps lead from s to t: the reflexive transitive closure of the relation.
-abbrev pub Reaches : {S L : Type 0} → (S → L → S → Type 0) → S → S → Type 0
-Reaches {S} {L} Step s t = (ls : List L) × Trace Step s ls t

@@ -1,7 +1,9 @@
 -- The transcript of a session on one side: the frames that came, and the turns that answered them.
-use Rattle.std.specs.Prelude.{◌≡◌, ℕ, List, ◌++◌, map, option_to_list, Ok}
+use Rattle.std.specs.Prelude.{◌≡◌, ℕ, List, ◌++◌, Option, map, option_to_list, Ok}
 use Rattle.tp_net.specs.Common.{Trace, Frame, Reply, Turn, HostCall, SessionData, first_of, SessionStep}
+use Rattle.std.specs.Io.KnownBytes.{Appends}
 use Rattle.std.specs.List.{flat_map}
+use Rattle.tp_frame.specs.Frame.{spelling}
 use Rattle.tp_frame.specs.Stream.{BeginsWith}
 
 -- What went over the stream: the bytes that were read, and the frames that were sent.
@@ -33,3 +35,7 @@ pub record Comes {H : Type 0} (steps : H → HostCall → Reply → H → Type 0
   pub trace : Trace (Answered steps) a transcript b
   pub frames : BeginsWith w.read (frames_of transcript) held
   pub answers : w.sent ≡ option_to_list (first_of a.0.role a.0.id) ++ answers_of transcript
+
+-- A writer took frames, each whole.
+abbrev pub TakesFrames : Option (List ℕ) → Option (List ℕ) → Type 0
+TakesFrames before after = (sent : List Frame) × Appends before after (flat_map spelling sent)

@@ -1,7 +1,9 @@
-//! One session over a socket, on a seat.
+//! One session on a seat: over a reader and a writer, and over a socket.
 
-ghost use Rattle.std.specs.Prelude.{◌≡◌};
+ghost use Rattle.std.specs.Prelude.{◌≡◌, ◌⊎◌, Err};
+ghost use Rattle.tp_session.specs.declared.error.NetError.TheVariants.{Io};
 ghost use Rattle.tp_net.specs.Sessions.{Meets};
+ghost use Rattle.tp_net.specs.Transcript.{TakesFrames};
 
 use crate::run::run_session;
 use crate::seated::SeatedHost;
@@ -13,8 +15,31 @@ use tp_journal::Journal;
 use tp_served::{Seat, Served};
 use tp_session::{NetError, Role};
 
-/// Holds one session over the stream, as the side with the role, on the seat; how many changes were applied here. The
-/// stream is closed at the end.
+/// Holds one session over the reader and the writer, as the side with the role, on the seat. Answers how many changes were
+/// applied here: those that the seat entered by it. At 2^64 - 1 the number stays.
+///
+/// Each refusal is as [`run_session`] says.
+pub fn hold_over<R: Wait, I: Read, O: Write, J: Journal>(
+    rt: &R,
+    alloc: Global,
+    reader: &mut I,
+    writer: &mut O,
+    role: Role,
+    served: &Served<J>,
+    seat: &mut Seat,
+) -> Result<u64, NetError>
+    requires { seat.old.served ≡ served.now.served }
+    ensures served { seat.new.served ≡ seat.old.served }
+    ensures meets { Meets role served.now.opened.id seat.old.state result seat.new.state }
+    ensures frames { (result ≡ Err Io)
+        ⊎ TakesFrames (O.contents writer.old) (O.contents writer.new) }
+{
+    let id = served.id();
+    let mut host = SeatedHost::new(rt, served, seat);
+    run_session(alloc, reader, writer, role, id, &mut host)
+}
+
+/// The same over the stream, which is closed at the end.
 pub(crate) fn hold_on<R: Wait, S: Read + Write + OpenStream + Drop, J: Journal>(
     rt: &R,
     alloc: Global,
@@ -31,7 +56,5 @@ pub(crate) fn hold_on<R: Wait, S: Read + Write + OpenStream + Drop, J: Journal>(
     let Ok(mut writer) = reader.try_clone() else {
         return Err(NetError::Io);
     };
-    let id = served.id();
-    let mut host = SeatedHost::new(rt, served, seat);
-    run_session(alloc, &mut reader, &mut writer, role, id, &mut host)
+    hold_over(rt, alloc, &mut reader, &mut writer, role, served, seat)
 }

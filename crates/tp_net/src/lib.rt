@@ -16,6 +16,7 @@ mod writing;
 
 pub use connecting::connect;
 pub use gate::{AlwaysOpen, Gate};
+pub use holding::hold_over;
 pub use run::run_session;
 pub use seated::SeatedHost;
 pub use serving::{Interrupted, serve};

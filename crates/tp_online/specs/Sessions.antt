@@ -1,7 +1,7 @@
 -- What sessions on the seats of a served peer came to.
 use Rattle.std.specs.Prelude.{◌≡◌, ℕ, List, Ok, Option, false}
 use Rattle.tp_peer.specs.PeerData.{PeerData}
-use Rattle.tp_session.specs.declared.session.Role.TheVariants.{Client}
+use Rattle.tp_session.specs.declared.session.Role.{Role}
 use Rattle.tp_shell.specs.Files.{OpensUnder}
 use Rattle.tp_net.specs.Sessions.{AllSit, Meets}
 use Rattle.tp_served.specs.Calls.{Closes}
@@ -15,11 +15,10 @@ opened_seats d = seats_of d.served (fresh_from d.opened 0 d.count)
 abbrev pub opening_seat : ServedData → SeatData
 opening_seat d = record { served = d.served; state = fresh d.opened 0 }
 
--- The seat is the first one of the served peer, and since the opening one session led it to where it is, as the client
--- about that peer's document, by which n changes entered: all that the seat has ever entered, up to 2^64 - 1.
-pub record HasEntered (served : ServedData) (seat : SeatData) (n : ℕ) : Type 0 where
+-- The seat is the first one of the served peer, and since the opening one session led it to where it is, as the side about that peer's document, by which n changes entered: all that the seat has ever entered, up to 2^64 - 1.
+pub record HasEntered (role : Role) (served : ServedData) (seat : SeatData) (n : ℕ) : Type 0 where
   pub same : seat.served ≡ served.served
-  pub meets : Meets Client served.opened.id (fresh served.opened 0) (Ok n) seat.state
+  pub meets : Meets role served.opened.id (fresh served.opened 0) (Ok n) seat.state
 
 -- The peer p is what the closing of the served peer gives back for the seats, and its journal didn't stop it.
 pub record EndsRunning (served : ServedData) (seats : List SeatData) (p : PeerData) : Type 0 where

@@ -6,5 +6,6 @@ mod listening;
 mod program;
 mod seating;
 mod serving;
+mod streaming;
 
 pub use program::{run, run_command, run_words, run_words_on};

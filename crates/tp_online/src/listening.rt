@@ -6,7 +6,7 @@ ghost use Rattle.tp_shell.specs.Files.{OfFile, OpensJournal};
 use std::fs::OpenFile;
 use std::io::Write;
 use std::net::{Net, OpenListener, SocketAddr};
-use tp_commands::CommandError;
+use tp_commands::{CommandError, reopen};
 use tp_journal::DurableJournal;
 use tp_opid::Actor;
 use tp_peer::Peer;
@@ -32,11 +32,7 @@ pub(crate) fn opened<R: Disk + AllocGlobal>(
     ensures { IfOk result (λ p. OfFile (R.takes rt.now) file.now
         (λ bytes. OpensJournal bytes actor p)) }
 {
-    let journal = rt.durable_journal(file)?;
-    match Peer::reopen(rt.alloc(), journal, actor) {
-        Ok(peer) => Ok(peer),
-        Err(unopened) => Err(CommandError::from(unopened.error)),
-    }
+    reopen(rt.alloc(), rt.durable_journal(file)?, actor)
 }
 
 // Listens at the address; also answers the port.

@@ -1,17 +1,19 @@
 //! The program, but for its `main`.
 
-ghost use Rattle.std.specs.Prelude.{◌≡◌, ◌≢◌, ◌≤◌, [], map, Err, IfErr, IsOk, MatchResult, OnOk};
+ghost use Rattle.std.specs.Prelude.{◌≡◌, ◌≢◌, ◌≤◌, ℕ, [], map, Err, IfErr, IfOk, MatchBool, MatchResult, None, Ok, OnOk, Option};
 ghost use Rattle.std.specs.Io.KnownBytes.{Keeps};
 ghost use Rattle.clap.specs.Words.{fault_of};
 ghost use Rattle.tp_command_line.specs.CommandLine.{textpeer_app};
 ghost use Rattle.tp_command_line.specs.LineError.{MayBeDone};
+ghost use Rattle.tp_session.specs.declared.session.Role.TheVariants.{Client, Server};
 ghost use Rattle.tp_shell.specs.declared.error.ShellError.{ShellError as Refusal};
-ghost use Rattle.tp_shell.specs.Output.{Grows, GrowsPart, IsLineOf, IsPrinted, LeavesOf};
+ghost use Rattle.tp_shell.specs.Output.{Grows, GrowsPart, IsLineOf, IsPrinted, LeavesOf, Reports, Tells};
 ghost use Rattle.tp_shell.specs.Words.{IsDone, IsRefused, WasDone, WasRefused};
 
-use crate::serving::{serve_file, sync_file};
+use crate::serving::{report, serve_file, sync_file};
+use crate::streaming::session_file;
 use std::convert::AsStr;
-use std::io::Write;
+use std::io::{Read, Write};
 use std::net::Net;
 use std::rt::Env;
 use std::sync::Wait;
@@ -19,6 +21,7 @@ use std::thread::Threads;
 use std::{env, io};
 use tp_command_line::{Command, line};
 use tp_commands::CommandError;
+use tp_session::Role;
 use tp_shell::{
     DONE, Disk, Errors, Job, JobError, MISUSED, REFUSED, ShellError, carry_out, ended, explain,
     job_of,
@@ -26,7 +29,9 @@ use tp_shell::{
 
 /// Does what the process's own words ask for, and returns the exit status, as [`run_words`] does. Words that can't be
 /// read, as those that are no UTF-8, are refused as `textpeer: Io`.
-pub fn run<R: Env + Disk + Net + Threads + Wait + Print + Eprint + AllocGlobal + Sync>(rt: &R) -> u8
+pub fn run<R: Env + Disk + Net + Threads + Wait + Input + Print + Eprint + AllocGlobal + Sync>(
+    rt: &R,
+) -> u8
 where
     R::File: Send,
     R::Stream: Send,
@@ -49,10 +54,10 @@ fn own_words<R: Env + AllocGlobal>(rt: &R) -> io::Result<Vec<String>> {
 /// Does what the words ask for, of which the first is the program's name, and returns the exit status: 0 where it was
 /// done, as for `--help`; 1 where it was refused, with one line on the standard error, as [`ShellError`] prints it; 2
 /// where the words are at fault, with the parser's text on the standard error.
-pub fn run_words<R: Disk + Net + Threads + Wait + Print + Eprint + AllocGlobal + Sync, S: AsStr>(
-    rt: &R,
-    words: &[S],
-) -> u8
+pub fn run_words<
+    R: Disk + Net + Threads + Wait + Input + Print + Eprint + AllocGlobal + Sync,
+    S: AsStr,
+>(rt: &R, words: &[S]) -> u8
 where
     R::File: Send,
     R::Stream: Send,
@@ -61,23 +66,32 @@ where
     ensures misused { result ≡ MISUSED → fault_of textpeer_app (map S.text words.now) ≢ [] }
 {
     let errors = Errors { rt };
-    run_words_on(rt, words, &mut io::writer(rt), &mut io::writer(&errors))
+    run_words_on(
+        rt,
+        words,
+        &mut rt.reader(),
+        &mut io::writer(rt),
+        &mut io::writer(&errors),
+    )
 }
 
-/// The same as [`run_words`], with writers for the standard output and the standard error.
+/// The same as [`run_words`], with a reader for the standard input, and writers for the standard output and the standard
+/// error.
 pub fn run_words_on<
     R: Disk + Net + Threads + Wait + AllocGlobal + Sync,
     S: AsStr,
+    I: Read,
     W: Write,
     E: Write,
->(rt: &R, words: &[S], out: &mut W, err: &mut E) -> u8
+>(rt: &R, words: &[S], input: &mut I, out: &mut W, err: &mut E) -> u8
 where
     R::File: Send,
     R::Stream: Send,
     ensures status { result ≤ MISUSED }
-    // What was done prints nothing on the standard error.
-    ensures done { result ≡ DONE → Keeps (E.contents err.old) (E.contents err.new)
-        × WasDone (R.reads rt.now) (R.takes rt.now) (R.leaves rt.now) (map S.text words.now)
+    // What was done prints nothing on the standard error, but for what is told of it.
+    ensures done { result ≡ DONE → (told : Option ℕ)
+        × Reports told (E.contents err.old) (E.contents err.new)
+        × WasDone (R.reads rt.now) (R.takes rt.now) (R.leaves rt.now) (map S.text words.now) told
         (W.contents out.old) (W.contents out.new) }
     // Of what was refused one line stands there, or a beginning of it where writing it failed.
     ensures refused { result ≡ REFUSED → (e : Refusal)
@@ -89,7 +103,7 @@ where
         × Keeps (W.contents out.old) (W.contents out.new) }
 {
     match line(rt.alloc(), words) {
-        Ok(command) => run_command(rt, command, out, err),
+        Ok(command) => run_command(rt, command, input, out, err),
         Err(fault) => explain(rt.alloc(), &fault, out, err),
     }
 }
@@ -98,63 +112,70 @@ where
 /// written to `out` and flushed; 1 where it was refused, with one line on `err`. `out` then has what was printed before;
 /// where `err` fails it has taken a beginning of the line. Hashes, the key and the address are read before any file is
 /// touched.
-pub fn run_command<R: Disk + Net + Threads + Wait + AllocGlobal + Sync, W: Write, E: Write>(
-    rt: &R,
-    command: Command,
-    out: &mut W,
-    err: &mut E,
-) -> u8
+pub fn run_command<
+    R: Disk + Net + Threads + Wait + AllocGlobal + Sync,
+    I: Read,
+    W: Write,
+    E: Write,
+>(rt: &R, command: Command, input: &mut I, out: &mut W, err: &mut E) -> u8
 where
     R::File: Send,
     R::Stream: Send,
     ensures status { result ≤ REFUSED }
-    ensures done { result ≡ DONE → Keeps (E.contents err.old) (E.contents err.new)
-        × IsDone (R.reads rt.now) (R.takes rt.now) (R.leaves rt.now) command.entry
+    ensures done { result ≡ DONE → (told : Option ℕ)
+        × Reports told (E.contents err.old) (E.contents err.new)
+        × IsDone (R.reads rt.now) (R.takes rt.now) (R.leaves rt.now) command.entry told
         (W.contents out.old) (W.contents out.new) }
     ensures refused { result ≡ REFUSED → (e : Refusal)
         × GrowsPart (IsLineOf e) (E.contents err.old) (E.contents err.new)
         × IsRefused (R.reads rt.now) (R.takes rt.now) (R.leaves rt.now) command.entry e
         (W.contents out.old) (W.contents out.new) }
 {
-    match carried(rt, command, out) {
-        Ok(()) => DONE,
+    match carried(rt, command, input, out) {
+        Ok(told) => {
+            report(rt.alloc(), told, err);
+            DONE
+        }
         Err(error) => ended(rt.alloc(), Err(error), err),
     }
 }
 
-// Reads the values of a command, and does what it asks for.
-fn carried<R: Disk + Net + Threads + Wait + AllocGlobal + Sync, W: Write>(
+// Reads the values of a command, and does what it asks for. What is told of it, beside what is printed.
+fn carried<R: Disk + Net + Threads + Wait + AllocGlobal + Sync, I: Read, W: Write>(
     rt: &R,
     command: Command,
+    input: &mut I,
     out: &mut W,
-) -> Result<(), ShellError>
+) -> Result<Option<u64>, ShellError>
 where
     R::File: Send,
     R::Stream: Send,
-    ensures done { OnOk result (IsDone (R.reads rt.now) (R.takes rt.now) (R.leaves rt.now) command.entry
-        (W.contents out.old) (W.contents out.new)) }
+    ensures done { IfOk result (λ told. IsDone (R.reads rt.now) (R.takes rt.now) (R.leaves rt.now)
+        command.entry told (W.contents out.old) (W.contents out.new)) }
     ensures refused { IfErr result
         (λ e. IsRefused (R.reads rt.now) (R.takes rt.now) (R.leaves rt.now) command.entry e
         (W.contents out.old) (W.contents out.new)) }
 {
     match job_of(rt.alloc(), command) {
-        Ok(job) => match run_job(rt, job, out) {
-            Ok(()) => Ok(()),
+        Ok(job) => match run_job(rt, job, input, out) {
+            Ok(told) => Ok(told),
             Err(error) => Err(ShellError::Job(error)),
         },
         Err(error) => Err(error),
     }
 }
 
-// Does a job, and writes what is printed of it.
-fn run_job<R: Disk + Net + Threads + Wait + AllocGlobal + Sync, W: Write>(
+// Does a job, and writes what is printed of it. What is told of it beside that.
+fn run_job<R: Disk + Net + Threads + Wait + AllocGlobal + Sync, I: Read, W: Write>(
     rt: &R,
     job: Job,
+    input: &mut I,
     out: &mut W,
-) -> Result<(), JobError>
+) -> Result<Option<u64>, JobError>
 where
     R::File: Send,
     R::Stream: Send,
+    ensures tells { IfOk result (Tells job.entry) }
     ensures prints { OnOk result
         (Grows (IsPrinted (R.reads rt.now) (R.takes rt.now) (R.leaves rt.now) job.entry)
         (W.contents out.old) (W.contents out.new)) }
@@ -162,7 +183,7 @@ where
         (W.contents out.old) (W.contents out.new)) }
 {
     match job {
-        Job::Files(job) => carry_out(rt, job, out),
+        Job::Files(job) => done(carry_out(rt, job, out)),
         Job::Serve {
             file,
             addr,
@@ -178,16 +199,35 @@ where
             key,
             out,
         )),
+        Job::Session {
+            file,
+            is_client,
+            key,
+        } => match session_file(rt, file, role_of(is_client), key, input, out) {
+            Ok(met) => Ok(Some(met.applied)),
+            Err(error) => Err(error),
+        },
         Job::Sync { file, addr, key } => done(sync_file(rt, file, addr, key, out)),
     }
 }
 
+// The side of a session.
+fn role_of(is_client: bool) -> Role
+    ensures { MatchBool is_client (result ≡ Client) (result ≡ Server) }
+{
+    if is_client {
+        Role::Client
+    } else {
+        Role::Server
+    }
+}
+
 // Whether it was done, without what it gave back.
-fn done<T: Drop>(outcome: Result<T, JobError>) -> Result<(), JobError>
-    ensures { MatchResult outcome (λ _. IsOk result) (λ e. result ≡ Err e) }
+fn done<T: Drop>(outcome: Result<T, JobError>) -> Result<Option<u64>, JobError>
+    ensures { MatchResult outcome (λ _. result ≡ Ok None) (λ e. result ≡ Err e) }
 {
     match outcome {
-        Ok(_) => Ok(()),
+        Ok(_) => Ok(None),
         Err(error) => Err(error),
     }
 }

@@ -5,8 +5,9 @@ ghost use Rattle.std.specs.Io.KnownBytes.{Appends, Keeps};
 ghost use Rattle.std.specs.String.{string_bytes};
 ghost use Rattle.tp_textpeer.specs.Output.{AppendsPart};
 ghost use Rattle.tp_shell.specs.Network.{IsServed, IsSynced, applied_line as line_of_applied, listening_line as line_of_port, served_line as line_of_sessions};
-ghost use Rattle.tp_shell.specs.Output.{Grows, GrowsPart, Leaves};
+ghost use Rattle.tp_shell.specs.Output.{Grows, GrowsPart, Leaves, Reports};
 ghost use Rattle.tp_shell.specs.Files.{OfFile, OpensUnder};
+ghost use Rattle.tp_session.specs.declared.session.Role.TheVariants.{Client};
 ghost use Rattle.tp_online.specs.Sessions.{HasEntered, ServesJournal, WasServed};
 
 use crate::listening::{Listening, listen, opened};
@@ -83,6 +84,22 @@ fn tell_applied<W: Write>(alloc: Global, applied: u64, out: &mut W) -> Result<()
         (λ e. Leaves IsSynced e (W.contents out.old) (W.contents out.new)) }
 {
     put(out, applied_line(alloc, applied))
+}
+
+// Prints how many changes entered, or a beginning of that.
+fn tell_part<E: Write>(alloc: Global, applied: u64, err: &mut E)
+    ensures { AppendsPart (E.contents err.old) (E.contents err.new) (line_of_applied applied) }
+{
+    let _ = put(err, applied_line(alloc, applied));
+}
+
+/// Says how many changes entered, where that is told.
+pub(crate) fn report<E: Write>(alloc: Global, told: Option<u64>, err: &mut E)
+    ensures { Reports told (E.contents err.old) (E.contents err.new) }
+{
+    if let Some(applied) = told {
+        tell_part(alloc, applied, err);
+    }
 }
 
 // Holds the sessions, and ends the serving with the seats that came back: the peer that the closing gives. One whose
@@ -205,7 +222,7 @@ fn applied_by<R: Disk + Net + Wait + AllocGlobal>(
     addr: SocketAddr,
     key: Option<[u8; 32]>,
 ) -> Result<Met<R::File>, JobError>
-    ensures entered { IfOk result (λ met. HasEntered met.served met.seat met.applied
+    ensures entered { IfOk result (λ met. HasEntered Client met.served met.seat met.applied
         × OfFile (R.takes rt.now) file.now (λ bytes. OpensUnder key bytes met.served.opened)) }
 {
     let actor = draw_actor(rt, key)?;
@@ -230,7 +247,7 @@ pub(crate) fn sync_file<R: Disk + Net + Wait + AllocGlobal, W: Write>(
     key: Option<[u8; 32]>,
     out: &mut W,
 ) -> Result<Met<R::File>, JobError>
-    ensures entered { IfOk result (λ met. HasEntered met.served met.seat met.applied
+    ensures entered { IfOk result (λ met. HasEntered Client met.served met.seat met.applied
         × OfFile (R.takes rt.now) file.now (λ bytes. OpensUnder key bytes met.served.opened)) }
     ensures ok { IfOk result (λ met. Appends (W.contents out.old) (W.contents out.new)
         (line_of_applied met.applied)) }

@@ -1,5 +1,5 @@
 -- What a refused append of a record leaves.
-use Rattle.tp_peer.proofs.Common.{take_all, ◌≡◌, ℕ, List, ◌++◌, length, ap, sym, subst, ◌∙◌, arith, ChangeParts, IsChange, LeavesPart, CountsFailure, Device, Fails, record_of, AppendsRecord, JournalState, RefusesRecord, journal_state, StaysUnsettled, TearsRecord, reason_of}
+use Rattle.tp_peer.proofs.Common.{take_all, ℕ, List, ◌++◌, length, ap, sym, subst, ◌∙◌, arith, ChangeParts, IsChange, LeavesPart, CountsFailure, Device, Fails, record_of, AppendsRecord, JournalState, RefusesRecord, journal_state, StaysUnsettled, TearsRecord, reason_of}
 use Rattle.tp_journal.specs.declared.error.JournalError.{JournalError}
 use Rattle.tp_journal.specs.declared.error.JournalError.TheVariants.{Io, OutOfMemory}
 

@@ -1,5 +1,5 @@
 -- What receiving comes to, what a peer's journal recovers to, and who made an edit's change.
-use Rattle.tp_peer.proofs.Common.{◌≡◌, ℕ, inl, inr, List, [], ◌∷◌, ◌++◌, length, take, true, false, Bool, Some, None, refl, sym, ap, ◌∙◌, subst, append-nil, append_assoc, arith, ChangeParts, journal, record_of, records_of, IsDocId, IsHistory, Recovers, history_push, AppendsRecord, JournalState, journal_state, IsPeer, PeerData, HasJournal, IsTorn, arming, Done, Report, Stopped, at_end, Takes, journal_of, receiver_of, PeerError, IsChange, Intake, Run, Turn, Next, enter, Call, Edit, Forget, Generate, Merge, PeerStep, Read, ReadAt, ReadHeads, Receive, Reply, Made, Refused, RefusesEdit, RefusesGenerate, RefusesMerge, RefusesReceive, Runs, In, HashesApart, Between, Grew-run, nothing_lost, Fails, recovers_cut, JournalFailed, TooManyLinks, Doc, Sync, OutOfMemory, Splice, Asked, asking, cause, LosesNone, Run-one, Run-then, IsComplete, IsPartial, IsTornAt, RecoversTorn}
+use Rattle.tp_peer.proofs.Common.{◌≡◌, ℕ, inl, inr, List, [], ◌∷◌, ◌++◌, length, take, true, false, Bool, Some, None, refl, sym, ap, ◌∙◌, subst, append-nil, append_assoc, arith, ChangeParts, journal, record_of, records_of, IsDocId, IsHistory, Recovers, history_push, AppendsRecord, JournalState, journal_state, IsPeer, PeerData, HasJournal, IsTorn, Done, Report, Stopped, at_end, Takes, journal_of, receiver_of, PeerError, IsChange, Intake, Run, Turn, Next, enter, Call, Edit, Forget, Generate, Merge, PeerStep, Read, ReadAt, ReadHeads, Receive, Reply, Made, Refused, RefusesEdit, RefusesGenerate, RefusesMerge, RefusesReceive, Runs, In, HashesApart, Between, Grew-run, nothing_lost, Fails, recovers_cut, JournalFailed, TooManyLinks, Doc, Sync, OutOfMemory, Splice, Asked, asking, cause, LosesNone, Run-one, Run-then, IsComplete, IsPartial, IsTornAt, RecoversTorn}
 use Rattle.std.proofs.lemmas.List.{append_cancel_left}
 use Rattle.tp_graph.specs.Sound.{Sound}
 use Rattle.tp_receive.proofs.GrowsLaws.{Between-grown}

@@ -1,6 +1,8 @@
 -- A reply has the form of its call.
 use Rattle.tp_peer.proofs.Common.{◌≡◌, ◌⊎◌, inl, inr, ℕ, List, false, Option, Some, None, Result, Ok, Err, String, Global, refl, sym, subst, IfErr, IfOk, ap, Splice, Hash, Actor, DocError, DocState, DoesSplices, asking, SyncParts, PeerError, JournalFailed, TooManyLinks, Sync, OutOfMemory, JournalState, StaysUnsettled, IsReplyTo, call_in, call_of, reply_of, IsPeer, PeerData, peer_data, is_failed, refusal_of_document, PeerStep, RefusesGenerate, Runs, needs_stopped, replied}
+use Rattle.std.specs.Prelude.{Bool, IfSome, OnOk}
 use Rattle.tp_edit.specs.Splices.{all_spliced}
+use Rattle.tp_peer.specs.Calls.{Owes}
 use Rattle.tp_text.specs.Text.{IsTextOf}
 use Rattle.tp_document.proofs.EditFits.{edit_text, nothing_spliced}
 use Rattle.tp_peer.specs.declared.call.Call.{Call}
@@ -124,3 +126,25 @@ edit_does (Ok (Some h)) p p' splices time message peer s = λ t text.
       | inl is ↦ let wrong = is.0 in absurd cc
       | inr runs ↦ subst (λ (q : PeerData). IsTextOf q.applied (all_spliced t splices)) (sym runs.1.3) (edit_text p.applied (asking p.actor splices time message) runs.1.0 t peer.history.sound runs.1.1 text)
     ]
+
+-- of what is neither a change that was made nor a message nothing is owed
+pub owes_any : (P : Type 0) (r : step.Reply) → Owes ⊥ r → Owes P r
+owes_any P (step.Made (Some h)) none = absurd none
+owes_any P (step.Made None) none = tt
+owes_any P (step.Merged r) none = tt
+owes_any P (step.Received r same) none = tt
+owes_any P (step.Generated sent) none = absurd none
+owes_any P step.Forgotten none = tt
+owes_any P (step.Text t) none = tt
+owes_any P (step.Heads hs) none = tt
+owes_any P (step.Refused e) none = tt
+
+-- what is owed of a reply, by the result that it is
+pub made_owes : (P : Type 0) (r : Result (Option Hash) PeerError) (reply : step.Reply) → replied step.Made r ≡ reply → Owes P reply → IfOk r (λ made. IfSome made (λ h. P))
+made_owes P (Ok (Some h)) reply is owed = subst (Owes P) (sym is) owed
+made_owes P (Ok None) reply is owed = tt
+made_owes P (Err e) reply is owed = tt
+
+pub sent_owes : {T : Type 0} (P : Type 0) (f : T → Option (List ℕ × Bool)) (r : Result T PeerError) (reply : step.Reply) → replied (λ sent. step.Generated (f sent)) r ≡ reply → Owes P reply → OnOk r P
+sent_owes P f (Ok sent) reply is owed = subst (Owes P) (sym is) owed
+sent_owes P f (Err e) reply is owed = tt

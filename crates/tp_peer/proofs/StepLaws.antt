@@ -1,5 +1,5 @@
 -- What each step of a peer keeps.
-use Rattle.tp_peer.proofs.Common.{◌≡◌, ◌≢◌, ◌⊎◌, ℕ, ◌≤◌, inl, inr, List, [], ◌∷◌, ◌++◌, take, Bool, true, false, ◌||◌, length, Option, Some, None, refl, sym, ap, ◌∙◌, subst, append_assoc, append-nil, arith, ◌==◌, MatchBool, AllIn, In, DocId, Hash, ChangeParts, IsChange, Asked, asking, absent, cause, most_waiting, Intake, Device, Fails, IsDocId, journal, record_of, records_of, IsHistory, journal-append, PeerError, JournalFailed, TooManyLinks, Doc, Sync, OutOfMemory, JournalState, HasJournal, IsPeer, IsTorn, PeerData, Call, Decodes, Edit, Forget, Forgotten, Generate, Generated, Heads, Hears, Made, Merge, Merged, Read, ReadAt, ReadHeads, Receive, Received, Refused, RefusesEdit, RefusesGenerate, RefusesMerge, RefusesReceive, RefusesText, Reply, Runs, Speaks, Text, entered, knowing, needs_stopped, Report, StopsAt, StopsUnsettled, Takes, Appends, AreFew, Keeps, MovesLinks, TouchesLink, came, changes_of, is_on, known_of, with_link, without_link, MessageParts, SyncParts, heard, never, neither_left}
+use Rattle.tp_peer.proofs.Common.{◌≡◌, ◌≢◌, ◌⊎◌, ℕ, ◌≤◌, inl, inr, List, [], ◌∷◌, ◌++◌, take, Bool, true, false, length, Option, Some, None, refl, sym, ap, ◌∙◌, subst, append_assoc, append-nil, arith, ◌==◌, MatchBool, AllIn, In, DocId, Hash, ChangeParts, IsChange, Asked, asking, absent, cause, most_waiting, Intake, Device, Fails, IsDocId, journal, record_of, records_of, IsHistory, journal-append, PeerError, JournalFailed, TooManyLinks, Doc, Sync, OutOfMemory, JournalState, HasJournal, IsPeer, IsTorn, PeerData, Call, Decodes, Edit, Forget, Forgotten, Generate, Generated, Heads, Hears, Made, Merge, Merged, Read, ReadAt, ReadHeads, Receive, Received, Refused, RefusesEdit, RefusesGenerate, RefusesMerge, RefusesReceive, RefusesText, Reply, Runs, Speaks, Text, entered, knowing, needs_stopped, Report, StopsAt, StopsUnsettled, Takes, Appends, AreFew, Keeps, MovesLinks, TouchesLink, came, changes_of, is_on, known_of, with_link, without_link, MessageParts, SyncParts, heard, never, neither_left}
 use Rattle.tp_list.proofs.Members.{In-left}
 use Rattle.tp_peer.specs.PeerStep.{PeerStep}
 use Rattle.tp_peer.proofs.LinkLaws.{moves_leave, other_with, other_without, stays}

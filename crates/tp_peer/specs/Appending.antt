@@ -18,6 +18,13 @@ journal_state content device = record { content = content; device = device }
 abbrev pub armed : JournalState → Bool → JournalState
 armed k can_fail = record k { device = record k.device { can_fail = can_fail } }
 
+-- Some journal has this content and this device, and keeps all of it for good. Of a type of which nothing is known but that
+-- it is a journal, only settling gives one.
+pub record IsKept {J : Type 0} (content : J → List ℕ) (device : J → Device) (settled : J → Type 0) (k : JournalState) : Type 0 where
+  pub journal : J
+  pub same : journal_state (content journal) (device journal) ≡ k
+  pub is_settled : settled journal
+
 -- The record of the change was appended.
 pub record AppendsRecord (k : JournalState) (c : ChangeParts) (k' : JournalState) : Type 0 where
   pub limits : IsChange c

@@ -1,5 +1,5 @@
 -- The calls and replies of the program, as the relation has them.
-use Rattle.std.specs.Prelude.{Bool, false}
+use Rattle.std.specs.Prelude.{Bool, false, Some}
 use Rattle.tp_peer.specs.Common.{chars, message_spelling}
 use Rattle.std.specs.String.{string_bytes}
 use Rattle.tp_peer.specs.declared.call.Call.{Call}
@@ -43,3 +43,9 @@ IsReplyTo call reply = (p : PeerData) × (p' : PeerData) × step.PeerStep p call
 abbrev pub fails : step.Reply → Bool
 fails (step.Refused error) = is_failed error
 fails _ = false
+
+-- Where the reply says that a change was made, or is a message, P holds.
+abbrev pub Owes : Type 0 → step.Reply → Type 0
+Owes P (step.Made (Some h)) = P
+Owes P (step.Generated sent) = P
+Owes P reply = Unit {0}

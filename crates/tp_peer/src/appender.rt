@@ -2,7 +2,7 @@
 
 ghost use Rattle.std.specs.Prelude.{◌≡◌, OnOk, OnErr, IfErr, IsOkUnless, length, true, false};
 ghost use Rattle.tp_journal.specs.Journal.{no_device};
-ghost use Rattle.tp_peer.specs.Appending.{AppendsRecord, RefusesRecord, StaysUnsettled, armed, journal_state, reason_of};
+ghost use Rattle.tp_peer.specs.Appending.{AppendsRecord, IsKept, RefusesRecord, StaysUnsettled, armed, journal_state, reason_of};
 ghost use Rattle.tp_peer.specs.declared.error.PeerError.TheVariants.{JournalFailed};
 
 use crate::error::PeerError;
@@ -85,6 +85,7 @@ impl<J: Journal> Appender<J> {
     /// Settles the journal.
     pub(crate) fn settle(&mut self) -> Result<(), PeerError>
         ensures ok { OnOk result (self.new ≡ self.old) }
+        ensures settled { OnOk result (IsKept J.content J.device J.is_settled self.new) }
         ensures only { IsOkUnless result JournalFailed }
         ensures err { OnErr result (StaysUnsettled self.old self.new) }
     {
@@ -97,6 +98,7 @@ impl<J: Journal> Appender<J> {
     /// Appends the record of the change to the journal, and settles it.
     pub(crate) fn keep_settled(&mut self, change: &Change) -> Result<(), KeepError>
         ensures ok { OnOk result (AppendsRecord self.old change.now self.new) }
+        ensures settled { OnOk result (IsKept J.content J.device J.is_settled self.new) }
         ensures err { IfErr result (λ e. RefusesRecord self.old change.now e self.new) }
     {
         match self.keep(change) {

@@ -1,9 +1,11 @@
 //! One call on a peer, by its value.
 
 ghost use Rattle.std.specs.Prelude.{◌≡◌, false};
-ghost use Rattle.tp_peer.specs.Calls.{call_in, call_of, fails, reply_of};
+ghost use Rattle.tp_peer.specs.Appending.{IsKept};
+ghost use Rattle.tp_peer.specs.Calls.{Owes, call_in, call_of, fails, reply_of};
 ghost use Rattle.tp_peer.specs.PeerData.{PeerData, peer_data};
 ghost use Rattle.tp_peer.specs.PeerStep.{PeerStep, Read, ReadAt, Runs};
+ghost use Rattle.tp_peer.specs.Taking.{journal_of};
 
 use crate::appender::Appender;
 use crate::call::{Call, Reply, Request};
@@ -22,6 +24,7 @@ use tp_opid::{Actor, Hash};
 pub(crate) fn read_on(document: &Document<PeerSequence>) -> Reply
     ensures text { (p : PeerData) → p.applied ≡ document.now.applied
         → Runs p Read (reply_of result) p }
+    ensures owes { Owes ⊥ (reply_of result) }
     ensures goes_on { fails (reply_of result) ≡ false }
 {
     match document.text() {
@@ -34,6 +37,7 @@ pub(crate) fn read_on(document: &Document<PeerSequence>) -> Reply
 pub(crate) fn read_at_on(document: &Document<PeerSequence>, hashes: &[Hash]) -> Reply
     ensures text { (p : PeerData) → p.applied ≡ document.now.applied
         → Runs p (ReadAt hashes.now) (reply_of result) p }
+    ensures owes { Owes ⊥ (reply_of result) }
     ensures goes_on { fails (reply_of result) ≡ false }
 {
     match document.text_at(hashes) {
@@ -51,7 +55,8 @@ fn call_on<J: Journal>(
     appender: &mut Appender<J>,
     call: Call,
 ) -> Reply
-    ensures { Runs (peer_data actor document.old links.old.known appender.old false) (call_of call.entry)
+    ensures settled { Owes (IsKept J.content J.device J.is_settled appender.new) (reply_of result) }
+    ensures runs { Runs (peer_data actor document.old links.old.known appender.old false) (call_of call.entry)
         (reply_of result)
         (peer_data actor document.new links.new.known appender.new (fails (reply_of result))) }
 {
@@ -89,7 +94,8 @@ fn answer_on<J: Journal>(
     appender: &mut Appender<J>,
     request: Request,
 ) -> Reply
-    ensures { Runs (peer_data actor document.old links.old.known appender.old false) (call_in request.entry)
+    ensures settled { Owes (IsKept J.content J.device J.is_settled appender.new) (reply_of result) }
+    ensures runs { Runs (peer_data actor document.old links.old.known appender.old false) (call_in request.entry)
         (reply_of result)
         (peer_data actor document.new links.new.known appender.new (fails (reply_of result))) }
 {
@@ -107,7 +113,9 @@ fn answer_on<J: Journal>(
 impl<J: Journal> Peer<J> {
     /// Does what is asked, as the method of its name does.
     pub fn answer(&mut self, request: Request) -> Reply
-        ensures { PeerStep self.old (call_in request.entry) (reply_of result) self.new }
+        ensures settled { Owes (IsKept J.content J.device J.is_settled (journal_of self.new))
+            (reply_of result) }
+        ensures step { PeerStep self.old (call_in request.entry) (reply_of result) self.new }
     {
         if self.stopped {
             return Reply::Refused(PeerError::Stopped);
@@ -126,7 +134,9 @@ impl<J: Journal> Peer<J> {
 
     /// Makes the call, as the method of its name does.
     pub fn call(&mut self, call: Call) -> Reply
-        ensures { PeerStep self.old (call_of call.entry) (reply_of result) self.new }
+        ensures settled { Owes (IsKept J.content J.device J.is_settled (journal_of self.new))
+            (reply_of result) }
+        ensures step { PeerStep self.old (call_of call.entry) (reply_of result) self.new }
     {
         self.answer(Request::Call(call))
     }

@@ -1,11 +1,12 @@
 //! Edits of a peer.
 
-ghost use Rattle.std.specs.Prelude.{◌≡◌, ℕ, List, ◌++◌, ◌∷◌, [], false, None, OnOk, OnErr, IfOk, IfErr};
+ghost use Rattle.std.specs.Prelude.{◌≡◌, ℕ, List, ◌++◌, ◌∷◌, [], false, None, OnOk, OnErr, IfOk, IfErr, IfSome};
 ghost use Rattle.tp_peer.specs.Common.{chars, hash_of, cause, SyncParts};
 ghost use Rattle.tp_document.specs.Editing.{DoesSplices};
-ghost use Rattle.tp_peer.specs.Appending.{AppendsRecord, RefusesRecord};
-ghost use Rattle.tp_peer.specs.Calls.{fails, reply_of};
+ghost use Rattle.tp_peer.specs.Appending.{AppendsRecord, IsKept, RefusesRecord};
+ghost use Rattle.tp_peer.specs.Calls.{Owes, fails, reply_of};
 ghost use Rattle.tp_peer.specs.PeerData.{peer_data};
+ghost use Rattle.tp_peer.specs.Taking.{journal_of};
 ghost use Rattle.tp_peer.specs.PeerStep.{PeerStep, Runs, Edit, Made, replied};
 
 use crate::appender::Appender;
@@ -19,8 +20,8 @@ use tp_edit::Splice;
 use tp_journal::Journal;
 use tp_opid::{Actor, Hash};
 
-// Appends the record of a change that can enter, settles the journal, and enters it. All that can fail comes before the append, and nothing
-// after it.
+// Appends the record of a change that can enter, settles the journal, and enters it. What can fail besides comes before the
+// append.
 fn append_and_enter<J: Journal>(
     document: &mut Document<PeerSequence>,
     appender: &mut Appender<J>,
@@ -30,6 +31,7 @@ fn append_and_enter<J: Journal>(
     ensures id { document.new.id ≡ document.old.id }
     ensures waiting { document.new.waiting ≡ document.old.waiting }
     ensures kept { OnOk result (AppendsRecord appender.old change appender.new) }
+    ensures settled { OnOk result (IsKept J.content J.device J.is_settled appender.new) }
     ensures hash { IfOk result (λ h. h ≡ hash_of change) }
     ensures applied { OnOk result (document.new.applied ≡ document.old.applied ++ change ∷ []) }
     ensures err { IfErr result (λ e. RefusesRecord appender.old change e appender.new) }
@@ -57,7 +59,8 @@ pub(crate) fn edit_on<J: Journal>(
     time: u64,
     message: &str,
 ) -> Reply
-    ensures { (links : List (ℕ × SyncParts))
+    ensures settled { Owes (IsKept J.content J.device J.is_settled appender.new) (reply_of result) }
+    ensures runs { (links : List (ℕ × SyncParts))
         → Runs (peer_data actor document.old links appender.old false)
         (Edit splices.now time (chars message.now)) (reply_of result)
         (peer_data actor document.new links appender.new (fails (reply_of result))) }
@@ -90,6 +93,8 @@ impl<J: Journal> Peer<J> {
     ) -> Result<Option<Hash>, PeerError>
         ensures step { PeerStep self.old (Edit splices.now time (chars message.now))
             (replied Made result) self.new }
+        ensures settled { IfOk result (λ made. IfSome made
+            (λ _. IsKept J.content J.device J.is_settled (journal_of self.new))) }
         ensures text { IfOk result
             (λ _. DoesSplices self.old.applied self.new.applied splices.now) }
     {

@@ -1,8 +1,10 @@
 //! Opening a peer on a journal: anew, again, or as a fork.
 
-ghost use Rattle.std.specs.Prelude.{◌≡◌, ℕ, List, [], false, MatchBool, OnOk, IfOk, IfErr, IsOkUnless};
+ghost use Rattle.std.specs.Prelude.{◌≡◌, ◌⊎◌, ℕ, List, [], false, MatchBool, OnOk, IfOk, IfErr, IsOkUnless};
 ghost use Rattle.tp_journal.specs.Layout.{journal as journal_bytes};
 ghost use Rattle.tp_journal.specs.Recovery.{Recovers};
+ghost use Rattle.tp_journal.specs.Refusals.{IsRefusal};
+ghost use Rattle.tp_store.specs.declared.error.StoreError.TheVariants.{OutOfMemory as Lack};
 ghost use Rattle.tp_peer.specs.Actors.{has_actor as is_used};
 ghost use Rattle.tp_peer.specs.Appending.{journal_state};
 ghost use Rattle.tp_peer.specs.Opening.{IsUnused, NotBegun, NotCopied, Forks, NotForked, Reopens, NotReopened};
@@ -205,6 +207,40 @@ fn cut_to<J: Journal>(
     }
 }
 
+// What the journal's content recovered to, for a peer under the actor: its document. The journal is cut to what is kept of
+// it.
+fn cut_for<J: Journal>(
+    journal: &mut J,
+    recovered: Result<Recovered<PeerSequence>, StoreError>,
+    actor: &Actor,
+) -> Result<Document<PeerSequence>, PeerError>
+    requires recovers { IfOk recovered (λ r.
+        Recovers (J.content journal.old) r.document.id r.document.applied r.keep
+        × (r.document.waiting ≡ [])) }
+    requires refused { IfErr recovered
+        (λ e. (e ≡ Lack) ⊎ IsRefusal (J.content journal.old) e) }
+    ensures ok { IfOk result
+        (λ d. (keep : ℕ) × Recovers (J.content journal.old) d.id d.applied keep) }
+    ensures free { IfOk result (λ d. is_used d.applied actor.now ≡ false) }
+    ensures waiting { IfOk result (λ d. d.waiting ≡ []) }
+    ensures kept { IfOk result (λ d. J.content journal.new ≡ journal_bytes d.id d.applied) }
+    ensures quiet { OnOk result (J.device journal.new ≡ J.device journal.old) }
+    ensures err { IfErr result
+        (λ e. NotReopened (journal_state (J.content journal.old) (J.device journal.old)) actor.now
+        e (journal_state (J.content journal.new) (J.device journal.new))) }
+{
+    match recovered {
+        Ok(recovered) => match cut_to(journal, &recovered, actor) {
+            Ok(()) => Ok(recovered.document),
+            Err(error) => {
+                drop(recovered);
+                Err(error)
+            }
+        },
+        Err(error) => Err(PeerError::from(error)),
+    }
+}
+
 // The document of the journal, for a peer under the actor. The journal is cut to what is kept of it.
 fn recover_for<J: Journal>(
     alloc: Global,
@@ -225,16 +261,7 @@ fn recover_for<J: Journal>(
         Ok(bytes) => bytes,
         Err(error) => return Err(PeerError::from(error)),
     };
-    match recover(alloc, &bytes) {
-        Ok(recovered) => match cut_to(journal, &recovered, actor) {
-            Ok(()) => Ok(recovered.document),
-            Err(error) => {
-                drop(recovered);
-                Err(error)
-            }
-        },
-        Err(error) => Err(PeerError::from(error)),
-    }
+    cut_for(journal, recover(alloc, &bytes), actor)
 }
 
 /// Begins a journal in which no header was written with a document: its header and its records, which are appended at
@@ -314,6 +341,33 @@ impl<J: Journal> Peer<J> {
             u.error (journal_state (J.content u.journal) (J.device u.journal))) }
     {
         match recover_for(alloc, &mut journal, &actor) {
+            Ok(document) => Ok(Peer::new(alloc, journal, document, actor)),
+            Err(error) => Err(Unopened { journal, error }),
+        }
+    }
+
+    /// A peer as [`reopen`](Peer::reopen) gives it, by what the journal's content was recovered to already, as by
+    /// [`FileJournal::recovering`](tp_journal::FileJournal::recovering). The journal isn't read.
+    ///
+    /// It is refused as `reopen` refuses the journal, for the refusal that is passed too.
+    pub fn open_recovered(
+        alloc: Global,
+        mut journal: J,
+        recovered: Result<Recovered<PeerSequence>, StoreError>,
+        actor: Actor,
+    ) -> Result<Peer<J>, Unopened<J>>
+        requires recovers { IfOk recovered (λ r.
+            Recovers (J.content journal) r.document.id r.document.applied r.keep
+            × (r.document.waiting ≡ [])) }
+        requires refused { IfErr recovered
+            (λ e. (e ≡ Lack) ⊎ IsRefusal (J.content journal) e) }
+        ensures ok { IfOk result
+            (λ p. Reopens (journal_state (J.content journal) (J.device journal)) actor p) }
+        ensures err { IfErr result
+            (λ u. NotReopened (journal_state (J.content journal) (J.device journal)) actor
+            u.error (journal_state (J.content u.journal) (J.device u.journal))) }
+    {
+        match cut_for(&mut journal, recovered, &actor) {
             Ok(document) => Ok(Peer::new(alloc, journal, document, actor)),
             Err(error) => Err(Unopened { journal, error }),
         }

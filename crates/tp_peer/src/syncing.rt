@@ -1,13 +1,13 @@
 //! Messages from and to other peers, each on a link.
 
-ghost use Rattle.std.specs.Prelude.{◌≡◌, false, IfOk, IfErr};
+ghost use Rattle.std.specs.Prelude.{◌≡◌, false, IfOk, IfErr, OnOk};
 ghost use Rattle.tp_opid.specs.declared.actor.Actor.{Actor as ActorOf};
-ghost use Rattle.tp_peer.specs.Appending.{JournalState};
+ghost use Rattle.tp_peer.specs.Appending.{IsKept, JournalState};
 ghost use Rattle.tp_peer.specs.PeerData.{peer_data};
 ghost use Rattle.tp_peer.specs.PeerError.{is_failed};
 ghost use Rattle.tp_peer.specs.PeerStep.{PeerStep, Receive, Received as Reported, Generate, Generated, Forget, Forgotten, Hears, RefusesDecoding, RefusesReceive, Speaks, RefusesGenerate, replied};
 ghost use Rattle.tp_peer.specs.Sent.{sent_of};
-ghost use Rattle.tp_peer.specs.Taking.{report_of};
+ghost use Rattle.tp_peer.specs.Taking.{journal_of, report_of};
 ghost use Rattle.tp_sync.specs.Spelling.{message_spelling};
 
 use crate::appender::Appender;
@@ -135,6 +135,7 @@ pub(crate) fn generate_on<J: Journal>(
     appender: &mut Appender<J>,
     link: Link,
 ) -> Result<Option<Outgoing>, PeerError>
+    ensures settled { OnOk result (IsKept J.content J.device J.is_settled appender.new) }
     ensures ok { (actor : ActorOf) → IfOk result
         (λ sent. Speaks (peer_data actor document.now links.old.known appender.old false) link.0
         (sent_of sent) (peer_data actor document.now links.new.known appender.new false)) }
@@ -190,7 +191,9 @@ impl<J: Journal> Peer<J> {
     ///
     /// The cost is that of `generate`, of the bytes that are written, and of settling the journal.
     pub fn generate_bytes(&mut self, link: Link) -> Result<Option<Outgoing>, PeerError>
-        ensures { PeerStep self.old (Generate link.0)
+        ensures settled { OnOk result
+            (IsKept J.content J.device J.is_settled (journal_of self.new)) }
+        ensures step { PeerStep self.old (Generate link.0)
             (replied (λ sent. Generated (sent_of sent)) result) self.new }
     {
         self.call(Call::Generate { link }).into_generated()

@@ -1,8 +1,8 @@
 -- What the pieces of a sync frame make of a reader, and of the session that reads.
-use Rattle.std.proofs.Common.{◌≡◌, ◌⊎◌, inl, inr, ℕ, suc, zero, ◌+◌, ◌-◌, ◌<◌, ◌≤◌, List, [], ◌++◌, length, take, drop, Bool, false, true, Option, Some, None, Result, Ok, Err, refl, sym, ap, subst, ◌∙◌, append_assoc, append-nil, length-append, arith}
-use Rattle.std.specs.Prelude.{◌↔◌, IfOk, IsOkUnless, IsSome}
-use Rattle.std.proofs.lemmas.List.{drop-drop, drop_all, length-drop, take-append-drop}
-use Rattle.tp_codec.proofs.Fields.{AreBytes, AreBytes-append}
+use Rattle.std.proofs.Common.{◌≡◌, inl, inr, ℕ, ◌+◌, ◌-◌, ◌<◌, ◌≤◌, List, ◌++◌, length, take, drop, Option, Some, None, Result, Ok, Err, refl, sym, ap, subst, ◌∙◌, append_assoc, length-append, arith}
+use Rattle.std.specs.Prelude.{◌↔◌, IfOk, IsOkUnless}
+use Rattle.std.proofs.lemmas.List.{drop-drop, length-drop, take-append-drop}
+use Rattle.tp_codec.proofs.Fields.{AreBytes}
 use Rattle.tp_frame.specs.declared.frame.Frame.{Frame}
 use Rattle.tp_frame.specs.declared.frame.Frame.TheVariants.{Sync}
 use Rattle.tp_frame.specs.declared.parts.Part.TheVariants.{Begin, Piece, End, Whole}
@@ -14,7 +14,6 @@ use Rattle.tp_sync.specs.Message.{MessageParts}
 use Rattle.tp_sync.specs.Reading.{message_at}
 use Rattle.tp_sync.specs.ReaderState.{Answers, ReaderState, Takes, reads}
 use Rattle.tp_sync.specs.Spelling.{message_spelling}
-use Rattle.tp_sync.specs.Stages.{fault_of, is_whole}
 use Rattle.tp_sync.proofs.ShortLaws.{message_short}
 use Rattle.tp_sync.proofs.WholeMessage.{message_takes}
 use Rattle.tp_peer.specs.PeerError.{refusal_of_sync}
@@ -48,9 +47,6 @@ pub record ReadsOn (before : ReaderState) (piece : List ℕ) (at : ℕ) (now : R
   pub left : now.left + at ≡ before.left
   pub same : (rest : List ℕ) → reads before (piece ++ rest) ≡ reads now (drop at piece ++ rest)
 
-pub reads_begin : (s : ReaderState) (piece : List ℕ) → ReadsOn s piece 0 s
-reads_begin s piece = record { few = omega arith; left = omega arith; same = λ rest. refl }
-
 pub reads_step : (before now then : ReaderState) (piece rest_of : List ℕ) (at count : ℕ) → rest_of ≡ drop at piece → ReadsOn before piece at now → Takes now rest_of count then → ReadsOn before piece (at + count) then
 reads_step before now then piece rest_of at count is on takes =
     let size : length rest_of ≡ length piece - at = ap length is ∙ length-drop at piece in
@@ -65,29 +61,6 @@ reads_step before now then piece rest_of at count is on takes =
           ∙ takes.same (drop count rest_of ++ rest)
           ∙ ap (λ (l : List ℕ). reads then (l ++ rest)) behind;
     }
-
--- a call takes some bytes where there are some, of a message that isn't whole
-pub takes_some : (s t : ReaderState) (piece : List ℕ) (count : ℕ) → Takes s piece count t → 0 < length piece → is_whole s.stage ≡ false → t.left < s.left
-takes_some s t piece count takes more not_whole = go count takes.left takes.some where
-  never : is_whole s.stage ≡ true → ⊥
-  never w = let e : (let b : Bool = true in b) ≡ false = sym w ∙ not_whole in cc
-
-  go : (n : ℕ) → t.left + n ≡ s.left → (n ≡ 0 → (piece ≡ []) ⊎ (s.left ≡ 0)) → t.left < s.left
-  go zero left some = elim (some refl) [
-    | inl none ↦ absurd (let e : length piece ≡ 0 = ap length none in omega arith)
-    | inr none ↦ absurd (never (takes.whole none))
-  ]
-  go (suc n) left some = omega arith
-
--- all of the piece was taken
-pub reads_all : (before now : ReaderState) (piece : List ℕ) (at : ℕ) (frame : Opened) → AreBytes piece → ReadsOn before piece at now → (length piece ≤ at) ⊎ (now.left ≡ 0) → Reads frame (Ok before)
-    → length (frame.given ++ piece) ≤ frame.len → Reads (and_given frame piece) (Ok now)
-reads_all before now piece at frame fits on end r few =
-    let size : length (frame.given ++ piece) ≡ length frame.given + length piece = length-append frame.given piece in
-    let all : length piece ≤ at = elim end [ inl le ↦ le | inr none ↦ omega (arith, none, on.left, r.0, size, few) ] in
-    let same : (rest : List ℕ) → message_at ((frame.given ++ piece) ++ rest) ≡ reads now rest = λ rest.
-    ap message_at (append_assoc frame.given piece rest) ∙ r.2 (piece ++ rest) ∙ on.same rest ∙ ap (λ (l : List ℕ). reads now (l ++ rest)) (drop_all at piece all) in
-    (omega (arith, on.left, on.few, all, r.0, size), AreBytes-append frame.given piece r.1 fits, same)
 
 -- some of it is refused
 pub reads_refused : (before now then : ReaderState) (piece rest_of : List ℕ) (at : ℕ) (frame : Opened) (e : SyncError) → rest_of ≡ drop at piece → ReadsOn before piece at now → Answers now rest_of (Err e) then → Reads frame (Ok before)
@@ -105,37 +78,6 @@ reads_refused before now then piece rest_of at frame e is on a r = λ more len.
 
 -- ---- its end
 
-none_left : (s : ReaderState) (frame : Opened) → Reads frame (Ok s) → length frame.given ≡ frame.len → s.left ≡ 0
-none_left s frame r all = omega (arith, r.0, all)
-
-all_read : (s : ReaderState) (frame : Opened) → Reads frame (Ok s) → message_at frame.given ≡ reads s []
-all_read s frame r = ap message_at (sym (append-nil frame.given)) ∙ r.2 []
-
-pub reads_end : (s : ReaderState) (frame : Opened) (m : MessageParts) → Reads frame (Ok s) → reads s [] ≡ Ok m → message_at frame.given ≡ Ok m
-reads_end s frame m r is = all_read s frame r ∙ is
-
-take_none : (n : ℕ) → n ≤ 0 → take n (let l : List ℕ = [] in l) ++ [] ≡ []
-take_none zero h = refl
-take_none (suc n) h = absurd (omega arith)
-
-pub ends_refused : (s t : ReaderState) (frame : Opened) (e : SyncError) → Answers s [] (Err e) t → Reads frame (Ok s) → length frame.given ≡ frame.len → FailsWith e (message_at frame.given)
-ends_refused s t frame OutOfMemory a r all = tt
-ends_refused s t frame e a r all =
-    let none = none_left s frame r all in
-    let few : a.count ≤ 0 = a.few in
-    all_read s frame r ∙ ap (reads s) (sym (take_none a.count few)) ∙ a.every [] (omega (arith, a.left, none))
-
--- A message that isn't whole once all its bytes were taken is refused again.
-pub not_open : {A : Type 0} (s : ReaderState) (frame : Opened) (r : Result ℕ SyncError) (count : ℕ) → Reads frame (Ok s) → length frame.given ≡ frame.len → is_whole s.stage ≡ false
-    → (s.left ≡ 0 → (is_whole s.stage ≡ true) ⊎ IsSome (fault_of s.stage)) → ((e : SyncError) → fault_of s.stage ≡ Some e → r ≡ Err e) → r ≡ Ok count → A
-not_open s frame r count reads_so all not_whole ended again is = elim (ended (none_left s frame reads_so all)) [
-  | inl whole ↦ let e : (let b : Bool = true in b) ≡ false = sym whole ∙ not_whole in absurd cc
-  | inr fault ↦ faulty (fault_of s.stage) refl fault
-] where
-  faulty : {A : Type 0} (x : Option SyncError) → fault_of s.stage ≡ x → IsSome x → A
-  faulty (Some e) at some = let k : (let q : Result ℕ SyncError = Ok count in q) ≡ Err e = sym is ∙ again e at in absurd cc
-  faulty None at some = absurd cc
-
 -- ---- the session
 
 -- the reader that is taken out of a session is the one that reads its frame
@@ -149,9 +91,6 @@ taken s now frame reader is at =
 pub idle_now : (s now : SessionData) (frame : Opened) (inside : SessionData) (left : Option ReaderState) → IsReading s frame now → inside ≡ now → left ≡ None → record inside { reading = left } ≡ s
 idle_now s now frame inside left is view taken =
     ap (λ (x : Option ReaderState). record inside { reading = x }) taken ∙ ap (λ (q : SessionData). record q { reading = None }) view ∙ sym is.began
-
-pub none_taken : {A : Type 0} (s now : SessionData) (frame : Opened) → IsReading s frame now → now.reading ≡ None → A
-none_taken s now frame is none = let e : (let x : Option ReaderState = None in x) ≡ Some is.reader = sym none ∙ is.reading in absurd cc
 
 -- a session that ends for an error
 abbrev ends : NetError → Option Frame → Result Turn Ended

@@ -12,7 +12,7 @@ use Rattle.tp_shell.specs.declared.error.ShellError.TheVariants.{BadHex, Job as 
 use Rattle.tp_shell.specs.declared.job.FileJob.{FileJob}
 use Rattle.tp_shell.specs.declared.job.FileJob.TheVariants.{New, Edit, Text, Heads, Log, Graph, Cursor, Merge, Save, Load, Show, Simulate}
 use Rattle.tp_shell.specs.declared.job.Job.{Job}
-use Rattle.tp_shell.specs.declared.job.Job.TheVariants.{Files, Serve, Sync}
+use Rattle.tp_shell.specs.declared.job.Job.TheVariants.{Files, Serve, Session, Sync}
 
 -- The job is what the command asks for: its texts are the command's, and its hashes, its key and its address are what the
 -- command's texts spell.
@@ -32,6 +32,7 @@ IsJobOf (asked.Show log) (Files (Show log')) = log' ≡ log
 IsJobOf (asked.Simulate script) (Files (Simulate script')) = script' ≡ script
 IsJobOf (asked.Serve file addr sessions workers key) (Serve file' addr' sessions' workers' key') =
     (file' ≡ file) × IsSocketText addr.now addr' × (sessions' ≡ sessions) × (workers' ≡ workers) × IsKeyOf key key'
+IsJobOf (asked.Session file is_client key) (Session file' is_client' key') = (file' ≡ file) × (is_client' ≡ is_client) × IsKeyOf key key'
 IsJobOf (asked.Sync file addr key) (Sync file' addr' key') = (file' ≡ file) × IsSocketText addr.now addr' × IsKeyOf key key'
 IsJobOf command job = ⊥
 
@@ -43,6 +44,7 @@ hash_texts (asked.Text file heads) = heads.items
 hash_texts (asked.Cursor file at heads) = heads.items
 hash_texts (asked.Merge file other key) = key_texts key
 hash_texts (asked.Serve file addr sessions workers key) = key_texts key
+hash_texts (asked.Session file is_client key) = key_texts key
 hash_texts (asked.Sync file addr key) = key_texts key
 hash_texts command = []
 

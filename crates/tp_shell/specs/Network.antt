@@ -1,6 +1,9 @@
 -- What the commands over a network print.
 use Rattle.std.specs.Prelude.{◌≡◌, ℕ, List, ◌++◌, codes}
 use Rattle.std.specs.Fmt.{decimal}
+use Rattle.std.specs.List.{flat_map}
+use Rattle.tp_frame.specs.declared.frame.Frame.{Frame}
+use Rattle.tp_frame.specs.Frame.{spelling}
 use Rattle.tp_commands.specs.Reading.{line}
 
 -- the line of the port on which a server listens
@@ -22,3 +25,7 @@ IsServed sessions printed = (port : ℕ) × (printed ≡ listening_line port ++ 
 -- the bytes are what a client prints: how many changes entered
 abbrev pub IsSynced : List ℕ → Type 0
 IsSynced printed = (applied : ℕ) × (printed ≡ applied_line applied)
+
+-- the bytes are frames, each whole
+abbrev pub AreFrames : List ℕ → Type 0
+AreFrames printed = (sent : List Frame) × (printed ≡ flat_map spelling sent)

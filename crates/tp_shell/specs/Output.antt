@@ -1,5 +1,5 @@
 -- What is printed of a job, where it was done and where it was refused.
-use Rattle.std.specs.Prelude.{◌≡◌, ◌⊎◌, ℕ, List, [], Option}
+use Rattle.std.specs.Prelude.{◌≡◌, ◌⊎◌, ℕ, List, [], Option, Some, None}
 use Rattle.std.specs.Io.KnownBytes.{Appends, Keeps}
 use Rattle.std.specs.Str.{chars}
 use Rattle.tp_simulate.specs.Script.{IsPrinted as IsScriptPrinted, PrintsPart, StopsAt}
@@ -15,11 +15,11 @@ use Rattle.tp_shell.specs.declared.error.ShellError.TheVariants.{Job as Refused}
 use Rattle.tp_shell.specs.declared.job.FileJob.{FileJob}
 use Rattle.tp_shell.specs.declared.job.FileJob.TheVariants.{New, Edit, Text, Heads, Log, Graph, Cursor, Merge, Save, Load, Show, Simulate}
 use Rattle.tp_shell.specs.declared.job.Job.{Job}
-use Rattle.tp_shell.specs.declared.job.Job.TheVariants.{Files, Serve, Sync}
+use Rattle.tp_shell.specs.declared.job.Job.TheVariants.{Files, Serve, Session, Sync}
 use Rattle.tp_shell.specs.Files.{ChangesFile, IsLoaded, OfFile, SavesTo}
 use Rattle.tp_shell.specs.Lines.{IsEditLine, IsMergeLine, IsNewLine}
 use Rattle.tp_shell.specs.Names.{refusal_text}
-use Rattle.tp_shell.specs.Network.{IsServed, IsSynced}
+use Rattle.tp_shell.specs.Network.{AreFrames, IsServed, IsSynced, applied_line}
 use Rattle.tp_shell.specs.ShellError.{failed, no_memory}
 
 -- the bytes are the text of a log, and a newline
@@ -48,11 +48,19 @@ IsFilesPrinted reads takes leaves (Show log) printed = IsShown printed
 IsFilesPrinted reads takes leaves (Simulate script) printed = IsScriptPrinted printed
 
 -- The bytes are what is printed of the job where it was done: of `serve` the port and how many sessions were held; of `sync`
--- how many changes entered.
+-- how many changes entered; of `session` the frames of its side.
 abbrev pub IsPrinted : (List ℕ → List ℕ → Type 0) → (List ℕ → List ℕ → Type 0) → (List ℕ → List ℕ → Type 0) → Job → List ℕ → Type 0
 IsPrinted reads takes leaves (Files job) printed = IsFilesPrinted reads takes leaves job printed
 IsPrinted reads takes leaves (Serve file addr sessions workers key) printed = IsServed sessions printed
+IsPrinted reads takes leaves (Session file is_client key) printed = AreFrames printed
 IsPrinted reads takes leaves (Sync file addr key) printed = IsSynced printed
+
+-- What is told of the job where it was done, beside what is printed: of `session` how many changes entered.
+abbrev pub Tells : Job → Option ℕ → Type 0
+Tells (Files job) told = told ≡ None
+Tells (Serve file addr sessions workers key) told = told ≡ None
+Tells (Session file is_client key) told = (applied : ℕ) × (told ≡ Some applied)
+Tells (Sync file addr key) told = told ≡ None
 
 -- What the writer holds grew by bytes of which P holds.
 abbrev pub Grows : (List ℕ → Type 0) → Option (List ℕ) → Option (List ℕ) → Type 0
@@ -61,6 +69,12 @@ Grows P before after = (printed : List ℕ) × P printed × Appends before after
 -- What the writer holds grew by a beginning of bytes of which P holds.
 abbrev pub GrowsPart : (List ℕ → Type 0) → Option (List ℕ) → Option (List ℕ) → Type 0
 GrowsPart P before after = (printed : List ℕ) × P printed × AppendsPart before after printed
+
+-- What the error stream holds of what is told: nothing more, or the line of how many changes entered, or a beginning of it
+-- where writing it failed.
+abbrev pub Reports : Option ℕ → Option (List ℕ) → Option (List ℕ) → Type 0
+Reports None before after = Keeps before after
+Reports (Some applied) before after = AppendsPart before after (applied_line applied)
 
 -- What the output holds after a refusal: what it held, or where the output itself failed a beginning of what is printed.
 abbrev pub Leaves : (List ℕ → Type 0) → JobError → Option (List ℕ) → Option (List ℕ) → Type 0
@@ -77,10 +91,12 @@ abbrev pub LeavesFiles : (List ℕ → List ℕ → Type 0) → (List ℕ → Li
 LeavesFiles reads takes leaves (Simulate script) e before after = LeavesScript e before after
 LeavesFiles reads takes leaves job e before after = Leaves (IsFilesPrinted reads takes leaves job) e before after
 
--- What the output holds after the refusal of a job. A server prints its port once it listens.
+-- What the output holds after the refusal of a job. A server prints its port once it listens. A session has written frames,
+-- the last of which may have been cut where the output failed.
 abbrev pub LeavesOf : (List ℕ → List ℕ → Type 0) → (List ℕ → List ℕ → Type 0) → (List ℕ → List ℕ → Type 0) → Job → JobError → Option (List ℕ) → Option (List ℕ) → Type 0
 LeavesOf reads takes leaves (Files job) e before after = LeavesFiles reads takes leaves job e before after
 LeavesOf reads takes leaves (Serve file addr sessions workers key) e before after = Keeps before after ⊎ GrowsPart (IsServed sessions) before after
+LeavesOf reads takes leaves (Session file is_client key) e before after = Keeps before after ⊎ ((e ≡ failed) ⊎ Grows AreFrames before after)
 LeavesOf reads takes leaves (Sync file addr key) e before after = Leaves IsSynced e before after
 
 -- The bytes are the line of the refusal; or of `OutOfMemory`, where there was no memory for that line.

@@ -1,13 +1,17 @@
 //! The files that commands read and write.
 
-ghost use Rattle.std.specs.Prelude.{◌≡◌, ℕ, List, IfOk, OnOk};
+ghost use Rattle.std.specs.Prelude.{◌≡◌, ◌⊎◌, ℕ, List, [], IfOk, IfErr, OnOk};
+ghost use Rattle.tp_journal.specs.Recovery.{Recovers};
+ghost use Rattle.tp_journal.specs.Refusals.{IsRefusal};
+ghost use Rattle.tp_store.specs.declared.error.StoreError.TheVariants.{OutOfMemory as Lack};
 
-use std::fs;
 use std::fs::OpenFile;
 use std::io::{Read, Seek, Write};
 use std::rt::Files;
-use tp_commands::CommandError;
-use tp_journal::{DurableJournal, FileJournal, Lockable};
+use std::{fs, io};
+use tp_commands::{CommandError, Recovery};
+use tp_journal::{DurableJournal, FileJournal, Lockable, Recovering};
+use tp_peer::PeerSequence;
 
 /// Files at paths, as commands meet them.
 ///
@@ -34,14 +38,38 @@ pub trait Disk {
     fn read(&self, path: &str) -> Result<Vec<u8>, CommandError>
         ensures { IfOk result (λ bytes. reads self.now path.now bytes.items) };
 
+    /// The same of a journal, which is recovered while its bytes are read.
+    fn recover(&self, path: &str) -> Result<Recovering<PeerSequence>, CommandError>
+        ensures { IfOk result (λ journal. reads self.now path.now journal) };
+
     /// The journal in a file, which has the file's lock until it ends. An absent file is made where `make` is true. Where
     /// another has the lock it is refused as `Busy`.
     fn journal(&self, path: &str, make: bool) -> Result<FileJournal<Self::File>, CommandError>
         ensures { IfOk result (λ j. takes self.now path.now j.content) };
 
-    /// The same, each append of which is brought to the disk. An absent file is refused.
-    fn durable_journal(&self, path: &str) -> Result<DurableJournal<Self::File>, CommandError>
-        ensures { IfOk result (λ j. takes self.now path.now j.file.content) };
+    /// The same, with what its content recovers to, of which it holds no copy. An absent file is refused.
+    fn recovered_journal(
+        &self,
+        path: &str,
+    ) -> Result<(FileJournal<Self::File>, Recovery), CommandError>
+        ensures taken { IfOk result (λ opened. takes self.now path.now opened.0.content) }
+        ensures recovers { IfOk result (λ opened. IfOk opened.1 (λ r.
+            Recovers opened.0.content r.document.id r.document.applied r.keep
+            × (r.document.waiting ≡ []))) }
+        ensures refused { IfOk result (λ opened. IfErr opened.1
+            (λ e. (e ≡ Lack) ⊎ IsRefusal opened.0.content e)) };
+
+    /// The same, all of which is brought to the disk before what is told of it.
+    fn durable_journal(
+        &self,
+        path: &str,
+    ) -> Result<(DurableJournal<Self::File>, Recovery), CommandError>
+        ensures taken { IfOk result (λ opened. takes self.now path.now opened.0.file.content) }
+        ensures recovers { IfOk result (λ opened. IfOk opened.1 (λ r.
+            Recovers opened.0.file.content r.document.id r.document.applied r.keep
+            × (r.document.waiting ≡ []))) }
+        ensures refused { IfOk result (λ opened. IfErr opened.1
+            (λ e. (e ≡ Lack) ⊎ IsRefusal opened.0.file.content e)) };
 
     /// Brings to the disk what was written to a journal that was taken from the path. Its content stays.
     fn sync(&self, path: &str, journal: &mut FileJournal<Self::File>) -> Result<(), CommandError>
@@ -123,12 +151,34 @@ where
         Ok(fs::read(self, path)?)
     }
 
+    fn recover(&self, path: &str) -> Result<Recovering<PeerSequence>, CommandError> {
+        let mut file = fs::open(self, path)?;
+        let mut journal = Recovering::new(self.alloc());
+        match io::copy(&mut file, &mut journal) {
+            Ok(_) => Ok(journal),
+            Err(error) => {
+                drop(journal);
+                Err(CommandError::from(error))
+            }
+        }
+    }
+
     fn journal(&self, path: &str, make: bool) -> Result<FileJournal<R::File>, CommandError> {
         Ok(FileJournal::at(self, self.alloc(), path, make)?)
     }
 
-    fn durable_journal(&self, path: &str) -> Result<DurableJournal<R::File>, CommandError> {
-        Ok(DurableJournal::at(self, self.alloc(), path, false)?)
+    fn recovered_journal(
+        &self,
+        path: &str,
+    ) -> Result<(FileJournal<R::File>, Recovery), CommandError> {
+        Ok(FileJournal::recovering(self, self.alloc(), path, false)?)
+    }
+
+    fn durable_journal(
+        &self,
+        path: &str,
+    ) -> Result<(DurableJournal<R::File>, Recovery), CommandError> {
+        Ok(DurableJournal::recovering(self, self.alloc(), path, false)?)
     }
 
     fn sync(&self, _path: &str, journal: &mut FileJournal<R::File>) -> Result<(), CommandError> {

@@ -119,6 +119,15 @@ pub enum Job<'a> {
         /// The key.
         key: Option<[u8; 32]>,
     },
+    /// Holds one session over the standard input and output.
+    Session {
+        /// The path of the journal.
+        file: &'a str,
+        /// Whether it is the client's side of the session, and not the server's.
+        is_client: bool,
+        /// The key.
+        key: Option<[u8; 32]>,
+    },
     /// Exchanges changes with a server, once.
     Sync {
         /// The path of the journal.
@@ -198,6 +207,15 @@ pub fn job_of<'a>(alloc: Global, command: Command<'a>) -> Result<Job<'a>, ShellE
                 key,
             })
         }
+        Command::Session {
+            file,
+            is_client,
+            key,
+        } => Ok(Job::Session {
+            file,
+            is_client,
+            key: key_in(key)?,
+        }),
         Command::Sync { file, addr, key } => {
             let key = key_in(key)?;
             Ok(Job::Sync {

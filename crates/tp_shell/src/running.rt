@@ -178,28 +178,28 @@ fn text<D: Disk + AllocGlobal>(rt: &D, file: &str, heads: &[Hash]) -> Result<Str
     ensures { IfOk result (λ l. OfFile (D.reads rt.now) file.now
         (λ journal. IsTextLine journal heads.now (string_bytes l))) }
 {
-    text_line(rt.alloc(), &rt.read(file)?, heads)
+    text_line(rt.alloc(), rt.recover(file)?, heads)
 }
 
 fn heads<D: Disk + AllocGlobal>(rt: &D, file: &str) -> Result<String, CommandError>
     ensures { IfOk result (λ l. OfFile (D.reads rt.now) file.now
         (λ journal. AreHeadLines journal (string_bytes l))) }
 {
-    head_lines(rt.alloc(), &rt.read(file)?)
+    head_lines(rt.alloc(), rt.recover(file)?)
 }
 
 fn log<D: Disk + AllocGlobal>(rt: &D, file: &str) -> Result<String, CommandError>
     ensures { IfOk result (λ l. OfFile (D.reads rt.now) file.now
         (λ journal. AreChangeLines journal (string_bytes l))) }
 {
-    log_lines(rt.alloc(), &rt.read(file)?)
+    log_lines(rt.alloc(), rt.recover(file)?)
 }
 
 fn graph<D: Disk + AllocGlobal>(rt: &D, file: &str) -> Result<String, CommandError>
     ensures { IfOk result (λ l. OfFile (D.reads rt.now) file.now
         (λ journal. IsChangeGraph journal (string_bytes l))) }
 {
-    graph_lines(rt.alloc(), &rt.read(file)?)
+    graph_lines(rt.alloc(), rt.recover(file)?)
 }
 
 fn cursor<D: Disk + AllocGlobal>(
@@ -211,7 +211,7 @@ fn cursor<D: Disk + AllocGlobal>(
     ensures { IfOk result (λ l. OfFile (D.reads rt.now) file.now
         (λ journal. IsCursorLine journal at heads.now (string_bytes l))) }
 {
-    cursor_line(rt.alloc(), &rt.read(file)?, at, heads)
+    cursor_line(rt.alloc(), rt.recover(file)?, at, heads)
 }
 
 // The document identifier and then the actor are drawn.
@@ -245,8 +245,8 @@ fn edited<D: Disk + AllocGlobal>(
         (string_bytes l))) }
 {
     let actor = draw_actor(rt, key)?;
-    let journal = rt.journal(file, false)?;
-    let (mut journal, made) = edit(rt.alloc(), journal, actor, splice, time, message)?;
+    let opened = rt.recovered_journal(file)?;
+    let (mut journal, made) = edit(rt.alloc(), opened, actor, splice, time, message)?;
     rt.sync(file, &mut journal)?;
     made_line(rt.alloc(), made)
 }
@@ -274,7 +274,8 @@ fn merged<D: Disk + AllocGlobal>(
     let mut generator = generator(rt, key)?;
     let actor = draw(&mut generator);
     let other_actor = draw(&mut generator);
-    let peer = reopen(rt.alloc(), rt.journal(file, false)?, actor)?;
+    let opened = rt.recovered_journal(file)?;
+    let peer = reopen(rt.alloc(), opened, actor)?;
     match rt.read(other) {
         Ok(bytes) => {
             let (mut journal, count) = merge(rt.alloc(), peer, bytes, other_actor)?;
@@ -293,7 +294,7 @@ fn save_to<D: Disk + AllocGlobal>(rt: &D, file: &str, out: &str) -> Result<Strin
     ensures saved { OnOk result (OfFile (D.reads rt.now) file.now
         (λ journal. SavesTo (D.leaves rt.now) out.now journal)) }
 {
-    let bytes = saved(rt.alloc(), &rt.read(file)?)?;
+    let bytes = saved(rt.alloc(), rt.recover(file)?)?;
     rt.replace(out, &bytes)?;
     Ok(String::new(rt.alloc()))
 }

@@ -4,7 +4,7 @@ use crate::saved::journal_of;
 use crate::world::World;
 use std::alloc::Global;
 use tp_document::Document;
-use tp_journal::{Recovered, recover};
+use tp_journal::{Recovered, Recovering, recover};
 use tp_rga::Sequence;
 use tp_store::{StoreError, load, save};
 use tp_test_runner::{Fault, Judge, of_complements, of_cuts, refusal, text_of};
@@ -71,11 +71,37 @@ fn kept_again<S: Sequence>(
     Ok(out)
 }
 
-fn recovered<S: Sequence>(alloc: Global, bytes: &[u8]) -> Result<String, Fault> {
-    match recover::<S>(alloc, bytes) {
+// What was recovered of the bytes, or why it wasn't.
+fn told<S: Sequence>(
+    alloc: Global,
+    recovered: Result<Recovered<S>, StoreError>,
+    bytes: &[u8],
+) -> Result<String, Fault> {
+    match recovered {
         Ok(recovered) => kept_again(alloc, &recovered, bytes),
         Err(error) => refused(alloc, error),
     }
+}
+
+// The same where they come in pieces of so many bytes.
+fn recovered_by<S: Sequence>(alloc: Global, bytes: &[u8], size: usize) -> Result<String, Fault> {
+    let mut recovering = Recovering::<S>::new(alloc);
+    for piece in bytes.chunks(size) {
+        recovering.feed(piece);
+    }
+    told(alloc, recovering.finish(), bytes)
+}
+
+// What the bytes recover to, which is the same where they come in pieces.
+fn recovered<S: Sequence>(alloc: Global, bytes: &[u8]) -> Result<String, Fault> {
+    let whole = told(alloc, recover::<S>(alloc, bytes), bytes)?;
+    for size in [1, 7, 64] {
+        let pieces = recovered_by::<S>(alloc, bytes, size)?;
+        if pieces.as_str() != whole.as_str() {
+            return Ok(format!(in alloc; "{pieces} in pieces of {size}")?);
+        }
+    }
+    Ok(whole)
 }
 
 impl<S: Sequence> Judge for Restorer<'_, S> {
@@ -90,7 +116,8 @@ impl<S: Sequence> Judge for Restorer<'_, S> {
 
 /// Makes a call `WORD BYTES` that changes nothing.
 ///
-/// `load`, `recover`: the text that the bytes give, and how many bytes of a journal are kept; or the refusal.
+/// `load`, `recover`: the text that the bytes give, and how many bytes of a journal are kept; or the refusal. A journal is
+/// recovered whole and in pieces of 1, 7 and 64 bytes.
 /// `load_cuts`, `recover_cuts`: the same of each prefix; `load_complements`, `recover_complements`: with each byte
 /// complemented. `len`: how many bytes there are.
 pub fn look<S: Sequence>(world: &World<S>, word: &str, whole: &[u8]) -> Result<String, Fault> {

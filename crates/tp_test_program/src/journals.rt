@@ -6,7 +6,9 @@ use std::alloc::{AllocError, Global};
 use std::fs::{File, OpenFile};
 use std::io::Write;
 use std::rt::Files;
+use tp_commands::Recovery;
 use tp_journal::{FileJournal, Journal, JournalError, Lockable, MemJournal, OpenError};
+use tp_store::StoreError;
 use tp_test_runner::{Fault, Words, bytes, number};
 
 /// A call on a journal.
@@ -149,6 +151,47 @@ where
     }
 }
 
+// Opens the file as a journal that holds no copy of its content.
+fn opened<R: Files + AllocGlobal>(
+    rt: &R,
+    path: &str,
+) -> Result<(FileJournal<R::File>, Recovery), OpenError>
+where
+    R::File: Lockable,
+{
+    FileJournal::recovering(rt, rt.alloc(), path, false)
+}
+
+// How many bytes are kept of what was recovered, or why it wasn't.
+fn kept(alloc: Global, recovered: Recovery) -> Result<String, Stop> {
+    match recovered {
+        Ok(recovered) => Ok(format!(in alloc; "keep {}", recovered.keep)?),
+        Err(StoreError::OutOfMemory) => Err(Stop::Refused),
+        Err(error) => Ok(format!(in alloc; "{error}")?),
+    }
+}
+
+// What the file recovers to, and the answers of the calls.
+fn recovered_in_file<R: Files + AllocGlobal>(
+    rt: &R,
+    path: &str,
+    calls: &[JournalCall],
+) -> Result<String, Stop>
+where
+    R::File: Lockable,
+{
+    let alloc = rt.alloc();
+    match opened(rt, path) {
+        Ok((mut journal, recovered)) => {
+            let mut out = kept(alloc, recovered)?;
+            put(&mut out, answers_in_file(alloc, &mut journal, calls)?)?;
+            Ok(out)
+        }
+        Err(OpenError::OutOfMemory) => Err(Stop::Refused),
+        Err(error) => Ok(format!(in alloc; "{error}")?),
+    }
+}
+
 fn limit(words: &mut Words, key: &str) -> Result<Budget, Fault> {
     match words.option(key) {
         Some(word) => Ok(Budget::new(number(word)?)),
@@ -171,6 +214,20 @@ fn journal<R: Files<File = File> + AllocGlobal>(
     Ok(in_file(&host, path, make, &calls)?)
 }
 
+// `journal_recovered NAME [device=N] [takes=N] CALL..`: the same on the file as a journal that holds no copy, behind how many
+// of its bytes are kept.
+fn journal_recovered<R: Files<File = File> + AllocGlobal>(
+    rt: &R,
+    words: &mut Words,
+) -> Result<String, Fault> {
+    let path = words.next()?;
+    let device = limit(words, "device")?;
+    let room = limit(words, "takes")?;
+    let calls = calls_in(rt.alloc(), words.left())?;
+    let host = Host::new(rt, &device, &room)?;
+    Ok(recovered_in_file(&host, path, &calls)?)
+}
+
 // `journal_in_memory CALL..`: the calls on a journal in memory, and the bytes that it has at its end.
 fn in_memory(alloc: Global, calls: &[String]) -> Result<String, Fault> {
     let mut journal = MemJournal::new(Vec::new(alloc));
@@ -190,6 +247,7 @@ pub fn call<R: Files<File = File> + AllocGlobal>(
 ) -> Option<Result<String, Fault>> {
     match word {
         "journal" => Some(journal(rt, words)),
+        "journal_recovered" => Some(journal_recovered(rt, words)),
         "journal_in_memory" => Some(in_memory(rt.alloc(), words.left())),
         _ => None,
     }

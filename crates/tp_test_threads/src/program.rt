@@ -2,7 +2,8 @@
 
 use crate::disk::{Disk as Device, OverDisk};
 use crate::runs::{
-    Place, Ran, all_read, begin, copy_all, insert, serve, sync, sync_beside_silence, sync_once,
+    Place, Ran, all_read, begin, copy_all, hold_session, insert, serve, sync, sync_beside_silence,
+    sync_once,
 };
 use crate::strangers::{Answered, Pace, UNKNOWN, first_other};
 use std::net::{Net, SocketAddr};
@@ -115,6 +116,20 @@ fn a_silent_client_holds_one_worker(rt: HostRuntime) -> Result<(), Fail> {
     assert!(rt; gus.printed("applied 0\n"));
     assert!(rt; served.printed(place.printed(rt.alloc(), "served 2\n")?.as_str()));
     assert!(rt; all_read(&rt, &["fay", "gus"], "gus\n"));
+    Ok(())
+}
+
+// Lou and Max, each with a change, hold one session over their standard streams.
+#[test]
+fn a_session_over_the_standard_streams(rt: HostRuntime) -> Result<(), Fail> {
+    assert!(rt; begin(&rt, "lou", "Hello world", &["max"]));
+    assert!(rt; insert(&rt, "max", "5", ",").status == 0);
+    assert!(rt; insert(&rt, "max", "12", "!").status == 0);
+    assert!(rt; insert(&rt, "lou", "0", "> ").status == 0);
+    let (lou, max) = hold_session(&rt, "lou", "max")?;
+    assert!(rt; lou.ok_or("a connection")?.said("applied 2\n"));
+    assert!(rt; max.ok_or("a connection")?.said("applied 1\n"));
+    assert!(rt; all_read(&rt, &["lou", "max"], "> Hello, world!\n"));
     Ok(())
 }
 

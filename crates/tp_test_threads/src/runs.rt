@@ -3,7 +3,8 @@
 use crate::patience::Patience;
 use crate::strangers::{connected, is_silent_until};
 use std::alloc::Global;
-use std::net::{Ipv4Addr, Net, OpenListener, SocketAddr, TcpListener};
+use std::io::{Read, Write};
+use std::net::{Ipv4Addr, Net, OpenListener, OpenStream, SocketAddr, TcpListener, TcpStream};
 use std::sync::Wait;
 use std::sync::atomic::{AtomicBool, Ordering};
 use std::test::Fail;
@@ -32,6 +33,11 @@ impl Ran {
         self.status == 0 && self.out.as_slice() == text.as_bytes() && self.err.is_empty()
     }
 
+    /// Whether it was done, and said just this on the standard error.
+    pub fn said(&self, text: &str) -> bool {
+        self.status == 0 && self.err.as_slice() == text.as_bytes()
+    }
+
     /// Whether it was refused with just this line, and printed just this before.
     pub fn refused(&self, text: &str, line: &str) -> bool {
         self.status == 1
@@ -48,8 +54,48 @@ where
 {
     let mut out = Vec::new(rt.alloc());
     let mut err = Vec::new(rt.alloc());
-    let status = run_words_on(rt, words, &mut out, &mut err);
+    let status = run_words_on(rt, words, &mut b"".as_slice(), &mut out, &mut err);
     Ran { status, out, err }
+}
+
+/// A run with these words, whose standard input and output are the stream. What it wrote there isn't among what it left.
+pub fn run_over<
+    R: Disk + Net + Threads + Wait + AllocGlobal + Sync,
+    S: Read + Write + OpenStream + Drop,
+>(rt: &R, words: &[&str], stream: S) -> Option<Ran>
+where
+    R::File: Send,
+    R::Stream: Send,
+{
+    let mut input = stream;
+    let mut output = input.try_clone().ok()?;
+    let mut err = Vec::new(rt.alloc());
+    let status = run_words_on(rt, words, &mut input, &mut output, &mut err);
+    Some(Ran {
+        status,
+        out: Vec::new(rt.alloc()),
+        err,
+    })
+}
+
+/// The two sides of a session over one socket: the server's on the one file, and the client's on the other.
+pub fn hold_session<R: Disk + Net + Threads + Wait + AllocGlobal + Sync>(
+    rt: &R,
+    server: &str,
+    client: &str,
+) -> Result<(Option<Ran>, Option<Ran>), Fail>
+where
+    R::File: Send,
+    R::Stream: Send,
+{
+    let listener = TcpListener::bind(rt, SocketAddr::from((Ipv4Addr::LOCALHOST, 0)))?;
+    let near = TcpStream::connect(rt, listener.local_addr()?)?;
+    let (far, _) = listener.accept()?;
+    Ok(join(
+        rt,
+        || run_over(rt, &["textpeer", "session", server], far),
+        || run_over(rt, &["textpeer", "session", client, "--client"], near),
+    ))
 }
 
 /// Inserts the text at the place in the file's document.

@@ -11,7 +11,7 @@ pub use tp_edit::Splice;
 pub use tp_graph::GraphError;
 pub use tp_journal::{
     DurableJournal, FileJournal, Journal, JournalError, Lockable, MemJournal, OpenError, Recovered,
-    recover,
+    Recovering, recover,
 };
 pub use tp_opid::{Actor, DocId, Hash, HexError, OpId, Place};
 pub use tp_peer::{Link, Outgoing, Peer, PeerError, Received, Unopened, fresh_actor};

@@ -57,4 +57,4 @@ text_of-requires-in-sync-2 c = named_value (codes "sync") (codes "ADDR") c.in-sy
 pub unreachable-requires : goal.unreachable-requires
 unreachable-requires c =
     let d = c.in_default in
-    no_other_name _ _ c.requires d.not-new d.not-edit d.not-text d.not-heads d.not-log d.not-graph d.not-cursor d.not-merge d.not-save d.not-load d.not-show d.not-simulate d.not-serve d.not-sync
+    no_other_name _ _ c.requires d.not-new d.not-edit d.not-text d.not-heads d.not-log d.not-graph d.not-cursor d.not-merge d.not-save d.not-load d.not-show d.not-simulate d.not-serve d.not-sync d.not-session

@@ -1,4 +1,4 @@
-use Rattle.tp_graph.specs.Before.{AreSet}
+use Rattle.tp_graph.proofs.Common.{AreSet}
 use Rattle.tp_graph.proofs.before.mark_all.Given as goal
 
 abbrev pub invariant-loop-number : goal.invariant-loop-number

@@ -1,7 +1,4 @@
-use Rattle.std.proofs.Common.{◌≡◌, ◌+◌, ◌<◌, set, true, ◌∷◌, ◌++◌, [], length, ap, sym, ◌∙◌, subst, arith}
-use Rattle.tp_change.specs.declared.record.Record.TheVariants.{Insert}
-use Rattle.tp_change.specs.Operations.{count_in}
-use Rattle.tp_graph.specs.Before.{Marks}
+use Rattle.tp_graph.proofs.Common.{◌≡◌, ◌+◌, ◌<◌, set, true, ◌∷◌, ◌++◌, [], length, ap, sym, ◌∙◌, subst, arith, Insert, count_in, Marks}
 use Rattle.tp_graph.proofs.BeforeLaws.{marks-insert, marks-delete, marks-run}
 use Rattle.tp_graph.proofs.before.put.Goals as goal
 

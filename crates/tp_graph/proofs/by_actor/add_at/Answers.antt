@@ -1,10 +1,5 @@
-use Rattle.std.proofs.Common.{◌≡◌, ◌++◌, ◌∷◌, [], ◌<◌, ◌∙◌, Some, length, ap, sym, subst, refl, arith, rules}
-use Rattle.std.specs.List.{slice_get}
-use Rattle.std.proofs.lemmas.Option.{slice_get_read}
-use Rattle.tp_list.specs.Members.{In}
-use Rattle.tp_list.proofs.Members.{In-last, In-left}
-use Rattle.tp_opid.specs.declared.actor.Actor.{Actor}
-use Rattle.tp_change.specs.declared.parts.ChangeParts.{ChangeParts}
+use Rattle.tp_graph.proofs.Common.{◌≡◌, ◌++◌, ◌∷◌, [], ◌<◌, ◌∙◌, Some, length, ap, sym, subst, refl, arith, slice_get, slice_get_read, In, In-last, In-left, Actor, ChangeParts}
+use Rattle.std.proofs.Common.{rules}
 use Rattle.tp_graph.proofs.by_actor.add_at.Goals as goal
 
 pub returns-clause-before : goal.returns-clause-before

@@ -1,5 +1,5 @@
-use Rattle.std.proofs.Common.{◌∙◌, ap, nat_le, rules}
-use Rattle.std.proofs.lemmas.Fn.{filter_same}
+use Rattle.tp_graph.proofs.Common.{◌∙◌, ap, nat_le, filter_same}
+use Rattle.std.proofs.Common.{rules}
 use Rattle.tp_graph.specs.Extents as extents
 use Rattle.tp_graph.proofs.ExtentLaws.{held-kept}
 use Rattle.tp_graph.proofs.extent.take_out_passed.Goals as goal

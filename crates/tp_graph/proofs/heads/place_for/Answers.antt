@@ -1,4 +1,4 @@
-use Rattle.std.proofs.Common.{◌≤◌, sym, length, arith}
+use Rattle.tp_graph.proofs.Common.{◌≤◌, sym, length, arith}
 use Rattle.tp_graph.proofs.HeadsLaws.{put-less, put-equal, put-greater, put-last}
 use Rattle.tp_graph.proofs.heads.place_for.Goals as goal
 

@@ -1,6 +1,5 @@
-use Rattle.std.proofs.Common.{◌≡◌, take, drop, ◌++◌}
+use Rattle.tp_graph.proofs.Common.{◌≡◌, take, drop, ◌++◌, hash_cmp}
 use Rattle.tp_list.specs.Rising as list
-use Rattle.tp_opid.specs.Order.{hash_cmp}
 use Rattle.tp_graph.proofs.heads.place_for.Given as goal
 
 abbrev pub invariant-loop-i : goal.invariant-loop-i

@@ -1,5 +1,5 @@
-use Rattle.std.proofs.Common.{◌∙◌, not, rules}
-use Rattle.std.proofs.lemmas.Fn.{filter_same}
+use Rattle.tp_graph.proofs.Common.{◌∙◌, not, filter_same}
+use Rattle.std.proofs.Common.{rules}
 use Rattle.tp_graph.specs.Named as named
 use Rattle.tp_graph.proofs.HeadsLaws.{filter-without}
 use Rattle.tp_graph.proofs.heads.take_out.Goals as goal

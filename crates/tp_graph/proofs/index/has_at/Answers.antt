@@ -1,5 +1,4 @@
-use Rattle.std.proofs.Common.{refl}
-use Rattle.std.proofs.lemmas.Option.{slice_get_read}
+use Rattle.tp_graph.proofs.Common.{refl, slice_get_read}
 use Rattle.tp_graph.proofs.PlacesLaws.{has_at_by, has_at_past}
 use Rattle.tp_graph.proofs.index.has_at.Goals as goal
 

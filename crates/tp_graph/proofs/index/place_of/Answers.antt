@@ -1,5 +1,4 @@
-use Rattle.std.proofs.Common.{◌≡◌, ◌∙◌, ap, Some, None}
-use Rattle.tp_graph.specs.Places.{noted_word}
+use Rattle.tp_graph.proofs.Common.{◌≡◌, ◌∙◌, ap, Some, None, noted_word}
 use Rattle.tp_graph.proofs.MarksLaws.{hashes_once}
 use Rattle.tp_graph.proofs.NotesLaws.{place_is, place_by_hash}
 use Rattle.tp_graph.proofs.index.place_of.Goals as goal

@@ -1,6 +1,4 @@
-use Rattle.std.proofs.Common.{◌≡◌, ◌+◌, drop}
-use Rattle.tp_change.specs.Operations.{count_of}
-use Rattle.tp_graph.specs.Covers.{covers}
+use Rattle.tp_graph.proofs.Common.{◌≡◌, ◌+◌, drop, count_of, covers}
 use Rattle.tp_graph.proofs.judge.covers.Given as goal
 
 abbrev pub invariant-loop-record : goal.invariant-loop-record

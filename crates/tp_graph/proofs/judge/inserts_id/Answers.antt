@@ -1,6 +1,4 @@
-use Rattle.std.proofs.Common.{◌≡◌, ◌≤◌, ◌∙◌, ap, sym, true, false}
-use Rattle.tp_opid.specs.Same.{same_actor}
-use Rattle.tp_graph.specs.Covers.{covers, only_inserts}
+use Rattle.tp_graph.proofs.Common.{◌≡◌, ◌≤◌, ◌∙◌, ap, sym, true, false, same_actor, covers, only_inserts}
 use Rattle.tp_graph.proofs.InsertLaws.{inserts_id-other, inserts_id-low, inserts_id-high, inserts_id-all, inserts_id-at}
 use Rattle.tp_graph.proofs.judge.inserts_id.Goals as goal
 

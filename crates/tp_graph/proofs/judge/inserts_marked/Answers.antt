@@ -1,7 +1,4 @@
-use Rattle.std.proofs.Common.{◌≡◌, ◌∙◌, ◌-◌, ap, arith, true, false}
-use Rattle.tp_opid.specs.Same.{same_actor}
-use Rattle.tp_change.specs.Operations.{op_count}
-use Rattle.tp_graph.specs.Covers.{covers}
+use Rattle.tp_graph.proofs.Common.{◌≡◌, ◌∙◌, ◌-◌, ap, arith, true, false, same_actor, op_count, covers}
 use Rattle.tp_graph.proofs.InsertLaws.{inserts_id-other, inserts_id-at}
 use Rattle.tp_graph.proofs.MarkedLaws.{IsMarked-counted}
 use Rattle.tp_graph.proofs.judge.inserts_marked.Goals as goal

@@ -1,5 +1,4 @@
-use Rattle.std.proofs.Common.{◌≡◌, drop}
-use Rattle.tp_graph.specs.Covers.{only_inserts}
+use Rattle.tp_graph.proofs.Common.{◌≡◌, drop, only_inserts}
 use Rattle.tp_graph.proofs.judge.only_inserts.Given as goal
 
 abbrev pub invariant-loop-record : goal.invariant-loop-record

@@ -1,4 +1,4 @@
-use Rattle.tp_change.proofs.ElementLaws.{inserts-more}
+use Rattle.tp_graph.proofs.Common.{inserts-more}
 use Rattle.tp_graph.proofs.laws.inserts_of_a_set.Goals as goal
 
 pub returns : goal.returns

@@ -1,4 +1,4 @@
-use Rattle.std.proofs.Common.{◌-◌, ◌≤◌, length}
+use Rattle.tp_graph.proofs.Common.{◌-◌, ◌≤◌, length}
 use Rattle.tp_graph.proofs.marked.find.Given as goal
 
 abbrev pub invariant-loop-low : goal.invariant-loop-low

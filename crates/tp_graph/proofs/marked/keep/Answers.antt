@@ -1,7 +1,4 @@
-use Rattle.std.proofs.Common.{◌≡◌, ◌++◌, ◌∷◌, [], length, ap, sym, subst, arith}
-use Rattle.std.specs.Vec.{with_items}
-use Rattle.std.proofs.lemmas.List.{with_items_is}
-use Rattle.tp_graph.specs.Marked.{IsMarked, AreMarked}
+use Rattle.tp_graph.proofs.Common.{◌≡◌, ◌++◌, ◌∷◌, [], length, ap, sym, subst, arith, with_items, with_items_is, IsMarked, AreMarked}
 use Rattle.tp_graph.proofs.MarkedLaws.{AreMarked-more, AreMarked-push}
 use Rattle.tp_graph.proofs.marked.keep.Goals as goal
 

@@ -1,7 +1,5 @@
-use Rattle.std.proofs.Common.{◌≡◌, ◌≤◌, ◌+◌, ◌++◌, ◌∷◌, ◌∙◌, ap, sym, subst, arith, take, length, []}
-use Rattle.std.proofs.lemmas.List.{take_all}
-use Rattle.tp_change.specs.Operations.{count_in, count_of, op_count}
-use Rattle.tp_graph.specs.Before.{Marks}
+use Rattle.tp_graph.proofs.Common.{◌≡◌, ◌≤◌, ◌+◌, ◌++◌, ◌∷◌, ◌∙◌, ap, sym, subst, arith, take, length, [], take_all, count_in, count_of, Marks}
+use Rattle.tp_change.specs.Operations.{op_count}
 use Rattle.tp_graph.proofs.BeforeLaws.{marks-none, taken, counted-more}
 use Rattle.tp_graph.proofs.MarkedLaws.{IsMarked-all}
 use Rattle.tp_graph.proofs.marked.mark_deletes.Goals as goal

@@ -1,6 +1,4 @@
-use Rattle.std.proofs.Common.{◌≤◌, take, length}
-use Rattle.tp_change.specs.Operations.{count_of}
-use Rattle.tp_graph.specs.Before.{Marks}
+use Rattle.tp_graph.proofs.Common.{◌≤◌, take, length, count_of, Marks}
 use Rattle.tp_graph.proofs.marked.mark_deletes.Given as goal
 
 abbrev pub invariant-loop-i : goal.invariant-loop-i

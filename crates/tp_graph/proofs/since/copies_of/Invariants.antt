@@ -1,4 +1,4 @@
-use Rattle.std.proofs.Common.{◌≡◌, map, take}
+use Rattle.tp_graph.proofs.Common.{◌≡◌, map, take}
 use Rattle.tp_graph.proofs.since.copies_of.Given as goal
 
 abbrev pub invariant-loop-change : goal.invariant-loop-change

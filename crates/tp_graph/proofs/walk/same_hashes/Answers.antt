@@ -1,9 +1,4 @@
-use Rattle.std.proofs.Common.{◌≡◌, ◌<◌, ◌≤◌, ◌∙◌, ℕ, List, false, sym, refl, subst, length, get_or, arith}
-use Rattle.std.proofs.lemmas.List.{take_more_same, take_all}
-use Rattle.tp_list.proofs.Tests.{never}
-use Rattle.tp_opid.specs.declared.hash.Hash.{Hash}
-use Rattle.tp_opid.specs.Same.{same_hash}
-use Rattle.tp_opid.proofs.Orders.{same_hash-same, same_hash-itself}
+use Rattle.tp_graph.proofs.Common.{◌≡◌, ◌<◌, ◌≤◌, ◌∙◌, ℕ, List, false, sym, refl, subst, length, get_or, arith, take_more_same, take_all, never, Hash, same_hash, same_hash-same, same_hash-itself}
 use Rattle.tp_graph.proofs.walk.same_hashes.Goals as goal
 
 pub loop-i-preserved : goal.loop-i-preserved

@@ -1,4 +1,4 @@
-use Rattle.std.proofs.Common.{◌≡◌, take}
+use Rattle.tp_graph.proofs.Common.{◌≡◌, take}
 use Rattle.tp_graph.proofs.walk.same_hashes.Given as goal
 
 abbrev pub invariant-loop-i : goal.invariant-loop-i

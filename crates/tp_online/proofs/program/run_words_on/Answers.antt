@@ -1,4 +1,4 @@
-use Rattle.std.proofs.Common.{inl, inr, ⊎_elim}
+use Rattle.std.proofs.Common.{None, inl, inr, refl, ⊎_elim}
 use Rattle.tp_command_line.specs.LineError.{parser_fault}
 use Rattle.tp_shell.proofs.HelpWords.{help_asked}
 use Rattle.tp_online.proofs.program.run_words_on.Goals as goal
@@ -11,3 +11,9 @@ returns-in-Err-clause-refused g c refused =
       r.1,
       ⊎_elim (λ kept. inl kept) (λ told. inr (inl (told.0, help_asked _ (parser_fault c.in-Err.fault) c.in-Err.ensures.fails told.1))) r.2,
     )
+
+-- of help nothing is told
+pub returns-in-Err-clause-done : goal.returns-in-Err-clause-done
+returns-in-Err-clause-done g c done =
+    let d = c.explain.ensures.done done in
+    (None, d.0, inl (help_asked _ (parser_fault c.in-Err.fault) c.in-Err.ensures.fails d.1, refl))

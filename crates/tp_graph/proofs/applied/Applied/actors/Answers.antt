@@ -1,6 +1,5 @@
-use Rattle.std.proofs.Common.{◌≡◌, IfOk, List, subst, rules}
-use Rattle.tp_list.specs.Members.{In}
-use Rattle.tp_change.specs.declared.parts.ChangeParts.{ChangeParts}
+use Rattle.tp_graph.proofs.Common.{◌≡◌, IfOk, List, subst, In, ChangeParts}
+use Rattle.std.proofs.Common.{rules}
 use Rattle.tp_graph.proofs.applied.Applied.actors.Goals as goal
 
 pub returns : goal.returns

@@ -1,8 +1,6 @@
-use Rattle.std.proofs.Common.{◌∙◌, ◌+◌, ◌-◌, ◌&&◌, ◌++◌, sym, ap}
+use Rattle.tp_graph.proofs.Common.{◌∙◌, ◌+◌, ◌-◌, ◌&&◌, ◌++◌, sym, ap, id_of, ops_from, picked}
 use Rattle.tp_change.specs.Elements as made
-use Rattle.tp_change.specs.Operations.{id_of, ops_from}
 use Rattle.tp_graph.specs.Covers as cover
-use Rattle.tp_graph.specs.Parts.{picked}
 use Rattle.tp_graph.proofs.InsertLaws.{all_inserted-step, all_inserted-first, all_inserted-end}
 use Rattle.tp_graph.proofs.applied.Applied.are_known.Goals as goal
 

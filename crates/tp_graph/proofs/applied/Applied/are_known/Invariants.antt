@@ -1,10 +1,6 @@
-use Rattle.std.proofs.Common.{◌≡◌, ◌+◌, ◌-◌, ◌++◌, List}
-use Rattle.tp_change.specs.declared.record.Record.{Record}
+use Rattle.tp_graph.proofs.Common.{◌≡◌, ◌+◌, ◌-◌, ◌++◌, List, Record, id_of, ops_from, Tells, picked}
 use Rattle.tp_change.specs.Elements as made
-use Rattle.tp_change.specs.Operations.{id_of, ops_from}
-use Rattle.tp_graph.specs.Before.{Tells}
 use Rattle.tp_graph.specs.Covers as cover
-use Rattle.tp_graph.specs.Parts.{picked}
 use Rattle.tp_graph.proofs.applied.Applied.are_known.Given as goal
 
 -- whether all are there rests on those from i on

@@ -1,8 +1,4 @@
-use Rattle.std.proofs.Common.{◌≡◌, ◌∙◌, ap, sym, subst}
-use Rattle.tp_change.specs.Elements.{next_counter}
-use Rattle.tp_graph.specs.Parts.{picked}
-use Rattle.tp_graph.specs.Past.{past}
-use Rattle.tp_graph.specs.Sound.{Sound}
+use Rattle.tp_graph.proofs.Common.{◌≡◌, ◌∙◌, ap, sym, subst, next_counter, picked, past, Sound}
 use Rattle.tp_graph.specs.Fit as fit
 use Rattle.tp_graph.proofs.CauseLaws.{Answers-passed}
 use Rattle.tp_graph.proofs.ExtentLaws.{picked-past}
@@ -17,7 +13,7 @@ check_behind-requires-clause-past c =
 pub check_behind-requires-clause-start : goal.check_behind-requires-clause-start
 check_behind-requires-clause-start c =
     let same : picked c.in_ok-part.part c.args.self.now.changes ≡ past c.args.self.now.changes c.deps.result.now = picked-past c.in_ok-part.part c.args.self.now.changes c.deps.result.now c.in_ok-part.ensures.bits in
-    c.requires ∙ ap (λ h. next_counter (past c.args.self.now.changes h)) (sym c.deps.ensures) ∙ ap next_counter (sym same)
+    c.requires.start ∙ ap (λ h. next_counter (past c.args.self.now.changes h)) (sym c.deps.ensures) ∙ ap next_counter (sym same)
 
 pub returns-in_err-check_behind-clause-answers : goal.returns-in_err-check_behind-clause-answers
 returns-in_err-check_behind-clause-answers c =

@@ -1,4 +1,4 @@
-use Rattle.std.proofs.Common.{◌≡◌, ◌∙◌, ap}
+use Rattle.tp_graph.proofs.Common.{◌≡◌, ◌∙◌, ap}
 use Rattle.tp_graph.specs.Fit as fit
 use Rattle.tp_graph.proofs.CountLaws.{clashes-reached}
 use Rattle.tp_graph.proofs.applied.Applied.clashes.Goals as goal

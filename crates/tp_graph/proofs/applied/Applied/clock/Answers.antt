@@ -1,7 +1,4 @@
-use Rattle.std.proofs.Common.{◌≡◌, sym, subst}
-use Rattle.tp_graph.specs.Clocks.{HasEnds, IsClockOf}
-use Rattle.tp_graph.specs.Parts.{picked}
-use Rattle.tp_graph.specs.Sound.{Sound}
+use Rattle.tp_graph.proofs.Common.{sym, subst, HasEnds, IsClockOf, picked, Sound}
 use Rattle.tp_graph.proofs.ClockLaws.{clocks_all}
 use Rattle.tp_graph.proofs.ExtentLaws.{picked-past}
 use Rattle.tp_graph.proofs.MarksLaws.{picked-In}

@@ -1,4 +1,4 @@
-use Rattle.std.proofs.Common.{◌∙◌, ap, is_some}
+use Rattle.tp_graph.proofs.Common.{◌∙◌, ap, is_some}
 use Rattle.tp_graph.proofs.PlacesLaws.{is_some-place_from}
 use Rattle.tp_graph.proofs.applied.Applied.contains.Goals as goal
 

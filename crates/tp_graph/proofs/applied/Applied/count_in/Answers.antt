@@ -1,7 +1,5 @@
-use Rattle.std.proofs.Common.{◌+◌, ◌-◌, ◌/◌, ◌<◌, ◌≤◌, ◌∙◌, sym, length, arith}
-use Rattle.std.proofs.lemmas.Bool.Decides.{nat_tests}
+use Rattle.tp_graph.proofs.Common.{◌+◌, ◌-◌, ◌/◌, ◌<◌, ◌≤◌, ◌∙◌, sym, length, arith, nat_tests, picked}
 use Rattle.tp_graph.specs.Fit as fit
-use Rattle.tp_graph.specs.Parts.{picked}
 use Rattle.tp_graph.proofs.CountLaws.{count_by-le, count_by-length}
 use Rattle.tp_graph.proofs.MarksLaws.{hashes_once, picked-In}
 use Rattle.tp_graph.proofs.OwnLaws.{own_within, held_by_number}

@@ -1,6 +1,5 @@
-use Rattle.std.proofs.Common.{◌-◌, ◌≤◌, length}
+use Rattle.tp_graph.proofs.Common.{◌-◌, ◌≤◌, length, picked}
 use Rattle.tp_graph.specs.Fit as fit
-use Rattle.tp_graph.specs.Parts.{picked}
 use Rattle.tp_graph.proofs.applied.Applied.count_in.Given as goal
 
 abbrev pub invariant-loop-low : goal.invariant-loop-low

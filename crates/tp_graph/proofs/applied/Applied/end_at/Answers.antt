@@ -1,8 +1,4 @@
-use Rattle.std.proofs.Common.{◌≡◌, ◌<◌, ◌∙◌, ap, length, get_or, refl, sym, arith}
-use Rattle.std.proofs.lemmas.Option.{slice_get_read}
-use Rattle.tp_list.proofs.Members.{slice_get-there}
-use Rattle.tp_graph.specs.AppliedState.{AppliedState}
-use Rattle.tp_graph.specs.Places.{ends_of}
+use Rattle.tp_graph.proofs.Common.{◌≡◌, ◌<◌, ◌∙◌, ap, length, get_or, refl, sym, arith, slice_get_read, slice_get-there, AppliedState, ends_of}
 use Rattle.tp_graph.proofs.EndLaws.{end_at}
 use Rattle.tp_graph.proofs.applied.Applied.end_at.Goals as goal
 

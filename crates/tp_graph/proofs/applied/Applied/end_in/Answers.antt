@@ -1,5 +1,4 @@
-use Rattle.std.proofs.Common.{◌-◌, ◌∙◌, sym}
-use Rattle.tp_graph.specs.Parts.{picked}
+use Rattle.tp_graph.proofs.Common.{◌-◌, ◌∙◌, sym, picked}
 use Rattle.tp_graph.proofs.ClockLaws.{end_of-last, end_of-none, held_within}
 use Rattle.tp_graph.proofs.OwnLaws.{own_within}
 use Rattle.tp_graph.proofs.applied.Applied.end_in.Goals as goal

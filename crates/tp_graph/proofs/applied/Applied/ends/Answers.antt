@@ -1,7 +1,4 @@
-use Rattle.std.proofs.Common.{subst}
-use Rattle.std.proofs.lemmas.List.{take_all}
-use Rattle.tp_graph.specs.Clocks.{HasEnds}
-use Rattle.tp_graph.specs.Parts.{picked}
+use Rattle.tp_graph.proofs.Common.{subst, take_all, HasEnds, picked}
 use Rattle.tp_graph.proofs.ClockLaws.{clocks_first, clocks_more}
 use Rattle.tp_graph.proofs.applied.Applied.ends.Goals as goal
 

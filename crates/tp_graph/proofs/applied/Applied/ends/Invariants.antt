@@ -1,6 +1,4 @@
-use Rattle.std.proofs.Common.{take}
-use Rattle.tp_graph.specs.Clocks.{HasEnds}
-use Rattle.tp_graph.specs.Parts.{picked}
+use Rattle.tp_graph.proofs.Common.{take, HasEnds, picked}
 use Rattle.tp_graph.proofs.applied.Applied.ends.Given as goal
 
 -- the ends of the actors so far

@@ -1,9 +1,4 @@
-use Rattle.std.proofs.Common.{◌≡◌, ◌<◌, ◌≤◌, ◌+◌, ◌∙◌, ◌++◌, ◌∷◌, [], ap, sym, subst, Some, None, length, arith, length-append}
-use Rattle.tp_change.specs.ChangeHash.{hash_of}
-use Rattle.tp_change.proofs.ElementLaws.{next_counter-push}
-use Rattle.tp_graph.specs.Fit.{cause, most_changes}
-use Rattle.tp_graph.specs.Extents.{IsKnown, room_hash}
-use Rattle.tp_graph.specs.AppliedState.{AppliedState}
+use Rattle.tp_graph.proofs.Common.{◌≡◌, ◌<◌, ◌≤◌, ◌+◌, ◌∙◌, ◌++◌, ◌∷◌, [], ap, sym, subst, Some, None, length, arith, length-append, hash_of, next_counter-push, cause, most_changes, IsKnown, room_hash, AppliedState}
 use Rattle.tp_graph.proofs.HeadsLaws.{heads-push}
 use Rattle.tp_graph.proofs.KeptLaws.{IsByActor-push, Fits-from_cause, room_for_one, ready_for, ready_past}
 use Rattle.tp_graph.proofs.EndLaws.{AreEnds-push}

@@ -1,5 +1,4 @@
-use Rattle.std.proofs.Common.{take}
-use Rattle.tp_graph.specs.Extents.{IsExtent}
+use Rattle.tp_graph.proofs.Common.{take, IsExtent}
 use Rattle.tp_graph.proofs.applied.Applied.extent_of.Given as goal
 
 abbrev pub invariant-loop-number : goal.invariant-loop-number

@@ -1,6 +1,4 @@
-use Rattle.std.proofs.Common.{◌∙◌, ap}
-use Rattle.tp_list.proofs.Members.{slice_get-there}
-use Rattle.tp_graph.specs.Marks.{marked_more}
+use Rattle.tp_graph.proofs.Common.{◌∙◌, ap, slice_get-there, marked_more}
 use Rattle.tp_graph.proofs.SoundLaws.{deps_first}
 use Rattle.tp_graph.proofs.MarksLaws.{followed, passed_by}
 use Rattle.tp_graph.proofs.applied.Applied.follow.Goals as goal

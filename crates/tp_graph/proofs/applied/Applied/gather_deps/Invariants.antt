@@ -1,5 +1,4 @@
-use Rattle.std.proofs.Common.{◌≡◌, drop}
-use Rattle.tp_graph.specs.Since.{gather}
+use Rattle.tp_graph.proofs.Common.{◌≡◌, drop, gather}
 use Rattle.tp_graph.proofs.applied.Applied.gather_deps.Given as goal
 
 abbrev pub invariant-loop-hash : goal.invariant-loop-hash

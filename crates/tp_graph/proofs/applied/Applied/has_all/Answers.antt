@@ -1,5 +1,4 @@
-use Rattle.std.proofs.Common.{◌∙◌, sym, ap}
-use Rattle.std.proofs.lemmas.List.{drop_all}
+use Rattle.tp_graph.proofs.Common.{◌∙◌, sym, ap, drop_all}
 use Rattle.tp_graph.specs.Named as named
 use Rattle.tp_graph.proofs.PlacesLaws.{has_all-stop, has_all-on}
 use Rattle.tp_graph.proofs.applied.Applied.has_all.Goals as goal

@@ -1,4 +1,4 @@
-use Rattle.std.proofs.Common.{◌≡◌, drop}
+use Rattle.tp_graph.proofs.Common.{◌≡◌, drop}
 use Rattle.tp_graph.specs.Named as named
 use Rattle.tp_graph.proofs.applied.Applied.has_all.Given as goal
 

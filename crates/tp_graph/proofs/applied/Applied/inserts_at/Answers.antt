@@ -1,4 +1,4 @@
-use Rattle.std.proofs.Common.{◌∙◌}
+use Rattle.tp_graph.proofs.Common.{◌∙◌}
 use Rattle.tp_graph.proofs.EndLaws.{end_at}
 use Rattle.tp_graph.proofs.applied.Applied.inserts_at.Goals as goal
 

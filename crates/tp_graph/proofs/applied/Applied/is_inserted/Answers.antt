@@ -1,10 +1,7 @@
-use Rattle.std.proofs.Common.{◌≡◌, ◌&&◌, ◌∙◌, refl, sym, ap, false, true}
+use Rattle.tp_graph.proofs.Common.{◌≡◌, ◌&&◌, ◌∙◌, refl, sym, ap, false, true, ops_of, holds, picked, slice_get-there}
 use Rattle.tp_change.specs.Elements as made
-use Rattle.tp_change.specs.Operations.{ops_of}
-use Rattle.tp_graph.specs.Parts.{holds, picked}
 use Rattle.tp_graph.proofs.OwnLaws.{inserted-none, inserted-maker}
 use Rattle.tp_graph.proofs.MarksLaws.{holds-picked, picked-In}
-use Rattle.tp_list.proofs.Members.{slice_get-there}
 use Rattle.tp_graph.proofs.applied.Applied.is_inserted.Goals as goal
 
 pub returns-then-not-holds : goal.returns-then-not-holds

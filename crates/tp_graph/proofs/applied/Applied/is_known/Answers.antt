@@ -1,8 +1,6 @@
-use Rattle.std.proofs.Common.{◌≡◌, ◌∙◌, sym, true, false}
-use Rattle.tp_opid.specs.Same.{same_actor}
+use Rattle.tp_graph.proofs.Common.{◌≡◌, ◌∙◌, sym, true, false, same_actor, picked}
 use Rattle.tp_change.specs.Elements as made
 use Rattle.tp_graph.specs.Covers as cover
-use Rattle.tp_graph.specs.Parts.{picked}
 use Rattle.tp_graph.proofs.InsertLaws.{known_other, known_covered, known_uncovered}
 use Rattle.tp_graph.proofs.applied.Applied.is_known.Goals as goal
 

@@ -1,5 +1,4 @@
-use Rattle.std.proofs.Common.{◌∙◌, sym, ap}
-use Rattle.std.proofs.lemmas.List.{drop_all}
+use Rattle.tp_graph.proofs.Common.{◌∙◌, sym, ap, drop_all}
 use Rattle.tp_graph.specs.Extents as extents
 use Rattle.tp_graph.proofs.ExtentLaws.{reached-stop, reached-on}
 use Rattle.tp_graph.proofs.applied.Applied.is_reached.Goals as goal

@@ -1,4 +1,4 @@
-use Rattle.std.proofs.Common.{◌≡◌, drop}
+use Rattle.tp_graph.proofs.Common.{◌≡◌, drop}
 use Rattle.tp_graph.specs.Extents as extents
 use Rattle.tp_graph.proofs.applied.Applied.is_reached.Given as goal
 

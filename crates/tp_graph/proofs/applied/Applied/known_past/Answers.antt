@@ -1,5 +1,4 @@
-use Rattle.std.proofs.Common.{◌≡◌, ◌∙◌, ap, length}
-use Rattle.tp_graph.specs.Past.{past}
+use Rattle.tp_graph.proofs.Common.{◌≡◌, ◌∙◌, ap, length, past}
 use Rattle.tp_graph.proofs.ExtentLaws.{IsExtent-whole}
 use Rattle.tp_graph.proofs.HeadsLaws.{past-heads}
 use Rattle.tp_graph.proofs.SoundLaws.{deps_first}

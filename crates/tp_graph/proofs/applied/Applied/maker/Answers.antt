@@ -1,5 +1,4 @@
-use Rattle.std.proofs.Common.{◌≡◌, ℕ, ◌+◌, ◌-◌, ◌/◌, ◌<◌, ◌≤◌, sym, subst, length, arith, Some}
-use Rattle.tp_graph.specs.ByActor.{IsMaker}
+use Rattle.tp_graph.proofs.Common.{◌≡◌, ℕ, ◌+◌, ◌-◌, ◌/◌, ◌<◌, ◌≤◌, sym, subst, length, arith, Some, IsMaker}
 use Rattle.tp_graph.proofs.OwnLaws.{own_within, Within, Within-first, Within-up, Within-down, maker-some, maker-none}
 use Rattle.tp_graph.proofs.applied.Applied.maker.Goals as goal
 

@@ -1,4 +1,4 @@
-use Rattle.std.proofs.Common.{◌-◌, ◌≤◌, length}
+use Rattle.tp_graph.proofs.Common.{◌-◌, ◌≤◌, length}
 use Rattle.tp_graph.proofs.OwnLaws.{Within}
 use Rattle.tp_graph.proofs.applied.Applied.maker.Given as goal
 

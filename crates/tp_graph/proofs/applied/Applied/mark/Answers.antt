@@ -1,4 +1,4 @@
-use Rattle.std.proofs.Common.{sym}
+use Rattle.tp_graph.proofs.Common.{sym}
 use Rattle.tp_graph.proofs.MarksLaws.{marked_more-nil, marked_more-step}
 use Rattle.tp_graph.proofs.applied.Applied.mark.Goals as goal
 

@@ -1,5 +1,4 @@
-use Rattle.std.proofs.Common.{◌≡◌, take}
-use Rattle.tp_graph.specs.Marks.{marked_more}
+use Rattle.tp_graph.proofs.Common.{◌≡◌, take, marked_more}
 use Rattle.tp_graph.proofs.applied.Applied.mark.Given as goal
 
 abbrev pub invariant-loop-hash : goal.invariant-loop-hash

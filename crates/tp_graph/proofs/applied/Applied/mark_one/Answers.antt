@@ -1,4 +1,4 @@
-use Rattle.std.proofs.Common.{sym}
+use Rattle.tp_graph.proofs.Common.{sym}
 use Rattle.tp_graph.proofs.PlacesLaws.{has-from_place}
 use Rattle.tp_graph.proofs.MarksLaws.{set_is_marked_more, marked_more-unknown, hashes_once}
 use Rattle.tp_graph.proofs.applied.Applied.mark_one.Goals as goal

@@ -1,4 +1,4 @@
-use Rattle.std.proofs.Common.{◌≡◌, ◌≤◌, ◌+◌, ◌-◌, ◌||◌, ℕ, length}
+use Rattle.tp_graph.proofs.Common.{◌≡◌, ◌≤◌, ◌+◌, ◌-◌, ◌||◌, ℕ, length}
 use Rattle.tp_graph.specs.Extents as extents
 use Rattle.tp_graph.proofs.applied.Applied.merged.Given as goal
 

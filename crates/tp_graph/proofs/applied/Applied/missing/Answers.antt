@@ -1,10 +1,4 @@
-use Rattle.std.proofs.Common.{◌≡◌, ◌↔◌, ◌∙◌, sym, ap, subst, List, []}
-use Rattle.std.proofs.lemmas.List.{drop_all}
-use Rattle.tp_list.specs.Members.{In}
-use Rattle.tp_list.specs.Rising.{IsRising}
-use Rattle.tp_opid.specs.Order.{hash_cmp}
-use Rattle.tp_opid.specs.declared.hash.Hash.{Hash}
-use Rattle.tp_graph.specs.Since.{gather_all, IsMissing}
+use Rattle.tp_graph.proofs.Common.{◌≡◌, ◌↔◌, ◌∙◌, sym, ap, subst, List, [], drop_all, In, IsRising, hash_cmp, Hash, gather_all, IsMissing}
 use Rattle.tp_graph.proofs.SinceLaws.{missing-rises, missing-In}
 use Rattle.tp_graph.proofs.applied.Applied.missing.Goals as goal
 

@@ -1,5 +1,4 @@
-use Rattle.std.proofs.Common.{◌≡◌, drop, []}
-use Rattle.tp_graph.specs.Since.{gather_all}
+use Rattle.tp_graph.proofs.Common.{◌≡◌, drop, [], gather_all}
 use Rattle.tp_graph.proofs.applied.Applied.missing.Given as goal
 
 abbrev pub invariant-loop-change : goal.invariant-loop-change

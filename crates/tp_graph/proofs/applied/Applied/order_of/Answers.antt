@@ -1,7 +1,4 @@
-use Rattle.std.proofs.Common.{◌≡◌, ◌∙◌, ap, sym}
-use Rattle.std.specs.declared.cmp.Ordering.TheVariants.{Equal}
-use Rattle.tp_opid.specs.Order.{actor_cmp}
-use Rattle.tp_opid.proofs.Orders.{same_actor-tied}
+use Rattle.tp_graph.proofs.Common.{◌≡◌, ◌∙◌, ap, sym, Equal, actor_cmp, same_actor-tied}
 use Rattle.tp_graph.proofs.ExtentLaws.{author-read}
 use Rattle.tp_graph.proofs.applied.Applied.order_of.Goals as goal
 

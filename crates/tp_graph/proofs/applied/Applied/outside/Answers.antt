@@ -1,10 +1,5 @@
-use Rattle.std.proofs.Common.{◌≡◌, ◌≤◌, ◌∙◌, List, Bool, length, drop, map, sym, ap, arith, append-nil, Vec, Global, [], ◌∷◌, ◌++◌}
-use Rattle.std.proofs.lemmas.List.{drop_all, map-append}
+use Rattle.tp_graph.proofs.Common.{◌≡◌, ◌≤◌, ◌∙◌, List, Bool, length, drop, map, sym, ap, arith, append-nil, Vec, Global, [], ◌∷◌, ◌++◌, drop_all, map-append, slice_get-there, ChangeParts, bits, prefix_of, skip}
 use Rattle.std.specs.Borrow.{Bor}
-use Rattle.tp_list.proofs.Members.{slice_get-there}
-use Rattle.tp_change.specs.declared.parts.ChangeParts.{ChangeParts}
-use Rattle.tp_graph.specs.Parts.{bits, prefix_of}
-use Rattle.tp_graph.specs.Since.{skip}
 use Rattle.tp_graph.proofs.ExtentLaws.{length-bits, prefix-marked}
 use Rattle.tp_graph.proofs.SinceLaws.{skip-on, skip-by, skip-prefix}
 use Rattle.tp_graph.proofs.applied.Applied.outside.Goals.{then-not-holds+in_ok-push, else-not-holds}

@@ -1,6 +1,4 @@
-use Rattle.std.proofs.Common.{◌≡◌, ◌++◌, drop, map}
-use Rattle.tp_graph.specs.Parts.{bits}
-use Rattle.tp_graph.specs.Since.{skip}
+use Rattle.tp_graph.proofs.Common.{◌≡◌, ◌++◌, drop, map, bits, skip}
 use Rattle.tp_graph.proofs.applied.Applied.outside.Given as goal
 
 abbrev pub invariant-loop-i : goal.invariant-loop-i

@@ -1,6 +1,4 @@
-use Rattle.std.proofs.Common.{◌≡◌, ◌<◌, ◌≤◌, ◌∙◌, ◌++◌, ◌∷◌, [], List, Bool, length, map, not, take, sym, ap, arith}
-use Rattle.std.proofs.lemmas.List.{take_all, length-map}
-use Rattle.tp_graph.specs.Parts.{bits}
+use Rattle.tp_graph.proofs.Common.{◌≡◌, ◌<◌, ◌≤◌, ◌∙◌, ◌++◌, ◌∷◌, [], List, Bool, length, map, not, take, sym, ap, arith, take_all, length-map, bits}
 use Rattle.tp_graph.proofs.ExtentLaws.{length-bits}
 use Rattle.tp_graph.proofs.SinceLaws.{not_more}
 use Rattle.tp_graph.proofs.applied.Applied.outside_marks.Goals as goal

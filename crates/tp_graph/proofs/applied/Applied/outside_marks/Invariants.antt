@@ -1,5 +1,4 @@
-use Rattle.std.proofs.Common.{◌≡◌, take, map, not}
-use Rattle.tp_graph.specs.Parts.{bits}
+use Rattle.tp_graph.proofs.Common.{◌≡◌, take, map, not, bits}
 use Rattle.tp_graph.proofs.applied.Applied.outside_marks.Given as goal
 
 abbrev pub invariant-loop-i : goal.invariant-loop-i

@@ -1,7 +1,4 @@
-use Rattle.std.proofs.Common.{◌≡◌, ◌≤◌, ◌∙◌, ◌++◌, List, Bool, length, sym, ap, arith, append-nil}
-use Rattle.std.proofs.lemmas.List.{drop_all}
-use Rattle.tp_graph.specs.Marks.{places_from}
-use Rattle.tp_graph.specs.Parts.{bits}
+use Rattle.tp_graph.proofs.Common.{◌≡◌, ◌≤◌, ◌∙◌, ◌++◌, List, Bool, length, sym, ap, arith, append-nil, drop_all, places_from, bits}
 use Rattle.tp_graph.proofs.ExtentLaws.{length-bits}
 use Rattle.tp_graph.proofs.applied.Applied.places_in.Goals as goal
 

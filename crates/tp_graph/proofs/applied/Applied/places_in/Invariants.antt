@@ -1,6 +1,4 @@
-use Rattle.std.proofs.Common.{◌≡◌, ◌++◌, drop}
-use Rattle.tp_graph.specs.Marks.{places_from}
-use Rattle.tp_graph.specs.Parts.{bits}
+use Rattle.tp_graph.proofs.Common.{◌≡◌, ◌++◌, drop, places_from, bits}
 use Rattle.tp_graph.proofs.applied.Applied.places_in.Given as goal
 
 abbrev pub invariant-loop-i : goal.invariant-loop-i

@@ -1,11 +1,7 @@
-use Rattle.std.proofs.Common.{◌≡◌, ◌≤◌, ◌+◌, ◌++◌, ◌∷◌, ◌∙◌, ap, sym, refl, subst, arith, false, take, length, []}
-use Rattle.std.specs.List.{AllByRecursion}
+use Rattle.tp_graph.proofs.Common.{◌≡◌, ◌≤◌, ◌+◌, ◌++◌, ◌∷◌, ◌∙◌, ap, sym, refl, subst, arith, false, take, length, [], AllByRecursion, IsRecord, count_in, count_of, Marks, picked}
 use Rattle.tp_change.specs.Elements as made
-use Rattle.tp_change.specs.Limits.{IsRecord}
-use Rattle.tp_change.specs.Operations.{count_in, count_of, op_count}
-use Rattle.tp_graph.specs.Before.{Marks}
+use Rattle.tp_change.specs.Operations.{op_count}
 use Rattle.tp_graph.specs.Covers as cover
-use Rattle.tp_graph.specs.Parts.{picked}
 use Rattle.tp_graph.proofs.BeforeLaws.{marks-none, taken, counted-more}
 use Rattle.tp_graph.proofs.InsertLaws.{refers-all_there, record_at, count_of-take, all_there-stop, all_there-on, all_there-end}
 use Rattle.tp_graph.proofs.applied.Applied.refers_with.Goals as goal

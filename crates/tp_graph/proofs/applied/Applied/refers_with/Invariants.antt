@@ -1,9 +1,6 @@
-use Rattle.std.proofs.Common.{◌≡◌, ◌≤◌, take, drop, length, []}
+use Rattle.tp_graph.proofs.Common.{◌≡◌, ◌≤◌, take, drop, length, [], count_of, Marks, picked}
 use Rattle.tp_change.specs.Elements as made
-use Rattle.tp_change.specs.Operations.{count_of}
-use Rattle.tp_graph.specs.Before.{Marks}
 use Rattle.tp_graph.specs.Covers as cover
-use Rattle.tp_graph.specs.Parts.{picked}
 use Rattle.tp_graph.proofs.applied.Applied.refers_with.Given as goal
 
 abbrev pub invariant-loop-i : goal.invariant-loop-i

@@ -1,11 +1,4 @@
-use Rattle.std.proofs.Common.{◌≡◌, ℕ, ◌∙◌, refl, inl, inr, ap, sym, subst, length, arith, None, false}
-use Rattle.std.specs.Vec.{vec_len}
-use Rattle.tp_graph.specs.AppliedState.{AppliedState}
-use Rattle.tp_graph.specs.Extents.{IsKnown}
-use Rattle.tp_graph.specs.Fit.{cause}
-use Rattle.tp_graph.specs.Kept.{IsRoomFor}
-use Rattle.tp_graph.specs.Named.{has}
-use Rattle.tp_graph.specs.Places.{IsNotedAt}
+use Rattle.tp_graph.proofs.Common.{◌≡◌, ℕ, ◌∙◌, refl, inl, inr, ap, sym, subst, length, arith, None, false, vec_len, AppliedState, IsKnown, cause, IsRoomFor, has, IsNotedAt}
 use Rattle.tp_graph.proofs.KeptLaws.{Fits-from_cause, ready_stays}
 use Rattle.tp_graph.proofs.applied.Applied.reserve_behind.Goals as goal
 

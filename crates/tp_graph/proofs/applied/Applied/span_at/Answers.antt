@@ -1,7 +1,4 @@
-use Rattle.std.proofs.Common.{subst}
-use Rattle.std.proofs.lemmas.Option.{IfSome_then}
-use Rattle.tp_graph.specs.AppliedState.{AppliedState}
-use Rattle.tp_graph.specs.Pasts.{ArePasts}
+use Rattle.tp_graph.proofs.Common.{subst, IfSome_then, AppliedState, ArePasts}
 use Rattle.tp_graph.proofs.applied.Applied.span_at.Goals as goal
 
 pub returns : goal.returns

@@ -1,4 +1,4 @@
-use Rattle.tp_list.proofs.Members.{slice_get-there}
+use Rattle.tp_graph.proofs.Common.{slice_get-there}
 use Rattle.tp_graph.proofs.applied.Applied.take_change.Goals as goal
 
 pub take_in-requires-clause-past : goal.take_in-requires-clause-past

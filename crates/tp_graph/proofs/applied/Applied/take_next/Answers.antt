@@ -1,4 +1,4 @@
-use Rattle.std.proofs.Common.{◌<◌, ◌∙◌, ◌++◌, ◌∷◌, [], length, ap, arith}
+use Rattle.tp_graph.proofs.Common.{◌<◌, ◌∙◌, ◌++◌, ◌∷◌, [], length, ap, arith}
 use Rattle.tp_graph.proofs.ExtentLaws.{taken-left, taken-right, taken-both}
 use Rattle.tp_graph.proofs.applied.Applied.take_next.Goals as goal
 

@@ -1,5 +1,4 @@
-use Rattle.std.proofs.Common.{◌≡◌, ◌∙◌, ap, length, arith}
-use Rattle.tp_graph.specs.Marks.{marked_more}
+use Rattle.tp_graph.proofs.Common.{◌≡◌, ◌∙◌, ap, length, arith, marked_more}
 use Rattle.tp_graph.proofs.MarksLaws.{walk_starts}
 use Rattle.tp_graph.proofs.applied.Applied.walk_back.Goals as goal
 

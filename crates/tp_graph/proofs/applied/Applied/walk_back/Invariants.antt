@@ -1,5 +1,4 @@
-use Rattle.std.proofs.Common.{◌≡◌, ◌-◌, length}
-use Rattle.tp_graph.specs.Marks.{walked}
+use Rattle.tp_graph.proofs.Common.{◌≡◌, ◌-◌, length, walked}
 use Rattle.tp_graph.proofs.applied.Applied.walk_back.Given as goal
 
 abbrev pub invariant-loop-passed : goal.invariant-loop-passed

@@ -1,4 +1,4 @@
-use Rattle.std.proofs.Common.{sym}
+use Rattle.tp_graph.proofs.Common.{sym}
 use Rattle.tp_graph.proofs.InsertLaws.{covers-low}
 use Rattle.tp_graph.proofs.BeforeLaws.{marks-past}
 use Rattle.tp_graph.proofs.before.Before.inserts_at.Goals as goal

@@ -1,9 +1,5 @@
-use Rattle.std.proofs.Common.{◌≡◌, ◌++◌, ◌∷◌, [], inl, sym, subst, rules}
-use Rattle.std.proofs.lemmas.Map.Iter.{rest_all, rest_more}
-use Rattle.std.specs.Map.{keys_of}
-use Rattle.std.specs.Map.Iter.{deref}
-use Rattle.tp_list.specs.Members.{In}
-use Rattle.tp_list.proofs.Members.{In-left}
+use Rattle.tp_graph.proofs.Common.{◌≡◌, ◌++◌, ◌∷◌, [], inl, sym, subst, rest_all, rest_more, keys_of, deref, In, In-left}
+use Rattle.std.proofs.Common.{rules}
 use Rattle.tp_graph.proofs.ListedLaws.{listed_more, listed_all}
 use Rattle.tp_graph.proofs.by_actor.ByActor.add_listed.Goals as goal
 

@@ -1,7 +1,4 @@
-use Rattle.std.proofs.Common.{◌⊎◌}
-use Rattle.std.specs.Map.{keys_of}
-use Rattle.tp_list.specs.Members.{AllIn, In}
-use Rattle.tp_opid.specs.declared.actor.Actor.{Actor}
+use Rattle.tp_graph.proofs.Common.{◌⊎◌, keys_of, AllIn, In, Actor}
 use Rattle.tp_graph.proofs.by_actor.ByActor.add_listed.Given as goal
 
 -- each actor with a list is still to come, or there

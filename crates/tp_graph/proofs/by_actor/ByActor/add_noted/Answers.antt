@@ -1,8 +1,5 @@
-use Rattle.std.proofs.Common.{◌≡◌, inl, sym, subst, rules}
-use Rattle.std.proofs.lemmas.Map.Iter.{rest_all, rest_more}
-use Rattle.std.specs.Map.{values_of}
-use Rattle.std.specs.Map.Iter.{deref}
-use Rattle.tp_list.specs.Members.{In}
+use Rattle.tp_graph.proofs.Common.{◌≡◌, inl, sym, subst, rest_all, rest_more, values_of, deref, In}
+use Rattle.std.proofs.Common.{rules}
 use Rattle.tp_graph.proofs.ListedLaws.{noted_more, noted_all}
 use Rattle.tp_graph.proofs.by_actor.ByActor.add_noted.Goals as goal
 

@@ -1,7 +1,4 @@
-use Rattle.std.proofs.Common.{ℕ, ◌⊎◌}
-use Rattle.std.specs.Map.{values_of}
-use Rattle.tp_list.specs.Members.{AllIn, In}
-use Rattle.tp_graph.specs.ByActor.{HasActorAt}
+use Rattle.tp_graph.proofs.Common.{ℕ, ◌⊎◌, values_of, AllIn, In, HasActorAt}
 use Rattle.tp_graph.proofs.by_actor.ByActor.add_noted.Given as goal
 
 -- each noted place is still to come, or its actor is there

@@ -1,9 +1,4 @@
-use Rattle.std.proofs.Common.{◌≡◌, ◌+◌, ◌<◌, ◌++◌, ◌∷◌, [], Some, cond, length, refl, sym, subst, arith}
-use Rattle.std.specs.List.{slice_get}
-use Rattle.std.proofs.lemmas.List.{take_all}
-use Rattle.std.proofs.lemmas.Option.{slice_get_read}
-use Rattle.tp_opid.specs.Same.{same_actor}
-use Rattle.tp_graph.specs.ByActor.{listed_places, IsOwn}
+use Rattle.tp_graph.proofs.Common.{◌≡◌, ◌+◌, ◌<◌, ◌++◌, ◌∷◌, [], Some, cond, length, refl, sym, subst, arith, slice_get, take_all, slice_get_read, same_actor, listed_places, IsOwn}
 use Rattle.tp_graph.proofs.OwnLaws.{unlisted}
 use Rattle.tp_graph.proofs.by_actor.ByActor.catch_up.Goals as goal
 

@@ -1,6 +1,4 @@
-use Rattle.std.proofs.Common.{◌≡◌, ◌<◌, ◌++◌, ◌∷◌, [], cond, length, subst, arith, true, false, append-nil}
-use Rattle.tp_opid.specs.Same.{same_actor}
-use Rattle.tp_graph.specs.ByActor.{listed_places, IsOwn}
+use Rattle.tp_graph.proofs.Common.{◌≡◌, ◌<◌, ◌++◌, ◌∷◌, [], cond, length, subst, arith, true, false, append-nil, same_actor, listed_places, IsOwn}
 use Rattle.tp_graph.proofs.OwnLaws.{unlisted}
 use Rattle.tp_graph.proofs.by_actor.ByActor.own.Goals as goal
 

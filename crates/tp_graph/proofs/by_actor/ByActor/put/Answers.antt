@@ -1,5 +1,4 @@
-use Rattle.std.proofs.Common.{subst}
-use Rattle.tp_graph.specs.ByActor.{actor_word}
+use Rattle.tp_graph.proofs.Common.{subst, actor_word}
 use Rattle.tp_graph.proofs.ListedLaws.{IsNoted, is_noted, AreBelow-note, listed-note}
 use Rattle.tp_graph.proofs.by_actor.ByActor.put.Goals as goal
 

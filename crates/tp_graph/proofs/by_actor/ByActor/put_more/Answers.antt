@@ -1,10 +1,7 @@
-use Rattle.std.proofs.Common.{◌≡◌, ◌∙◌, ◌++◌, ◌∷◌, [], ℕ, List, Bool, true, false, cond, Option, Some, None, Result, Ok, Err, OnErr, refl, sym, ap, append-nil, rules}
-use Rattle.std.specs.Map.{lookup}
-use Rattle.tp_opid.specs.declared.actor.Actor.{Actor}
+use Rattle.tp_graph.proofs.Common.{◌≡◌, ◌∙◌, ◌++◌, ◌∷◌, [], ℕ, List, Bool, true, false, cond, Option, Some, None, Result, Ok, Err, OnErr, refl, sym, ap, append-nil, lookup, Actor, same_actor-same, list_or_none, places_of}
+use Rattle.std.proofs.Common.{rules}
 use Rattle.tp_opid.specs.Order.{actor_cmp}
 use Rattle.tp_opid.specs.Same.{same_actor}
-use Rattle.tp_opid.proofs.Orders.{same_actor-same}
-use Rattle.tp_graph.specs.ByActor.{list_or_none, places_of}
 use Rattle.tp_graph.proofs.by_actor.ByActor.put_more.Goals as goal
 
 -- what each actor has where b has the list xs in place of what it had

@@ -1,7 +1,4 @@
-use Rattle.std.proofs.Common.{◌≡◌, ◌∙◌, ap, ℕ, List, Some, cond}
-use Rattle.std.specs.Map.{lookup}
-use Rattle.std.specs.Option.{unwrap_or}
-use Rattle.tp_opid.specs.declared.actor.Actor.{Actor}
+use Rattle.tp_graph.proofs.Common.{◌∙◌, ap, ℕ, List, Some, cond, lookup, unwrap_or, Actor}
 use Rattle.tp_opid.specs.Order.{actor_cmp}
 use Rattle.tp_opid.specs.Same.{same_actor}
 use Rattle.tp_graph.proofs.ClockLaws.{end_set}

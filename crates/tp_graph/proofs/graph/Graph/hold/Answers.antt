@@ -1,7 +1,4 @@
-use Rattle.std.proofs.Common.{◌≡◌, ◌<◌, ◌∙◌, ap, length, false, is_ok}
-use Rattle.tp_change.specs.ChangeHash.{hash_of}
-use Rattle.tp_graph.specs.Named.{has}
-use Rattle.tp_graph.specs.GraphState.{GraphState, most_waiting}
+use Rattle.tp_graph.proofs.Common.{◌≡◌, ◌<◌, ◌∙◌, ap, length, false, is_ok, hash_of, has, GraphState, most_waiting}
 use Rattle.tp_graph.proofs.WaitingLaws.{IsWaiting-held}
 use Rattle.tp_graph.proofs.graph.Graph.hold.Goals as goal
 

@@ -1,7 +1,4 @@
-use Rattle.std.proofs.Common.{◌≡◌, ◌<◌, ◌∙◌, ap, sym, length, refl, Some}
-use Rattle.std.specs.List.{slice_get}
-use Rattle.std.proofs.lemmas.Option.{slice_get_read}
-use Rattle.tp_graph.specs.GraphState.{GraphState}
+use Rattle.tp_graph.proofs.Common.{◌≡◌, ◌<◌, ◌∙◌, ap, sym, length, refl, Some, slice_get, slice_get_read, GraphState}
 use Rattle.tp_graph.proofs.WaitingLaws.{IsWaiting-remove}
 use Rattle.tp_graph.proofs.graph.Graph.release.Goals as goal
 

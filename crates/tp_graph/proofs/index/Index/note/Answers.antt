@@ -1,9 +1,6 @@
-use Rattle.std.proofs.Common.{◌≡◌, ℕ, ◌≤◌, Some, cond, ◌∙◌, ap, subst}
-use Rattle.std.specs.Ordering.{is_eq, nat_cmp}
-use Rattle.tp_opid.specs.declared.hash.Hash.{Hash}
+use Rattle.tp_graph.proofs.Common.{◌≡◌, ℕ, ◌≤◌, Some, cond, ◌∙◌, ap, subst, is_eq, nat_cmp, Hash, Notes, noted, noted_word}
 use Rattle.tp_opid.specs.Same.{same_hash}
 use Rattle.tp_opid.specs.Order.{hash_cmp}
-use Rattle.tp_graph.specs.Places.{Notes, noted, noted_word}
 use Rattle.tp_graph.proofs.NotesLaws.{AreNoted-hash, AreNoted-word, noted_hash, noted_word_itself}
 use Rattle.tp_graph.proofs.index.Index.note.Goals as goal
 

@@ -1,6 +1,5 @@
-use Rattle.std.proofs.Common.{◌∙◌, sym, ap}
+use Rattle.tp_graph.proofs.Common.{◌∙◌, sym, ap, Part}
 use Rattle.tp_graph.specs.Parts as of_part
-use Rattle.tp_graph.specs.declared.part.Part.{Part}
 use Rattle.tp_graph.proofs.ExtentLaws.{held_at}
 use Rattle.tp_graph.proofs.part.Part.holds.Goals as goal
 

@@ -1,7 +1,4 @@
-use Rattle.std.proofs.Common.{◌≡◌, ◌∙◌, length, Option, subst, arith}
-use Rattle.std.specs.Vec.{vec_len}
-use Rattle.tp_graph.specs.declared.extent.Extent.{Extent}
-use Rattle.tp_graph.specs.Extents.{IsKnown}
+use Rattle.tp_graph.proofs.Common.{◌≡◌, ◌∙◌, length, Option, subst, arith, vec_len, Extent, IsKnown}
 use Rattle.tp_graph.proofs.PastsLaws.{AreApart-more, AreApart-push, ArePasts-push}
 use Rattle.tp_graph.proofs.pasts.Pasts.push.Goals as goal
 

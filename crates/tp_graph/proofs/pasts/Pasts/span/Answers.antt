@@ -1,5 +1,4 @@
-use Rattle.std.proofs.Common.{refl}
-use Rattle.std.proofs.lemmas.Option.{slice_get_read}
+use Rattle.tp_graph.proofs.Common.{refl, slice_get_read}
 use Rattle.tp_graph.proofs.pasts.Pasts.span.Goals as goal
 
 pub returns-then-prefix-lt-APART : goal.returns-then-prefix-lt-APART

@@ -8,7 +8,7 @@ pub returns : goal.returns
 returns c = elim c.match-self.branch [
   | in-Running w ↦
       steps_as w.in-Running.peer c.args.self.now w.call.new.self (the_view c.match-self.self-inside) (call_of c.args.call) _ _ (ap member_data (sym w.in-Running.is) ∙ c.self.view_is)
-      (ap reply_of (sym w.result-is)) (ap the_view (sym w.self-inside-is)) w.call.ensures
+      (ap reply_of (sym w.result-is)) (ap the_view (sym w.self-inside-is)) w.call.ensures.step
   | in-Stopped w ↦
       steps_as c.args.self.now c.args.self.now c.args.self.now (the_view c.match-self.self-inside) (call_of c.args.call) _ _ refl (ap reply_of (sym w.result-is)) (sym c.self.view_is ∙ ap the_view (sym w.self-inside-is))
       (left_steps c.args.self.now w.in-Stopped.field-0 w.in-Stopped.field-1 w.in-Stopped.field-2.content (sym c.self.view_is ∙ ap member_data w.in-Stopped.is) (call_of c.args.call)

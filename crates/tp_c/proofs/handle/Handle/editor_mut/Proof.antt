@@ -1,0 +1,88 @@
+-- `editor_mut` lends the editor at the address, and the handle follows it.
+use Rattle.std.proofs.Common.{◌≡◌, ℕ, List, [], ◌∷◌, refl, sym, ap, ◌∙◌, MutBor}
+use seplogic.Ra.Ura.{Ura}
+use base.Fraction.{full_share}
+use mir.Syntax.{named}
+use mir.Raw.{raw as bare}
+use mir.Val.{Val, vptr}
+use base.Logic.{SProp, ent, sep, never, fst∗}
+use base.Fml.{GName, Fml, ftrue, fsep, flft}
+use types.Logic.{Logic, sem}
+use types.Kit.{‵, raw, ◌⊛◌, some, later, at_ret, ◌$◌, ◌∵◌, !, qed, done, move, keep, use1, split, join, fsplit, fsplit3, fjoin, fjoin3, fpack, pick, await, rewrite, suffices, frame, group}
+use types.Run.{stop, fld, load, addr, of_opd, first, blocks, exec, returns, enter}
+use types.ByLocal.{alloc_all, pass_all, free_all, look_at, get, through, sets, sets_last, env}
+use types.Part.{whole, sub, look_in}
+use contract.Running.{tables}
+use denote.Exit.{no}
+use denote.Laws.{shows}
+use denote.Memory.{part_at, mem, cell_at, part_of, lone}
+use denote.RawPtr.{Ptr, block_ptr, null_ptr, in_a_block}
+use denote.Ref.{MutRef, mut_vals, mut_Tells}
+use denote.Signature.{plain, mut_ref_to}
+use denote.Steps.{nothing, opens, peeks}
+use denote.Follow.{follows, Part, lends_Part}
+use denote.Struct.Struct.{Struct}
+use denote.Struct.Owning.{shape}
+use denote.Triple.Walked.{says, Stays, stay_dropped, walk_of, ends_at, Goes-spent_ref}
+use Rattle.std.proofs.raw_atomic.Walks.{proved}
+use Rattle.std.proofs.VecSteps.Shapes.{after}
+use Rattle.std.specs.contracts.impls.GlobalAllocator.TheImpl.{ghosts}
+use Rattle.tp_editor.specs.EditorState.{EditorState}
+use Rattle.tp_editor.specs.contracts.editor.Editor.{the_row as T}
+use Rattle.tp_c.specs.Owned.{owned}
+use Rattle.tp_c.specs.Lends.{with_editor}
+use Rattle.tp_c.specs.declared.handle.Handle.{Handle}
+use Rattle.tp_c.specs.contracts.handle.Handle.{the_row as R, the_type as handle_type}
+use Rattle.tp_c.proofs.handle.Handle.TheLaws.{lowers}
+use Rattle.tp_c.specs.contracts.handle.Handle.editor_mut as f
+use Rattle.tp_c.proofs.handle.Handle.editor_mut.Statement.{statement}
+use Rattle.tp_c.proofs.handle.Handle.editor_mut.Code as code
+
+abbrev stayed : Stays f.ended.signature.params f.ended.kept
+stayed = (stay_dropped (mut_ref_to (0 ∷ []) tt (plain (λ _. R))) no, tt)
+
+module _ {M : Type 1} {𝓤 : Ura M} (𝓛 : Logic 𝓤) (h : Handle) (us : List Val) (b o rb ro : ℕ) where
+  -- all of the handle but its editor
+  abbrev Rest : Fml
+  Rest = fsep (ghosts.dealloc_token h.alloc (bare (lone T.mir)) (block_ptr b o)) (fsep ((Struct (shape handle_type)).own_val (h.at, tt) us) (cell_at full_share R.mir us rb ro))
+
+  back : h.at ≡ block_ptr b o → (w : EditorState) → ent 𝓤 (sep 𝓤 (sem 𝓛 ((mem T).own_at w b o)) (sem 𝓛 Rest)) (sem 𝓛 ((mem R).own_at (with_editor h w) rb ro))
+  unfolding part_of
+  back e w =
+      qed 𝓛 (‵ (part_at T full_share w b o) ∷ ‵ Rest ∷ []) ∵ move ! (1 ∷ []) $ fsplit ! $ move ! (2 ∷ 0 ∷ []) $ fjoin ! $
+      rewrite ! 0 (λ (p : Ptr). ‵ (owned h.alloc p w)) (sym e) refl $ move ! (1 ∷ []) $ fsplit ! $ move ! (0 ∷ 2 ∷ []) $ fjoin ! $ move ! (1 ∷ 0 ∷ []) $ fjoin ! $
+      fpack ! (List Val) (λ vs. fsep (cell_at full_share R.mir vs rb ro) (R.own_val (with_editor h w) vs)) us $ done !
+
+pub editor_mut_spec : {M : Type 1} → statement M
+editor_mut_spec 𝓤 𝓛 𝓜 𝓡 wired =
+    let c = f.clauses 𝓛 𝓜.mem 𝓡.returns in let W = walk_of 𝓛 f.ended stayed c in let 𝓣 = tables 𝓤 𝓛.H 𝓜 𝓡 𝓡.env in
+    proved 𝓛 f.ended stayed c 𝓜 𝓡 (Goes-spent_ref 𝓛 1 (0 ∷ []) tt (plain (λ _. R)), tt)
+    f.Key.name code.function (code.unfolded 𝓤 𝓛.H 𝓜 𝓡 wired)
+    (λ κs. (mut_vals, tt)) (λ κs. (mut_Tells (named 0) κs.0 R, tt)) (λ κs qs bounds a _ are.
+    let κ = κs.0 in let q = qs.0 in let rb = a.0.ref_ptr.0 in let ro = a.0.ref_ptr.1 in let γ = a.0.ghost_name in let h = a.0.now in let vs = mut_vals a.0 in
+    let y : W.Ghost = ((κs, qs, bounds, a, (vs, tt)), tt) in
+    qed 𝓛 (((‵ (flft κ q) ⊛ ‵ ftrue) ⊛ ‵ ((MutRef (named 0) κ R).own_val a.0 vs) ⊛ ‵ ftrue) ∷ ‵ ftrue ∷ []) ∵
+    split ! $ split ! $ move ! (2 ∷ []) $ split ! $ keep ! (0 ∷ 2 ∷ []) $
+    enter ! _ _ _ _ _ $ alloc_all ! (λ l. pass_all ! refl ((tt, tt), tt) $
+    fsplit3 ! $ move ! (1 ∷ 2 ∷ 3 ∷ []) $ opens ! tt R rb ro (λ us.
+    move ! (1 ∷ []) $ peeks ! R _ (shows 𝓛 R) h us (λ is. fsplit ! $ move ! (1 ∷ []) $
+    in_a_block ! h.at (λ p. owned h.alloc p h.editor) (fst∗ 𝓤 (never 𝓤) (sem 𝓛 (ghosts.dealloc_token h.alloc (bare (lone T.mir)) null_ptr))) (λ b o e. fsplit ! $
+    -- [the editor; the right to free it; the fields; the cell of the handle; the open borrow, in three entries]
+    let word = lowers.val_is h us is ∙ ap (λ (p : Ptr). lowers.lowered (record h { at = p }) ∷ []) e in
+    let Cell = λ (ws : List Val). ‵ (cell_at full_share R.mir ws rb ro) in
+    rewrite ! 3 Cell word refl $
+    first ! $ blocks ! $
+    sets ! (of_opd ! (load ! (through ! refl (fld ! refl (stop !))) (look_in ! 3 (sub ! 0 refl (whole !))))) refl (tt, tt) $
+    sets ! (of_opd ! (get ! refl)) refl (tt, tt) $
+    sets_last ! (addr ! (through ! refl (stop !))) refl (tt, tt) $
+    exec ! 𝓣.C 𝓣.Λ (env code.Mir.locals l) (after 1 (code.function).body) (at_ret _ (W.post y)) $
+    sets ! (of_opd ! (get ! refl)) refl (tt, tt) $
+    rewrite ! 3 Cell (sym word) refl $
+    move ! (1 ∷ 2 ∷ 3 ∷ []) $ fjoin3 ! $ move ! (2 ∷ 3 ∷ 4 ∷ 1 ∷ 0 ∷ []) $ group ! 5 $
+    use1 𝓛 (later (some (λ (γ' : GName). raw (Part 𝓛 R T (with_editor h) (named 0) κ q rb ro b o γ (sem 𝓛 (Rest 𝓛 h us b o rb ro)) (back 𝓛 h us b o rb ro e) h.editor γ'))))
+    (lends_Part 𝓛 R T (with_editor h) (named 0) κ q rb ro b o γ (sem 𝓛 (Rest 𝓛 h us b o rb ro)) (back 𝓛 h us b o rb ro e) (R.coded.code h) (R.coded.code h) h.editor) $ await ! tt $ pick ! (λ γ'.
+    returns ! (look_at ! 0 refl) $ free_all ! refl $ keep ! (0 ∷ []) $
+    let r : MutBor EditorState = record { ref_ptr = (b, o); ghost_name = γ'; now = h.editor } in
+    use1 𝓛 (‵ ((MutRef (named 0) κ T).own_val r (vptr b o ∷ [])) ⊛ ‵ (flft κ q) ⊛ ‵ (follows R T γ γ' (with_editor h))) (base.Logic.id⊢ 𝓤 _) $ split ! $ move ! (1 ∷ []) $ split ! $ move ! (2 ∷ 0 ∷ 1 ∷ []) $
+    suffices ! _ (ends_at 𝓛 f.ended stayed c y (vptr b o) r (tt, tt) (tt, tt)) $
+    nothing ! $ nothing ! $ fjoin ! $ join ! $ nothing ! $ move ! (2 ∷ 0 ∷ []) $ join ! $ join ! $ frame ! $ says ! refl $ done !))))))

@@ -1,0 +1,10 @@
+pub mod Owned
+pub mod Lends
+pub mod Status
+pub mod Reading
+pub mod Storing
+pub mod Receiving
+pub mod Linking
+pub mod SharedOwned
+pub mod SharedLends
+pub mod SharedStatus

@@ -1,0 +1,36 @@
+-- What is read of an editor.
+use Rattle.std.specs.Prelude.{◌≡◌, ◌⊎◌, ℕ, ◌≤◌, List, length, Some, None}
+use Rattle.tp_opid.specs.declared.op_id.OpId.{OpId}
+use Rattle.tp_change.specs.declared.parts.ChangeParts.{ChangeParts}
+use Rattle.tp_document.specs.Showing.{HasElementAt, HasPosition}
+use Rattle.tp_editor.specs.EditorState.{EditorState, IsChangeAt}
+use Rattle.tp_c.specs.declared.cursors.Element.{Element}
+
+-- Only the answer may be another one, and where the call was refused that is as it was too. The length is the answer's.
+pub record OnlyAnswers (e : EditorState) (status len : ℕ) (e' : EditorState) : Type 0 where
+  pub document : e'.document ≡ e.document
+  pub links : e'.links ≡ e.links
+  pub same : (status ≡ 0 → ⊥) → e'.answer ≡ e.answer
+  pub tells : len ≡ length e'.answer
+
+-- The bytes of the change with this number were asked for: they are the answer, or there is none, or a growth was refused.
+abbrev pub AnswersChange : List ChangeParts → ℕ → ℕ → List ℕ → Type 0
+AnswersChange C place status bytes =
+    ((status ≡ 0) × IsChangeAt C place bytes)
+    ⊎ (((status ≡ 3) × (length C ≤ place)) ⊎ (status ≡ 1))
+
+-- the identifier that C holds as this element
+abbrev pub id_of : Element → OpId
+id_of x = record { counter = x.counter; actor = record { 0 = x.actor } }
+
+-- What was found at a position of the text: the visible element there, or none, and then nothing was written.
+abbrev pub Finds : List ChangeParts → ℕ → ℕ → Element → Element → Type 0
+Finds C at status x x' =
+    ((status ≡ 0) × HasElementAt C at (Some (id_of x')))
+    ⊎ ((status ≡ 101) × HasElementAt C at None × (x' ≡ x))
+
+-- Where an element was found: how many visible ones stand before it, or it isn't there, and then nothing was written.
+abbrev pub Locates : List ChangeParts → Element → ℕ → ℕ → ℕ → Type 0
+Locates C x status at at' =
+    ((status ≡ 0) × HasPosition C (id_of x) (Some at'))
+    ⊎ ((status ≡ 106) × HasPosition C (id_of x) None × (at' ≡ at))

@@ -1,0 +1,68 @@
+//! What is read of a document.
+
+ghost use Rattle.std.specs.Prelude.{◌≡◌, length};
+ghost use Rattle.tp_document.specs.Showing.{HasLength};
+ghost use Rattle.tp_graph.specs.Heads as head;
+ghost use Rattle.tp_editor.specs.EditorState.{hash_bytes};
+ghost use Rattle.tp_c.specs.Reading.{AnswersChange, OnlyAnswers};
+ghost use Rattle.tp_c.specs.Status.{IsDoneUnless};
+
+use crate::handle::Handle;
+use crate::status::{doc_status, editor_status};
+
+/// Writes the identifier of the document to `id`.
+#[unsafe(no_mangle)]
+pub extern "C" fn tp_id(handle: &mut Handle, id: &mut [u8; 16])
+    ensures id { id.new ≡ handle.old.editor.document.id.0 }
+    ensures same { handle.new.editor ≡ handle.old.editor }
+{
+    let bytes = handle.editor_mut().id().0;
+    *id = bytes;
+}
+
+/// How many characters (Unicode scalar values) the text has.
+#[unsafe(no_mangle)]
+pub extern "C" fn tp_len(handle: &mut Handle) -> usize
+    ensures len { HasLength handle.old.editor.document.applied result }
+    ensures same { handle.new.editor ≡ handle.old.editor }
+{
+    handle.editor_mut().len()
+}
+
+/// The answer is the hashes of the heads, 32 bytes each, rising; its length is written to `len`. Answers 109 where a growth
+/// was refused, which leaves the answer.
+#[unsafe(no_mangle)]
+pub extern "C" fn tp_heads(handle: &mut Handle, len: &mut usize) -> u32
+    ensures heads { result ≡ 0 → handle.new.editor.answer
+        ≡ hash_bytes (head.heads handle.old.editor.document.applied) }
+    ensures err { IsDoneUnless 109 result }
+    ensures around { OnlyAnswers handle.old.editor result len.new handle.new.editor }
+{
+    let editor = handle.editor_mut();
+    let answered = editor.heads();
+    *len = editor.answer().len();
+    doc_status(&answered)
+}
+
+/// How many changes are applied.
+#[unsafe(no_mangle)]
+pub extern "C" fn tp_change_count(handle: &mut Handle) -> usize
+    ensures count { result ≡ length handle.old.editor.document.applied }
+    ensures same { handle.new.editor ≡ handle.old.editor }
+{
+    handle.editor_mut().change_count()
+}
+
+/// The answer is the bytes of the applied change with this number, from 0 in the order in which they entered; its length is
+/// written to `len`. Answers 3 where there are fewer, and 1 where a growth was refused; both leave the answer.
+#[unsafe(no_mangle)]
+pub extern "C" fn tp_change_at(handle: &mut Handle, place: usize, len: &mut usize) -> u32
+    ensures bytes { AnswersChange handle.old.editor.document.applied place result
+        handle.new.editor.answer }
+    ensures around { OnlyAnswers handle.old.editor result len.new handle.new.editor }
+{
+    let editor = handle.editor_mut();
+    let answered = editor.change(place);
+    *len = editor.answer().len();
+    editor_status(&answered)
+}

@@ -1,0 +1,46 @@
+//! Documents that are saved, and that take the place of a handle's.
+
+ghost use Rattle.std.specs.Prelude.{◌≡◌};
+ghost use Rattle.tp_store.specs.Saved.{IsSaved};
+ghost use Rattle.tp_c.specs.Reading.{OnlyAnswers};
+ghost use Rattle.tp_c.specs.Status.{IsDoneUnless};
+ghost use Rattle.tp_c.specs.Storing.{IsBlank, Loads};
+
+use crate::handle::Handle;
+use crate::status::store_status;
+use std::alloc::Global;
+use tp_editor::Editor;
+use tp_opid::DocId;
+
+/// Puts a document with this identifier and no changes in the place of the handle's, whose links and answer are gone then.
+#[unsafe(no_mangle)]
+pub extern "C" fn tp_new(alloc: Global, handle: &mut Handle, id: &[u8; 16])
+    ensures { IsBlank id.now handle.new.editor }
+{
+    *handle.editor_mut() = Editor::new(alloc, DocId(*id));
+}
+
+/// The answer is the saved file of the document; its length is written to `len`. Changes that wait aren't saved. Answers 307
+/// where a growth was refused, which leaves the answer.
+#[unsafe(no_mangle)]
+pub extern "C" fn tp_save(handle: &mut Handle, len: &mut usize) -> u32
+    ensures bytes { result ≡ 0 → IsSaved handle.new.editor.answer
+        handle.old.editor.document.id handle.old.editor.document.applied }
+    ensures err { IsDoneUnless 307 result }
+    ensures around { OnlyAnswers handle.old.editor result len.new handle.new.editor }
+{
+    let editor = handle.editor_mut();
+    let answered = editor.save();
+    *len = editor.answer().len();
+    store_status(&answered)
+}
+
+/// Puts the document whose saved file the bytes are in the place of the handle's; the links are gone then. Answers 300 and
+/// the number of the refusal where they are none, and then all is as it was.
+#[unsafe(no_mangle)]
+pub extern "C" fn tp_load(handle: &mut Handle, bytes: &[u8]) -> u32
+    ensures { Loads handle.old.editor bytes.now result handle.new.editor }
+{
+    let answered = handle.editor_mut().load(bytes);
+    store_status(&answered)
+}

@@ -1,0 +1,3 @@
+pub mod EditorState
+pub mod EditorError
+pub mod Exchanging

@@ -1,0 +1,313 @@
+//! Recovering from a journal whose bytes come in pieces.
+
+ghost use Rattle.std.specs.Prelude.{◌≡◌, ◌⊎◌, ◌≤◌, ◌-◌, ℕ, List, [], ◌++◌, length, drop, vec_len, Some, IfOk, IfErr, OnOk, IsOkUnless};
+ghost use Rattle.tp_change.specs.declared.parts.ChangeParts.{ChangeParts};
+ghost use Rattle.tp_opid.specs.declared.doc_id.DocId.{DocId as Id};
+ghost use Rattle.tp_journal.specs.Layout.{IsShortTail};
+ghost use Rattle.tp_journal.specs.Pieces.{IsRefusedFrom, IsBehind, Reads, Stands};
+ghost use Rattle.tp_journal.specs.Recovery.{Recovers};
+ghost use Rattle.tp_journal.specs.Refusals.{IsRefusal};
+ghost use Rattle.tp_store.specs.declared.error.StoreError.TheVariants.{OutOfMemory};
+
+use crate::content::Content;
+use crate::layout::HEADER_BYTES;
+use crate::reading::read_header;
+use crate::recovering::{Recovered, enter_next, history};
+use std::alloc::{AllocError, Global};
+use std::io;
+use std::io::Write;
+use std::marker::Model;
+use tp_document::Document;
+use tp_rga::Sequence;
+use tp_store::StoreError;
+
+/// How far the bytes that came are read.
+#[derive(Drop)]
+pub(crate) enum Stage<S: Sequence> {
+    /// The header isn't whole.
+    Header,
+    /// The document has the changes of all records that are whole.
+    Records(Recovered<S>),
+    /// The bytes are refused, whatever comes behind them, or memory was.
+    Refused(StoreError),
+}
+
+/// Recovers the document of a journal whose bytes come in pieces of any sizes, as [`recover`](crate::recover) does from
+/// all of them. It is a [`Write`] too, to which a reader can be copied.
+///
+/// Of the bytes it holds those of one record that isn't whole yet, and no others. A refusal is answered at the end.
+///
+/// Contracts see the bytes that came.
+pub struct Recovering<S: Sequence> {
+    alloc: Global,
+    stage: Stage<S>,
+    rest: Vec<u8>,
+    came: Content,
+}
+
+impl<S: Sequence> Drop for Recovering<S> {
+    fn drop(self) {
+        let Recovering {
+            alloc: _,
+            stage: _,
+            rest: _,
+            came: _,
+        } = self;
+    }
+}
+
+impl<S: Sequence> Model for Recovering<S> {
+    ghost use Rattle.std.specs.Prelude.{ℕ, List};
+
+    ghost Value = { List ℕ };
+
+    ghost use Rattle.tp_journal.specs.Pieces.{Stands};
+
+    ghost view = { λ r. r.came.bytes };
+
+    ghost invariant = { λ r. Stands r.came.bytes r.stage r.rest.items };
+}
+
+// Enters the changes of the records at the prefix of the bytes, which come behind those that are kept. Gives the short tail
+// behind them.
+fn enter_records<'a, S: Sequence>(
+    alloc: Global,
+    recovered: &mut Recovered<S>,
+    bytes: &'a [u8],
+    _came: &Content,
+) -> Result<&'a [u8], StoreError>
+    requires { IsBehind _came.now.bytes recovered.old.document recovered.old.keep bytes.now }
+    ensures ok { IfOk result (λ rest. IsShortTail rest.now
+        × IsBehind _came.now.bytes recovered.new.document recovered.new.keep rest.now) }
+    ensures rest { IfOk result
+        (λ rest. (read : List ℕ) × (bytes.now ≡ read ++ rest.now)) }
+    ensures err { IfErr result (IsRefusedFrom _came.now.bytes) }
+{
+    let mut rest = bytes;
+    loop {
+        match enter_next(alloc, &mut recovered.document, rest, recovered.keep) {
+            Ok(Some(next)) => {
+                history(&recovered.document);
+                recovered.keep += (rest.len() - next.len()) as u64;
+                rest = next;
+            }
+            Ok(None) => return Ok(rest),
+            Err(error) => return Err(error),
+        }
+    }
+}
+
+// Reads the header at the start of all bytes that came, if it is whole, and the records behind it. Gives what is left.
+fn begin<'a, S: Sequence>(
+    alloc: Global,
+    stage: &mut Stage<S>,
+    bytes: &'a [u8],
+    came: &Content,
+) -> Result<&'a [u8], StoreError>
+    requires { Reads came.now.bytes stage.old bytes.now × (stage.old ≡ Stage.Header) }
+    ensures ok { IfOk result (λ rest. Stands came.now.bytes stage.new rest.now) }
+    ensures rest { IfOk result
+        (λ rest. (read : List ℕ) × (bytes.now ≡ read ++ rest.now)) }
+    ensures err { IfErr result (IsRefusedFrom came.now.bytes) }
+{
+    match read_header(bytes) {
+        Ok((id, behind)) => {
+            let mut recovered = Recovered {
+                document: Document::new(alloc, id),
+                keep: HEADER_BYTES as u64,
+            };
+            match enter_records(alloc, &mut recovered, behind, came) {
+                Ok(rest) => {
+                    *stage = Stage::Records(recovered);
+                    Ok(rest)
+                }
+                Err(error) => {
+                    drop(recovered);
+                    Err(error)
+                }
+            }
+        }
+        Err(StoreError::NoHeader) => Ok(bytes),
+        Err(error) => Err(error),
+    }
+}
+
+// Reads all that is whole of the bytes, which come behind those that are read. Gives what is left.
+fn read_on<'a, S: Sequence>(
+    alloc: Global,
+    stage: &mut Stage<S>,
+    bytes: &'a [u8],
+    came: &Content,
+) -> Result<&'a [u8], StoreError>
+    requires { Reads came.now.bytes stage.old bytes.now }
+    ensures ok { IfOk result (λ rest. Stands came.now.bytes stage.new rest.now) }
+    ensures rest { IfOk result
+        (λ rest. (read : List ℕ) × (bytes.now ≡ read ++ rest.now)) }
+    ensures err { IfErr result (IsRefusedFrom came.now.bytes) }
+{
+    match stage {
+        Stage::Header => begin(alloc, stage, bytes, came),
+        Stage::Records(recovered) => enter_records(alloc, recovered, bytes, came),
+        Stage::Refused(error) => Err(*error),
+    }
+}
+
+// Drops all bytes but the last ones.
+fn keep_last(alloc: Global, bytes: &mut Vec<u8>, count: usize) -> Result<(), AllocError>
+    requires { count ≤ vec_len bytes.old }
+    ensures { OnOk result (bytes.new.items ≡ drop (vec_len bytes.old - count) bytes.old.items) }
+{
+    let read = bytes.len() - count;
+    if read > 0 {
+        *bytes = Vec::from_slice(alloc, &bytes[read..])?;
+    }
+    Ok(())
+}
+
+// Reads all that is whole of what is held, which comes behind the bytes that are read, and keeps what is left.
+fn read_held<S: Sequence>(
+    alloc: Global,
+    stage: &mut Stage<S>,
+    held: &mut Vec<u8>,
+    came: &Content,
+) -> Result<(), StoreError>
+    requires { Reads came.now.bytes stage.old held.old.items }
+    ensures ok { OnOk result (Stands came.now.bytes stage.new held.new.items) }
+    ensures err { IfErr result (IsRefusedFrom came.now.bytes) }
+{
+    match read_on(alloc, stage, held.as_slice(), came) {
+        Ok(rest) => {
+            let count = rest.len();
+            match keep_last(alloc, held, count) {
+                Ok(()) => Ok(()),
+                Err(_) => Err(StoreError::OutOfMemory),
+            }
+        }
+        Err(error) => Err(error),
+    }
+}
+
+// Reads all that is whole of the piece, behind which nothing is held, and holds what is left.
+fn read_piece<S: Sequence>(
+    alloc: Global,
+    stage: &mut Stage<S>,
+    held: &mut Vec<u8>,
+    piece: &[u8],
+    came: &Content,
+) -> Result<(), StoreError>
+    requires reads { Reads came.now.bytes stage.old piece.now }
+    requires none { held.old.items ≡ [] }
+    ensures ok { OnOk result (Stands came.now.bytes stage.new held.new.items) }
+    ensures err { IfErr result (IsRefusedFrom came.now.bytes) }
+{
+    match read_on(alloc, stage, piece, came) {
+        Ok(rest) => match held.extend_from_slice(rest) {
+            Ok(()) => Ok(()),
+            Err(_) => Err(StoreError::OutOfMemory),
+        },
+        Err(error) => Err(error),
+    }
+}
+
+// Takes a piece behind the bytes before it, of which some are held.
+fn take_piece<S: Sequence>(
+    alloc: Global,
+    stage: &mut Stage<S>,
+    held: &mut Vec<u8>,
+    piece: &[u8],
+    _before: &Content,
+    came: &Content,
+) -> Result<(), StoreError>
+    requires stands { Stands _before.now.bytes stage.old held.old.items }
+    requires came { came.now.bytes ≡ _before.now.bytes ++ piece.now }
+    ensures ok { OnOk result (Stands came.now.bytes stage.new held.new.items) }
+    ensures err { IfErr result (IsRefusedFrom came.now.bytes) }
+{
+    if held.is_empty() {
+        return read_piece(alloc, stage, held, piece, came);
+    }
+    match held.extend_from_slice(piece) {
+        Ok(()) => read_held(alloc, stage, held, came),
+        Err(_) => Err(StoreError::OutOfMemory),
+    }
+}
+
+impl<S: Sequence> Recovering<S> {
+    /// No byte came. No memory.
+    pub fn new(alloc: Global) -> Recovering<S>
+        ensures { result ≡ [] }
+    {
+        Recovering {
+            alloc,
+            stage: Stage::Header,
+            rest: Vec::new(alloc),
+            came: Content::none(),
+        }
+    }
+
+    /// Takes the next bytes of the journal. Each record is entered once its last byte is there. Bytes are copied only where
+    /// a record comes in several pieces.
+    pub fn feed(&mut self, piece: &[u8])
+        ensures { self.new ≡ self.old ++ piece.now }
+    {
+        let came = Content::with(&self.came, piece);
+        let taken = take_piece(
+            self.alloc,
+            &mut self.stage,
+            &mut self.rest,
+            piece,
+            &self.came,
+            &came,
+        );
+        if let Err(error) = taken {
+            self.stage = Stage::Refused(error);
+            self.rest.clear();
+        }
+        self.came = came;
+    }
+
+    /// The bytes that came, for contracts alone.
+    pub(crate) fn content(&self) -> Content
+        ensures { result.bytes ≡ self.now }
+    {
+        let none: &[u8] = &[];
+        Content::with(&self.came, none)
+    }
+
+    /// The document of the journal whose bytes came, and how many of them are kept, as [`recover`](crate::recover) gives
+    /// them or refuses. `OutOfMemory` also where memory was refused while they came.
+    pub fn finish(self) -> Result<Recovered<S>, StoreError>
+        ensures ok { IfOk result
+            (λ r. Recovers self r.document.id r.document.applied r.keep) }
+        ensures waiting { IfOk result (λ r. r.document.waiting ≡ []) }
+        ensures only { (id : Id) (C : List ChangeParts) (keep : ℕ) → Recovers self id C keep
+            → IsOkUnless result OutOfMemory }
+        ensures err { IfErr result (λ e. (e ≡ OutOfMemory) ⊎ IsRefusal self e) }
+    {
+        let Recovering {
+            alloc: _,
+            stage,
+            rest: _,
+            came: _,
+        } = self;
+        match stage {
+            Stage::Header => Err(StoreError::NoHeader),
+            Stage::Records(recovered) => Ok(recovered),
+            Stage::Refused(error) => Err(error),
+        }
+    }
+}
+
+/// What is written is fed. It is never refused, and flushing does nothing.
+impl<S: Sequence> Write for Recovering<S> {
+    ghost contents = { λ r. Some r };
+
+    fn write(&mut self, bytes: &[u8]) -> io::Result<usize> {
+        self.feed(bytes);
+        Ok(bytes.len())
+    }
+
+    fn flush(&mut self) -> io::Result<()> {
+        Ok(())
+    }
+}

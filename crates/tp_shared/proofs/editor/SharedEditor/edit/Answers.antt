@@ -1,0 +1,18 @@
+use Rattle.std.proofs.Common.{refl, sym, subst, ◌∙◌}
+use Rattle.tp_peer.proofs.StepLaws.{step_runs, step_stopped}
+use Rattle.tp_peer.specs.Common.{chars}
+use Rattle.tp_peer.specs.PeerStep.{Edit, PeerStep, Refused}
+use Rattle.tp_peer.specs.declared.error.PeerError.TheVariants.{OutOfMemory, Stopped}
+use Rattle.tp_shared.specs.SharedState.{SharedState}
+use Rattle.tp_shared.proofs.editor.SharedEditor.edit.Goals as goal
+
+pub returns-then-is_stopped-clause-step : goal.returns-then-is_stopped-clause-step
+returns-then-is_stopped-clause-step c =
+    let p = c.self.inside.host.peer in let call = Edit c.args.splices.now c.args.time (chars c.args.message.now) in
+    subst (λ (s : SharedState). PeerStep s.peer call (Refused Stopped) p) c.self.view_is (step_stopped p call (sym c.is_stopped.ensures ∙ c.if-is_stopped.true))
+
+pub returns-then-is_err-clause-step : goal.returns-then-is_err-clause-step
+returns-then-is_err-clause-step c =
+    let p = c.self.inside.host.peer in let call = Edit c.args.splices.now c.args.time (chars c.args.message.now) in
+    subst (λ (s : SharedState). PeerStep s.peer call (Refused OutOfMemory) p) c.self.view_is
+    (step_runs p call (Refused OutOfMemory) p (sym c.is_stopped.ensures ∙ c.if-is_stopped.false) refl)

@@ -1,0 +1,4 @@
+pub mod SharedState
+pub mod Conversation
+pub mod Opening
+pub mod Exchanging

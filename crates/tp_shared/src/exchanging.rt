@@ -1,0 +1,91 @@
+//! Sessions of a shared editor.
+
+ghost use Rattle.std.specs.Prelude.{◌≡◌, [], None, IfErr, OnOk, OnErr};
+ghost use Rattle.tp_shared.specs.Exchanging.{Begins, Feeds, FeedsHeld, RefusesBegin};
+
+use crate::conversing::{answer_bytes, put_frame};
+use crate::editor::{Held, SharedEditor};
+use tp_frame::Framer;
+use tp_session::{Host, NetError, Role, Session};
+
+impl SharedEditor {
+    /// Begins a session as the side with the role, and ends one that goes on, of which nothing more is sent. What the last
+    /// one told is forgotten. The answer is the frame that is to be sent at once: a client's hello, and nothing of a server.
+    ///
+    /// It is refused as a peer's `Stopped`; the only other refusal is `OutOfMemory`. No session goes on then.
+    pub fn begin(&mut self, role: Role) -> Result<(), NetError>
+        ensures ok { OnOk result (Begins self.old role self.new) }
+        ensures err { IfErr result (λ e. RefusesBegin self.old e self.new) }
+        ensures none { OnErr result (self.new.held ≡ None) }
+        ensures entered { self.new.entered ≡ 0 }
+    {
+        self.answer.clear();
+        self.held = None;
+        self.entered = 0;
+        let id = self.id();
+        match self.host.forget() {
+            Ok(()) => {}
+            Err(error) => return Err(NetError::Peer(error)),
+        }
+        let session = Session::new(role, id);
+        if put_frame(self.alloc, &mut self.answer, &session.first()).is_err() {
+            return Err(NetError::OutOfMemory);
+        }
+        self.held = Some(Held {
+            session,
+            framer: Framer::new(self.alloc),
+        });
+        Ok(())
+    }
+
+    /// Takes the next bytes of the other side, in whatever pieces they come, and answers the frames that are whole then, as
+    /// [`Session::on_frame`] does, until the session has ended or no whole frame is left. Whether it has ended well: both
+    /// sides have said done, and what came after is dropped. The answer is what is to be sent, which may be nothing.
+    ///
+    /// Each error ends the session, and the answer ends with the refusal that the other side is due, unless memory is refused
+    /// for it: `Frame` where what came is no frame, `OutOfMemory`, and else what `on_frame` answers. What was received before
+    /// stays. Where no session goes on it is refused as `Unexpected`, and the answer is empty.
+    ///
+    /// The bytes of a frame that isn't whole yet are held, which are 16,777,220 at most.
+    pub fn feed(&mut self, bytes: &[u8]) -> Result<bool, NetError>
+        ensures { Feeds self.old bytes.now result self.new }
+    {
+        self.answer.clear();
+        match self.held.take() {
+            Some(held) => self.feed_held(held, bytes),
+            None => Err(NetError::Unexpected),
+        }
+    }
+
+    // Takes the bytes for a session that was taken out, and puts it back where it goes on.
+    fn feed_held(&mut self, mut held: Held, bytes: &[u8]) -> Result<bool, NetError>
+        requires empty { self.old.answer ≡ [] }
+        requires none { self.old.held ≡ None }
+        ensures { FeedsHeld self.old.peer held bytes.now result self.new }
+    {
+        let fed = answer_bytes(
+            self.alloc,
+            &mut held,
+            &mut self.host,
+            &mut self.answer,
+            bytes,
+        );
+        self.entered = held.session.applied();
+        match fed {
+            Ok(false) => {
+                self.held = Some(held);
+                Ok(false)
+            }
+            Ok(true) => Ok(true),
+            Err(error) => Err(error),
+        }
+    }
+
+    /// Ends the session that goes on, if one does, as where its stream has ended. Nothing is to be sent for it. What it
+    /// received stays.
+    pub fn end(&mut self)
+        ensures { self.new ≡ record self.old { held = None } }
+    {
+        self.held = None;
+    }
+}

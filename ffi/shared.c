@@ -1,0 +1,172 @@
+/* Two shared editors on journals in files: each writes, one session makes them even, and both are opened again. Prints what is
+ * there. The folder of the files is the first argument. */
+#include "textpeer.h"
+
+#include <stdio.h>
+#include <stdlib.h>
+#include <string.h>
+
+static const uint8_t TEXT[16] = {7};
+static const uint8_t ANN[16] = {1}, BEN[16] = {2}, LATER[16] = {3};
+
+static void must(uint32_t status, const char *call)
+{
+    if (status != 0) {
+        fprintf(stderr, "%s was refused: %u\n", call, (unsigned)status);
+        exit(1);
+    }
+}
+
+static void *some(void *memory)
+{
+    if (memory == NULL)
+        exit(1);
+    return memory;
+}
+
+/* The editor's answer and a zero behind it, which the caller frees. */
+static uint8_t *answer(tp_shared *shared, size_t len)
+{
+    uint8_t *bytes = some(malloc(len + 1));
+    bytes[tp_shared_answer(shared, bytes, len)] = 0;
+    return bytes;
+}
+
+static char *path_of(const char *folder, const char *name)
+{
+    char *path = some(malloc(strlen(folder) + strlen(name) + 2));
+    sprintf(path, "%s/%s", folder, name);
+    return path;
+}
+
+static void edit(tp_shared *shared, size_t at, size_t del, const char *text)
+{
+    size_t len;
+    must(tp_shared_edit(shared, at, del, text, strlen(text), 0, NULL, 0, &len), "edit");
+}
+
+static void print_text(tp_shared *shared)
+{
+    size_t len;
+    must(tp_shared_text(shared, &len), "text");
+    uint8_t *text = answer(shared, len);
+    printf("%s\n", (char *)text);
+    free(text);
+}
+
+/* One side of a session: what it has to send, and whether its session goes on. */
+typedef struct side {
+    tp_shared *shared;
+    uint8_t *out;
+    size_t out_len;
+    uint32_t going;
+    uint64_t entered;
+} side;
+
+static void begin(side *side, uint32_t role)
+{
+    must(tp_shared_begin(side->shared, role, &side->out_len), "begin");
+    side->out = answer(side->shared, side->out_len);
+    side->going = 1;
+}
+
+/* Gives the second side what the first has to send, three bytes at a time. */
+static void carry(side *from, side *to)
+{
+    uint8_t *bytes = from->out;
+    size_t left = from->out_len;
+    from->out = some(malloc(1));
+    from->out_len = 0;
+    for (size_t at = 0; at < left; at += 3) {
+        size_t len;
+        must(tp_shared_feed(to->shared, bytes + at, left - at < 3 ? left - at : 3, &len, &to->going, &to->entered), "feed");
+        to->out = some(realloc(to->out, to->out_len + len + 1));
+        to->out_len += tp_shared_answer(to->shared, to->out + to->out_len, len);
+    }
+    free(bytes);
+}
+
+/* Holds a session, and prints how many changes entered on each side. */
+static void meet(tp_shared *client, tp_shared *server)
+{
+    side ann = {.shared = client}, ben = {.shared = server};
+    begin(&ann, 0);
+    begin(&ben, 1);
+    while (ann.out_len != 0 || ben.out_len != 0) {
+        carry(&ann, &ben);
+        carry(&ben, &ann);
+    }
+    printf("%u %u entered %u %u\n", (unsigned)ann.going, (unsigned)ben.going, (unsigned)ann.entered, (unsigned)ben.entered);
+    free(ann.out);
+    free(ben.out);
+}
+
+static void print_heads(tp_shared *ann, tp_shared *ben)
+{
+    size_t len, other;
+    must(tp_shared_heads(ann, &len), "heads");
+    must(tp_shared_heads(ben, &other), "heads");
+    uint8_t *heads = answer(ann, len), *others = answer(ben, other);
+    printf("%u heads, %s\n", (unsigned)(len / 32), len == other && memcmp(heads, others, len) == 0 ? "the same" : "others");
+    free(heads);
+    free(others);
+}
+
+/* A cursor stays with its character while the text changes before it. */
+static void print_cursor(tp_shared *shared)
+{
+    uint64_t counter;
+    uint8_t actor[16];
+    size_t position;
+    must(tp_shared_cursor(shared, 4, &counter, actor), "cursor");
+    edit(shared, 0, 0, ">> ");
+    must(tp_shared_cursor_position(shared, counter, actor, &position), "cursor_position");
+    printf("cursor at %u of %u, then %u\n", (unsigned)position, (unsigned)tp_shared_length(shared),
+           (unsigned)tp_shared_cursor(shared, 1000, &counter, actor));
+}
+
+/* What is refused, by its status. */
+static void print_refusals(const char *path, const char *absent, tp_shared *shared)
+{
+    tp_shared other;
+    size_t len;
+    uint32_t going;
+    uint64_t entered;
+    printf("busy %u\n", (unsigned)tp_shared_open(path, strlen(path), LATER, &other.at));
+    printf("absent %u\n", (unsigned)tp_shared_open(absent, strlen(absent), LATER, &other.at));
+    printf("past the end %u\n", (unsigned)tp_shared_edit(shared, 999, 0, "x", 1, 0, NULL, 0, &len));
+    printf("no session %u\n", (unsigned)tp_shared_feed(shared, NULL, 0, &len, &going, &entered));
+    must(tp_shared_begin(shared, 1, &len), "begin");
+    uint32_t status = tp_shared_feed(shared, (const uint8_t *)"\0\0\0\2\7\7", 6, &len, &going, &entered);
+    printf("no frame %u, going %u, a refusal of %u bytes\n", (unsigned)status, (unsigned)going, (unsigned)len);
+}
+
+int main(int count, char **arguments)
+{
+    const char *folder = count > 1 ? arguments[1] : ".";
+    char *first = path_of(folder, "ann.journal"), *second = path_of(folder, "ben.journal"), *absent = path_of(folder, "absent");
+    tp_shared ann, ben;
+    must(tp_shared_create(first, strlen(first), TEXT, ANN, &ann.at), "create");
+    must(tp_shared_create(second, strlen(second), TEXT, BEN, &ben.at), "create");
+    edit(&ann, 0, 0, "Hello world");
+    edit(&ben, 0, 0, "Ben. ");
+    meet(&ann, &ben);
+    print_text(&ben);
+    print_heads(&ann, &ben);
+    edit(&ben, 0, 5, "");
+    meet(&ann, &ben);
+    print_cursor(&ann);
+    print_refusals(first, absent, &ann);
+    tp_shared_close(ben);
+    tp_shared_close(ann);
+    printf("in use %u, there %u\n", (unsigned)tp_shared_open(first, strlen(first), ANN, &ann.at),
+           (unsigned)tp_shared_create(first, strlen(first), TEXT, LATER, &ann.at));
+    must(tp_shared_open(first, strlen(first), LATER, &ann.at), "open");
+    print_text(&ann);
+    printf("%u changes\n", (unsigned)tp_shared_change_count(&ann));
+    tp_shared_close(ann);
+    free(first);
+    free(second);
+    free(absent);
+    return 0;
+}

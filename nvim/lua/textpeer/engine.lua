@@ -1,0 +1,203 @@
+-- The engine by LuaJIT's ffi: the shared editors of ffi/textpeer.h, as objects. A refusal is raised as a table with its
+-- `status` and its `name`, as { status = 801, name = 'Busy' }.
+local ffi = require('ffi')
+
+local M = {}
+
+ffi.cdef([[
+typedef struct tp_shared { void *at; } tp_shared;
+uint32_t tp_shared_open(const char *path, size_t path_len, const char *actor, void **at);
+uint32_t tp_shared_create(const char *path, size_t path_len, const char *id, const char *actor, void **at);
+void tp_shared_close(tp_shared shared);
+size_t tp_shared_answer(tp_shared *shared, uint8_t *out, size_t room);
+void tp_shared_id(tp_shared *shared, uint8_t *id);
+size_t tp_shared_length(tp_shared *shared);
+size_t tp_shared_change_count(tp_shared *shared);
+uint32_t tp_shared_edit(tp_shared *shared, size_t at, size_t del, const char *text, size_t text_len, uint64_t time,
+                        const char *message, size_t message_len, size_t *len);
+uint32_t tp_shared_text(tp_shared *shared, size_t *len);
+uint32_t tp_shared_heads(tp_shared *shared, size_t *len);
+uint32_t tp_shared_cursor(tp_shared *shared, size_t at, uint64_t *counter, uint8_t *actor);
+uint32_t tp_shared_cursor_position(tp_shared *shared, uint64_t counter, const char *actor, size_t *position);
+uint32_t tp_shared_begin(tp_shared *shared, uint32_t role, size_t *len);
+uint32_t tp_shared_feed(tp_shared *shared, const char *bytes, size_t bytes_len, size_t *len, uint32_t *going,
+                        uint64_t *entered);
+void tp_shared_end(tp_shared *shared);
+]])
+
+-- The names of refusals, by the hundreds of their statuses.
+local NAMES = {
+  [0] = { 'OutOfMemory', 'NoLink', 'NoChange', 'BadText' },
+  { 'OutOfRange', 'CounterLimit', 'TooManyOps', 'TooManyHeads', 'UnknownHead', 'UnknownElement', 'PendingFull', 'HashTaken',
+    'OutOfMemory', 'OtherDocument', 'TooLong', 'Full', 'NotKept' },
+  { 'BadMessage', 'BadChange', 'TooManyHeads', 'PendingFull', 'OutOfMemory', 'OtherDocument', 'NotKept' },
+  { 'BadMagic', 'Truncated', 'BadDigest', 'Damaged', 'Refused', 'Io', 'OutOfMemory', 'NoHeader' },
+  { 'Version', 'Short', 'Trailing', 'ZeroSeqOrStart', 'BadUtf8', 'DepsOrder', 'NoRecords', 'BadTag', 'EmptyRun', 'Limit',
+    'OutOfMemory', 'NoRun' },
+  { 'ActorInUse', 'JournalFailed', 'Stopped', 'TooManyLinks', 'JournalNotEmpty', [9] = 'OutOfMemory' },
+  { [2] = 'Frame', [3] = 'OtherDocument', [4] = 'Version', [5] = 'Unexpected', [8] = 'OutOfMemory' },
+  { 'OtherDocument', 'Version', 'Malformed', 'TooMany', 'Other' },
+  { 'Busy', 'Io', 'OutOfMemory' },
+}
+
+local Refusal = {
+  __tostring = function(refusal)
+    return refusal.name
+  end,
+}
+
+-- The refusal with the status.
+function M.refusal(status)
+  local names = NAMES[math.floor(status / 100)] or {}
+  local name = names[status % 100] or ('status ' .. status)
+  -- What the other side told, and not this one.
+  if status > 700 and status < 800 then
+    name = 'refused by the server as ' .. name
+  end
+  return setmetatable({ status = status, name = name }, Refusal)
+end
+
+local function done(status)
+  if status ~= 0 then
+    error(M.refusal(status), 0)
+  end
+end
+
+local library
+
+-- Where the library is, unless it is told by $TEXTPEER_LIB or g:textpeer_library: beside the plugin, as `ffi/build` makes it.
+local function place()
+  local here = debug.getinfo(1, 'S').source:sub(2)
+  return vim.env.TEXTPEER_LIB
+    or vim.g.textpeer_library
+    or vim.fn.fnamemodify(here, ':p:h:h:h:h') .. '/ffi/out/libtextpeer.so'
+end
+
+local function loaded()
+  if not library then
+    local ok, found = pcall(ffi.load, place())
+    if not ok then
+      error(('the engine is not at %s, where ffi/build makes it (%s)'):format(place(), found), 0)
+    end
+    library = found
+  end
+  return library
+end
+
+local Engine = {}
+Engine.__index = Engine
+
+local length, number, going = ffi.new('size_t[1]'), ffi.new('uint64_t[1]'), ffi.new('uint32_t[1]')
+
+-- Sixteen bytes that nobody else has.
+local function drawn()
+  return assert(vim.loop.random(16))
+end
+
+-- A shared editor of the journal in the file, under an actor of its own. With `anew` it begins the journal of a new document.
+function M.open(path, anew)
+  local lib, at = loaded(), ffi.new('void *[1]')
+  if anew then
+    done(lib.tp_shared_create(path, #path, drawn(), drawn(), at))
+  else
+    done(lib.tp_shared_open(path, #path, drawn(), at))
+  end
+  local handle = ffi.new('tp_shared')
+  handle.at = at[0]
+  return setmetatable({ lib = lib, handle = handle }, Engine)
+end
+
+-- Ends it and frees the file. Its other calls aren't made afterwards.
+function Engine:close()
+  if self.handle then
+    self.lib.tp_shared_close(self.handle)
+    self.handle = nil
+  end
+end
+
+-- The last answer, which has as many bytes as was told.
+function Engine:answer()
+  local count = tonumber(length[0])
+  local out = ffi.new('uint8_t[?]', math.max(count, 1))
+  return ffi.string(out, self.lib.tp_shared_answer(self.handle, out, count))
+end
+
+-- The identifier of the document, 16 bytes.
+function Engine:id()
+  local id = ffi.new('uint8_t[16]')
+  self.lib.tp_shared_id(self.handle, id)
+  return ffi.string(id, 16)
+end
+
+-- How many changes there are.
+function Engine:change_count()
+  return tonumber(self.lib.tp_shared_change_count(self.handle))
+end
+
+-- Deletes `delete` characters from `at` on, and inserts a text there. The change is on the disk then.
+function Engine:edit(at, delete, text)
+  done(self.lib.tp_shared_edit(self.handle, at, delete, text, #text, os.time(), '', 0, length))
+end
+
+function Engine:text()
+  done(self.lib.tp_shared_text(self.handle, length))
+  return self:answer()
+end
+
+-- The hashes of the heads, 32 bytes each.
+function Engine:heads()
+  done(self.lib.tp_shared_heads(self.handle, length))
+  local bytes, heads = self:answer(), {}
+  for at = 1, #bytes, 32 do
+    heads[#heads + 1] = bytes:sub(at, at + 31)
+  end
+  return heads
+end
+
+local actor = ffi.new('uint8_t[16]')
+
+-- A cursor at the character at a place: its counter, which is below 2^48, and its actor. The characters that one edit inserts
+-- have consecutive counters.
+function Engine:cursor(at)
+  done(self.lib.tp_shared_cursor(self.handle, at, number, actor))
+  return { counter = tonumber(number[0]), actor = ffi.string(actor, 16) }
+end
+
+-- Whether the cursor's character is at the place.
+function Engine:is_at(cursor, at)
+  return self.lib.tp_shared_cursor(self.handle, at, number, actor) == 0
+    and tonumber(number[0]) == cursor.counter
+    and ffi.string(actor, 16) == cursor.actor
+end
+
+-- How many characters are before the cursor's, which may be gone.
+function Engine:position(cursor)
+  done(self.lib.tp_shared_cursor_position(self.handle, cursor.counter, cursor.actor, length))
+  return tonumber(length[0])
+end
+
+-- Begins a session as the side that connected. What is to be sent at once.
+function Engine:begin()
+  done(self.lib.tp_shared_begin(self.handle, 0, length))
+  return self:answer()
+end
+
+-- Takes bytes of the other side: what is to be sent, also where the session broke off; whether it goes on; and why it broke
+-- off, if it did.
+function Engine:feed(bytes)
+  local status = self.lib.tp_shared_feed(self.handle, bytes, #bytes, length, going, number)
+  local refusal = status ~= 0 and M.refusal(status) or nil
+  return self:answer(), going[0] == 1, refusal
+end
+
+-- Whether the refusal says that the journal's device failed: nothing but `close` is done then.
+function Engine.has_stopped(refusal)
+  return refusal.status == 502 or refusal.status == 503
+end
+
+-- Ends a session that is going on.
+function Engine:stop()
+  self.lib.tp_shared_end(self.handle)
+end
+
+return M

@@ -1,0 +1,273 @@
+-- The plugin: documents by their buffers, and the commands.
+local Document = require('textpeer.document')
+local Link = require('textpeer.link')
+local engine = require('textpeer.engine')
+local say = require('textpeer.say')
+
+local M = {}
+
+-- By buffer: { document, link }. By buffer whose text was unloaded: { path, address }, for `:edit`.
+local shared, unloaded = {}, {}
+
+local function hex(bytes)
+  return (bytes:gsub('.', function(c)
+    return ('%02x'):format(c:byte())
+  end))
+end
+
+-- The buffer's document and link, if it has any.
+function M.of(buffer)
+  return shared[buffer == nil and vim.api.nvim_get_current_buf() or buffer]
+end
+
+-- Ends the buffer's document.
+local function forget(buffer)
+  local one = shared[buffer]
+  if one then
+    unloaded[buffer] = { path = one.document.path, address = one.link and one.link.address }
+    one.document:close()
+    if one.link then
+      one.link:close()
+    end
+    shared[buffer] = nil
+  end
+end
+
+-- Why a file isn't opened, for people.
+local REASONS = {
+  Busy = 'another has it open',
+  NoHeader = 'it is no journal; :TextpeerOpen! begins one there',
+  BadMagic = 'it is no journal',
+  JournalNotEmpty = 'it has a document; :TextpeerOpen without ! opens it',
+}
+
+-- The engine over the file.
+local function opened(path, anew)
+  if not anew and vim.fn.filereadable(path) == 0 then
+    error(path .. ' is not there; :TextpeerOpen! begins a new document', 0)
+  end
+  local ok, handle = pcall(engine.open, path, anew)
+  if not ok then
+    local reason = REASONS[tostring(handle)]
+    error(('%s: %s'):format(path, tostring(handle)) .. (reason and ', ' .. reason or ''), 0)
+  end
+  return handle
+end
+
+-- Shows the journal in the file in the buffer.
+local function show(buffer, path, anew)
+  local handle = opened(path, anew)
+  local one = {}
+  local stopped = shared[buffer] and vim.bo[buffer].modified and shared[buffer].document
+  local calls = {
+    edited = function()
+      if one.link then
+        one.link:edited()
+      end
+    end,
+    closed = function()
+      if one.link then
+        one.link:close()
+      end
+    end,
+  }
+  local ok, document = pcall(Document.new, buffer, handle, path, calls, stopped and stopped.shown or nil)
+  if not ok then
+    handle:close()
+    error(document, 0)
+  end
+  one.document = document
+  shared[buffer] = one
+end
+
+-- `:write`: what was typed is in the journal already, but for the last moment's.
+local function write(buffer)
+  local one = shared[buffer]
+  if not one or one.document.stopped then
+    return say.error('the buffer is not shared any more; save it as another file')
+  end
+  one.document:check()
+end
+
+local group = vim.api.nvim_create_augroup('Textpeer', {})
+
+local function watch(buffer)
+  local function on(events, call)
+    vim.api.nvim_create_autocmd(events, {
+      group = group,
+      buffer = buffer,
+      callback = function()
+        call(buffer)
+      end,
+    })
+  end
+  on('BufWriteCmd', write)
+  on('InsertLeave', function()
+    if shared[buffer] then
+      shared[buffer].document:leave_insert()
+    end
+  end)
+  on({ 'BufUnload', 'BufWipeout' }, forget)
+end
+
+-- Undoes, or redoes, as often as the count says.
+local function turn_back(again)
+  local one = M.of()
+  for _ = 1, one and vim.v.count1 or 0 do
+    if not one.document:turn_back(again) then
+      return vim.api.nvim_echo({ { again and 'Nothing of yours to redo' or 'Nothing of yours to undo' } }, false, {})
+    end
+  end
+end
+
+-- `u` and CTRL-R of one's own edits.
+local function map_undo(buffer)
+  for key, again in pairs({ u = false, ['<C-r>'] = true }) do
+    vim.keymap.set('n', key, function()
+      turn_back(again)
+    end, { buffer = buffer, desc = again and 'Redo of your own edits' or 'Undo of your own edits' })
+  end
+end
+
+vim.api.nvim_create_autocmd('VimLeavePre', {
+  group = group,
+  callback = function()
+    for _, buffer in ipairs(vim.tbl_keys(shared)) do
+      forget(buffer)
+    end
+  end,
+})
+
+-- Shows the journal in the buffer, which becomes one for it.
+local function begin(buffer, path, anew)
+  for option, value in pairs({ buftype = 'acwrite', swapfile = false, buflisted = true, fileformat = 'unix' }) do
+    vim.bo[buffer][option] = value
+  end
+  show(buffer, path, anew)
+  vim.api.nvim_clear_autocmds({ group = group, buffer = buffer })
+  watch(buffer)
+  if vim.g.textpeer_undo ~= false then
+    map_undo(buffer)
+  end
+end
+
+local PREFIX = 'textpeer://'
+local opening = false
+
+-- Opens the journal in a file in a buffer of its own. With `anew` it begins a new document there.
+function M.open(path, anew)
+  path = vim.fn.fnamemodify(vim.fn.expand(path), ':p')
+  local buffer = vim.fn.bufadd(PREFIX .. path)
+  local one = shared[buffer]
+  if not one or one.document.stopped then
+    vim.bo[buffer].swapfile = false
+    opening = true
+    vim.fn.bufload(buffer)
+    opening = false
+    begin(buffer, path, anew)
+  end
+  vim.api.nvim_set_current_buf(buffer)
+  return buffer
+end
+
+-- Neovim reads a buffer named `textpeer://FILE`, as for `:edit`: a link that it had goes on.
+function M.read(buffer, name)
+  if opening then
+    return
+  end
+  M.attempt('open', function()
+    local was = unloaded[buffer] or {}
+    begin(buffer, was.path or name:sub(#PREFIX + 1), false)
+    if was.address then
+      M.connect(was.address, buffer)
+    end
+  end)
+end
+
+-- Exchanges the buffer's changes with the server at the address, from now on.
+function M.connect(address, buffer)
+  local one = M.of(buffer)
+  if not one or one.document.stopped then
+    error('this buffer has no journal: :TextpeerOpen FILE opens one', 0)
+  end
+  if not Link.parse(address) then
+    error(address .. ' is no address, as 127.0.0.1:7000 is one', 0)
+  end
+  M.disconnect(buffer)
+  one.link = Link.new(one.document, address)
+end
+
+function M.disconnect(buffer)
+  local one = M.of(buffer)
+  if one and one.link then
+    one.link:close()
+    one.link = nil
+  end
+end
+
+-- What there is to know of the buffer: lines for people.
+function M.status(buffer)
+  local one = M.of(buffer)
+  if not one then
+    return { 'this buffer has no journal' }
+  end
+  local document, link = one.document, one.link
+  local lines = { 'journal   ' .. vim.fn.fnamemodify(document.path, ':~:.') }
+  if document.stopped then
+    lines[#lines + 1] = 'stopped   ' .. document.stopped
+    return lines
+  end
+  document:flush()
+  lines[#lines + 1] = 'document  ' .. hex(document.engine:id())
+  lines[#lines + 1] = ('changes   %d; %d came since it was opened'):format(document.engine:change_count(), document.entered)
+  for _, head in ipairs(document.engine:heads()) do
+    lines[#lines + 1] = 'head      ' .. hex(head):sub(1, 16) .. '..'
+  end
+  lines[#lines + 1] = link
+      and ('server    %s, %s%s'):format(link.address, link.state, link.problem and ': ' .. link.problem or '')
+    or 'server    none'
+  lines[#lines + 1] = document.mended == 0 and 'compared  buffer and engine have one text'
+    or ('compared  mended %d times'):format(document.mended)
+  return lines
+end
+
+-- A word for the status line: the state of the link, `stopped`, or nothing.
+function M.statusline()
+  local one = M.of()
+  if not one then
+    return ''
+  end
+  return one.document.stopped and 'stopped' or one.link and one.link.state or 'alone'
+end
+
+local commands = {
+  open = function(given)
+    M.open(given.args, given.bang)
+  end,
+  connect = function(given)
+    M.connect(given.args)
+  end,
+  disconnect = function()
+    M.disconnect()
+  end,
+  status = function()
+    print(table.concat(M.status(), '\n'))
+  end,
+}
+
+-- Calls it; a refusal is told in one line.
+function M.attempt(name, call)
+  local ok, problem = pcall(call)
+  if not ok then
+    say.error(name .. ': ' .. tostring(problem))
+  end
+end
+
+-- Runs a command of the plugin.
+function M.command(name, given)
+  M.attempt(name, function()
+    commands[name](given)
+  end)
+end
+
+return M
