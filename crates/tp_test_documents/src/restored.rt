@@ -83,10 +83,10 @@ fn told<S: Sequence>(
     }
 }
 
-// The same where they come in pieces of so many bytes.
+// The same where they come in pieces of so many bytes, one at least.
 fn recovered_by<S: Sequence>(alloc: Global, bytes: &[u8], size: usize) -> Result<String, Fault> {
     let mut recovering = Recovering::<S>::new(alloc);
-    for piece in bytes.chunks(size) {
+    for piece in bytes.chunks(size.max(1)) {
         recovering.feed(piece);
     }
     told(alloc, recovering.finish(), bytes)
