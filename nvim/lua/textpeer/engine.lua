@@ -65,12 +65,18 @@ end
 
 local library
 
--- Where the library is, unless it is told by $TEXTPEER_LIB or g:textpeer_library: beside the plugin, as `ffi/build` makes it.
+-- Where the library is, unless it is told by $TEXTPEER_LIB or g:textpeer_library: in the plugin's clone, as `ffi/build` makes it,
+-- or else in the release.
 local function place()
   local here = debug.getinfo(1, 'S').source:sub(2)
-  return vim.env.TEXTPEER_LIB
-    or vim.g.textpeer_library
-    or vim.fn.fnamemodify(here, ':p:h:h:h:h') .. '/ffi/out/libtextpeer.so'
+  local top = vim.fn.fnamemodify(here, ':p:h:h:h:h')
+  local made = top .. '/ffi/out/libtextpeer.so'
+  local told = vim.env.TEXTPEER_LIB or vim.g.textpeer_library
+  if told or vim.fn.filereadable(made) == 1 then
+    return told or made
+  end
+  local released = top .. '/dist/x86_64-linux/libtextpeer.so'
+  return vim.fn.filereadable(released) == 1 and released or made
 end
 
 local function loaded()
