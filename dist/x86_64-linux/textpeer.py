@@ -1,4 +1,5 @@
-"""The engine of textpeer for Python, over ffi/out/libtextpeer.so by ctypes; it needs nothing else.
+"""The engine of textpeer for Python, over libtextpeer.so by ctypes; it needs nothing else. The library is that of $TEXTPEER_LIB,
+or out/libtextpeer.so beside this file, as ffi/build makes it, or one beside this file, as in the release.
 
     from textpeer import Editor
 
@@ -16,7 +17,9 @@ import threading
 import weakref
 from collections import namedtuple
 
-_PLACE = os.environ.get("TEXTPEER_LIB") or os.path.join(os.path.dirname(os.path.abspath(__file__)), "out", "libtextpeer.so")
+_HERE = os.path.dirname(os.path.abspath(__file__))
+_PLACES = [os.path.join(_HERE, *place, "libtextpeer.so") for place in (("out",), ())]
+_PLACE = os.environ.get("TEXTPEER_LIB") or next(filter(os.path.exists, _PLACES), _PLACES[0])
 
 # ---- refusals
 
