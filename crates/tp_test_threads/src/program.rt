@@ -2,8 +2,8 @@
 
 use crate::disk::{Disk as Device, OverDisk};
 use crate::runs::{
-    Place, Ran, all_read, begin, copy_all, hold_session, insert, serve, sync, sync_beside_silence,
-    sync_once,
+    Place, Ran, all_read, begin, copy_all, ends, insert, run_over, serve, sync,
+    sync_beside_silence, sync_once,
 };
 use crate::strangers::{Answered, Pace, UNKNOWN, first_other};
 use std::net::{Net, SocketAddr};
@@ -126,7 +126,12 @@ fn a_session_over_the_standard_streams(rt: HostRuntime) -> Result<(), Fail> {
     assert!(rt; insert(&rt, "max", "5", ",").status == 0);
     assert!(rt; insert(&rt, "max", "12", "!").status == 0);
     assert!(rt; insert(&rt, "lou", "0", "> ").status == 0);
-    let (lou, max) = hold_session(&rt, "lou", "max")?;
+    let (near, far) = ends(&rt)?;
+    let (lou, max) = join(
+        &rt,
+        || run_over(&rt, &["textpeer", "session", "lou"], far),
+        || run_over(&rt, &["textpeer", "session", "max", "--client"], near),
+    );
     assert!(rt; lou.ok_or("a connection")?.said("applied 2\n"));
     assert!(rt; max.ok_or("a connection")?.said("applied 1\n"));
     assert!(rt; all_read(&rt, &["lou", "max"], "> Hello, world!\n"));
