@@ -2,7 +2,7 @@
 use Rattle.tp_list.proofs.Members.{In-get_or, In-index, In-middle}
 use Rattle.tp_opid.specs.Tree.{IsThere, IsNew, AreApart, CanInsert}
 use Rattle.std.proofs.Common.{◌≡◌, inl, inr, ℕ, zero, suc, ◌+◌, ◌-◌, ◌<◌, ◌≤◌, Bool, true, false, not, Option, None, Some, List, [], ◌∷◌, ◌++◌, length, take, get_or, insert, set, map, filter, position, slice_get, refl, sym, ap, ◌∙◌, subst, arith, length-append, MatchBool}
-use Rattle.std.specs.Option.{option_map, is_some}
+use Rattle.std.specs.Option.{option_map, is_some, IfSome}
 use Rattle.std.proofs.lemmas.List.{length-map, length-set, get_or-set_other, get_or-set_same}
 use Rattle.tp_list.specs.Members.{In}
 use Rattle.tp_opid.specs.declared.op_id.OpId.{OpId}
@@ -13,12 +13,14 @@ use Rattle.tp_opid.specs.Order.{Below}
 use Rattle.tp_opid.specs.Same.{id_eq}
 use Rattle.tp_opid.proofs.Orders.{id_eq-same, id_eq-flip}
 use Rattle.tp_rga.specs.declared.element.Element.{Element}
-use Rattle.tp_rga.specs.Shown.{is_removed, shown, shown_before, element_of}
+use Rattle.tp_rga.specs.declared.walk.Seen.{Seen}
+use Rattle.tp_rga.specs.declared.walk.Spot.{Spot}
+use Rattle.tp_rga.specs.Shown.{is_removed, shown, shown_before, element_of, seen_of}
 use Rattle.tp_rga.specs.PlainState.{IsPlainState}
 use Rattle.tp_rga.proofs.Flagging.{map-insert, map_agree, length-left, take-map_lem, slice_get-past}
 use Rattle.tp_rga.proofs.Lookups.{IsFirst, IsFirst-position, position-first, IsThere-not_new, found-position}
 use Rattle.tp_rga.proofs.PlainStates.{IsPlainState-insert, IsPlainState-delete, IsPlainState-delete_again, shown-found, shown-past, shown-before, shown_before-found}
-use Rattle.tp_posindex.specs.Layout.{joined, block_at, index_at, AreSized, StandsAt}
+use Rattle.tp_posindex.specs.Layout.{joined, block_at, index_at, IsAfter, AreSized, StandsAt}
 use Rattle.tp_posindex.specs.Laid.{IsNumbered, Once, flag_of, flags_of, count_of}
 use Rattle.tp_posindex.specs.Blocked.{blank, element_at, pieces, IsBlocked}
 use Rattle.tp_posindex.proofs.Joining.{joined-map, In-joined, In-block, get_or-joined, index_at-before}
@@ -198,6 +200,52 @@ pub element_past : (E : List Insert) (bs : List (List ℕ)) (R : List (OpId × O
 element_past E bs R i past =
     ap (λ z. option_map (element_of R) (slice_get z i)) (placed_is E bs)
     ∙ ap (option_map (element_of R)) (slice_get-past (map (element_at E) (joined bs)) i (let l = length-map (joined bs) (element_at E) in omega arith))
+
+-- ---- a walk
+
+-- what is seen of an element
+seen_as : Element → Seen
+seen_as x = record { id = x.id; ch = x.ch; deleted = x.deleted }
+
+seen-element : (R : List (OpId × OpId)) (o : Option Insert) → option_map (seen_of R) o ≡ option_map seen_as (option_map (element_of R) o)
+unfolding seen_as
+seen-element R None = refl
+seen-element R (Some e) = refl
+
+-- what is seen at a place of all elements
+pub seen_at_place : (E : List Insert) (bs : List (List ℕ)) (flags : List Bool) (R : List (OpId × OpId)) (left p offset k i : ℕ) (gone : Bool) → IsBlocked E bs flags R left → p < length bs → offset < length (block_at bs p) → index_at bs p offset ≡ i → k ≡ get_or (block_at bs p) offset 0 → k < length E → gone ≡ flag_of flags k → option_map (seen_of R) (slice_get (joined (pieces E bs)) i) ≡ Some (record { id = (element_at E k).id; ch = (element_at E k).ch; deleted = gone })
+unfolding seen_as
+seen_at_place E bs flags R left p offset k i gone kept lt short at k_is within flag =
+    let x = element_at E k in
+    seen-element R (slice_get (joined (pieces E bs)) i)
+    ∙ ap (option_map seen_as) (element_at_place E bs flags R left p offset k i x gone kept lt short at k_is (get_or-any E k blank x within) flag)
+
+-- past all elements nothing is seen
+pub seen_past : (E : List Insert) (bs : List (List ℕ)) (R : List (OpId × OpId)) (i : ℕ) → length (joined bs) ≤ i → option_map (seen_of R) (slice_get (joined (pieces E bs)) i) ≡ None
+seen_past E bs R i past =
+    seen-element R (slice_get (joined (pieces E bs)) i) ∙ ap (option_map seen_as) (element_past E bs R i past)
+
+-- a spot among the elements is one among the numbers
+pub after_numbers : (E : List Insert) (bs : List (List ℕ)) (p offset k : ℕ) → IsAfter (pieces E bs) p offset k → IsAfter bs p offset k
+after_numbers E bs p offset k h =
+    let many : length (pieces E bs) ≡ length bs = length-map bs (map (element_at E)) in
+    let size : length (block_at (pieces E bs) p) ≡ length (block_at bs p) = ap length (block_at-map (element_at E) bs p) ∙ length-map (block_at bs p) (element_at E) in
+    let block = h.block in
+    let offset_in = h.offset_in in
+    record { block = omega arith; offset_in = omega arith; before = sym (index_at-map (element_at E) bs p offset) ∙ h.before }
+
+-- and so is the one that a walk noted
+pub noted_numbers : (E : List Insert) (bs : List (List ℕ)) (o : Option Spot) (k : ℕ) → IfSome o (λ s. IsAfter (pieces E bs) s.block s.offset k) → IfSome o (λ s. IsAfter bs s.block s.offset k)
+noted_numbers E bs None k h = h
+noted_numbers E bs (Some s) k h = after_numbers E bs s.block s.offset k h
+
+-- and the other way round, behind an element
+pub after_element : (E : List Insert) (bs : List (List ℕ)) (p offset k : ℕ) → p < length bs → offset < length (block_at bs p) → index_at bs p offset ≡ k → IsAfter (pieces E bs) p (offset + 1) (k + 1)
+after_element E bs p offset k lt short at =
+    let many : length (pieces E bs) ≡ length bs = length-map bs (map (element_at E)) in
+    let size : length (block_at (pieces E bs) p) ≡ length (block_at bs p) = ap length (block_at-map (element_at E) bs p) ∙ length-map (block_at bs p) (element_at E) in
+    let same = index_at-map (element_at E) bs p offset in
+    record { block = omega arith; offset_in = omega arith; before = omega arith }
 
 -- ---- tests
 

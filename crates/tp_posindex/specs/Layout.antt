@@ -21,6 +21,12 @@ pub record IsGap {X : Type 0} (bs : List (List X)) (p offset : ℕ) : Type 0 whe
   pub block : (p < length bs) ⊎ (bs ≡ [])
   pub offset_in : offset ≤ length (block_at bs p)
 
+-- Before an offset of the block numbered p, or at its end, there stand k elements.
+pub record IsAfter {X : Type 0} (bs : List (List X)) (p offset k : ℕ) : Type 0 where
+  pub block : p < length bs
+  pub offset_in : offset ≤ length (block_at bs p)
+  pub before : index_at bs p offset ≡ k
+
 -- x stands at an offset of the block numbered p.
 pub record StandsAt {X : Type 0} (bs : List (List X)) (p offset : ℕ) (x : X) : Type 0 where
   pub block : p < length bs

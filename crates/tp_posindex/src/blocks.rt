@@ -12,16 +12,10 @@ use crate::counts::Counts;
 use crate::numbers::{count_down, index_of, nth_down};
 use std::alloc::{AllocError, Global};
 use std::marker::Model;
+use tp_rga::Spot;
 
 /// How many numbers there are at most: 4,294,967,295.
 const MOST_NUMBERS: usize = 4_294_967_295;
-
-/// A spot in blocks: which block in list order, from 0, and how many of its elements stand before.
-#[derive(Clone, Copy)]
-pub(crate) struct Spot {
-    pub block: usize,
-    pub offset: usize,
-}
 
 /// Numbers in blocks. Number `k` is the one that was put in as the `k`-th, from 0.
 ///
@@ -168,6 +162,7 @@ impl Blocks {
         ensures number { result ≡ slice_index_or
             (block_at self.now.blocks spot.block) spot.offset 0 }
         ensures below { result < length self.now.flags }
+        ensures fits { index_at self.now.blocks spot.block spot.offset + 1 < 2 ^ 64 }
     {
         self.block(spot.block)[spot.offset] as usize
     }
@@ -226,6 +221,31 @@ impl Blocks {
     {
         let (block, offset) = self.lens.find(index)?;
         Some(Spot { block, offset })
+    }
+
+    /// Where the next number stands from a spot on: there, or at a block's end at the start of the next block; `None`
+    /// behind all numbers.
+    pub fn next_from(&self, spot: Spot) -> Option<Spot>
+        requires block { spot.block < length self.now.blocks }
+        requires offset { spot.offset ≤ length (block_at self.now.blocks spot.block) }
+        ensures found { IfSome result
+            (λ s. (s.block < length self.now.blocks)
+            × (s.offset < length (block_at self.now.blocks s.block))
+            × (index_at self.now.blocks s.block s.offset
+            ≡ index_at self.now.blocks spot.block spot.offset)) }
+        ensures none { IfNone result
+            (length (joined self.now.blocks) ≤ index_at self.now.blocks spot.block spot.offset) }
+    {
+        let count = self.count();
+        if spot.offset < self.block(spot.block).len() {
+            return Some(spot);
+        }
+        let block = spot.block + 1;
+        if block < count {
+            Some(Spot { block, offset: 0 })
+        } else {
+            None
+        }
     }
 
     /// Where the number stands whose flag is down and before which `i` others have theirs down, or `None` where fewer

@@ -1,10 +1,10 @@
 //! A sequence whose elements stand in blocks.
 
 ghost use Rattle.tp_opid.specs.Tree.{IsThere, IsNew};
-ghost use Rattle.std.specs.Prelude.{◌≡◌, ◌↔◌, ℕ, ◌+◌, ◌-◌, ◌^◌, ◌<◌, ◌≤◌, List, [], ◌∷◌, ◌++◌, length, IsTrue, IsOk, OnOk, OnErr, Some, MatchOption, slice_get};
+ghost use Rattle.std.specs.Prelude.{◌≡◌, ◌↔◌, ℕ, ◌+◌, ◌-◌, ◌^◌, ◌<◌, ◌≤◌, List, [], ◌∷◌, ◌++◌, length, IsTrue, IsOk, OnOk, OnErr, Some, MatchOption, IfSome, IfNone, slice_get};
 ghost use Rattle.tp_opid.specs.declared.op_id.OpId.{OpId as Id};
 ghost use Rattle.tp_opid.specs.Insert.{Insert};
-ghost use Rattle.tp_posindex.specs.Layout.{joined, block_at, AreSized};
+ghost use Rattle.tp_posindex.specs.Layout.{joined, block_at, index_at, IsAfter, AreSized};
 ghost use Rattle.tp_posindex.specs.BlockState.{IsInfoOf};
 
 use crate::block_info::BlockInfo;
@@ -14,7 +14,7 @@ use crate::spots::spot_for;
 use std::alloc::{AllocError, Global};
 use std::marker::Model;
 use tp_opid::{OpId, Place};
-use tp_rga::{Element, Sequence};
+use tp_rga::{Element, Seen, Sequence, Spot, Walk};
 
 /// A sequence whose elements stand in blocks of up to 128, at most 4,294,967,295 of them with the deleted ones.
 ///
@@ -102,6 +102,8 @@ impl Sequence for BlockSequence {
     ghost removals = { λ s. s.removals };
 
     ghost room = { λ s. s.room };
+
+    ghost stands_at = { λ s spot k. IsAfter s.blocks spot.block spot.offset k };
 
     fn new(alloc: Global) -> Self {
         BlockSequence {
@@ -207,5 +209,46 @@ impl Sequence for BlockSequence {
 
     fn deletes(&self) -> &[(OpId, OpId)] {
         self.deletes.as_slice()
+    }
+
+    /// The next element of a walk. Only the first of a walk is looked up: then the walk goes on in the block where it
+    /// stands, and from there into the next.
+    fn next_element(&self, walk: &mut Walk) -> Option<Seen> {
+        match spot_from(&self.blocks, walk) {
+            Some(spot) => {
+                let number = self.blocks.number_at(spot);
+                *walk = Walk {
+                    index: walk.index + 1,
+                    spot: Some(Spot {
+                        block: spot.block,
+                        offset: spot.offset + 1,
+                    }),
+                };
+                let entries = self.elements.entries();
+                let deleted = self.blocks.is_deleted(number);
+                Some(Seen {
+                    id: entries.id(number),
+                    ch: entries.ch(number),
+                    deleted,
+                })
+            }
+            None => None,
+        }
+    }
+}
+
+/// Where the next element of a walk stands, or `None` past the end.
+fn spot_from(blocks: &Blocks, walk: &Walk) -> Option<Spot>
+    requires { IfSome walk.now.spot
+        (λ s. IsAfter blocks.now.blocks s.block s.offset walk.now.index) }
+    ensures found { IfSome result
+        (λ s. (s.block < length blocks.now.blocks)
+        × (s.offset < length (block_at blocks.now.blocks s.block))
+        × (index_at blocks.now.blocks s.block s.offset ≡ walk.now.index)) }
+    ensures none { IfNone result (length (joined blocks.now.blocks) ≤ walk.now.index) }
+{
+    match walk.spot {
+        Some(spot) => blocks.next_from(spot),
+        None => blocks.spot_at(walk.index),
     }
 }

@@ -10,10 +10,11 @@ ghost use Rattle.tp_posindex.specs.Layout.{joined, index_at, IsGap};
 ghost use Rattle.tp_posindex.specs.Blocked.{element_at};
 ghost use Rattle.tp_posindex.specs.Entered.{IsNumberBelow, place_in};
 
-use crate::blocks::{Blocks, Spot};
+use crate::blocks::Blocks;
 use crate::entries::Entries;
 use crate::entry::Reference;
 use tp_opid::OpId;
+use tp_rga::Spot;
 
 /// From an offset of a block on, past each element with a greater identifier, up to the first that has none or to the
 /// block's end.

@@ -8,3 +8,4 @@ pub mod PlainStates
 pub mod OneOrder
 pub mod ByChains
 pub mod Edits
+pub mod Walking

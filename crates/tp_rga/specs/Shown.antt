@@ -6,6 +6,7 @@ use Rattle.tp_opid.specs.declared.op_id.OpId.{OpId}
 use Rattle.tp_opid.specs.Insert.{Insert}
 use Rattle.tp_opid.specs.Same.{id_eq}
 use Rattle.tp_rga.specs.declared.element.Element.{Element}
+use Rattle.tp_rga.specs.declared.walk.Seen.{Seen}
 
 -- Some delete of R names the element x. A delete is its target and the operation that deleted it.
 abbrev pub is_removed : List (OpId × OpId) → OpId → Bool
@@ -22,3 +23,7 @@ shown_before R L x = option_map (λ i. length (shown R (take i L))) (position (�
 -- An insert as a caller sees it.
 abbrev pub element_of : List (OpId × OpId) → Insert → Element
 element_of R e = record { id = e.id; after = e.after; ch = e.ch; deleted = is_removed R e.id }
+
+-- An insert as a walk shows it.
+abbrev pub seen_of : List (OpId × OpId) → Insert → Seen
+seen_of R e = record { id = e.id; ch = e.ch; deleted = is_removed R e.id }

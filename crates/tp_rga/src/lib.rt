@@ -14,6 +14,7 @@ mod placed;
 mod plain;
 mod sequence;
 mod text_laws;
+mod walk;
 
 pub use by_chains::{in_order, is_tree};
 pub use element::Element;
@@ -26,3 +27,4 @@ pub use order_laws::{
 pub use plain::PlainSequence;
 pub use sequence::Sequence;
 pub use text_laws::{shown_delete, shown_delete_again, shown_insert_after, shown_insert_start};
+pub use walk::{Seen, Spot, Walk};

@@ -1,14 +1,16 @@
 //! What a sequence of elements does, whatever keeps it.
 
-ghost use Rattle.std.specs.Prelude.{◌≡◌, ◌↔◌, ℕ, ◌+◌, ◌<◌, ◌≤◌, List, [], ◌∷◌, ◌++◌, length, IsTrue, IsOk, OnOk, OnErr, slice_get};
+ghost use Rattle.std.specs.Prelude.{◌≡◌, ◌↔◌, ℕ, ◌+◌, ◌<◌, ◌≤◌, List, [], ◌∷◌, ◌++◌, length, IsTrue, IsOk, OnOk, OnErr, IfSome, OnSome, slice_get};
 ghost use Rattle.std.specs.Option.{option_map};
 ghost use Rattle.tp_opid.specs.declared.op_id.OpId.{OpId as Id};
 ghost use Rattle.tp_opid.specs.Insert.{Insert};
 ghost use Rattle.tp_opid.specs.Tree.{IsThere, CanInsert};
 ghost use Rattle.tp_rga.specs.Order.{IsInserted};
-ghost use Rattle.tp_rga.specs.Shown.{shown, shown_before, element_of};
+ghost use Rattle.tp_rga.specs.Shown.{shown, shown_before, element_of, seen_of};
+ghost use Rattle.tp_rga.specs.declared.walk.Spot.{Spot as SpotOf};
 
 use crate::element::Element;
+use crate::walk::{Seen, Walk};
 use std::alloc::{AllocError, Global};
 use tp_opid::{OpId, Place};
 
@@ -23,6 +25,9 @@ pub trait Sequence: Drop {
     ghost removals: { Self → List (Id × Id) };
 
     ghost room: { Self → ℕ };
+
+    // At the spot stands the element with the index, or there the elements end.
+    ghost stands_at: { Self → SpotOf → ℕ → Type 0 } = { λ _ _ _. ⊥ };
 
     /// A sequence without elements, which takes no memory.
     fn new(alloc: Global) -> Self
@@ -105,4 +110,28 @@ pub trait Sequence: Drop {
     /// The deletes that came, each as its target and the operation that deleted it, in the order of the calls.
     fn deletes(&self) -> &[(OpId, OpId)]
         ensures { result.now ≡ removals self.now };
+
+    /// The next element of a walk, which goes on behind it, or `None` past the end. A walk from [`Walk::start`] on shows
+    /// all elements in their order, and each costs no look-up where the sequence notes where it stands.
+    fn next_element(&self, walk: &mut Walk) -> Option<Seen>
+        requires { IfSome walk.old.spot (λ spot. stands_at self.now spot walk.old.index) }
+        ensures seen { result ≡ option_map (seen_of (removals self.now))
+            (slice_get (placed self.now) walk.old.index) }
+        ensures spot { IfSome walk.new.spot (λ spot. stands_at self.now spot walk.new.index) }
+        ensures next { OnSome result (walk.new.index ≡ walk.old.index + 1) }
+    {
+        if walk.index >= self.all() {
+            return None;
+        }
+        let element = self.element(walk.index)?;
+        *walk = Walk {
+            index: walk.index + 1,
+            spot: None,
+        };
+        Some(Seen {
+            id: element.id,
+            ch: element.ch,
+            deleted: element.deleted,
+        })
+    }
 }

@@ -6,7 +6,7 @@ ghost use Rattle.tp_rga.specs.Shown.{shown};
 ghost use Rattle.tp_text.specs.Text.{chars_of};
 
 use std::alloc::{AllocError, Global};
-use tp_rga::Sequence;
+use tp_rga::{Sequence, Walk};
 
 /// The text that a sequence shows, in one pass over its elements.
 pub fn text<S: Sequence>(alloc: Global, sequence: &S) -> Result<String, AllocError>
@@ -14,11 +14,10 @@ pub fn text<S: Sequence>(alloc: Global, sequence: &S) -> Result<String, AllocErr
         ≡ encode_utf8_all (chars_of (shown (S.removals sequence.now) (S.placed sequence.now)))) }
 {
     let mut text = String::with_capacity(alloc, sequence.len())?;
-    for index in 0..sequence.all() {
-        if let Some(element) = sequence.element(index) {
-            if !element.deleted {
-                text.push(element.ch)?;
-            }
+    let mut walk = Walk::start();
+    while let Some(element) = sequence.next_element(&mut walk) {
+        if !element.deleted {
+            text.push(element.ch)?;
         }
     }
     Ok(text)

@@ -1,19 +1,35 @@
-use Rattle.std.proofs.Common.{◌∙◌, sym, length, ◌<◌, arith}
-use Rattle.tp_text.proofs.ShownText.{pushed_on, passed_on, no_place}
+use Rattle.std.proofs.Common.{sym, ◌∙◌, arith}
+use Rattle.tp_rga.proofs.Walking.{seen_within}
+use Rattle.tp_text.proofs.ShownText.{pushed_on, passed_on, whole_text}
 use Rattle.tp_text.proofs.reading.text.Goals as goal
-use Rattle.tp_text.proofs.reading.text.Goals.{in-Some+then-not-element+in_ok-push, in-Some+else-not-element, in_default}
 
-pub loop-index-preserved : goal.loop-index-preserved
-loop-index-preserved g c =
-    let R = g.S.Sequence.removals c.args.sequence.now in
-    let L = g.S.Sequence.placed c.args.sequence.now in
-    let k = c.loop-index.index in
-    elim c.match-element.branch [
-      | in-Some+then-not-element+in_ok-push w ↦
-          rw w.text-is (pushed_on R L k w.in-Some.element _ _ w.in_ok-push.ensures.bytes c.loop-index.invariant w.in-Some.ensures w.if-not-element.true)
-      | in-Some+else-not-element w ↦
-          rw w.text-is (passed_on R L k w.in-Some.element _ c.loop-index.invariant w.in-Some.ensures w.if-not-element.false)
-      | in_default w ↦
-          let within : k < length L = omega arith in
-          absurd (no_place R L k within (sym w.in_default.is ∙ c.element.ensures))
-    ]
+pub loop-element-preserved-in-Continue-branch-2 : goal.loop-element-preserved-in-Continue-branch-2
+loop-element-preserved-in-Continue-branch-2 g c =
+    let s = g.S.Sequence in
+    let R = s.removals c.args.sequence.now in
+    let L = s.placed c.args.sequence.now in
+    record {
+      noted = c.in-Some.ensures.spot;
+      read = pushed_on R L c.loop-element.walk.index _ c.in-Some.element _ _ c.in_ok-push.ensures.bytes c.loop-element.invariant.read c.in-Some.ensures.seen c.in-Some.ensures.next c.if-not-element.true;
+    }
+
+pub loop-element-smaller : goal.loop-element-smaller
+loop-element-smaller g c =
+    let s = g.S.Sequence in
+    let lt = seen_within (s.removals c.args.sequence.now) (s.placed c.args.sequence.now) c.loop-element.walk.index c.in-Some.element c.in-Some.ensures.seen in
+    omega (arith, c.in-Some.ensures.next)
+
+pub loop-element-preserved : goal.loop-element-preserved
+loop-element-preserved g c =
+    let s = g.S.Sequence in
+    let R = s.removals c.args.sequence.now in
+    let L = s.placed c.args.sequence.now in
+    record {
+      noted = c.in-Some.ensures.spot;
+      read = passed_on R L c.loop-element.walk.index _ c.in-Some.element _ c.loop-element.invariant.read c.in-Some.ensures.seen c.in-Some.ensures.next c.if-not-element.false;
+    }
+
+pub returns : goal.returns
+returns g c =
+    let s = g.S.Sequence in
+    whole_text (s.removals c.args.sequence.now) (s.placed c.args.sequence.now) c.loop-element.walk.index _ c.loop-element.invariant.read (sym c.in_default.is ∙ c.next_element.ensures.seen)
