@@ -2,6 +2,7 @@
 use Rattle.tp_graph.proofs.Common.{◌≡◌, ◌⊎◌, inl, inr, ℕ, ◌+◌, ◌<◌, ◌≤◌, ◌==◌, List, [], ◌∷◌, ◌++◌, length, take, Bool, true, false, Option, Some, None, refl, sym, ap, ◌∙◌, subst, arith, length-append, nat_tests, take-append-le, Hash, ChangeParts, ByActor, GraphError, listed_places, IsOwn, IsByActor, IsClear, IsKnown, room_hash, IsReady, IsReadyIf, defect, or_full, most_changes, IsNotedAt, Fits}
 use Rattle.tp_graph.specs.declared.applied.Applied.TheInside.{Inside}
 use Rattle.tp_graph.specs.declared.extent.Room.{Room}
+use Rattle.tp_graph.specs.Kept.{made_for}
 use Rattle.tp_graph.specs.Lists.{HasRoom, HasSameItems}
 use Rattle.tp_graph.specs.Fit.{cause}
 use Rattle.tp_graph.proofs.SoundLaws.{Fits-from_defect, defect-from_Fits}
@@ -50,7 +51,7 @@ pub ready_for : (g : Inside) (o : Option Room) (h : Hash) → room_hash o ≡ So
 ready_for g None h e k = cc
 ready_for g (Some r) h e k = let same : r.hash ≡ h = cc in (subst (λ i. IsNotedAt g.index i (length g.lists.changes.items)) same k.noted, k.listed, k.room)
 
-pub ready_past : (g : Inside) (o : Option Room) (r : Room) → o ≡ Some r → IsReadyIf o g → IsKnown g.lists.changes.items r.deps.items r.past × IsClear r.deletes.items
+pub ready_past : (g : Inside) (o : Option Room) (r : Room) → o ≡ Some r → IsReadyIf o g → IsKnown g.lists.changes.items (made_for g.lists.heads.items r.deps) r.past × IsClear r.deletes.items
 ready_past g o r e k = let ready : IsReady r g = subst (λ p. IsReadyIf p g) e k in (ready.past, ready.clear)
 
 -- what was made ready stays so where growths are made for another change
@@ -58,7 +59,7 @@ pub ready_stays : (a b : Inside) (o : Option Room) → HasSameItems a.lists b.li
     → (b.by_actor.listed ≡ a.by_actor.listed) ⊎ (b.by_actor.listed ≡ length a.lists.changes.items) → IsReadyIf o a → IsReadyIf o b
 ready_stays a b None same room notes listed k = tt
 ready_stays a b (Some r) same room notes listed k = record {
-  past = subst (λ C. IsKnown C r.deps.items r.past) (sym same.changes) k.past;
+  past = subst (λ C. IsKnown C (made_for b.lists.heads.items r.deps) r.past) (sym same.changes) (subst (λ H. IsKnown a.lists.changes.items (made_for H r.deps) r.past) (sym same.heads) k.past);
   clear = k.clear;
   noted = subst (λ (n : ℕ). IsNotedAt b.index r.hash n) (ap (λ (C : List ChangeParts). length C) (sym same.changes)) (subst (λ n. IsNotedAt n r.hash (length a.lists.changes.items)) (sym notes) k.noted);
   listed = counted listed ∙ ap (λ (C : List ChangeParts). length C) (sym same.changes);

@@ -1,5 +1,8 @@
 -- Laws of the notes of places.
-use Rattle.tp_graph.proofs.Common.{◌≡◌, ℕ, suc, zero, ◌+◌, ◌<◌, ◌≤◌, inl, inr, List, [], ◌∷◌, ◌++◌, length, true, false, cond, Option, Some, None, IfSome, refl, sym, ap, ◌∙◌, subst, arith, add-zero, is_eq, nat_cmp, nat_cmp_is, Equal, slice_get_within, exact_unsigned, tells_apart, never, not_true, In-slice_get, Hash, same_hash, same_hash-same, same_hash-itself, ChangeParts, hash_of, HashesOnce, has, place_from, noted, noted_word, first_word, Notes, IsNotedAt, AreNoted, HasAt}
+use Rattle.tp_graph.proofs.Common.{◌≡◌, ℕ, suc, zero, ◌+◌, ◌-◌, ◌<◌, ◌≤◌, inl, inr, List, [], ◌∷◌, ◌++◌, length, take, ◌||◌, true, false, cond, Option, Some, None, IfSome, refl, sym, ap, ◌∙◌, subst, arith, add-zero, slice_get, slice_get_within, get_or_from_slice_get, length-take-le, take_more, set, never, not_true, In-slice_get, Hash, same_hash, same_hash-same, same_hash-itself, ChangeParts, hash_of, HashesOnce, has, place_from, noted, first_word, first_slot, Slot, NOWHERE, WINDOW, Notes, IsReached, IsFree, Stands, IsNotedAt, AreNoted, HasAt}
+use Rattle.std.proofs.lemmas.Bool.{cases_eq}
+use Rattle.std.proofs.lemmas.List.{length-set}
+use Rattle.std.proofs.lemmas.Nat.{and_le_r}
 use Rattle.tp_graph.proofs.NamedLaws.{In-has}
 use Rattle.tp_graph.proofs.PlacesLaws.{at_push, place_from-none, place_from-there, HasAt-has}
 
@@ -19,8 +22,8 @@ place_at n (c ∷ C) h (suc i) once w =
 pub place_is : (C : List ChangeParts) (h : Hash) (i : ℕ) → HashesOnce C → HasAt C i h → Some i ≡ place_from 0 C h
 place_is C h i once w = let first : 0 + i ≡ i = omega arith in sym (place_at 0 C h i once w ∙ ap Some first)
 
--- the place of a hash that isn't found by its first bytes
-pub place_by_hash : (C : List ChangeParts) (n : Notes) (h : Hash) (o : Option ℕ) → HashesOnce C → AreNoted C n → ((p : ℕ) → noted_word n.words (first_word h) ≡ Some p → HasAt C p h → ⊥)
+-- the place of a hash that no slot notes
+pub place_by_hash : (C : List ChangeParts) (n : Notes) (h : Hash) (o : Option ℕ) → HashesOnce C → AreNoted C n → ((p : ℕ) → Stands n.slots (first_word h) p → HasAt C p h → ⊥)
     → IfSome o (λ p. HasAt C p h) → ((p : ℕ) → noted n.hashes h ≡ Some p → HasAt C p h → o ≡ Some p) → o ≡ place_from 0 C h
 place_by_hash C n h (Some p) once notes first there found = place_is C h p once there
 place_by_hash C n h None once notes first there found =
@@ -34,11 +37,13 @@ place_by_hash C n h None once notes first there found =
       | inr e ↦ let bad : None ≡ Some i = found i e at in cc
     ])))
 
+-- ---- one more note
+
 -- a note for a whole hash that isn't there leaves the others
-pub AreNoted-hash : (C : List ChangeParts) (old new : Notes) (h : Hash) (p : ℕ) → has C h ≡ false → new.words ≡ old.words
+pub AreNoted-hash : (C : List ChangeParts) (old new : Notes) (h : Hash) (p : ℕ) → has C h ≡ false → new.slots ≡ old.slots
     → ((other : Hash) → noted new.hashes other ≡ cond (same_hash h other) (Some p) (noted old.hashes other)) → AreNoted C old → AreNoted C new
-AreNoted-hash C old new h p lacks words notes w i c at = elim (w i c at) [
-  | inl e ↦ inl (ap (λ l. noted_word l (first_word (hash_of c))) words ∙ e)
+AreNoted-hash C old new h p lacks slots notes w i c at = elim (w i c at) [
+  | inl e ↦ inl (subst (λ l. Stands l (first_word (hash_of c)) i) (sym slots) e)
   | inr e ↦
       let apart : same_hash h (hash_of c) ≡ false
       = not_true (same_hash h (hash_of c)) (λ t. never (In-has C c h (In-slice_get C i c at) (sym (same_hash-same h (hash_of c) t))) lacks) in
@@ -48,26 +53,96 @@ AreNoted-hash C old new h p lacks words notes w i c at = elim (w i c at) [
 pub noted_hash : (old new : Notes) (h : Hash) (p : ℕ) → ((other : Hash) → noted new.hashes other ≡ cond (same_hash h other) (Some p) (noted old.hashes other)) → IsNotedAt new h p
 noted_hash old new h p notes = inr (notes h ∙ ap (λ b. cond b (Some p) (noted old.hashes h)) (same_hash-itself h))
 
--- so does a note for first bytes for which no place of a change is noted
-pub AreNoted-word : (C : List ChangeParts) (old new : Notes) (word p : ℕ) → ((q : ℕ) → noted_word old.words word ≡ Some q → length C ≤ q) → new.hashes ≡ old.hashes
-    → ((other : ℕ) → noted_word new.words other ≡ cond (is_eq (nat_cmp word other)) (Some p) (noted_word old.words other)) → AreNoted C old → AreNoted C new
-AreNoted-word C old new word p free hashes notes w i c at = elim (w i c at) [
+-- ---- slots
+
+-- None of the slots from the first to before the number has the word and the place of a change with the hash.
+abbrev pub Passed : List Slot → List ChangeParts → Hash → ℕ → ℕ → ℕ → Type 0
+Passed slots C h word first number = (k : ℕ) → k < number → first ≤ k → (s : Slot) → slice_get slots k ≡ Some s → s.word ≡ word → HasAt C s.place h → ⊥
+
+-- what is read in a list in which an item was put at a place
+at_set : {X : Type 0} (xs : List X) (i : ℕ) (y : X) → i < length xs → slice_get (set xs i y) i ≡ Some y
+at_set [] i y h = absurd (omega arith)
+at_set (x ∷ xs) zero y h = refl
+at_set (x ∷ xs) (suc i) y h = at_set xs i y (omega arith)
+
+beside_set : {X : Type 0} (xs : List X) (i k : ℕ) (y : X) → (k ≡ i → ⊥) → slice_get (set xs i y) k ≡ slice_get xs k
+beside_set [] i k y apart = refl
+beside_set (x ∷ xs) zero zero y apart = absurd (apart refl)
+beside_set (x ∷ xs) zero (suc k) y apart = refl
+beside_set (x ∷ xs) (suc i) zero y apart = refl
+beside_set (x ∷ xs) (suc i) (suc k) y apart = beside_set xs i k y (λ e. apart (ap suc e))
+
+-- the place of a hash with the word
+abbrev pub slot_for : ℕ → ℕ → Slot
+slot_for word place = record { word = word; place = place }
+
+-- a slot that is reached stays so where a place is put into a slot
+reached_still : (slots : List Slot) (word k number w place : ℕ) → place < NOWHERE → IsReached slots word k → IsReached (set slots number (slot_for w place)) word k
+reached_still slots word k number w place small r =
+    let same : length (set slots number (slot_for w place)) ≡ length slots = length-set slots number (slot_for w place) in
+    record {
+      room = subst (λ n. WINDOW ≤ n) (sym same) r.room;
+      low = subst (λ n. first_slot word n ≤ k) (sym same) r.low;
+      high = subst (λ n. k < first_slot word n + WINDOW) (sym same) r.high;
+      taken = subst (λ n. (i : ℕ) → first_slot word n ≤ i → i < k → (s : Slot) → slice_get (set slots number (slot_for w place)) i ≡ Some s → s.place ≡ NOWHERE → ⊥) (sym same) taken;
+    } where
+      taken : (i : ℕ) → first_slot word (length slots) ≤ i → i < k → (s : Slot) → slice_get (set slots number (slot_for w place)) i ≡ Some s → s.place ≡ NOWHERE → ⊥
+      taken i low high s is none = elim (cases_eq i number) [
+        | inl e ↦
+            let room = r.room in
+            let within : i < length (set slots number (slot_for w place)) = slice_get_within (set slots number (slot_for w place)) i s is in
+            let inside : number < length slots = omega (arith, length-set slots number (slot_for w place)) in
+            let here : Some s ≡ Some (slot_for w place) = sym is ∙ ap (slice_get (set slots number (slot_for w place))) e ∙ at_set slots number (slot_for w place) inside in
+            let one : s ≡ slot_for w place = cc in
+            let nowhere : place ≡ NOWHERE = ap (λ (x : Slot). x.place) (sym one) ∙ none in
+            absurd (omega arith)
+        | inr apart ↦ r.taken i low high s (sym (beside_set slots number i (slot_for w place) apart) ∙ is) none
+      ]
+
+-- a place that is put into a free slot stands there
+stands_there : (slots : List Slot) (word place number : ℕ) → place < NOWHERE → number < length slots → IsFree slots word place number → Stands (set slots number (slot_for word place)) word place
+stands_there slots word place number small inside f = record {
+  number = number;
+  reached = reached_still slots word number number word place small f.reached;
+  here = at_set slots number (slot_for word place) inside;
+}
+
+-- and what stood for an earlier place stays
+stands_still : (slots : List Slot) (w place number word p : ℕ) → place < NOWHERE → IsFree slots w place number → p < place → Stands slots word p → Stands (set slots number (slot_for w place)) word p
+stands_still slots w place number word p small f less r = record {
+  number = r.number;
+  reached = reached_still slots word r.number number w place small r.reached;
+  here = beside_set slots number r.number (slot_for w place) apart ∙ r.here;
+} where
+  apart : r.number ≡ number → ⊥
+  apart e =
+      let free : place ≤ p = f.free (slot_for word p) (ap (slice_get slots) (sym e) ∙ r.here) in
+      absurd (omega arith)
+
+-- a free slot is within the table
+pub free_within : (slots : List Slot) (word place number : ℕ) → IsFree slots word place number → number < length slots
+free_within slots word place number f =
+    let room = f.reached.room in
+    let high = f.reached.high in
+    omega (arith, and_le_r word (length slots - WINDOW))
+
+-- so a note in a free slot for the place behind those of all changes leaves the others
+pub AreNoted-slot : (C : List ChangeParts) (old new : Notes) (word p number : ℕ) → p < NOWHERE → p ≡ length C → IsFree old.slots word p number
+    → new.slots ≡ set old.slots number (slot_for word p) → new.hashes ≡ old.hashes → AreNoted C old → AreNoted C new
+AreNoted-slot C old new word p number small end f slots hashes w i c at = elim (w i c at) [
   | inl e ↦
-      let apart : is_eq (nat_cmp word (first_word (hash_of c))) ≡ false
-      = not_true (is_eq (nat_cmp word (first_word (hash_of c))))
-      (λ t.
-      let one : word ≡ first_word (hash_of c) = tells_apart exact_unsigned word (first_word (hash_of c)) t in
-      let low : i < length C = slice_get_within C i c at in
-      let high : length C ≤ i = free i (ap (noted_word old.words) one ∙ e) in
-      absurd (omega arith)) in
-      inl (notes (first_word (hash_of c)) ∙ ap (λ b. cond b (Some p) (noted_word old.words (first_word (hash_of c)))) apart ∙ e)
+      let within : i < length C = slice_get_within C i c at in
+      let less : i < p = omega arith in
+      inl (subst (λ l. Stands l (first_word (hash_of c)) i) (sym slots) (stands_still old.slots word p number (first_word (hash_of c)) i small f less e))
   | inr e ↦ inr (ap (λ l. noted l (hash_of c)) hashes ∙ e)
 ]
 
-pub noted_word_itself : (old new : Notes) (h : Hash) (p : ℕ) → ((other : ℕ) → noted_word new.words other ≡ cond (is_eq (nat_cmp (first_word h) other)) (Some p) (noted_word old.words other)) → IsNotedAt new h p
-noted_word_itself old new h p notes = inl (notes (first_word h) ∙ ap (λ b. cond b (Some p) (noted_word old.words (first_word h))) (itself (first_word h))) where
-  itself : (n : ℕ) → is_eq (nat_cmp n n) ≡ true
-  itself n = ap is_eq (sym (nat_cmp_is n n Equal refl))
+-- and notes it
+pub noted_slot : (old new : Notes) (h : Hash) (word p number : ℕ) → word ≡ first_word h → p < NOWHERE → number < length old.slots → IsFree old.slots word p number
+    → new.slots ≡ set old.slots number (slot_for word p) → IsNotedAt new h p
+noted_slot old new h word p number is small inside f slots = inl (subst (λ l. Stands l (first_word h) p) (sym slots) (subst (λ w. Stands (set old.slots number (slot_for word p)) w p) is (stands_there old.slots word p number small inside f)))
+
+-- ---- all changes
 
 -- a change enters whose place is noted
 pub AreNoted-push : (C : List ChangeParts) (x : ChangeParts) (n : Notes) → AreNoted C n → IsNotedAt n (hash_of x) (length C) → AreNoted (C ++ x ∷ []) n
@@ -75,3 +150,19 @@ AreNoted-push C x n w last i c at = elim (at_push C x i c at) [
   | inl here ↦ w i c here
   | inr z ↦ subst (λ (j : ℕ). IsNotedAt n (hash_of c) j) (sym z.0) (subst (λ (d : ChangeParts). IsNotedAt n (hash_of d) (length C)) (sym z.1) last)
 ]
+
+-- no change before one of a list has its hash
+pub new_behind : (C : List ChangeParts) (i : ℕ) (c : ChangeParts) → HashesOnce C → slice_get C i ≡ Some c → has (take i C) (hash_of c) ≡ false
+new_behind [] i c once at = cc
+new_behind (x ∷ C) zero c once at = refl
+new_behind (x ∷ C) (suc i) c once at =
+    ap (λ b. b || has (take i C) (hash_of c)) (not_true (same_hash (hash_of x) (hash_of c)) (λ t. never (In-has C c (hash_of x) (In-slice_get C i c at) (sym (same_hash-same (hash_of x) (hash_of c) t))) once.0))
+    ∙ new_behind C i c once.1 at
+
+-- the changes up to one are noted where those before it are, and it is
+pub AreNoted-next : (C : List ChangeParts) (n : Notes) (i : ℕ) (x : ChangeParts) → slice_get C i ≡ Some x → AreNoted (take i C) n → IsNotedAt n (hash_of x) i → AreNoted (take (i + 1) C) n
+AreNoted-next C n i x at w last =
+    let within : i < length C = slice_get_within C i x at in
+    let count : length (take i C) ≡ i = length-take-le i C (omega arith) in
+    let more : take (i + 1) C ≡ take i C ++ x ∷ [] = take_more C i x within ∙ ap (λ y. take i C ++ y ∷ []) (get_or_from_slice_get C i x x at) in
+    subst (λ D. AreNoted D n) (sym more) (AreNoted-push (take i C) x n w (subst (λ (k : ℕ). IsNotedAt n (hash_of x) k) (sym count) last))

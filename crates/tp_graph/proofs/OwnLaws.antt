@@ -197,6 +197,26 @@ Within-down C a ps id low high mid p s o small e more w k d less there h =
       | inr f ↦ ((w k d less there h).0, grind (arith, nat_tests))
     ]
 
+-- only one change has it
+pub maker-at : (C : List ChangeParts) (id : OpId) (p : ℕ) (c : ChangeParts) → Sound C → slice_get C p ≡ Some c → HasOp id c → IsMaker C id (Some p)
+unfolding InTurn
+maker-at C id p c s at h = (slice_get_within C p c at, λ d i k. at ∙ ap Some (one d i k)) where
+  one : (d : ChangeParts) → In d C → HasOp id d → c ≡ d
+  one d i k =
+      let there : In c C = In-slice_get C p c at in
+      let mine : same_actor c.actor d.actor ≡ true = rw (same_actor-same c.actor id.actor h.actor, same_actor-same d.actor id.actor k.actor) (same_actor-itself id.actor) in
+      let low : c.start ≤ id.counter = h.low in
+      let high : id.counter < c.start + op_count c = h.high in
+      let from : d.start ≤ id.counter = k.low in
+      let to : id.counter < d.start + op_count d = k.high in
+      elim (truth (nat_lt c.seq d.seq)) [
+        | inl t ↦ let turn = in_turn C s c d there i mine (grind (arith, nat_tests)) in absurd (omega arith)
+        | inr f ↦ elim (truth (nat_lt d.seq c.seq)) [
+          | inl t ↦ let turn = in_turn C s d c i there (same_actor-flip c.actor d.actor mine) (grind (arith, nat_tests)) in absurd (omega arith)
+          | inr g ↦ own_one C c d s there i mine (grind (arith, nat_tests))
+        ]
+      ]
+
 -- where the bounds meet, it is there or nowhere
 pub maker-some : (C : List ChangeParts) (ps : List ℕ) (id : OpId) (n : ℕ) → Sound C → IsOwn C id.actor ps → Within C ps id n n → n < length ps → IsMaker C id (Some (get_or ps n 0))
 unfolding Within

@@ -7,6 +7,7 @@ pub mod Heads
 pub mod Fit
 pub mod Sound
 pub mod Places
+pub mod Notes
 pub mod Marks
 pub mod Covers
 pub mod GraphState

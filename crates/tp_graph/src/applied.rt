@@ -13,7 +13,7 @@ ghost use Rattle.tp_graph.specs.Extents.{IsExtent, IsKnown};
 ghost use Rattle.tp_graph.specs.Fit as fit;
 ghost use Rattle.tp_graph.specs.Fit.{cause, most_changes};
 ghost use Rattle.tp_graph.specs.Heads as head;
-ghost use Rattle.tp_graph.specs.Kept.{IsRoomFor};
+ghost use Rattle.tp_graph.specs.Kept.{made_for, IsRoomFor};
 ghost use Rattle.tp_graph.specs.Marked.{IsMarked};
 ghost use Rattle.tp_graph.specs.Pasts.{IsSpan};
 ghost use Rattle.tp_graph.specs.Places.{place_from, ends_of};
@@ -63,13 +63,28 @@ impl Model for Applied {
 
 // The extent of the past of the dependencies that was made ready, where it was made for these. Else a change enters whose
 // hash is that of another, which was made ready for, and its extent isn't known: there is no memory to make it.
-fn extent_for(past: Option<Extent>, made_for: &[Hash], deps: &[Hash]) -> Option<Extent>
-    ensures { (C : List ChangeParts) → IsKnown C made_for.now past → IsKnown C deps.now result }
+fn extent_for(
+    past: Option<Extent>,
+    kept: Option<Vec<Hash>>,
+    heads: &[Hash],
+    deps: &[Hash],
+) -> Option<Extent>
+    ensures { (C : List ChangeParts) → IsKnown C (made_for heads.now kept) past → IsKnown C deps.now result }
 {
-    if same_hashes(deps, made_for) {
+    if same_hashes(deps, deps_or(&kept, heads)) {
         past
     } else {
         None
+    }
+}
+
+// The dependencies that are kept, or else these.
+fn deps_or<'a>(kept: &'a Option<Vec<Hash>>, heads: &'a [Hash]) -> &'a [Hash]
+    ensures { result.now ≡ made_for heads.now kept.now }
+{
+    match kept {
+        Some(deps) => deps.as_slice(),
+        None => heads,
     }
 }
 
@@ -203,13 +218,23 @@ impl Applied {
         place_of(self.lists.changes.as_slice(), &self.index, hash)
     }
 
+    // A copy of the dependencies, where they aren't the heads.
+    fn deps_for(&self, deps: &[Hash]) -> Result<Option<Vec<Hash>>, AllocError>
+        ensures { IfOk result (λ kept. made_for (head.heads self.now.changes) kept ≡ deps.now) }
+    {
+        if same_hashes(deps, self.heads()) {
+            return Ok(None);
+        }
+        Ok(Some(Vec::from_slice(self.alloc, deps)?))
+    }
+
     // Makes what is kept of the change's past, where that is known, and of its operations.
     fn room_for(&self, change: &Change, past: Option<Extent>) -> Result<Room, AllocError>
         requires { IsKnown self.now.changes change.now.deps past }
         ensures { IfOk result (λ room. IsRoomFor self.now.changes change.now room) }
     {
         let deletes = marked::room_for(self.alloc, change)?;
-        let deps = Vec::from_slice(self.alloc, change.deps())?;
+        let deps = self.deps_for(change.deps())?;
         Ok(Room {
             hash: change.hash(),
             deps,
@@ -230,7 +255,8 @@ impl Applied {
         self.lists.grow()?;
         self.by_actor
             .catch_up(self.alloc, self.lists.changes.as_slice())?;
-        self.index.note(room.hash, self.lists.changes.len() as u32)?;
+        self.index
+            .note(self.alloc, self.lists.changes.as_slice(), &room.hash)?;
         self.room = Some(room);
         Ok(())
     }
@@ -269,7 +295,8 @@ impl Applied {
         self.next = later(self.next, end);
         match self.room.take() {
             Some(room) => {
-                let past = extent_for(room.past, room.deps.as_slice(), change.deps());
+                let heads = self.lists.heads.as_slice();
+                let past = extent_for(room.past, room.deps, heads, change.deps());
                 self.lists.push(change, narrow(end), past, room.deletes);
             }
             None => unreachable!(),

@@ -3,6 +3,7 @@
 ghost use Rattle.std.specs.Prelude.{◌≡◌, cond, Err, IfOk};
 ghost use Rattle.tp_change.specs.Elements as made;
 ghost use Rattle.tp_graph.specs.Answers.{Answers, TakesMemory};
+ghost use Rattle.tp_graph.specs.ByActor.{IsOwn};
 ghost use Rattle.tp_graph.specs.Deps.{IsBehind};
 ghost use Rattle.tp_graph.specs.Fit as fit;
 ghost use Rattle.tp_graph.specs.Heads as head;
@@ -15,14 +16,23 @@ use crate::applied::Applied;
 use crate::deps::Behind;
 use crate::error::GraphError;
 use crate::limits::MOST_CHANGES;
+use crate::own::Own;
 use crate::part::Part;
 use tp_change::Change;
 use tp_opid::Hash;
 
 impl Applied {
-    // The numbers and references of the change behind its past, where one that fits starts at `start`.
+    // The numbers and references of the change behind its past, where one that fits starts at `start`. Its actor's
+    // changes stand at these places.
     #[tactic(auto, unfolding(crate::specs::Fit::defect_behind))]
-    fn check_behind(&self, part: &Part, start: u64, change: &Change) -> Result<(), GraphError>
+    fn check_behind(
+        &self,
+        part: &Part,
+        own: &Own<'_>,
+        start: u64,
+        change: &Change,
+    ) -> Result<(), GraphError>
+        requires own { IsOwn self.now.changes change.now.actor own.now }
         requires part { IsPartOf part.now self.now.changes }
         requires past { Sound (picked part.now self.now.changes) }
         requires start { start ≡ made.next_counter (picked part.now self.now.changes) }
@@ -31,7 +41,7 @@ impl Applied {
         ensures memory { result ≡ Err GraphError.OutOfMemory → ⊥ }
     {
         let _changes = self.changes();
-        if change.seq() != self.count_in(part, &change.actor()) + 1 {
+        if change.seq() != self.count_in(part, own) + 1 {
             return Err(GraphError::BadSeq);
         }
         if change.start() != start {
@@ -44,8 +54,9 @@ impl Applied {
     }
 
     // The numbers and references of the change behind the past of its dependencies; this past, where they are right.
-    fn check_past(&self, behind: Behind, change: &Change) -> Result<Part, GraphError>
-        requires { IsBehind self.now.changes change.now.deps behind }
+    fn check_past(&self, behind: Behind, own: &Own<'_>, change: &Change) -> Result<Part, GraphError>
+        requires own { IsOwn self.now.changes change.now.actor own.now }
+        requires behind { IsBehind self.now.changes change.now.deps behind }
         ensures answers { Answers result
             (fit.defect_behind (past self.now.changes change.now.deps) change.now) }
         ensures part { IfOk result (λ part. IsPartFor part self.now.changes change.now.deps) }
@@ -55,18 +66,19 @@ impl Applied {
         let _changes = self.changes();
         let Behind { start, past } = behind;
         let part = self.part_of(change.deps(), past)?;
-        self.check_behind(&part, start, change)?;
+        self.check_behind(&part, own, start, change)?;
         Ok(part)
     }
 
-    // Whether one of the changes has the actor and the sequence number of the change: whether its actor has reached
-    // that number.
-    fn clashes(&self, change: &Change) -> bool
+    // Whether one of the changes has the actor and the sequence number of the change: whether its actor, whose changes
+    // stand at these places, has reached that number.
+    fn clashes(&self, own: &Own<'_>, change: &Change) -> bool
+        requires { IsOwn self.now.changes change.now.actor own.now }
         ensures { result ≡ fit.clashes self.now.changes change.now }
     {
         let _changes = self.changes();
         let _hash = change.hash();
-        change.seq() <= self.count_by(&change.actor())
+        change.seq() <= own.len() as u64
     }
 
     // What a refused growth is told as: where a dependency is missing, that is the cause.
@@ -99,8 +111,9 @@ impl Applied {
             Ok(None) => return Err(GraphError::MissingDeps),
             Err(_) => return Err(self.refused(change.deps())),
         };
-        let part = self.check_past(behind, change)?;
-        if self.clashes(change) {
+        let own = self.own(&change.actor());
+        let part = self.check_past(behind, &own, change)?;
+        if self.clashes(&own, change) {
             return Err(GraphError::SeqClash);
         }
         if self.len() == MOST_CHANGES {

@@ -41,9 +41,10 @@ impl Clock {
         }
     }
 
-    // One more than the greatest counter of an actor, or 0.
+    /// One more than an actor's greatest counter in the past, or 0 where it made none there. One look-up among the actors
+    /// of the applied changes.
     #[tactic(auto, unfolding(tp_opid::specs::Order::actor_cmp, tp_opid::specs::Same::same_actor))]
-    fn end(&self, actor: &Actor) -> u64
+    pub fn end(&self, actor: &Actor) -> u64
         ensures { result ≡ end_at self.now actor.now }
     {
         self.ends.get(actor).copied().unwrap_or(0)
@@ -76,7 +77,7 @@ impl Applied {
     {
         let _changes = self.changes();
         let own = self.own(actor);
-        let held = self.count_in(part, actor);
+        let held = self.count_in(part, &own);
         if held == 0 {
             return 0;
         }

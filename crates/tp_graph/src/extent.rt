@@ -32,12 +32,12 @@ pub(crate) struct Extent {
     pub(crate) tips: Vec<u32>,
 }
 
-/// What was made ready for the entry of a change: its hash, its dependencies, the extent of their past, where that is
-/// known, and room for the marks of its operations, where it has many.
+/// What was made ready for the entry of a change: its hash, its dependencies, where they aren't the heads, the extent of
+/// their past, where that is known, and room for the marks of its operations, where it has many.
 #[derive(Drop)]
 pub(crate) struct Room {
     pub(crate) hash: Hash,
-    pub(crate) deps: Vec<Hash>,
+    pub(crate) deps: Option<Vec<Hash>>,
     pub(crate) past: Option<Extent>,
     pub(crate) deletes: Vec<bool>,
 }

@@ -1,9 +1,11 @@
-//! A map from hashes to places.
+//! A table from hashes to places.
 
-ghost use Rattle.std.specs.Prelude.{◌≡◌, ◌↔◌, ℕ, ◌<◌, ◌≤◌, List, [], false, Some, length, IsTrue, IfSome, OnOk, OnErr};
+ghost use Rattle.std.specs.Prelude.{◌≡◌, ◌↔◌, ℕ, ◌+◌, ◌<◌, ◌≤◌, ◌^◌, List, [], false, None, Some, length, IsTrue, IfOk, IfSome, OnOk, OnErr};
 ghost use Rattle.tp_change.specs.declared.parts.ChangeParts.{ChangeParts};
+ghost use Rattle.tp_graph.specs.Fit.{most_changes};
 ghost use Rattle.tp_graph.specs.Named.{has};
-ghost use Rattle.tp_graph.specs.Places.{noted, noted_word, first_word, place_from, IsNotedAt, AreNoted, HasAt};
+ghost use Rattle.tp_graph.specs.Notes.{noted, first_word, first_slot, IsFree, IsNotedAt, AreNoted, Stands};
+ghost use Rattle.tp_graph.specs.Places.{place_from, HasAt};
 ghost use Rattle.tp_graph.specs.Sound.{Sound};
 
 use std::alloc::{AllocError, Global};
@@ -12,27 +14,45 @@ use std::marker::Model;
 use tp_change::Change;
 use tp_opid::Hash;
 
-/// From the hash of a change to its place in applied order: by the first 4 bytes of the hash, and by the whole hash where
-/// an earlier change's has the same first 4.
+/// In so many slots, from a first one on, the place of a hash may stand.
+pub(crate) const WINDOW: usize = 32;
+
+/// Stands in a slot that was never taken. It is the place of no change.
+pub(crate) const NOWHERE: u32 = 4_294_967_295;
+
+// Windows begin at so many slots at least.
+const FEWEST: usize = 16;
+
+/// The place of a change, and the first 4 bytes of its hash.
+#[derive(Clone, Copy)]
+pub(crate) struct Slot {
+    pub(crate) word: u32,
+    pub(crate) place: u32,
+}
+
+/// From the hash of a change to its place in applied order: an open-addressing table with linear probing over a bounded
+/// window, by the first 4 bytes of the hash, and an ordered map by whole hashes for what finds no room in its window.
 ///
-/// Of 100,000 hashes that are what chance gives, one or two begin as an earlier one does. Ordered maps: whatever hashes
-/// strangers choose, a look-up takes a number of comparisons that grows with the logarithm of the number of entries.
+/// The table has two to four slots of 8 bytes for each change, at least 16, and one less than a window behind the last.
+/// Of a million hashes that are what chance gives, a few find no room. Whatever hashes strangers choose, a look-up
+/// compares the first bytes of a window at most, and then makes a number of comparisons that grows with the logarithm
+/// of the number of changes.
 #[derive(Drop)]
 pub(crate) struct Index {
-    words: BTreeMap<u32, u32>,
+    slots: Vec<Slot>,
     clashing: BTreeMap<Hash, u32>,
 }
 
 impl Model for Index {
-    ghost use Rattle.tp_graph.specs.Places.{Notes};
+    ghost use Rattle.tp_graph.specs.Notes.{Notes};
 
     ghost Value = { Notes };
 
-    ghost view = { λ a. record { words = a.words.entries; hashes = a.clashing.entries } };
+    ghost view = { λ a. record { slots = a.slots.items; hashes = a.clashing.entries } };
 }
 
 // The first 4 bytes of the hash as a number.
-#[tactic(auto, unfolding(crate::specs::Places::first_word))]
+#[tactic(auto, unfolding(crate::specs::Notes::first_word))]
 fn word_of(hash: &Hash) -> u32
     ensures { result ≡ first_word hash.now }
 {
@@ -40,23 +60,59 @@ fn word_of(hash: &Hash) -> u32
     u32::from_be_bytes([bytes[0], bytes[1], bytes[2], bytes[3]])
 }
 
+// The first slot of the window of a word, in a table of so many slots: the last bits of the word, where the slots that
+// windows begin at are a power of two.
+fn first_of(word: u32, slots: usize) -> usize
+    requires { WINDOW ≤ slots }
+    ensures first { result ≡ first_slot word slots }
+    ensures within { result + WINDOW ≤ slots }
+{
+    word as usize & (slots - WINDOW)
+}
+
+// How many slots a table for so many changes and as many more has: windows begin at four for each change or more, and
+// at a power of two.
+fn slots_for(count: usize) -> usize
+    requires { count < 2 ^ 32 }
+{
+    (4 * count).max(FEWEST).next_power_of_two() + WINDOW - 1
+}
+
 impl Index {
-    /// No entry.
+    /// No entry. It takes no memory.
     pub(crate) fn new(alloc: Global) -> Index
-        ensures words { result.words ≡ [] }
+        ensures slots { result.slots ≡ [] }
         ensures hashes { result.hashes ≡ [] }
     {
         Index {
-            words: BTreeMap::new(alloc),
+            slots: Vec::new(alloc),
             clashing: BTreeMap::new(alloc),
         }
     }
 
-    // The place noted for the first 4 bytes of a hash.
-    fn by_word(&self, word: u32) -> Option<u32>
-        ensures { result ≡ noted_word self.now.words word }
+    // The place of the change with the hash, where a slot notes it. A slot that was never taken ends the window.
+    fn by_word(&self, changes: &[Change], hash: &Hash) -> Option<usize>
+        requires { length changes.now ≤ most_changes }
+        ensures there { IfSome result (λ place. HasAt changes.now place hash.now) }
+        ensures within { IfSome result (λ place. place < length changes.now) }
+        ensures found { result ≡ None → (p : ℕ) → Stands self.now.slots (first_word hash.now) p
+            → HasAt changes.now p hash.now → ⊥ }
     {
-        self.words.get(&word).copied()
+        if self.slots.len() < WINDOW {
+            return None;
+        }
+        let word = word_of(hash);
+        let first = first_of(word, self.slots.len());
+        for number in first..first + WINDOW {
+            let slot = self.slots[number];
+            if slot.place == NOWHERE {
+                return None;
+            }
+            if slot.word == word && has_at(changes, slot.place as usize, hash) {
+                return Some(slot.place as usize);
+            }
+        }
+        None
     }
 
     // The place noted for a whole hash.
@@ -67,30 +123,85 @@ impl Index {
         self.clashing.get(hash).copied()
     }
 
-    // Whether a place before the given one is noted for the first 4 bytes.
-    fn is_taken(&self, word: u32, place: u32) -> bool
-        ensures { result ≡ false → (p : ℕ) → noted_word self.now.words word ≡ Some p → place ≤ p }
+    // The first slot of the window of the word that notes no place before the given one.
+    fn free(&self, word: u32, place: u32) -> Option<usize>
+        requires { place < NOWHERE }
+        ensures { IfSome result (IsFree self.now.slots word place) }
     {
-        match self.by_word(word) {
-            Some(noted) => noted < place,
-            None => false,
+        if self.slots.len() < WINDOW {
+            return None;
         }
+        let first = first_of(word, self.slots.len());
+        for number in first..first + WINDOW {
+            if place <= self.slots[number].place {
+                return Some(number);
+            }
+        }
+        None
     }
 
-    /// Notes the place behind those of all changes for a hash that none of them has.
-    pub(crate) fn note(&mut self, hash: Hash, place: u32) -> Result<(), AllocError>
-        ensures notes { OnOk result ((C : List ChangeParts) → place ≡ length C → has C hash ≡ false
+    // Notes the place behind those of all changes for a hash that none of them has.
+    fn put(&mut self, hash: &Hash, place: u32) -> Result<(), AllocError>
+        requires { place < NOWHERE }
+        ensures notes { OnOk result ((C : List ChangeParts) → place ≡ length C → has C hash.now ≡ false
             → AreNoted C self.old → AreNoted C self.new) }
-        ensures at { OnOk result (IsNotedAt self.new hash place) }
+        ensures at { OnOk result (IsNotedAt self.new hash.now place) }
         ensures err { OnErr result (self.new ≡ self.old) }
     {
-        let word = word_of(&hash);
-        if self.is_taken(word, place) {
-            self.clashing.insert(hash, place)?;
+        let word = word_of(hash);
+        match self.free(word, place) {
+            Some(number) => self.slots[number] = Slot { word, place },
+            None => {
+                self.clashing.insert(*hash, place)?;
+            }
+        }
+        Ok(())
+    }
+
+    // The places of all these changes, with room for as many more.
+    fn of(alloc: Global, changes: &[Change]) -> Result<Index, AllocError>
+        requires sound { Sound changes.now }
+        requires few { length changes.now ≤ most_changes }
+        ensures { IfOk result (AreNoted changes.now) }
+    {
+        let slot = Slot {
+            word: 0,
+            place: NOWHERE,
+        };
+        let mut index = Index {
+            slots: vec![in alloc; slot; slots_for(changes.len())]?,
+            clashing: BTreeMap::new(alloc),
+        };
+        for place in 0..changes.len() {
+            index.put(&changes[place].hash(), place as u32)?;
+        }
+        Ok(index)
+    }
+
+    /// Notes the place behind those of all changes for a hash that none of them has. Where more than half of the slots
+    /// would be taken, the table is made anew, twice as large.
+    pub(crate) fn note(
+        &mut self,
+        alloc: Global,
+        changes: &[Change],
+        hash: &Hash,
+    ) -> Result<(), AllocError>
+        requires sound { Sound changes.now }
+        requires few { length changes.now < most_changes }
+        requires lacks { has changes.now hash.now ≡ false }
+        requires noted { AreNoted changes.now self.old }
+        ensures noted { OnOk result (AreNoted changes.now self.new) }
+        ensures at { OnOk result (IsNotedAt self.new hash.now (length changes.now)) }
+        ensures err { OnErr result (self.new ≡ self.old) }
+    {
+        let place = changes.len() as u32;
+        if self.slots.len() < 2 * changes.len() + WINDOW {
+            let mut larger = Index::of(alloc, changes)?;
+            larger.put(hash, place)?;
+            *self = larger;
             return Ok(());
         }
-        self.words.insert(word, place)?;
-        Ok(())
+        self.put(hash, place)
     }
 }
 
@@ -124,14 +235,20 @@ fn has_at(changes: &[Change], place: usize, hash: &Hash) -> bool
     }
 }
 
-/// The place of the change with the hash. A noted place is trusted only where the change there has the hash.
+/// The place of the change with the hash. A noted place is trusted only where the change there has the hash. The last
+/// change is looked at first, since it is asked for most.
 pub(crate) fn place_of(changes: &[Change], index: &Index, hash: &Hash) -> Option<usize>
     requires sound { Sound changes.now }
+    requires few { length changes.now ≤ most_changes }
     requires noted { AreNoted changes.now index.now }
     ensures place { result ≡ place_from 0 changes.now hash.now }
     ensures within { IfSome result (λ place. place < length changes.now) }
 {
-    if let Some(place) = trusted(changes, index.by_word(word_of(hash)), hash) {
+    let last = changes.len().saturating_sub(1);
+    if has_at(changes, last, hash) {
+        return Some(last);
+    }
+    if let Some(place) = index.by_word(changes, hash) {
         return Some(place);
     }
     trusted(changes, index.by_hash(hash), hash)

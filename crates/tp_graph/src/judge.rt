@@ -1,6 +1,6 @@
 //! What a change has to be behind the changes of its past: its numbers and its references.
 
-ghost use Rattle.std.specs.Prelude.{◌≡◌, ◌+◌, ◌<◌, ◌≤◌, ◌^◌, ◌++◌, ◌||◌, List, length, Some, true, false, MatchOption};
+ghost use Rattle.std.specs.Prelude.{◌≡◌, ◌+◌, ◌<◌, ◌≤◌, ◌^◌, ◌++◌, ◌||◌, List, length, Some, true, false, IsTrue, MatchOption};
 ghost use Rattle.std.specs.List.{slice_get};
 ghost use Rattle.tp_change.specs.declared.limits.TheConstants.{COUNTERS_END};
 ghost use Rattle.tp_change.specs.declared.parts.ChangeParts.{ChangeParts};
@@ -9,13 +9,14 @@ ghost use Rattle.tp_change.specs.Elements as made;
 ghost use Rattle.tp_change.specs.Limits.{IsRecord};
 ghost use Rattle.tp_change.specs.Operations.{count_of, op_count, ops_of, ops_from};
 ghost use Rattle.tp_graph.specs.Before.{Tells, IsClear};
-ghost use Rattle.tp_graph.specs.ByActor.{IsMaker};
+ghost use Rattle.tp_graph.specs.ByActor.{HasOp, IsMaker};
 ghost use Rattle.tp_graph.specs.Covers as cover;
 ghost use Rattle.tp_graph.specs.Marked.{IsMarked};
 ghost use Rattle.tp_graph.specs.Parts.{picked, IsPartOf};
 
 use crate::applied::Applied;
 use crate::before::{Before, put};
+use crate::own::next_to_look_at;
 use crate::part::Part;
 use tp_change::{Change, MAX_OPS, Record};
 use tp_list::char_count;
@@ -108,17 +109,34 @@ pub(crate) fn later(a: u64, b: u64) -> u64
 }
 
 impl Applied {
-    // The place of the change that has the operation: of its actor's changes the first that ends behind the counter is
-    // the only one that may. A number of comparisons that grows with the logarithm of the number of these changes.
+    // Whether the change at the place has the operation.
+    fn has_op(&self, place: usize, id: &OpId) -> bool
+        requires { place < length self.now.changes }
+        ensures { IsTrue result → (c : ChangeParts) → slice_get self.now.changes place ≡ Some c
+            → HasOp id.now c }
+    {
+        let change = self.at(place);
+        if !change.actor().is(&id.actor) {
+            return false;
+        }
+        change.start() <= id.counter && id.counter < self.end_at(place)
+    }
+
+    // The place of the change that has the operation: the last one, which is asked for most, or else of its actor's
+    // changes the first that ends behind the counter, since that is the only one that may. A number of comparisons that
+    // grows with the logarithm of the number of these changes; few where it is one of the latest.
     fn maker(&self, id: &OpId) -> Option<usize>
         ensures { IsMaker self.now.changes id.now result }
     {
-        let _changes = self.changes();
+        let changes = self.changes();
+        if !changes.is_empty() && self.has_op(changes.len() - 1, id) {
+            return Some(changes.len() - 1);
+        }
         let own = self.own(&id.actor);
         let mut low = 0;
         let mut high = own.len();
         while low < high {
-            let middle = low + (high - low) / 2;
+            let middle = next_to_look_at(low, high, own.len());
             if self.end_at(own.get(middle)) <= id.counter {
                 low = middle + 1;
             } else {

@@ -53,6 +53,19 @@ fn nth(places: &[u32], last: Option<usize>, number: usize) -> usize
     }
 }
 
+/// Where a search among so many numbers looks next that goes on from `low` to before `high`: at the last one first,
+/// since what came last is asked for most, and then some sixteen times as far from the end each time, but never before
+/// the middle. It looks about five times where one that halves looks four times, at worst.
+pub(crate) fn next_to_look_at(low: usize, high: usize, count: usize) -> usize
+    requires { low < high }
+    ensures from { low ≤ result }
+    ensures before { result < high }
+{
+    let middle = low + (high - low) / 2;
+    let passed = count.saturating_sub(high);
+    middle.max((high - 1).saturating_sub(passed.saturating_mul(15)))
+}
+
 impl<'a> Own<'a> {
     /// These places.
     pub(crate) fn new(places: Listed<'a>) -> Own<'a>

@@ -1,8 +1,10 @@
 //! Which of the applied changes a past has.
 
 ghost use Rattle.std.specs.Prelude.{◌≡◌, ◌<◌, ◌≤◌, List, length, None, IfOk, IsSome, OnErr};
+ghost use Rattle.tp_opid.specs.declared.actor.Actor.{Actor};
 ghost use Rattle.tp_opid.specs.declared.hash.Hash.{Hash};
 ghost use Rattle.tp_change.specs.declared.parts.ChangeParts.{ChangeParts};
+ghost use Rattle.tp_graph.specs.ByActor.{IsOwn};
 ghost use Rattle.tp_graph.specs.Extents.{IsKnown};
 ghost use Rattle.tp_graph.specs.Fit as fit;
 ghost use Rattle.tp_graph.specs.Heads as head;
@@ -14,9 +16,10 @@ ghost use Rattle.tp_graph.specs.Sound.{Sound};
 
 use crate::applied::Applied;
 use crate::extent::Extent;
+use crate::own::{Own, next_to_look_at};
 use crate::walk::same_hashes;
 use std::alloc::AllocError;
-use tp_opid::{Actor, Hash};
+use tp_opid::Hash;
 
 /// Which of the applied changes a past has.
 #[derive(Drop)]
@@ -106,20 +109,22 @@ impl Applied {
         self.part_of(hashes, past)
     }
 
-    /// How many changes of the past the actor made: the sequence number of its latest there. As many questions to the
-    /// past as the logarithm of the number of the actor's changes.
-    pub(crate) fn count_in(&self, part: &Part, actor: &Actor) -> u64
+    /// How many changes of the past the actor made whose changes stand at these places: the sequence number of its
+    /// latest there. As many questions to the past as the logarithm of the number of the actor's changes; few where the
+    /// past has almost all of them.
+    pub(crate) fn count_in(&self, part: &Part, own: &Own<'_>) -> u64
         requires past { Sound (picked part.now self.now.changes) }
         requires part { IsPartOf part.now self.now.changes }
-        ensures count { result ≡ fit.count_by actor.now (picked part.now self.now.changes) }
+        requires own { (a : Actor) × IsOwn self.now.changes a own.now }
+        ensures count { (a : Actor) → IsOwn self.now.changes a own.now
+            → result ≡ fit.count_by a (picked part.now self.now.changes) }
         ensures few { result ≤ length self.now.changes }
     {
         let _changes = self.changes();
-        let own = self.own(actor);
         let mut low = 0;
         let mut high = own.len();
         while low < high {
-            let middle = low + (high - low) / 2;
+            let middle = next_to_look_at(low, high, own.len());
             if part.holds(self, own.get(middle)) {
                 low = middle + 1;
             } else {

@@ -1,7 +1,16 @@
-use Rattle.tp_graph.proofs.Common.{◌≡◌, ◌∙◌, ap, Some, None, noted_word}
+use Rattle.tp_graph.proofs.Common.{refl, ◌∙◌, slice_get_within, HasAt}
 use Rattle.tp_graph.proofs.MarksLaws.{hashes_once}
 use Rattle.tp_graph.proofs.NotesLaws.{place_is, place_by_hash}
 use Rattle.tp_graph.proofs.index.place_of.Goals as goal
+
+pub returns-then-has_at : goal.returns-then-has_at
+returns-then-has_at c =
+    let C = c.args.changes.now in
+    let there : HasAt C c.saturating_sub-last.result c.args.hash.now = c.has_at.ensures.0 c.if-has_at.true in
+    record {
+      place = place_is C c.args.hash.now c.saturating_sub-last.result (hashes_once C c.requires.sound) there;
+      within = slice_get_within C c.saturating_sub-last.result there.0 there.1;
+    }
 
 pub returns-in-Some : goal.returns-in-Some
 returns-in-Some c = record {
@@ -13,7 +22,7 @@ pub returns-clause-place : goal.returns-clause-place
 returns-clause-place c =
     let C = c.args.changes.now in
     let h = c.args.hash.now in
-    place_by_hash C c.args.index.now h c.trusted-2.result (hashes_once C c.requires.sound) c.requires.noted
-    (λ p e at. let bad : None ≡ Some p = c.in_default.ensures.found p (c.by_word.ensures ∙ ap (noted_word c.args.index.now.words) c.word_of.ensures ∙ e) at in cc)
-    c.trusted-2.ensures.there
-    (λ p e at. c.trusted-2.ensures.found p (c.by_hash.ensures ∙ e) at)
+    place_by_hash C c.args.index.now h c.trusted.result (hashes_once C c.requires.sound) c.requires.noted
+    (c.in_default.ensures.found refl)
+    c.trusted.ensures.there
+    (λ p e at. c.trusted.ensures.found p (c.by_hash.ensures ∙ e) at)

@@ -13,7 +13,7 @@ check_behind-requires-clause-past c =
 pub check_behind-requires-clause-start : goal.check_behind-requires-clause-start
 check_behind-requires-clause-start c =
     let same : picked c.in_ok-part.part c.args.self.now.changes ≡ past c.args.self.now.changes c.deps.result.now = picked-past c.in_ok-part.part c.args.self.now.changes c.deps.result.now c.in_ok-part.ensures.bits in
-    c.requires.start ∙ ap (λ h. next_counter (past c.args.self.now.changes h)) (sym c.deps.ensures) ∙ ap next_counter (sym same)
+    c.requires.behind.start ∙ ap (λ h. next_counter (past c.args.self.now.changes h)) (sym c.deps.ensures) ∙ ap next_counter (sym same)
 
 pub returns-in_err-check_behind-clause-answers : goal.returns-in_err-check_behind-clause-answers
 returns-in_err-check_behind-clause-answers c =

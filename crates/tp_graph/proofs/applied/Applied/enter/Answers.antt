@@ -1,4 +1,5 @@
 use Rattle.tp_graph.proofs.Common.{◌≡◌, ◌<◌, ◌≤◌, ◌+◌, ◌∙◌, ◌++◌, ◌∷◌, [], ap, sym, subst, Some, None, length, arith, length-append, hash_of, next_counter-push, cause, most_changes, IsKnown, room_hash, AppliedState}
+use Rattle.tp_graph.specs.Kept.{made_for}
 use Rattle.tp_graph.proofs.HeadsLaws.{heads-push}
 use Rattle.tp_graph.proofs.KeptLaws.{IsByActor-push, Fits-from_cause, room_for_one, ready_for, ready_past}
 use Rattle.tp_graph.proofs.EndLaws.{AreEnds-push}
@@ -26,7 +27,8 @@ invariant_of-self c =
     let room_is : room_hash g.room ≡ Some (hash_of x) = ap (λ (s : AppliedState). s.room) c.self.view_is ∙ c.requires.room in
     let ready = ready_for g g.room (hash_of x) room_is kept.ready in
     let past = ready_past g g.room c.in-Some.room (sym c.take.ensures.value ∙ c.in-Some.is) kept.ready in
-    let known : IsKnown C x.deps c.extent_for-past.result = subst (λ H. IsKnown C H c.extent_for-past.result) c.deps.ensures (c.extent_for-past.ensures C (subst (λ H. IsKnown C H c.in-Some.room.past) (sym c.as_slice.ensures.value) past.0)) in
+    let known : IsKnown C x.deps c.extent_for-past.result = subst (λ H. IsKnown C H c.extent_for-past.result) c.deps.ensures
+    (c.extent_for-past.ensures C (subst (λ H. IsKnown C (made_for H c.in-Some.room.deps) c.in-Some.room.past) (sym c.as_slice-heads.ensures.value) past.0)) in
     let less : length C < most_changes = room_for_one C x none kept.few in
     let more : length (C ++ x ∷ []) ≡ length C + 1 = length-append C (x ∷ []) in
     let few : length (C ++ x ∷ []) ≤ most_changes = omega arith in

@@ -1,5 +1,6 @@
-use Rattle.tp_graph.proofs.Common.{◌≡◌, ℕ, ◌∙◌, refl, inl, inr, ap, sym, subst, length, arith, None, false, vec_len, AppliedState, IsKnown, cause, IsRoomFor, has, IsNotedAt}
-use Rattle.tp_graph.proofs.KeptLaws.{Fits-from_cause, ready_stays}
+use Rattle.tp_graph.proofs.Common.{◌≡◌, ◌∙◌, refl, inl, inr, ap, sym, subst, None, AppliedState, IsKnown, cause, IsRoomFor, has}
+use Rattle.tp_graph.specs.Kept.{made_for}
+use Rattle.tp_graph.proofs.KeptLaws.{Fits-from_cause, room_for_one, ready_stays}
 use Rattle.tp_graph.proofs.applied.Applied.reserve_behind.Goals as goal
 
 pub invariant_of-self-2 : goal.invariant_of-self-2
@@ -12,9 +13,8 @@ invariant_of-self-2 c =
     let same = c.grow.ensures.same in
     let none : cause C x ≡ None = ap (λ (s : AppliedState). cause s.changes x) c.self.view_is ∙ c.requires.enters in
     let made : IsRoomFor C x r = subst (λ (s : AppliedState). IsRoomFor s.changes x r) (sym c.self.view_is) c.in_ok-room.ensures in
-    let lacks : has C r.hash ≡ false = ap (has C) made.hash ∙ (Fits-from_cause C x none).new in
-    let past : IsKnown C r.deps.items r.past = subst (λ H. IsKnown C H r.past) (sym made.deps) made.past in
-    let whole : vec_len c.grow.new.self.changes ≡ length c.grow.new.self.changes.items = omega (arith, c.grow.new.self.changes.ok.0) in
+    let made_are : made_for g.lists.heads.items r.deps ≡ x.deps = ap (λ H. made_for H r.deps) kept.heads_are ∙ made.deps in
+    let past : IsKnown C (made_for g.lists.heads.items r.deps) r.past = subst (λ H. IsKnown C H r.past) (sym made_are) made.past in
     record {
       sound = rw same.changes kept.sound;
       few = rw same.changes kept.few;
@@ -23,12 +23,12 @@ invariant_of-self-2 c =
       pasts = rw (same.changes, same.prefixes, same.apart) kept.pasts;
       marked = rw (same.changes, same.marked) kept.marked;
       next_is = rw same.changes kept.next_is;
-      notes = rw same.changes (c.in_ok-note.ensures.notes C (c.len.ensures ∙ whole ∙ ap length same.changes) lacks kept.notes);
+      notes = rw c.as_slice-2.ensures.value at c.in_ok-note.ensures.noted;
       by_actor = rw c.as_slice.ensures.value at c.catch_up.ensures.by_actor;
       ready = record {
-        past = rw same.changes past;
+        past = rw (same.changes, same.heads) past;
         clear = made.clear;
-        noted = subst (λ (n : ℕ). IsNotedAt c.note.new.self r.hash n) (c.len.ensures ∙ whole) c.in_ok-note.ensures.at;
+        noted = rw c.as_slice-2.ensures.value at c.in_ok-note.ensures.at;
         listed = rw c.as_slice.ensures.value at c.in_ok-catch_up.ensures.ok;
         room = c.in_ok-grow.ensures.room;
       };
@@ -83,4 +83,21 @@ invariant_of-self c =
       notes = rw same.changes kept.notes;
       by_actor = rw same.changes kept.by_actor;
       ready = ready_stays c.self.inside _ c.self.inside.room same c.grow.ensures.stays refl (inl refl) kept.ready;
+    }
+
+pub note-requires : goal.note-requires
+note-requires c =
+    let g = c.self.inside in
+    let C = g.lists.changes.items in
+    let x = c.args.change.now in
+    let r = c.in_ok-room.room in
+    let kept = c.self.invariant in
+    let none : cause C x ≡ None = ap (λ (s : AppliedState). cause s.changes x) c.self.view_is ∙ c.requires.enters in
+    let made : IsRoomFor C x r = subst (λ (s : AppliedState). IsRoomFor s.changes x r) (sym c.self.view_is) c.in_ok-room.ensures in
+    let same : c.as_slice-2.result.now ≡ C = c.as_slice-2.ensures.value ∙ c.grow.ensures.same.changes in
+    record {
+      sound = rw same kept.sound;
+      few = rw same (room_for_one C x none kept.few);
+      lacks = rw same (ap (has C) made.hash ∙ (Fits-from_cause C x none).new);
+      noted = rw same kept.notes;
     }

@@ -1,0 +1,48 @@
+-- The table from hashes to places: what is noted by the first 4 bytes of hashes, and what by whole hashes.
+use Rattle.std.specs.Prelude.{◌≡◌, ◌≢◌, ◌⊎◌, ℕ, ◌+◌, ◌-◌, ◌<◌, ◌≤◌, List, [], ◌∷◌, length, slice_index, bit_and, Option, Some}
+use Rattle.tp_graph.specs.Common.{w32, from_be_bytes, slice_get, lookup, Hash, same_hash, ChangeParts, hash_of}
+use Rattle.tp_graph.specs.declared.index.Slot.{Slot}
+use Rattle.tp_graph.specs.declared.index.TheConstants.{WINDOW, NOWHERE}
+
+-- what a map with these entries has at the hash
+abbrev pub noted : List (Hash × ℕ) → Hash → Option ℕ
+noted entries h = lookup (same_hash h) entries
+
+-- the first 4 bytes of a hash as a number
+unfoldable pub first_word : Hash → ℕ
+first_word h = from_be_bytes w32 (slice_index h.0 0 ∷ slice_index h.0 1 ∷ slice_index h.0 2 ∷ slice_index h.0 3 ∷ [])
+
+-- Places that are noted: in slots, and for whole hashes.
+pub record Notes : Type 0 where
+  pub slots : List Slot
+  pub hashes : List (Hash × ℕ)
+
+-- the first slot of the window of a word, in a table of so many slots
+abbrev pub first_slot : ℕ → ℕ → ℕ
+first_slot word slots = bit_and word (slots - WINDOW)
+
+-- A look-up of the word gets to the slot with the number: it is in the window, and each before it there was taken.
+pub record IsReached (slots : List Slot) (word number : ℕ) : Type 0 where
+  pub room : WINDOW ≤ length slots
+  pub low : first_slot word (length slots) ≤ number
+  pub high : number < first_slot word (length slots) + WINDOW
+  pub taken : (k : ℕ) → first_slot word (length slots) ≤ k → k < number → (s : Slot) → slice_get slots k ≡ Some s → s.place ≢ NOWHERE
+
+-- The same, and the slot notes no place before the given one.
+pub record IsFree (slots : List Slot) (word place number : ℕ) : Type 0 where
+  pub reached : IsReached slots word number
+  pub free : (s : Slot) → slice_get slots number ≡ Some s → place ≤ s.place
+
+-- A look-up of the word gets to a slot that notes the place for it.
+pub record Stands (slots : List Slot) (word place : ℕ) : Type 0 where
+  pub number : ℕ
+  pub reached : IsReached slots word number
+  pub here : slice_get slots number ≡ Some (record { word = word; place = place })
+
+-- The place is noted for the hash, in one way or the other.
+abbrev pub IsNotedAt : Notes → Hash → ℕ → Type 0
+IsNotedAt n h i = Stands n.slots (first_word h) i ⊎ (noted n.hashes h ≡ Some i)
+
+-- The place of each change is noted. There may be more notes.
+abbrev pub AreNoted : List ChangeParts → Notes → Type 0
+AreNoted C n = (i : ℕ) → (c : ChangeParts) → slice_get C i ≡ Some c → IsNotedAt n (hash_of c) i
