@@ -1,10 +1,13 @@
 -- Names that proofs cite, passed on from one place. Declares nothing.
-pub use Rattle.std.proofs.Common.{Bool, Err, IfOk, List, MatchOption, None, Ok, Option, Result, Some, [], add-one, ap, append-nil, append_assoc, arith, cond, drop, drop-cons, encode_utf8, encode_utf8_all, false, get_or, inl, inr, length, map, nat_lt, not, position, refl, subst, suc, sym, take, true, zero, ℕ, ◌&&◌, ◌++◌, ◌+◌, ◌-◌, ◌<◌, ◌==◌, ◌^◌, ◌||◌, ◌↔◌, ◌∙◌, ◌∷◌, ◌≡◌, ◌≤◌, ◌⊎◌}
+pub use Rattle.std.proofs.Common.{Bool, Err, IfOk, IfSome, List, MatchOption, None, Ok, Option, Result, Some, [], add-one, ap, append-nil, append_assoc, arith, cond, drop, drop-cons, encode_utf8, encode_utf8_all, false, get_or, inl, inr, length, map, nat_lt, not, position, refl, subst, suc, sym, take, true, zero, ℕ, ◌&&◌, ◌++◌, ◌+◌, ◌-◌, ◌<◌, ◌==◌, ◌^◌, ◌||◌, ◌↔◌, ◌∙◌, ◌∷◌, ◌≡◌, ◌≤◌, ◌⊎◌}
 pub use Rattle.std.proofs.lemmas.Bool.Decides.{nat_tests}
-pub use Rattle.std.proofs.lemmas.List.{length-append, length-map, length-take-le, map-append, take-append-drop, take_more}
-pub use Rattle.std.proofs.lemmas.Option.{get_or_from_slice_get, slice_get-get_or, slice_get-map, slice_get_cases, slice_get_read}
+pub use Rattle.std.proofs.lemmas.List.{drop_all, length-append, length-map, length-take-le, map-append, take-append-drop, take_all, take_more}
+pub use Rattle.std.proofs.lemmas.List.Elements.{filter-append}
+pub use Rattle.std.proofs.lemmas.List.Sorted.{list_any-IsPermutation, searchable_from_sorted}
+pub use Rattle.std.proofs.lemmas.Option.{get_or_from_slice_get, slice_get-get_or, slice_get-map, slice_get_read}
 pub use Rattle.std.proofs.lemmas.Str.{chars-encodes, encodes-append, encodes-chars, scalars-chars}
-pub use Rattle.std.specs.List.{AllByRecursion, flat_map, slice_get}
+pub use Rattle.std.specs.List.{AllByRecursion, HoldsAt, flat_map, slice_get}
+pub use Rattle.std.specs.List.Sorted.{IsBinarySearchResult, IsSorted}
 pub use Rattle.std.specs.Option.{option_map}
 pub use Rattle.std.specs.Str.{all_scalars, chars}
 pub use Rattle.std.specs.String.{string_bytes}
@@ -23,7 +26,7 @@ pub use Rattle.tp_document.specs.Applying.{HasMergeOutcome, kept_by}
 pub use Rattle.tp_document.specs.DocError.{receiving}
 pub use Rattle.tp_document.specs.DocState.{AllChanges, DocState, HasJust, Holds}
 pub use Rattle.tp_document.specs.Editing.{AreInRange, Asked, AsksNothing, AsksSome, Edited, HasCounters, IsEdit, IsRefused, asking}
-pub use Rattle.tp_document.specs.History.{AreTargets, changes_at, deletes_by, inserts_by, is_one_of, shown_by, with_change}
+pub use Rattle.tp_document.specs.History.{AreTargets, IsAuthorOf, changes_at, deletes_by, inserts_by, is_one_of, shown_by, with_change}
 pub use Rattle.tp_document.specs.Making.{IsAllowed, IsBad, IsTypedAsk, IsWithinSize, parts_made}
 pub use Rattle.tp_document.specs.Merging.{absent}
 pub use Rattle.tp_document.specs.Showing.{HasCharAt, HasElementAt, HasLength, HasPosition}
@@ -45,12 +48,12 @@ pub use Rattle.tp_graph.specs.Past.{past}
 pub use Rattle.tp_graph.specs.Since.{past_places}
 pub use Rattle.tp_graph.specs.Sound.{Fits, Sound}
 pub use Rattle.tp_list.proofs.Members.{In-append, In-filter, In-last, In-left, In-right, In-slice_get, In-split, SameMembers-sym, filter-In}
-pub use Rattle.tp_list.proofs.Tests.{both_right, not_true, or_cases, or_right, truth}
+pub use Rattle.tp_list.proofs.Tests.{both_right, not_true, or_cases, or_right, same_test, truth}
 pub use Rattle.tp_list.specs.Members.{AllIn, In, SameMembers}
-pub use Rattle.tp_opid.proofs.Orders.{id_eq-same, same_actor-apart, same_actor-flip, same_actor-same, same_doc-apart, same_doc-same, same_hash-same}
+pub use Rattle.tp_opid.proofs.Orders.{id_eq-flip, id_eq-itself, id_eq-same, id_exact, id_total, same_actor-apart, same_actor-flip, same_actor-same, same_doc-apart, same_doc-same, same_hash-same}
 pub use Rattle.tp_opid.proofs.Trees.{IsThere-grow, IsTree-same}
 pub use Rattle.tp_opid.specs.Insert.{Insert}
-pub use Rattle.tp_opid.specs.Order.{hash_cmp}
+pub use Rattle.tp_opid.specs.Order.{hash_cmp, id_cmp}
 pub use Rattle.tp_opid.specs.Same.{id_eq, same_actor, same_doc, same_hash}
 pub use Rattle.tp_opid.specs.Tree.{IsThere, IsTree}
 pub use Rattle.tp_opid.specs.declared.actor.Actor.{Actor}
@@ -61,6 +64,7 @@ pub use Rattle.tp_receive.proofs.TakingLaws.{OnOk-map, Stops-still}
 pub use Rattle.tp_receive.specs.Intake.{Receiver, begin}
 pub use Rattle.tp_receive.specs.Outcome.{HasOutcome, Outcome, ReceivesWith}
 pub use Rattle.tp_rga.proofs.OneOrder.{one_order, order_exists, order_of_part, order_of_set, shown_of_set}
+pub use Rattle.tp_rga.proofs.Walking.{seen_at, seen_end, seen_within}
 pub use Rattle.tp_rga.specs.Order.{IsInOrder}
-pub use Rattle.tp_rga.specs.Shown.{element_of, is_removed, shown, shown_before}
+pub use Rattle.tp_rga.specs.Shown.{is_removed, seen_of, shown, shown_before}
 pub use Rattle.tp_text.specs.Text.{IsTextOf, chars_of}

@@ -11,4 +11,5 @@ pub mod EndLaws
 pub mod PastElements
 pub mod ChangePlaces
 pub mod SnapshotLaws
+pub mod TargetLaws
 pub mod TextLaws

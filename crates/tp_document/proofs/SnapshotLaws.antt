@@ -1,7 +1,6 @@
 -- What a snapshot shows, element by element.
-use Rattle.tp_document.proofs.Common.{◌≡◌, ℕ, suc, zero, ◌+◌, ◌-◌, ◌<◌, inl, inr, List, [], ◌∷◌, ◌++◌, length, take, drop, get_or, Bool, true, false, not, ◌||◌, ◌&&◌, cond, Option, Some, None, position, refl, sym, ap, ◌∙◌, arith, append-nil, drop-cons, slice_get, option_map, take_more, length-append, Actor, OpId, Insert, id_eq, is_removed, shown, shown_before, chars_of, shown_by, id_eq-same, has_op, AreTargets, is_one_of, inserts_by, deletes_by, map-append, slice_get_cases, element_of, or_right, encode_utf8, encode_utf8_all, encodes-append}
-use Rattle.std.proofs.lemmas.List.Elements.{filter-append}
-use Rattle.tp_rga.specs.declared.element.Element.{Element}
+use Rattle.tp_document.proofs.Common.{◌≡◌, ℕ, suc, zero, ◌+◌, ◌-◌, ◌<◌, List, [], ◌∷◌, ◌++◌, length, take, drop, get_or, Bool, true, false, not, ◌||◌, ◌&&◌, cond, Option, Some, None, position, refl, sym, ap, ◌∙◌, arith, append-nil, drop-cons, slice_get, option_map, take_more, length-append, Actor, OpId, Insert, id_eq, is_removed, shown, shown_before, chars_of, shown_by, id_eq-same, has_op, AreTargets, is_one_of, inserts_by, deletes_by, map-append, or_right, encode_utf8, encode_utf8_all, encodes-append, filter-append, seen_of, seen_at, seen_end, take_all, drop_all}
+use Rattle.tp_rga.specs.declared.walk.Seen.{Seen}
 use Rattle.tp_rga.proofs.Lookups.{position-cons}
 
 -- whether an element is shown
@@ -9,7 +8,7 @@ abbrev is_shown : List (Actor × ℕ) → List (OpId × OpId) → Insert → Boo
 is_shown K R e = has_op K e.id && not (is_removed (deletes_by K R) e.id)
 
 -- the test that a snapshot makes
-abbrev tested : List (Actor × ℕ) → List OpId → Element → Bool
+abbrev tested : List (Actor × ℕ) → List OpId → Seen → Bool
 tested K T x = has_op K x.id && not (x.deleted && is_one_of T x.id)
 
 -- what one of the kept deletes names, one of all names
@@ -24,7 +23,7 @@ removed_before K (r ∷ R) x h =
       either true b c f h = refl
       either false b c f h = f h
 
-test_is : (K : List (Actor × ℕ)) (R : List (OpId × OpId)) (T : List OpId) (e : Insert) → AreTargets T K R → tested K T (element_of R e) ≡ is_shown K R e
+test_is : (K : List (Actor × ℕ)) (R : List (OpId × OpId)) (T : List OpId) (e : Insert) → AreTargets T K R → tested K T (seen_of R e) ≡ is_shown K R e
 test_is K R T e targets =
     ap (λ b. has_op K e.id && not b) (both_are (is_removed R e.id) (is_one_of T e.id) (is_removed (deletes_by K R) e.id) (targets e.id) (removed_before K R e.id)) where
       both_are : (a b c : Bool) → b ≡ c → (c ≡ true → a ≡ true) → (a && b) ≡ c
@@ -47,21 +46,7 @@ shown_append K R A B =
     ap (shown (deletes_by K R)) (filter-append (λ (e : Insert). has_op K e.id) A B)
     ∙ filter-append (λ (e : Insert). not (is_removed (deletes_by K R) e.id)) (inserts_by K A) (inserts_by K B)
 
--- what is known of the element at a place
-at_place : (R : List (OpId × OpId)) (L : List Insert) (k : ℕ) (x : Element) → Some x ≡ option_map (element_of R) (slice_get L k) → (e : Insert) × (k < length L) × (get_or L k e ≡ e) × (x ≡ element_of R e)
-at_place R L k x h = elim (slice_get_cases L k).1 [
-  | inl found ↦ let e : Some x ≡ option_map (element_of R) (Some found.0) = h ∙ ap (option_map (element_of R)) found.2 in (found.0, found.1, found.3, cc)
-  | inr past ↦ let e : Some x ≡ option_map (element_of R) None = h ∙ ap (option_map (element_of R)) past.1 in cc
-]
-
--- every place before the end has an element
-pub no_place : (R : List (OpId × OpId)) (L : List Insert) (k : ℕ) → k < length L → None ≡ option_map (element_of R) (slice_get L k) → ⊥
-no_place R L k lt h = elim (slice_get_cases L k).1 [
-  | inl found ↦ let e : None ≡ option_map (element_of R) (Some found.0) = h ∙ ap (option_map (element_of R)) found.2 in cc
-  | inr past ↦ absurd (omega arith)
-]
-
-test_at : (K : List (Actor × ℕ)) (R : List (OpId × OpId)) (T : List OpId) (x : Element) (e : Insert) (b : Bool) → AreTargets T K R → x ≡ element_of R e → tested K T x ≡ b → is_shown K R e ≡ b
+test_at : (K : List (Actor × ℕ)) (R : List (OpId × OpId)) (T : List OpId) (x : Seen) (e : Insert) (b : Bool) → AreTargets T K R → x ≡ seen_of R e → tested K T x ≡ b → is_shown K R e ≡ b
 test_at K R T x e b targets is h = sym (test_is K R T e targets) ∙ ap (tested K T) (sym is) ∙ h
 
 -- ---- the text of a prefix
@@ -76,26 +61,26 @@ shown_more K R L k e lt is =
     ap (shown_by K R) more ∙ shown_append K R (take k L) (e ∷ []) ∙ ap (λ l. shown_by K R (take k L) ++ l) (shown_first K R e [])
 
 -- an element that is shown comes behind those before it, and another adds nothing
-shown_next : (K : List (Actor × ℕ)) (R : List (OpId × OpId)) (T : List OpId) (L : List Insert) (k : ℕ) (x : Element) (b : Bool) → AreTargets T K R → Some x ≡ option_map (element_of R) (slice_get L k)
-    → tested K T x ≡ b → (e : Insert) × (x ≡ element_of R e) × (shown_by K R (take (k + 1) L) ≡ shown_by K R (take k L) ++ cond b (e ∷ []) [])
+shown_next : (K : List (Actor × ℕ)) (R : List (OpId × OpId)) (T : List OpId) (L : List Insert) (k : ℕ) (x : Seen) (b : Bool) → AreTargets T K R → Some x ≡ option_map (seen_of R) (slice_get L k)
+    → tested K T x ≡ b → (e : Insert) × (x ≡ seen_of R e) × (shown_by K R (take (k + 1) L) ≡ shown_by K R (take k L) ++ cond b (e ∷ []) [])
 shown_next K R T L k x b targets h t =
-    let p = at_place R L k x h in
+    let p = seen_at R L k x h in
     (p.0, p.3, shown_more K R L k p.0 p.1 p.2 ∙ ap (λ t. shown_by K R (take k L) ++ cond t (p.0 ∷ []) []) (test_at K R T x p.0 b targets p.3 t))
 
-pub hidden_by : (K : List (Actor × ℕ)) (R : List (OpId × OpId)) (T : List OpId) (L : List Insert) (k : ℕ) (x : Element) → AreTargets T K R → Some x ≡ option_map (element_of R) (slice_get L k)
+pub hidden_by : (K : List (Actor × ℕ)) (R : List (OpId × OpId)) (T : List OpId) (L : List Insert) (k : ℕ) (x : Seen) → AreTargets T K R → Some x ≡ option_map (seen_of R) (slice_get L k)
     → tested K T x ≡ false → shown_by K R (take (k + 1) L) ≡ shown_by K R (take k L)
 hidden_by K R T L k x targets h t = (shown_next K R T L k x false targets h t).2 ∙ append-nil (shown_by K R (take k L))
 
-pub bytes_by-shown : (K : List (Actor × ℕ)) (R : List (OpId × OpId)) (T : List OpId) (L : List Insert) (k : ℕ) (x : Element) → AreTargets T K R → Some x ≡ option_map (element_of R) (slice_get L k)
+pub bytes_by-shown : (K : List (Actor × ℕ)) (R : List (OpId × OpId)) (T : List OpId) (L : List Insert) (k : ℕ) (x : Seen) → AreTargets T K R → Some x ≡ option_map (seen_of R) (slice_get L k)
     → tested K T x ≡ true → bytes_by K R (take (k + 1) L) ≡ bytes_by K R (take k L) ++ encode_utf8 x.ch
 bytes_by-shown K R T L k x targets h t =
     let p = shown_next K R T L k x true targets h t in
     ap (λ l. encode_utf8_all (chars_of l)) p.2
     ∙ ap encode_utf8_all (map-append (λ (y : Insert). y.ch) (shown_by K R (take k L)) (p.0 ∷ []))
     ∙ encodes-append (chars_of (shown_by K R (take k L))) (chars_of (p.0 ∷ []))
-    ∙ ap (λ l. bytes_by K R (take k L) ++ l) (append-nil (encode_utf8 p.0.ch) ∙ ap (λ (y : Element). encode_utf8 y.ch) (sym p.1))
+    ∙ ap (λ l. bytes_by K R (take k L) ++ l) (append-nil (encode_utf8 p.0.ch) ∙ ap (λ (y : Seen). encode_utf8 y.ch) (sym p.1))
 
-pub length_by-shown : (K : List (Actor × ℕ)) (R : List (OpId × OpId)) (T : List OpId) (L : List Insert) (k : ℕ) (x : Element) → AreTargets T K R → Some x ≡ option_map (element_of R) (slice_get L k)
+pub length_by-shown : (K : List (Actor × ℕ)) (R : List (OpId × OpId)) (T : List OpId) (L : List Insert) (k : ℕ) (x : Seen) → AreTargets T K R → Some x ≡ option_map (seen_of R) (slice_get L k)
     → tested K T x ≡ true → length (shown_by K R (take (k + 1) L)) ≡ length (shown_by K R (take k L)) + 1
 length_by-shown K R T L k x targets h t = let p = shown_next K R T L k x true targets h t in ap length p.2 ∙ length-append (shown_by K R (take k L)) (p.0 ∷ [])
 
@@ -148,13 +133,13 @@ left_from L k e lt is =
     drop-cons L k e lt ∙ ap (λ x. x ∷ drop (suc k) L) is ∙ ap (λ n. e ∷ drop n L) next
 
 -- the element itself
-pub before_here : (K : List (Actor × ℕ)) (R : List (OpId × OpId)) (L : List Insert) (k n : ℕ) (x : Element) (id : OpId) → has_op K id ≡ true → Some x ≡ option_map (element_of R) (slice_get L k) → id_eq x.id id ≡ true
+pub before_here : (K : List (Actor × ℕ)) (R : List (OpId × OpId)) (L : List Insert) (k n : ℕ) (x : Seen) (id : OpId) → has_op K id ≡ true → Some x ≡ option_map (seen_of R) (slice_get L k) → id_eq x.id id ≡ true
     → option_map (λ m. n + m) (before_by K R (drop k L) id) ≡ before_by K R L id → Some n ≡ before_by K R L id
 before_here K R L k n x id in_past h same inv =
-    let p = at_place R L k x h in
+    let p = seen_at R L k x h in
     let D = deletes_by K R in
     let M = inserts_by K (drop (k + 1) L) in
-    let is_it : id_eq p.0.id id ≡ true = ap (λ (y : Element). id_eq y.id id) (sym p.3) ∙ same in
+    let is_it : id_eq p.0.id id ≡ true = ap (λ (y : Seen). id_eq y.id id) (sym p.3) ∙ same in
     let kept : has_op K p.0.id ≡ true = ap (has_op K) (id_eq-same p.0.id id is_it) ∙ in_past in
     let first : shown_before D (p.0 ∷ M) id ≡ Some 0 =
     ap (option_map (λ i. length (shown D (take i (p.0 ∷ M))))) (position-cons (λ (w : Insert). id_eq w.id id) p.0 M ∙ ap (λ b. cond b (Some 0) (option_map (λ i. suc i) (position (λ (w : Insert). id_eq w.id id) M))) is_it) in
@@ -162,11 +147,11 @@ before_here K R L k n x id in_past h same inv =
     ap (λ l. before_by K R l id) (left_from L k p.0 p.1 p.2) ∙ ap (λ b. shown_before D (cond b (p.0 ∷ M) M) id) kept ∙ first in
     ap Some (omega arith) ∙ sym (ap (option_map (λ m. n + m)) here) ∙ inv
 
-before_step : (K : List (Actor × ℕ)) (R : List (OpId × OpId)) (T : List OpId) (L : List Insert) (k : ℕ) (x : Element) (id : OpId) (b : Bool) → AreTargets T K R → Some x ≡ option_map (element_of R) (slice_get L k)
+before_step : (K : List (Actor × ℕ)) (R : List (OpId × OpId)) (T : List OpId) (L : List Insert) (k : ℕ) (x : Seen) (id : OpId) (b : Bool) → AreTargets T K R → Some x ≡ option_map (seen_of R) (slice_get L k)
     → id_eq x.id id ≡ false → tested K T x ≡ b → before_by K R (drop k L) id ≡ option_map (λ n. cond b 1 0 + n) (before_by K R (drop (k + 1) L) id)
 before_step K R T L k x id b targets h apart t =
-    let p = at_place R L k x h in
-    let other : id_eq p.0.id id ≡ false = ap (λ (y : Element). id_eq y.id id) (sym p.3) ∙ apart in
+    let p = seen_at R L k x h in
+    let other : id_eq p.0.id id ≡ false = ap (λ (y : Seen). id_eq y.id id) (sym p.3) ∙ apart in
     ap (λ l. before_by K R l id) (left_from L k p.0 p.1 p.2)
     ∙ before_next K R p.0 (drop (k + 1) L) id other
     ∙ ap (λ v. option_map (λ n. length (cond v (p.0 ∷ []) []) + n) (before_by K R (drop (k + 1) L) id)) (test_at K R T x p.0 b targets p.3 t)
@@ -176,7 +161,7 @@ before_step K R T L k x id b targets h apart t =
       size e false = refl
 
 -- one that is shown before it
-pub before_shown : (K : List (Actor × ℕ)) (R : List (OpId × OpId)) (T : List OpId) (L : List Insert) (k n : ℕ) (x : Element) (id : OpId) → AreTargets T K R → Some x ≡ option_map (element_of R) (slice_get L k)
+pub before_shown : (K : List (Actor × ℕ)) (R : List (OpId × OpId)) (T : List OpId) (L : List Insert) (k n : ℕ) (x : Seen) (id : OpId) → AreTargets T K R → Some x ≡ option_map (seen_of R) (slice_get L k)
     → id_eq x.id id ≡ false → tested K T x ≡ true → option_map (λ m. n + m) (before_by K R (drop k L) id) ≡ before_by K R L id
     → option_map (λ m. n + 1 + m) (before_by K R (drop (k + 1) L) id) ≡ before_by K R L id
 before_shown K R T L k n x id targets h apart t inv =
@@ -186,7 +171,7 @@ before_shown K R T L k n x id targets h apart t inv =
       both (Some i) = ap Some (omega arith)
 
 -- one that is hidden
-pub before_hidden : (K : List (Actor × ℕ)) (R : List (OpId × OpId)) (T : List OpId) (L : List Insert) (k n : ℕ) (x : Element) (id : OpId) → AreTargets T K R → Some x ≡ option_map (element_of R) (slice_get L k)
+pub before_hidden : (K : List (Actor × ℕ)) (R : List (OpId × OpId)) (T : List OpId) (L : List Insert) (k n : ℕ) (x : Seen) (id : OpId) → AreTargets T K R → Some x ≡ option_map (seen_of R) (slice_get L k)
     → id_eq x.id id ≡ false → tested K T x ≡ false → option_map (λ m. n + m) (before_by K R (drop k L) id) ≡ before_by K R L id
     → option_map (λ m. n + m) (before_by K R (drop (k + 1) L) id) ≡ before_by K R L id
 before_hidden K R T L k n x id targets h apart t inv =
@@ -200,20 +185,20 @@ left_shown K R L k e lt is =
     ∙ shown_first K R e (drop (k + 1) L)
 
 -- the element that is asked for
-pub found_here : (K : List (Actor × ℕ)) (R : List (OpId × OpId)) (T : List OpId) (L : List Insert) (k left at : ℕ) (x : Element) → AreTargets T K R → Some x ≡ option_map (element_of R) (slice_get L k)
+pub found_here : (K : List (Actor × ℕ)) (R : List (OpId × OpId)) (T : List OpId) (L : List Insert) (k left at : ℕ) (x : Seen) → AreTargets T K R → Some x ≡ option_map (seen_of R) (slice_get L k)
     → tested K T x ≡ true → left ≡ 0 → slice_get (shown_by K R (drop k L)) left ≡ slice_get (shown_by K R L) at → Some x.id ≡ option_map (λ (e : Insert). e.id) (slice_get (shown_by K R L) at)
 found_here K R T L k left at x targets h t none inv =
-    let p = at_place R L k x h in
-    ap (λ (y : Element). Some y.id) p.3
+    let p = seen_at R L k x h in
+    ap (λ (y : Seen). Some y.id) p.3
     ∙ ap (λ l. option_map (λ (e : Insert). e.id) (slice_get l 0)) (sym (left_shown K R L k p.0 p.1 p.2 ∙ ap (λ b. cond b (p.0 ∷ shown_by K R (drop (k + 1) L)) (shown_by K R (drop (k + 1) L))) (test_at K R T x p.0 true targets p.3 t)))
     ∙ ap (λ n. option_map (λ (e : Insert). e.id) (slice_get (shown_by K R (drop k L)) n)) (sym none)
     ∙ ap (option_map (λ (e : Insert). e.id)) inv
 
 -- an element that is shown before it
-pub found_later : (K : List (Actor × ℕ)) (R : List (OpId × OpId)) (T : List OpId) (L : List Insert) (k left : ℕ) (x : Element) → AreTargets T K R → Some x ≡ option_map (element_of R) (slice_get L k)
+pub found_later : (K : List (Actor × ℕ)) (R : List (OpId × OpId)) (T : List OpId) (L : List Insert) (k left : ℕ) (x : Seen) → AreTargets T K R → Some x ≡ option_map (seen_of R) (slice_get L k)
     → tested K T x ≡ true → (left ≡ 0 → ⊥) → slice_get (shown_by K R (drop (k + 1) L)) (left - 1) ≡ slice_get (shown_by K R (drop k L)) left
 found_later K R T L k left x targets h t some =
-    let p = at_place R L k x h in
+    let p = seen_at R L k x h in
     next p.0 (shown_by K R (drop (k + 1) L)) left some
     ∙ ap (λ l. slice_get l left) (sym (left_shown K R L k p.0 p.1 p.2 ∙ ap (λ b. cond b (p.0 ∷ shown_by K R (drop (k + 1) L)) (shown_by K R (drop (k + 1) L))) (test_at K R T x p.0 true targets p.3 t))) where
       next : (e : Insert) (M : List Insert) (n : ℕ) → (n ≡ 0 → ⊥) → slice_get M (n - 1) ≡ slice_get (e ∷ M) n
@@ -221,8 +206,29 @@ found_later K R T L k left x targets h t some =
       next e M (suc n) some = let s : suc n - 1 ≡ n = omega arith in ap (slice_get M) s
 
 -- an element that is hidden
-pub found_after : (K : List (Actor × ℕ)) (R : List (OpId × OpId)) (T : List OpId) (L : List Insert) (k left : ℕ) (x : Element) → AreTargets T K R → Some x ≡ option_map (element_of R) (slice_get L k)
+pub found_after : (K : List (Actor × ℕ)) (R : List (OpId × OpId)) (T : List OpId) (L : List Insert) (k left : ℕ) (x : Seen) → AreTargets T K R → Some x ≡ option_map (seen_of R) (slice_get L k)
     → tested K T x ≡ false → slice_get (shown_by K R (drop (k + 1) L)) left ≡ slice_get (shown_by K R (drop k L)) left
 found_after K R T L k left x targets h t =
-    let p = at_place R L k x h in
+    let p = seen_at R L k x h in
     ap (λ l. slice_get l left) (sym (left_shown K R L k p.0 p.1 p.2 ∙ ap (λ b. cond b (p.0 ∷ shown_by K R (drop (k + 1) L)) (shown_by K R (drop (k + 1) L))) (test_at K R T x p.0 false targets p.3 t)))
+
+-- ---- the end of a walk
+
+-- all are passed
+pub shown_all : (K : List (Actor × ℕ)) (R : List (OpId × OpId)) (L : List Insert) (k : ℕ) → None ≡ option_map (seen_of R) (slice_get L k) → shown_by K R (take k L) ≡ shown_by K R L
+shown_all K R L k end = ap (shown_by K R) (take_all k L (seen_end R L k end))
+
+-- none is left
+none_left : (R : List (OpId × OpId)) (L : List Insert) (k : ℕ) → None ≡ option_map (seen_of R) (slice_get L k) → drop k L ≡ []
+none_left R L k end = drop_all k L (seen_end R L k end)
+
+-- so the element that is asked for isn't there
+pub found_none : (K : List (Actor × ℕ)) (R : List (OpId × OpId)) (L : List Insert) (k left at : ℕ) → None ≡ option_map (seen_of R) (slice_get L k)
+    → slice_get (shown_by K R (drop k L)) left ≡ slice_get (shown_by K R L) at → None ≡ option_map (λ (e : Insert). e.id) (slice_get (shown_by K R L) at)
+found_none K R L k left at end inv =
+    ap (option_map (λ (e : Insert). e.id)) (sym (ap (λ l. slice_get (shown_by K R l) left) (none_left R L k end)) ∙ inv)
+
+-- and nor is the element whose position is asked for
+pub before_end : (K : List (Actor × ℕ)) (R : List (OpId × OpId)) (L : List Insert) (k n : ℕ) (id : OpId) → None ≡ option_map (seen_of R) (slice_get L k)
+    → option_map (λ m. n + m) (before_by K R (drop k L) id) ≡ before_by K R L id → None ≡ before_by K R L id
+before_end K R L k n id end inv = sym (ap (λ l. option_map (λ m. n + m) (before_by K R l id)) (none_left R L k end)) ∙ inv

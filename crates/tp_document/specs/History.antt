@@ -1,8 +1,9 @@
 -- The operations of a part of the changes, given by counters: of each actor the part has those below one number.
-use Rattle.std.specs.Prelude.{◌≡◌, ℕ, ◌+◌, List, [], ◌∷◌, Bool, filter, Option, Some, None}
+use Rattle.std.specs.Prelude.{◌≡◌, ℕ, List, [], ◌∷◌, Bool, filter, Option, Some, None}
 use Rattle.tp_document.specs.Common.{slice_get, Actor, OpId, Insert, ChangeParts, shown, list_any, is_removed}
 use Rattle.tp_opid.specs.Same.{id_eq}
-use Rattle.tp_graph.specs.Clocks.{has_op}
+use Rattle.tp_graph.specs.Clocks.{end_at, has_op}
+use Rattle.tp_document.specs.declared.author.Author.{Author}
 
 -- the change before the others, where there is one
 abbrev pub with_change : Option ChangeParts → List ChangeParts → List ChangeParts
@@ -33,3 +34,7 @@ is_one_of ids x = list_any (id_eq x) ids
 -- The identifiers are the targets of the deletes that are among the operations.
 abbrev pub AreTargets : List OpId → List (Actor × ℕ) → List (OpId × OpId) → Type 0
 AreTargets ids entries R = (x : OpId) → is_one_of ids x ≡ is_removed (deletes_by entries R) x
+
+-- The actor's operations end there.
+abbrev pub IsAuthorOf : List (Actor × ℕ) → Author → Type 0
+IsAuthorOf entries author = author.end ≡ end_at entries author.actor

@@ -4,9 +4,10 @@ ghost use Rattle.std.specs.Prelude.{◌≡◌, ◌↔◌, ◌⊎◌, ◌&&◌, �
 ghost use Rattle.tp_document.specs.Common.{slice_get, chars, IsTextOf, option_map, string_bytes, past, shown_before, chars_of};
 ghost use Rattle.tp_graph.specs.Named as named;
 ghost use Rattle.tp_graph.specs.Clocks.{has_op, IsClockOf};
-ghost use Rattle.tp_document.specs.History.{is_one_of, shown_by, deletes_by, inserts_by, AreTargets};
+ghost use Rattle.tp_document.specs.History.{is_one_of, shown_by, deletes_by, inserts_by, AreTargets, IsAuthorOf};
 ghost use Rattle.tp_document.specs.Showing.{HasElementAt, HasLength, HasPosition};
 
+use crate::author::Author;
 use crate::cursor::Cursor;
 use crate::document::Document;
 use crate::error::DocError;
@@ -14,7 +15,7 @@ use crate::targets::{Targets, targets_of};
 use std::alloc::{AllocError, Global};
 use tp_graph::{Clock, Graph, GraphError};
 use tp_opid::{Hash, OpId};
-use tp_rga::{Element, Sequence};
+use tp_rga::{Seen, Sequence, Walk};
 
 // What a past shows of the elements: those that it inserts and doesn't delete.
 #[derive(Drop)]
@@ -23,13 +24,34 @@ struct Snapshot {
     targets: Targets,
 }
 
+// What is kept from one element of a walk to the next, so that most take no look-up: who inserted it, and the place
+// behind it among the targets, where it is one.
+#[derive(Clone, Copy)]
+struct Trail {
+    author: Author,
+    place: usize,
+}
+
 impl Snapshot {
+    // Where no element was asked for.
+    fn trail(&self) -> Trail
+        ensures { IsAuthorOf self.now.clock result.author }
+    {
+        Trail {
+            author: Author::of(&self.clock),
+            place: 0,
+        }
+    }
+
     // Whether the past shows an element. One that isn't deleted now wasn't in any past: only others are looked up.
-    fn shows(&self, element: &Element) -> bool
-        ensures { result ≡ (has_op self.now.clock element.now.id
+    fn shows(&self, element: &Seen, trail: &mut Trail) -> bool
+        requires { IsAuthorOf self.now.clock trail.old.author }
+        ensures trail { IsAuthorOf self.now.clock trail.new.author }
+        ensures shown { result ≡ (has_op self.now.clock element.now.id
             && not (element.now.deleted && is_one_of self.now.targets element.now.id)) }
     {
-        self.clock.has(&element.id) && !(element.deleted && self.targets.contains(&element.id))
+        trail.author.has(&self.clock, &element.id)
+            && !(element.deleted && self.targets.contains(&element.id, &mut trail.place))
     }
 }
 
@@ -79,11 +101,11 @@ fn text_of<S: Sequence>(
         (shown_by snapshot.now.clock (S.removals sequence.now) (S.placed sequence.now)))) }
 {
     let mut text = String::new(alloc);
-    for index in 0..sequence.all() {
-        if let Some(element) = sequence.element(index) {
-            if snapshot.shows(&element) {
-                text.push(element.ch)?;
-            }
+    let mut walk = Walk::start();
+    let mut trail = snapshot.trail();
+    while let Some(element) = sequence.next_element(&mut walk) {
+        if snapshot.shows(&element, &mut trail) {
+            text.push(element.ch)?;
         }
     }
     Ok(text)
@@ -96,14 +118,14 @@ fn element_at<S: Sequence>(sequence: &S, snapshot: &Snapshot, at: usize) -> Opti
         (slice_get (shown_by snapshot.now.clock (S.removals sequence.now) (S.placed sequence.now)) at) }
 {
     let mut left = at;
-    for index in 0..sequence.all() {
-        if let Some(element) = sequence.element(index) {
-            if snapshot.shows(&element) {
-                if left == 0 {
-                    return Some(element.id);
-                }
-                left -= 1;
+    let mut walk = Walk::start();
+    let mut trail = snapshot.trail();
+    while let Some(element) = sequence.next_element(&mut walk) {
+        if snapshot.shows(&element, &mut trail) {
+            if left == 0 {
+                return Some(element.id);
             }
+            left -= 1;
         }
     }
     None
@@ -115,12 +137,14 @@ fn length_of<S: Sequence>(sequence: &S, snapshot: &Snapshot) -> usize
     ensures { result ≡ length
         (shown_by snapshot.now.clock (S.removals sequence.now) (S.placed sequence.now)) }
 {
+    let all = sequence.all();
     let mut count = 0usize;
-    for index in 0..sequence.all() {
-        if let Some(element) = sequence.element(index) {
-            if snapshot.shows(&element) {
-                count += 1;
-            }
+    let mut walk = Walk::start();
+    let mut trail = snapshot.trail();
+    while let Some(element) = sequence.next_element(&mut walk) {
+        if snapshot.shows(&element, &mut trail) {
+            prove!(count < all);
+            count += 1;
         }
     }
     count
@@ -135,15 +159,17 @@ fn position_of<S: Sequence>(sequence: &S, snapshot: &Snapshot, id: &OpId) -> Opt
     if !snapshot.clock.has(id) {
         return None;
     }
+    let all = sequence.all();
     let mut before = 0usize;
-    for index in 0..sequence.all() {
-        if let Some(element) = sequence.element(index) {
-            if element.id.is(id) {
-                return Some(before);
-            }
-            if snapshot.shows(&element) {
-                before += 1;
-            }
+    let mut walk = Walk::start();
+    let mut trail = snapshot.trail();
+    while let Some(element) = sequence.next_element(&mut walk) {
+        if element.id.is(id) {
+            return Some(before);
+        }
+        if snapshot.shows(&element, &mut trail) {
+            prove!(before < all);
+            before += 1;
         }
     }
     None

@@ -6,6 +6,7 @@
 #![tactic(auto)]
 
 mod applying;
+mod author;
 mod cursor;
 mod document;
 mod editing;

@@ -1,33 +1,66 @@
-use Rattle.tp_document.proofs.Common.{◌+◌, ◌∙◌, sym, ap, drop, length, ◌<◌, arith, slice_get, shown_by}
-use Rattle.tp_document.proofs.SnapshotLaws.{found_here, found_later, found_after, no_place}
+use Rattle.tp_document.proofs.Common.{◌-◌, ◌∙◌, sym, ap, drop, arith, slice_get, shown_by, seen_within}
+use Rattle.tp_document.proofs.SnapshotLaws.{found_here, found_later, found_after, found_none}
 use Rattle.tp_document.proofs.history.element_at.Goals as goal
-use Rattle.tp_document.proofs.history.element_at.Goals.{in-Some+then-shows+else-left-eq0, in-Some+else-shows, in_default}
 
 pub returns-then-left-eq0 : goal.returns-then-left-eq0
 returns-then-left-eq0 g c =
-    let R = g.S.Sequence.removals c.args.sequence.now in
-    let L = g.S.Sequence.placed c.args.sequence.now in
-    found_here c.args.snapshot.now.clock R c.args.snapshot.now.targets L c.loop-index.index c.loop-index.left c.args.at c.in-Some.element c.requires c.in-Some.ensures
-    (sym c.shows.ensures ∙ c.if-shows.true) c.if-left-eq0.true c.loop-index.invariant
-
-pub loop-index-preserved : goal.loop-index-preserved
-loop-index-preserved g c =
-    let R = g.S.Sequence.removals c.args.sequence.now in
-    let L = g.S.Sequence.placed c.args.sequence.now in
+    let s = g.S.Sequence in
+    let R = s.removals c.args.sequence.now in
+    let L = s.placed c.args.sequence.now in
     let K = c.args.snapshot.now.clock in
     let T = c.args.snapshot.now.targets in
-    let k = c.loop-index.index in
-    let left = c.loop-index.left in
-    elim c.match-element.branch [
-      | in-Some+then-shows+else-left-eq0 w ↦
-          ap (slice_get (shown_by K R (drop (k + 1) L))) w.left-is
-          ∙ found_later K R T L k left w.in-Some.element c.requires w.in-Some.ensures (sym w.shows.ensures ∙ w.if-shows.true) w.if-left-eq0.false
-          ∙ c.loop-index.invariant
-      | in-Some+else-shows w ↦
-          ap (slice_get (shown_by K R (drop (k + 1) L))) w.left-is
-          ∙ found_after K R T L k left w.in-Some.element c.requires w.in-Some.ensures (sym w.shows.ensures ∙ w.if-shows.false)
-          ∙ c.loop-index.invariant
-      | in_default w ↦
-          let within : k < length L = omega arith in
-          absurd (no_place R L k within (sym w.in_default.is ∙ c.element.ensures))
-    ]
+    let k = c.loop-element.walk.index in
+    found_here K R T L k c.loop-element.left c.args.at c.in-Some.element c.requires c.in-Some.ensures.seen
+    (sym c.shows.ensures.shown ∙ c.if-shows.true) c.if-left-eq0.true c.loop-element.invariant.left
+
+pub loop-element-smaller-then-shows : goal.loop-element-smaller-then-shows
+loop-element-smaller-then-shows g c =
+    let s = g.S.Sequence in
+    let lt = seen_within (s.removals c.args.sequence.now) (s.placed c.args.sequence.now) c.loop-element.walk.index c.in-Some.element c.in-Some.ensures.seen in
+    omega (arith, c.in-Some.ensures.next)
+
+pub loop-element-preserved-then-shows : goal.loop-element-preserved-then-shows
+loop-element-preserved-then-shows g c =
+    let s = g.S.Sequence in
+    let R = s.removals c.args.sequence.now in
+    let L = s.placed c.args.sequence.now in
+    let K = c.args.snapshot.now.clock in
+    let T = c.args.snapshot.now.targets in
+    let k = c.loop-element.walk.index in
+    let left = c.loop-element.left in
+    record {
+      noted = c.in-Some.ensures.spot;
+      author = c.shows.ensures.trail;
+      left = ap (λ n. slice_get (shown_by K R (drop n L)) (left - 1)) c.in-Some.ensures.next
+          ∙ found_later K R T L k left c.in-Some.element c.requires c.in-Some.ensures.seen (sym c.shows.ensures.shown ∙ c.if-shows.true) c.if-left-eq0.false
+          ∙ c.loop-element.invariant.left;
+    }
+
+pub loop-element-smaller : goal.loop-element-smaller
+loop-element-smaller g c =
+    let s = g.S.Sequence in
+    let lt = seen_within (s.removals c.args.sequence.now) (s.placed c.args.sequence.now) c.loop-element.walk.index c.in-Some.element c.in-Some.ensures.seen in
+    omega (arith, c.in-Some.ensures.next)
+
+pub loop-element-preserved : goal.loop-element-preserved
+loop-element-preserved g c =
+    let s = g.S.Sequence in
+    let R = s.removals c.args.sequence.now in
+    let L = s.placed c.args.sequence.now in
+    let K = c.args.snapshot.now.clock in
+    let T = c.args.snapshot.now.targets in
+    let k = c.loop-element.walk.index in
+    let left = c.loop-element.left in
+    record {
+      noted = c.in-Some.ensures.spot;
+      author = c.shows.ensures.trail;
+      left = ap (λ n. slice_get (shown_by K R (drop n L)) left) c.in-Some.ensures.next
+          ∙ found_after K R T L k left c.in-Some.element c.requires c.in-Some.ensures.seen (sym c.shows.ensures.shown ∙ c.if-shows.false)
+          ∙ c.loop-element.invariant.left;
+    }
+
+pub returns : goal.returns
+returns g c =
+    let s = g.S.Sequence in
+    found_none c.args.snapshot.now.clock (s.removals c.args.sequence.now) (s.placed c.args.sequence.now) c.loop-element.walk.index c.loop-element.left c.args.at
+    (sym c.in_default.is ∙ c.next_element.ensures.seen) c.loop-element.invariant.left

@@ -1,9 +1,18 @@
-use Rattle.tp_document.proofs.Common.{◌≡◌, drop, slice_get, shown_by}
+use Rattle.tp_document.proofs.Common.{IfSome, ◌≡◌, ◌-◌, length, drop, slice_get, shown_by, IsAuthorOf}
 use Rattle.tp_document.proofs.history.element_at.Given as goal
 
 -- the element is that at the index that is left among the elements that are left
-abbrev pub invariant-loop-index : goal.invariant-loop-index
-invariant-loop-index g l =
-    let placed = g.S.Sequence.placed l.sequence in
-    let removals = g.S.Sequence.removals l.sequence in
-    slice_get (shown_by l.snapshot.clock removals (drop l.index placed)) l.left ≡ slice_get (shown_by l.snapshot.clock removals placed) l.at
+abbrev pub invariant-loop-element : goal.invariant-loop-element
+invariant-loop-element g l =
+    let s = g.S.Sequence in
+    let K = l.snapshot.clock in
+    let R = s.removals l.sequence in
+    let L = s.placed l.sequence in
+    record {
+      noted : IfSome l.walk.spot (λ spot. s.stands_at l.sequence spot l.walk.index);
+      author : IsAuthorOf K l.trail.author;
+      left : slice_get (shown_by K R (drop l.walk.index L)) l.left ≡ slice_get (shown_by K R L) l.at;
+    }
+
+abbrev pub decreases-loop-element : goal.decreases-loop-element
+decreases-loop-element g l = length (g.S.Sequence.placed l.sequence) - l.walk.index
