@@ -1,9 +1,25 @@
 -- The loop that reserves slots.
-use Rattle.tp_receive.proofs.Common.{◌≡◌, ℕ, ◌+◌, ◌-◌, ◌⊎◌, inl, inr, List, [], ◌∷◌, ◌++◌, Bool, true, false, not, ◌||◌, cond, refl, sym, ap, ◌∙◌, arith, subst, get_or, take, length, ◌<◌, append_assoc, append-nil, take_more, Hash, ChangeParts, hash_of, same_hash, has, has_all, has-append, delivery, with_slots, slots, takes_slot, hashes, has_hash, IsHashSetOf, among, held_of, IsNoted}
+use Rattle.std.proofs.lemmas.List.{length-take-le}
+use Rattle.tp_receive.proofs.Common.{◌≡◌, ℕ, ◌+◌, ◌-◌, ◌⊎◌, inl, inr, List, [], ◌∷◌, ◌++◌, Bool, true, false, not, ◌||◌, cond, refl, sym, ap, ◌∙◌, arith, subst, get_or, take, length, ◌<◌, ◌≤◌, append_assoc, append-nil, take_more, drop, drop_more, Hash, ChangeParts, hash_of, same_hash, has, has_all, has-append, delivery, with_slots, slots, takes_slot, hashes, has_hash, IsHashSetOf, among, held_of, IsNoted, zip}
 use Rattle.tp_receive.proofs.HashLaws.{among-hashes}
 
 pub has-both : (C D : List ChangeParts) (H : List Hash) (h : Hash) → IsHashSetOf H D → has (C ++ D) h ≡ (has C h || has_hash H h)
 has-both C D H h e = has-append C D h ∙ ap (λ b. has C h || b) (sym (e h))
+
+-- a change and its mark behind those that are marked
+pub zip_pushed : (K : List ChangeParts) (i : ℕ) (d : ChangeParts) (B : List Bool) (b : Bool) → i < length K → length B ≡ i → zip (take (i + 1) K) (B ++ b ∷ []) ≡ zip (take i K) B ++ (get_or K i d, b) ∷ []
+zip_pushed K i d B b small long =
+    ap (λ (l : List ChangeParts). zip l (B ++ b ∷ [])) (take_more K i d small) ∙ pushed (take i K) B (length-take-le i K (omega arith) ∙ sym long) where
+      pushed : (C : List ChangeParts) (M : List Bool) → length C ≡ length M → zip (C ++ get_or K i d ∷ []) (M ++ b ∷ []) ≡ zip C M ++ (get_or K i d, b) ∷ []
+      pushed [] [] e = refl
+      pushed [] (m ∷ M) e = absurd (omega arith)
+      pushed (c ∷ C) [] e = absurd (omega arith)
+      pushed (c ∷ C) (m ∷ M) e = ap (λ (l : List (ChangeParts × Bool)). (c, m) ∷ l) (pushed C M (omega arith))
+
+-- the next change with its mark, before those behind it
+pub zip_next : (K Q : List ChangeParts) (M : List Bool) (i : ℕ) (c : ChangeParts) (b : Bool) → K ≡ c ∷ Q → i < length M → b ≡ get_or M i b → zip K (drop i M) ≡ (c, b) ∷ zip Q (drop (i + 1) M)
+zip_next K Q M i c b is small marked =
+    ap (λ (l : List ChangeParts). zip l (drop i M)) is ∙ ap (zip (c ∷ Q)) (drop_more M i b small ∙ ap (λ (m : Bool). m ∷ drop (i + 1) M) (sym marked))
 
 pub slots-append : (P Q : List (ChangeParts × Bool)) → slots (P ++ Q) ≡ slots P + slots Q
 slots-append [] Q = omega arith
@@ -17,6 +33,12 @@ slots_pushed P Q c slot n m count pushed (inl h) = h.1 ∙ ap (λ (x : ℕ). x +
 slots_pushed P Q c slot n m count pushed (inr h) = h.1 ∙ count ∙ sym (ap slots pushed ∙ slots-append P ((c, slot) ∷ []) ∙ ap (λ (b : Bool). slots P + cond b 1 0) h.0 ∙ add_none (slots P)) where
   add_none : (x : ℕ) → x + 0 ≡ x
   add_none x = omega arith
+
+-- one that has a slot is one of those that have one
+pub slots_there : (P Q : List (ChangeParts × Bool)) (c : ChangeParts) (slot : Bool) (n : ℕ) → n ≡ slots P → P ≡ (c, slot) ∷ Q → slot ≡ true → 1 ≤ n
+slots_there P Q c slot n count is there =
+    let all : slots P ≡ slots Q + 1 = ap slots is ∙ ap (λ (b : Bool). cond b (slots Q + 1) (slots Q)) there in
+    omega arith
 
 -- the slots behind the next that comes
 pub slots_behind : (P Q : List (ChangeParts × Bool)) (c : ChangeParts) (slot : Bool) (n m : ℕ) → n ≡ slots P → P ≡ (c, slot) ∷ Q → ((slot ≡ true) × (m ≡ n - 1)) ⊎ ((slot ≡ false) × (m ≡ n)) → m ≡ slots Q
@@ -62,6 +84,10 @@ AreNoted-next C W K xs zs c H G H' G' P Q slot n is noted pushed =
           ∙ ap (λ (l : List ChangeParts). P ++ (c, takes_slot n.V (c, has_all (C ++ n.D) c.deps)) ∷ with_slots slotted_now (delivery l zs)) (with_one C n.D c (has_all (C ++ n.D) c.deps))
           ∙ sym (ap (λ (l : List ChangeParts). P ++ with_slots n.V (delivery (C ++ n.D) l)) is) ∙ n.whole;
     }
+
+pub AreNoted-last : (C W K zs : List ChangeParts) (H G : List Hash) (P : List (ChangeParts × Bool)) → AreNoted C W K zs H G P → zs ≡ [] → P ≡ with_slots W (delivery C K)
+AreNoted-last C W K zs H G P n none =
+    sym (append-nil P) ∙ sym (ap (λ (l : List ChangeParts). P ++ with_slots n.V (delivery (C ++ n.D) l)) none) ∙ n.whole
 
 -- ---- what is noted of one change
 

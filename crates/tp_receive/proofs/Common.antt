@@ -4,7 +4,7 @@ pub use Rattle.std.proofs.lemmas.Bool.Decides.{nat_tests}
 pub use Rattle.std.proofs.lemmas.List.{drop-set-lt, drop_more, get_or-set_other, length-set, set-get_or, take_all, take_more, take_more_set}
 pub use Rattle.std.proofs.lemmas.Option.{get_or_from_slice_get, slice_get-get_or, slice_get_within}
 pub use Rattle.std.proofs.lemmas.Slice.Zip.{AllZip-long, all_zipped_more}
-pub use Rattle.std.specs.List.{AllZip, remove, slice_get}
+pub use Rattle.std.specs.List.{AllZip, remove, slice_get, zip}
 pub use Rattle.tp_change.specs.ChangeHash.{hash_of}
 pub use Rattle.tp_change.specs.declared.parts.ChangeParts.{ChangeParts}
 pub use Rattle.tp_graph.proofs.KeptLaws.{Fits-from_cause, cause-from_Fits, enters}

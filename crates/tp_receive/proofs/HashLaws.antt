@@ -1,5 +1,41 @@
 -- Lists of hashes: those of changes, and those that are held.
-use Rattle.tp_receive.proofs.Common.{◌≡◌, ℕ, ◌+◌, ◌<◌, List, [], ◌∷◌, ◌++◌, length, ◌||◌, take, get_or, true, false, cond, inl, inr, refl, sym, ap, ◌∙◌, subst, truth, never, not_true, take_more, same_hash, Hash, ChangeParts, hash_of, has, hashes, or_cases, among, HashesOnce, held_of, or_left, or_right, EachOnce}
+use Rattle.std.proofs.lemmas.List.Folds.{list_any-append, list_any_more}
+use Rattle.tp_list.proofs.Tests.{same_test}
+use Rattle.tp_receive.proofs.Common.{◌≡◌, ℕ, ◌+◌, ◌<◌, List, [], ◌∷◌, ◌++◌, length, Bool, ◌||◌, take, get_or, true, false, cond, inl, inr, refl, sym, ap, ◌∙◌, subst, truth, never, not_true, take_more, same_hash, Hash, ChangeParts, hash_of, has, hashes, or_cases, among, HashesOnce, held_of, or_left, or_right, EachOnce, has_hash, same_hash-itself, same_hash-same}
+
+-- ---- a hash more
+
+same_hash-turned : (a b : Hash) → same_hash a b ≡ same_hash b a
+same_hash-turned a b = same_test (same_hash a b) (same_hash b a) (turned a b) (turned b a) where
+  turned : (x y : Hash) → same_hash x y ≡ true → same_hash y x ≡ true
+  turned x y e = subst (λ (z : Hash). same_hash z x ≡ true) (same_hash-same x y e) (same_hash-itself x)
+
+pub has_hash-append : (H G : List Hash) (x : Hash) → has_hash (H ++ G) x ≡ (has_hash H x || has_hash G x)
+has_hash-append H G x = list_any-append (same_hash x) H G
+
+pub has_hash-push : (H : List Hash) (h x : Hash) → has_hash (H ++ h ∷ []) x ≡ (same_hash h x || has_hash H x)
+has_hash-push H h x = has_hash-append H (h ∷ []) x ∙ ap (λ b. has_hash H x || (b || false)) (same_hash-turned x h) ∙ turned (has_hash H x) (same_hash h x) where
+  turned : (a b : Bool) → (a || (b || false)) ≡ (b || a)
+  turned true true = refl
+  turned true false = refl
+  turned false true = refl
+  turned false false = refl
+
+-- Of two lists the second is put into a set one after another.
+pub has_hash-more : (S T U G : List Hash) (i : ℕ) (d x : Hash) → i < length G → has_hash S x ≡ (has_hash T x || has_hash (take i G) x)
+    → has_hash U x ≡ (same_hash (get_or G i d) x || has_hash S x) → has_hash U x ≡ (has_hash T x || has_hash (take (i + 1) G) x)
+has_hash-more S T U G i d x small so_far added =
+    let h = get_or G i d in
+    added ∙ ap (λ b. same_hash h x || b) so_far ∙ turned (same_hash h x) (has_hash T x) (has_hash (take i G) x)
+    ∙ ap (λ b. has_hash T x || (has_hash (take i G) x || b)) (same_hash-turned h x)
+    ∙ sym (ap (λ b. has_hash T x || b) (list_any_more (same_hash x) G i d small)) where
+      turned : (a b c : Bool) → (a || (b || c)) ≡ (b || (c || a))
+      turned true true c = refl
+      turned true false true = refl
+      turned true false false = refl
+      turned false true c = refl
+      turned false false true = refl
+      turned false false false = refl
 
 pub hashes-append : (C D : List ChangeParts) → hashes (C ++ D) ≡ hashes C ++ hashes D
 hashes-append [] D = refl

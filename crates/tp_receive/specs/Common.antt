@@ -1,5 +1,5 @@
 -- Words of the crates below that contracts cite, passed on from one place. Declares nothing.
-pub use Rattle.std.specs.List.{AllZip, list_any, remove, slice_get}
+pub use Rattle.std.specs.List.{AllZip, list_any, remove, slice_get, zip}
 pub use Rattle.tp_change.specs.ChangeHash.{hash_of}
 pub use Rattle.tp_change.specs.declared.parts.ChangeParts.{ChangeParts}
 pub use Rattle.tp_graph.specs.Answers.{Answers}

@@ -1,9 +1,10 @@
-//! The changes of a list that are still to come, and the slots that are reserved for them.
+//! The slots that are reserved for the changes of a list that are still to come.
 
-ghost use Rattle.std.specs.Prelude.{◌≡◌, ◌++◌, List, IfOk};
+ghost use Rattle.std.specs.Prelude.{◌≡◌, ◌++◌, List, length, IfOk, OnOk};
 ghost use Rattle.tp_change.specs.declared.parts.ChangeParts.{ChangeParts};
+ghost use Rattle.tp_receive.specs.Common.{Hash as HashOf, zip};
 ghost use Rattle.tp_graph.specs.Named as named;
-ghost use Rattle.tp_receive.specs.HashSets.{IsHashSetOf};
+ghost use Rattle.tp_receive.specs.HashSets.{has_hash, IsHashSetOf};
 ghost use Rattle.tp_receive.specs.Delivery.{delivery, with_slots};
 ghost use Rattle.tp_receive.specs.Trying.{IsNoted};
 ghost use Rattle.tp_receive.specs.Delivery as delivery_of;
@@ -14,28 +15,44 @@ use std::alloc::{AllocError, Global};
 use tp_change::Change;
 use tp_opid::Hash;
 
-// Whether the hash is that of an applied change, or one of the hashes of the deliverable ones.
-fn is_there<R: Replica>(replica: &R, delivered: &HashSet, hash: &Hash) -> bool
-    ensures { (D : List ChangeParts) → IsHashSetOf delivered.now D
-        → result ≡ named.has (R.applied replica.now ++ D) hash.now }
+// Whether the hash is that of an applied change, or one of the hashes of the deliverable ones. Those of the last few of
+// these are compared before anything is looked up, since each change is mostly the next of a chain.
+fn is_there<R: Replica>(
+    replica: &R,
+    delivered: &mut HashSet,
+    hash: &Hash,
+) -> Result<bool, AllocError>
+    ensures there { (D : List ChangeParts) → IsHashSetOf delivered.old D
+        → IfOk result (λ there. there ≡ named.has (R.applied replica.now ++ D) hash.now) }
+    ensures stays { OnOk result
+        ((h : HashOf) → has_hash delivered.new h ≡ has_hash delivered.old h) }
 {
+    if delivered.is_recent(hash) {
+        return Ok(true);
+    }
     if replica.contains(hash) {
-        return true;
+        return Ok(true);
     }
     delivered.contains(hash)
 }
 
 // Whether each of the hashes is there.
-fn all_there<R: Replica>(replica: &R, delivered: &HashSet, hashes: &[Hash]) -> bool
-    ensures { (D : List ChangeParts) → IsHashSetOf delivered.now D
-        → result ≡ named.has_all (R.applied replica.now ++ D) hashes.now }
+fn all_there<R: Replica>(
+    replica: &R,
+    delivered: &mut HashSet,
+    hashes: &[Hash],
+) -> Result<bool, AllocError>
+    ensures there { (D : List ChangeParts) → IsHashSetOf delivered.old D
+        → IfOk result (λ there. there ≡ named.has_all (R.applied replica.now ++ D) hashes.now) }
+    ensures stays { OnOk result
+        ((h : HashOf) → has_hash delivered.new h ≡ has_hash delivered.old h) }
 {
     for hash in hashes {
-        if !is_there(replica, delivered, hash) {
-            return false;
+        if !is_there(replica, delivered, hash)? {
+            return Ok(false);
         }
     }
-    true
+    Ok(true)
 }
 
 // Whether the next change takes a slot of its own. It is noted as deliverable, or as one that has a slot.
@@ -51,51 +68,50 @@ fn note<R: Replica>(
         delivered.new slotted.new slot) }
 {
     let hash = change.hash();
-    if all_there(replica, delivered, change.deps()) {
+    if all_there(replica, delivered, change.deps())? {
         delivered.add(hash)?;
         return Ok(false);
     }
-    if slotted.contains(&hash) {
+    if slotted.contains(&hash)? {
         return Ok(false);
     }
     slotted.add(hash)?;
     Ok(true)
 }
 
-/// The changes that are still to come, each with whether a slot is reserved for it.
+/// The slots that are reserved for changes that are still to come.
 #[derive(Drop)]
-pub(crate) struct Coming {
-    /// The changes, in their order.
-    pub(crate) changes: Vec<(Change, bool)>,
+pub(crate) struct Slots {
+    /// Of each of the changes, in their order, whether a slot is reserved for it.
+    pub(crate) marks: Vec<bool>,
     /// How many slots are reserved.
     pub(crate) reserved: usize,
 }
 
-/// The changes of a list, each with whether a slot is reserved for it: it is undeliverable, and neither a pending
-/// change nor an earlier undeliverable one has its hash. A few look-ups for each change and each dependency.
+/// The slots that are reserved for the changes of a list: one for each that is undeliverable where neither a pending
+/// change nor an earlier undeliverable one has its hash. A few comparisons for each change and each dependency, where
+/// that is one of the last few changes, and else a few look-ups.
 pub(crate) fn reserve<R: Replica>(
     alloc: Global,
     replica: &R,
-    changes: Vec<Change>,
-) -> Result<Coming, AllocError>
-    ensures changes { IfOk result (λ coming. coming.changes.items
-        ≡ with_slots (R.waiting replica.now) (delivery (R.applied replica.now) changes.items)) }
+    changes: &[Change],
+) -> Result<Slots, AllocError>
+    ensures long { IfOk result (λ slots. length slots.marks.items ≡ length changes.now) }
+    ensures marks { IfOk result (λ slots. zip changes.now slots.marks.items
+        ≡ with_slots (R.waiting replica.now) (delivery (R.applied replica.now) changes.now)) }
     ensures reserved { IfOk result
-        (λ coming. coming.reserved ≡ delivery_of.slots coming.changes.items) }
+        (λ slots. slots.reserved ≡ delivery_of.slots (zip changes.now slots.marks.items)) }
 {
-    let mut delivered = HashSet::new(alloc);
+    let mut delivered = HashSet::with_room(alloc, changes.len())?;
     let mut slotted = hashes_of(alloc, replica.pending())?;
-    let mut coming = Vec::new(alloc);
+    let mut marks = Vec::with_capacity(alloc, changes.len())?;
     let mut reserved = 0;
     for change in changes {
-        let slot = note(replica, &mut delivered, &mut slotted, &change)?;
+        let slot = note(replica, &mut delivered, &mut slotted, change)?;
         if slot {
             reserved += 1;
         }
-        coming.push((change, slot))?;
+        marks.push(slot)?;
     }
-    Ok(Coming {
-        changes: coming,
-        reserved,
-    })
+    Ok(Slots { marks, reserved })
 }

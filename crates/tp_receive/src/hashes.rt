@@ -1,6 +1,6 @@
 //! Hashes of changes.
 
-ghost use Rattle.std.specs.Prelude.{◌≡◌, ◌++◌, ◌∷◌, [], ◌||◌, List, IfOk, OnOk};
+ghost use Rattle.std.specs.Prelude.{◌≡◌, ◌++◌, ◌∷◌, [], ◌||◌, List, true, IfOk, OnOk, IsTrue};
 ghost use Rattle.tp_change.specs.declared.parts.ChangeParts.{ChangeParts};
 ghost use Rattle.tp_opid.specs.declared.hash.Hash.{Hash as HashOf};
 ghost use Rattle.tp_opid.specs.Same.{same_hash};
@@ -23,46 +23,80 @@ pub(crate) fn is_one(x: &Hash, y: &Hash) -> bool
     x.is(y)
 }
 
-/// A set of hashes. It is an ordered one: whatever hashes strangers choose, a look-up takes a number of comparisons
-/// that grows with the logarithm of how many there are.
+// How many of the hashes that were added last are compared before all are put in order.
+const RECENT: usize = 4;
+
+/// A set of hashes. They are put in order only once one of them is asked for: in nearly every list none is, since the
+/// change that is asked for is one of the last. Whatever hashes strangers choose, each that is added or asked for takes
+/// a number of comparisons that grows with the logarithm of how many there are.
 #[derive(Drop)]
 pub(crate) struct HashSet {
-    hashes: BTreeSet<Hash>,
+    sorted: BTreeSet<Hash>,
+    // Those that aren't in order yet, as they were added.
+    late: Vec<Hash>,
 }
 
 impl Model for HashSet {
-    ghost use Rattle.std.specs.Prelude.{List};
+    ghost use Rattle.std.specs.Prelude.{List, ◌++◌};
     ghost use Rattle.tp_opid.specs.declared.hash.Hash.{Hash};
 
     ghost Value = { List Hash };
 
-    ghost view = { λ s. s.hashes.keys };
+    ghost view = { λ s. s.sorted.keys ++ s.late.items };
+}
+
+// Puts the hashes into the ordered set. One look-up each.
+fn put_in(sorted: &mut BTreeSet<Hash>, late: &[Hash]) -> Result<(), AllocError>
+    ensures { OnOk result ((h : HashOf) → has_hash sorted.new.keys h
+        ≡ (has_hash sorted.old.keys h || has_hash late.now h)) }
+{
+    for hash in late {
+        sorted.insert(*hash)?;
+    }
+    Ok(())
 }
 
 impl HashSet {
-    /// No hash.
-    pub(crate) fn new(alloc: Global) -> HashSet
-        ensures { result ≡ [] }
+    /// No hash, and room for so many.
+    pub(crate) fn with_room(alloc: Global, room: usize) -> Result<HashSet, AllocError>
+        ensures { IfOk result (λ set. set ≡ []) }
     {
-        HashSet {
-            hashes: BTreeSet::new(alloc),
+        Ok(HashSet {
+            sorted: BTreeSet::new(alloc),
+            late: Vec::with_capacity(alloc, room)?,
+        })
+    }
+
+    /// Whether the hash is one of the last few that were added. One that isn't may be there. A comparison for each.
+    pub(crate) fn is_recent(&self, hash: &Hash) -> bool
+        ensures { IsTrue result → has_hash self.now hash.now ≡ true }
+    {
+        let count = self.late.len();
+        for i in 0..RECENT.min(count) {
+            if is_one(hash, &self.late[count - 1 - i]) {
+                return true;
+            }
         }
+        false
     }
 
-    /// Whether it has the hash. One look-up.
+    /// Whether it has the hash. One look-up, and one for each hash that was added since the last was asked for.
     #[tactic(auto, unfolding(tp_opid::specs::Order::hash_cmp, tp_opid::specs::Same::same_hash))]
-    pub(crate) fn contains(&self, hash: &Hash) -> bool
-        ensures { result ≡ has_hash self.now hash.now }
+    pub(crate) fn contains(&mut self, hash: &Hash) -> Result<bool, AllocError>
+        ensures there { IfOk result (λ there. there ≡ has_hash self.old hash.now) }
+        ensures stays { OnOk result ((h : HashOf) → has_hash self.new h ≡ has_hash self.old h) }
     {
-        self.hashes.contains(hash)
+        put_in(&mut self.sorted, &self.late)?;
+        self.late.clear();
+        Ok(self.sorted.contains(hash))
     }
 
-    /// Takes in a hash.
+    /// Takes in a hash. No comparison.
     pub(crate) fn add(&mut self, hash: Hash) -> Result<(), AllocError>
         ensures { OnOk result
             ((h : HashOf) → has_hash self.new h ≡ (same_hash hash h || has_hash self.old h)) }
     {
-        self.hashes.insert(hash)?;
+        self.late.push(hash)?;
         Ok(())
     }
 }
@@ -71,7 +105,7 @@ impl HashSet {
 pub(crate) fn hashes_of(alloc: Global, changes: &[Change]) -> Result<HashSet, AllocError>
     ensures { IfOk result (λ set. IsHashSetOf set changes.now) }
 {
-    let mut hashes = HashSet::new(alloc);
+    let mut hashes = HashSet::with_room(alloc, changes.len())?;
     for change in changes {
         hashes.add(change.hash())?;
     }
@@ -79,12 +113,13 @@ pub(crate) fn hashes_of(alloc: Global, changes: &[Change]) -> Result<HashSet, Al
 }
 
 // Notes the hash of the change where it is one of those that came.
-fn note_held(held: &mut Vec<Hash>, came: &HashSet, change: &Change) -> Result<(), AllocError>
-    ensures { (K : List ChangeParts) → IsHashSetOf came.now K → IfOk result (λ _. held.new.items
+fn note_held(held: &mut Vec<Hash>, came: &mut HashSet, change: &Change) -> Result<(), AllocError>
+    ensures held { (K : List ChangeParts) → IsHashSetOf came.old K → OnOk result (held.new.items
         ≡ held.old.items ++ receiving.held_of (receiving.hashes K) (change.now ∷ [])) }
+    ensures stays { OnOk result ((h : HashOf) → has_hash came.new h ≡ has_hash came.old h) }
 {
     let hash = change.hash();
-    if came.contains(&hash) {
+    if came.contains(&hash)? {
         held.push(hash)?;
     }
     Ok(())
@@ -93,10 +128,10 @@ fn note_held(held: &mut Vec<Hash>, came: &HashSet, change: &Change) -> Result<()
 /// The hashes of those changes that are among the hashes that came, in the order of the changes.
 pub(crate) fn held_of(
     alloc: Global,
-    came: &HashSet,
+    came: &mut HashSet,
     changes: &[Change],
 ) -> Result<Vec<Hash>, AllocError>
-    ensures { (K : List ChangeParts) → IsHashSetOf came.now K
+    ensures { (K : List ChangeParts) → IsHashSetOf came.old K
         → IfOk result (λ v. v.items ≡ receiving.held_of (receiving.hashes K) changes.now) }
 {
     let mut held = Vec::new(alloc);

@@ -1,6 +1,7 @@
 //! Receiving changes in any order.
 
-ghost use Rattle.std.specs.Prelude.{◌≡◌, [], Some, OnOk, IfErr};
+ghost use Rattle.std.specs.Prelude.{◌≡◌, [], length, Some, OnOk, IfErr};
+ghost use Rattle.tp_receive.specs.Common.{zip};
 ghost use Rattle.tp_graph.specs.Sound.{Sound};
 ghost use Rattle.tp_receive.specs.Receiving.{AllWait};
 ghost use Rattle.tp_receive.specs.Delivery as delivery;
@@ -9,7 +10,7 @@ ghost use Rattle.tp_receive.specs.Lacking.{KnowsLack};
 ghost use Rattle.tp_receive.specs.Outcome.{HasOutcome, ReceivesWith};
 ghost use Rattle.tp_receive.specs.Trying.{so_far};
 
-use crate::coming::{Coming, reserve};
+use crate::coming::{Slots, reserve};
 use crate::error::ReceiveError;
 use crate::hashes::{hashes_of, held_of};
 use crate::keeper::Keeper;
@@ -29,28 +30,33 @@ fn take_all<R: Replica, K: Keeper>(
     replica: &mut R,
     keeper: &mut K,
     lacking: &mut Lacking,
-    coming: Coming,
+    changes: Vec<Change>,
+    slots: &Slots,
     reported: &mut Log,
 ) -> Result<(), ReceiveError>
-    requires count { coming.reserved ≡ delivery.slots coming.changes.items }
+    requires long { length slots.now.marks.items ≡ length changes.items }
+    requires count { slots.now.reserved ≡ delivery.slots (zip changes.items slots.now.marks.items) }
     requires knows { KnowsLack (R.applied replica.old) (R.waiting replica.old) lacking.old }
     ensures id { R.id replica.new ≡ R.id replica.old }
     ensures ok { OnOk result (Run K.keeps
         (so_far keeper.old (R.applied replica.old) (R.waiting replica.old)
-        coming.changes.items reported.old)
+        (zip changes.items slots.now.marks.items) reported.old)
         (so_far keeper.new (R.applied replica.new) (R.waiting replica.new) [] reported.new)) }
     ensures settled { OnOk result (AllWait (R.applied replica.new) (R.waiting replica.new)) }
     ensures err { IfErr result (λ e. Stops K.keeps K.refuses
         (so_far keeper.old (R.applied replica.old) (R.waiting replica.old)
-        coming.changes.items reported.old)
+        (zip changes.items slots.now.marks.items) reported.old)
         e (receiver keeper.new (R.applied replica.new) (R.waiting replica.new))) }
 {
     settle(replica, keeper, lacking, 0, reported)?;
-    let mut reserved = coming.reserved;
-    for (change, slot) in coming.changes {
+    let mut reserved = slots.reserved;
+    let mut place = 0;
+    for change in changes {
+        let slot = slots.marks[place];
         if slot {
             reserved -= 1;
         }
+        place += 1;
         take(replica, keeper, lacking, change, reserved, reported)?;
     }
     Ok(())
@@ -108,15 +114,22 @@ pub fn receive<R: Replica, K: Keeper>(
         (receiver keeper.new (R.applied replica.new) (R.waiting replica.new))) }
 {
     let _applied = replica.changes();
-    let came = hashes_of(alloc, &changes)?;
-    let coming = reserve(alloc, replica, changes)?;
-    if MOST_WAITING - replica.pending().len() < coming.reserved {
+    let mut came = hashes_of(alloc, &changes)?;
+    let slots = reserve(alloc, replica, &changes)?;
+    if MOST_WAITING - replica.pending().len() < slots.reserved {
         return Err(ReceiveError::PendingFull);
     }
     let mut lacking = Lacking::new(alloc, replica.pending())?;
     let mut reported = Log::new(alloc);
-    take_all(replica, keeper, &mut lacking, coming, &mut reported)?;
-    let held = held_of(alloc, &came, replica.pending())?;
+    take_all(
+        replica,
+        keeper,
+        &mut lacking,
+        changes,
+        &slots,
+        &mut reported,
+    )?;
+    let held = held_of(alloc, &mut came, replica.pending())?;
     Ok(Applied {
         applied: reported.applied,
         held,

@@ -1,9 +1,10 @@
-use Rattle.tp_receive.proofs.Common.{◌≡◌, slots}
+use Rattle.tp_receive.proofs.Common.{◌≡◌, take, drop, length, slots, zip}
 use Rattle.tp_receive.proofs.ComingLaws.{AreNoted}
 use Rattle.tp_receive.proofs.coming.reserve.Given as goal
 
 abbrev pub invariant-loop-change : goal.invariant-loop-change
 invariant-loop-change g l = record {
-  noted : AreNoted (g.R.Replica.applied l.replica) (g.R.Replica.waiting l.replica) l.fn.changes.items l.change-iterator.rest.items l.delivered l.slotted l.coming.items;
-  count : l.reserved ≡ slots l.coming.items;
+  noted : AreNoted (g.R.Replica.applied l.replica) (g.R.Replica.waiting l.replica) l.changes (drop l.change-index l.changes) l.delivered l.slotted (zip (take l.change-index l.changes) l.marks.items);
+  long : length l.marks.items ≡ l.change-index;
+  count : l.reserved ≡ slots (zip (take l.change-index l.changes) l.marks.items);
 }
