@@ -20,7 +20,7 @@ use crate::sequence::PeerSequence;
 use std::alloc::Global;
 use tp_document::Document;
 use tp_journal::Journal;
-use tp_sync::{Message, generate, receive_with};
+use tp_sync::{Message, generate_bytes, receive_with};
 
 // The message that the bytes are.
 fn message_of(alloc: Global, bytes: &[u8]) -> Result<Message, PeerError>
@@ -113,15 +113,12 @@ fn message_on(
     }
     let mut state = links.known(alloc, link)?;
     links.reserve()?;
-    match generate(alloc, document, &mut state) {
-        Ok(Some(message)) => match message.encode() {
-            Ok(bytes) => {
-                let again = state.again();
-                links.set(link, state);
-                Ok(Some(Outgoing { bytes, again }))
-            }
-            Err(error) => Err(PeerError::from(error)),
-        },
+    match generate_bytes(alloc, document, &mut state) {
+        Ok(Some(bytes)) => {
+            let again = state.again();
+            links.set(link, state);
+            Ok(Some(Outgoing { bytes, again }))
+        }
         Ok(None) => Ok(None),
         Err(error) => Err(PeerError::from(error)),
     }
@@ -189,7 +186,7 @@ impl<J: Journal> Peer<J> {
     /// exchange where the document has more than 65,535 heads. The only other refusal is `OutOfMemory`. Each but
     /// `JournalFailed` leaves the peer as it was.
     ///
-    /// The cost is that of `generate`, of the bytes that are written, and of settling the journal.
+    /// The cost is that of [`generate_bytes`](tp_sync::generate_bytes), and of settling the journal.
     pub fn generate_bytes(&mut self, link: Link) -> Result<Option<Outgoing>, PeerError>
         ensures settled { OnOk result
             (IsKept J.content J.device J.is_settled (journal_of self.new)) }

@@ -3,6 +3,7 @@ pub mod MarkLaws
 pub mod TakeLaws
 pub mod LoadLaws
 pub mod LimitLaws
+pub mod SayLaws
 pub mod WantLaws
 pub mod KnownLaws
 pub mod UnionLaws

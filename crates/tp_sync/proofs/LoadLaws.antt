@@ -35,10 +35,25 @@ some_counts : (D : List ChangeParts) (n : ℕ) → n ≡ length D → nat_lt 0 n
 some_counts [] n e = rw e refl
 some_counts (c ∷ D) n e = let more : 0 < n = omega arith in grind (arith, nat_tests)
 
+-- Where nothing is due from the next place on, something is carried where something is due.
+carries_some : (C : List ChangeParts) (s : SyncParts) (on : Bool) → is_any (due_from C s s.next) ≡ on → (is_any (carried C s) && not on) ≡ (is_any (due C s) && not on)
+carries_some C s true e = no (is_any (carried C s)) (is_any (due C s)) where
+  no : (a b : Bool) → (a && false) ≡ (b && false)
+  no true true = refl
+  no true false = refl
+  no false true = refl
+  no false false = refl
+carries_some C s false e =
+    ap (λ b. b && true) (ap (λ (b : Bool). is_any (take_due 0 0 (due_from C s (cond b s.next 0)))) e ∙ first (due C s)) where
+      first : (D : List ChangeParts) → is_any (take_due 0 0 D) ≡ is_any D
+      first [] = refl
+      first (c ∷ D) = refl
+
 pub again_by : (C : List ChangeParts) (s : SyncParts) (marks : List Bool) (goes_on : Bool) (count : ℕ) → AreMarks C s marks → goes_on ≡ list_any (λ (b : Bool). b) (drop s.next marks)
-    → count ≡ length (filter (λ (b : Bool). b) marks) → (nat_lt 0 count && not goes_on) ≡ begins_again C s
+    → count ≡ length (carried C s) → (nat_lt 0 count && not goes_on) ≡ begins_again C s
 again_by C s marks goes_on count w g n =
-    ap (λ b. nat_lt 0 count && not b) (g ∙ w.any s.next) ∙ ap (λ b. b && not (is_any (due_from C s s.next))) (some_counts (due C s) count (n ∙ w.count))
+    ap (λ b. nat_lt 0 count && not b) (g ∙ w.any s.next) ∙ ap (λ b. b && not (is_any (due_from C s s.next))) (some_counts (carried C s) count n)
+    ∙ carries_some C s (is_any (due_from C s s.next)) refl
 
 -- ---- where nothing is due
 

@@ -1,8 +1,9 @@
 -- What a peer answers to another one.
-use Rattle.std.specs.Prelude.{◌≡◌, List, Option, Some, None}
+use Rattle.std.specs.Prelude.{◌≡◌, ℕ, List, Option, Some, None}
 use Rattle.tp_sync.specs.Common.{ChangeParts}
 use Rattle.tp_graph.specs.Heads as head
-use Rattle.tp_sync.specs.Message.{MessageParts}
+use Rattle.tp_sync.specs.Message.{IsMessage, MessageParts}
+use Rattle.tp_sync.specs.Spelling.{message_spelling}
 use Rattle.tp_sync.specs.State.{SyncParts}
 use Rattle.tp_sync.specs.Due as of_due
 use Rattle.tp_sync.specs.Known.{known_hashes}
@@ -34,3 +35,15 @@ pub record Says (C W : List ChangeParts) (s : SyncParts) (m : MessageParts) (t :
 abbrev pub Answer : List ChangeParts → List ChangeParts → SyncParts → Option MessageParts → SyncParts → Type 0
 Answer C W s None t = IsQuiet C s × (t ≡ s)
 Answer C W s (Some m) t = Says C W s m t
+
+-- The bytes are those of a message that is answered.
+pub record SaysBytes (C W : List ChangeParts) (s : SyncParts) (bytes : List ℕ) (t : SyncParts) : Type 0 where
+  pub message : MessageParts
+  pub limits : IsMessage message
+  pub spelled : bytes ≡ message_spelling message
+  pub answers : Answer C W s (Some message) t
+
+-- The same as Answer, of a message by its bytes.
+abbrev pub AnswerBytes : List ChangeParts → List ChangeParts → SyncParts → Option (List ℕ) → SyncParts → Type 0
+AnswerBytes C W s None t = Answer C W s None t
+AnswerBytes C W s (Some bytes) t = SaysBytes C W s bytes t

@@ -59,6 +59,10 @@ carried C s = take_due 0 0 (due_from C s (begins_at C s))
 abbrev pub leaves_out : List ChangeParts → SyncParts → Bool
 leaves_out C s = nat_lt (length (carried C s)) (length (due C s))
 
+-- so many changes are fewer than are marked
+abbrev pub is_cut : ℕ → List Bool → Bool
+is_cut count marks = nat_lt count (length (filter (λ b. b) marks))
+
 -- The place n in C is the one behind the last of the changes.
 pub record IsBehind (C changes : List ChangeParts) (n : ℕ) : Type 0 where
   pub before : List ChangeParts

@@ -7,6 +7,7 @@ pub mod Due
 pub mod Room
 pub mod Wanting
 pub mod Answer
+pub mod Saying
 pub mod Exchange
 pub mod Spelling
 pub mod Reading

@@ -12,6 +12,10 @@ pub record MessageParts : Type 0 where
   pub known : List Hash
   pub changes : List ChangeParts
 
+-- a message of version 2 of its parts
+abbrev pub message_of : List Hash → List Hash → List Hash → List ChangeParts → MessageParts
+message_of heads wants known changes = record { version = 2; heads = heads; wants = wants; known = known; changes = changes }
+
 -- At most so many hashes, strictly rising.
 pub record AreHashes (limit : ℕ) (hashes : List Hash) : Type 0 where
   pub each : AllByRecursion IsHash hashes

@@ -1,6 +1,6 @@
 //! Which changes are due to another peer, and which of them a message carries.
 
-ghost use Rattle.std.specs.Prelude.{◌≡◌, ◌↔◌, ◌+◌, ◌<◌, ◌^◌, ◌∷◌, ◌++◌, ◌&&◌, [], cond, length, nat_lt, drop, filter, not, false, Some, IfOk, IsTrue, OnOk, IsOkUnless};
+ghost use Rattle.std.specs.Prelude.{◌≡◌, ◌↔◌, ◌+◌, ◌<◌, ◌^◌, ◌∷◌, ◌++◌, ◌&&◌, [], cond, length, nat_lt, drop, filter, map, not, false, Some, IfOk, IsTrue, OnOk, IsOkUnless};
 ghost use Rattle.std.specs.List.{list_any};
 ghost use Rattle.tp_sync.specs.Common.{spelling, has};
 ghost use Rattle.tp_graph.specs.Marks.{pick};
@@ -22,16 +22,16 @@ use tp_rga::Sequence;
 
 // The changes that a message has taken so far.
 #[derive(Drop)]
-struct Taken {
-    // Copies of them, in applied order.
-    changes: Vec<Change>,
+struct Taken<'a> {
+    // In applied order.
+    changes: Vec<&'a Change>,
     // How many bytes they have.
     bytes: usize,
     // The place behind the last of them, or the place from which they were to be taken, where there is none.
     next: usize,
 }
 
-impl Taken {
+impl<'a> Taken<'a> {
     // Whether the message takes no further change.
     fn is_laden(&self) -> bool
         ensures { result ≡ of_due.is_laden (length self.now.changes.items) self.now.bytes }
@@ -39,51 +39,39 @@ impl Taken {
         self.changes.len() >= MAX_CHANGES || self.bytes >= FULL_BYTES
     }
 
-    // Whether it took fewer changes than so many.
-    fn is_short_of(&self, count: usize) -> bool
-        ensures { result ≡ nat_lt (length self.now.changes.items) count }
-    {
-        self.changes.len() < count
-    }
-
-    // Takes a copy of the change at the place.
-    fn take(&mut self, change: &Change, place: usize) -> Result<(), SyncError>
+    // Takes the change at the place.
+    fn take(&mut self, change: &'a Change, place: usize) -> Result<(), AllocError>
         requires room { self.old.bytes < FULL_BYTES }
         requires place { place + 1 < 2 ^ 64 }
-        ensures changes { OnOk result
-            (self.new.changes.items ≡ self.old.changes.items ++ change.now ∷ []) }
+        ensures changes { OnOk result (map (λ c. c.now) self.new.changes.items
+            ≡ map (λ c. c.now) self.old.changes.items ++ change.now ∷ []) }
         ensures bytes { OnOk result
             (self.new.bytes ≡ self.old.bytes + length (spelling change.now)) }
         ensures next { OnOk result (self.new.next ≡ place + 1) }
-        ensures err { IsOkUnless result OutOfMemory }
     {
         let _hash = change.hash();
-        match change.copy() {
-            Ok(copied) => self.changes.push(copied)?,
-            Err(_) => return Err(SyncError::OutOfMemory),
-        }
+        self.changes.push(change)?;
         self.bytes += change.encoded_len();
         self.next = place + 1;
         Ok(())
     }
 }
 
-// Takes the changes that are marked, from the place on, until the message takes no further one. At first there is room
-// for so many.
-fn take_from(
+// Takes the changes that are marked, from the place on, until the message takes no further one.
+fn take_from<'a>(
     alloc: Global,
-    applied: &[Change],
+    applied: &'a [Change],
     marks: &[bool],
     from: usize,
     next: usize,
-    room: usize,
-) -> Result<Taken, SyncError>
+) -> Result<Taken<'a>, AllocError>
     requires { length marks.now ≡ length applied.now }
-    ensures changes { IfOk result (λ t. t.changes.items
+    ensures changes { IfOk result (λ t. map (λ c. c.now) t.changes.items
         ≡ take_due 0 0 (pick (drop from marks.now) (drop from applied.now))) }
-    ensures next { IfOk result (λ t. MovesOn applied.now t.changes.items next t.next) }
-    ensures err { IsOkUnless result OutOfMemory }
+    ensures next { IfOk result
+        (λ t. MovesOn applied.now (map (λ c. c.now) t.changes.items) next t.next) }
 {
+    let room = applied.len().saturating_sub(from).min(MAX_CHANGES);
     let mut taken = Taken {
         changes: Vec::with_capacity(alloc, room)?,
         bytes: 0,
@@ -126,11 +114,11 @@ fn first_place(goes_on: bool, next: usize) -> usize
     if goes_on { next } else { 0 }
 }
 
-// Whether something is due, and nothing from the next place on.
-fn begins_again(due: usize, goes_on: bool) -> bool
-    ensures { result ≡ (nat_lt 0 due && not goes_on) }
+// Whether something is taken, though nothing is due from the next place on.
+fn begins_again(taken: usize, goes_on: bool) -> bool
+    ensures { result ≡ (nat_lt 0 taken && not goes_on) }
 {
-    0 < due && !goes_on
+    0 < taken && !goes_on
 }
 
 /// Whether the hashes are the ones that were kept.
@@ -161,31 +149,41 @@ pub(crate) fn is_even<S: Sequence>(document: &Document<S>, state: &SyncState) ->
 
 /// What a message carries of the changes that are due, and how far it gets.
 #[derive(Drop)]
-pub(crate) struct Load {
-    /// Copies of the changes that it carries, in applied order.
-    pub(crate) changes: Vec<Change>,
+pub(crate) struct Load<'a> {
+    /// The changes that it carries, in applied order.
+    pub(crate) changes: Vec<&'a Change>,
+    /// How many bytes they have.
+    pub(crate) bytes: usize,
     /// The place from which the next message takes changes.
     pub(crate) next: usize,
     /// Whether it begins again with the first that is due.
     pub(crate) again: bool,
-    /// Whether it leaves out changes that are due.
-    pub(crate) cut: bool,
+    // Of each applied change whether it is due, where any may be.
+    marks: Vec<bool>,
 }
 
-impl Load {
+impl<'a> Load<'a> {
     // Nothing.
-    fn nothing(alloc: Global, next: usize) -> Load
+    fn nothing(alloc: Global, next: usize) -> Load<'a>
         ensures changes { result.changes.items ≡ [] }
         ensures next { result.next ≡ next }
         ensures again { result.again ≡ false }
-        ensures cut { result.cut ≡ false }
+        ensures marks { result.marks.items ≡ [] }
     {
         Load {
             changes: Vec::new(alloc),
+            bytes: 0,
             next,
             again: false,
-            cut: false,
+            marks: Vec::new(alloc),
         }
+    }
+
+    /// Whether it leaves out changes that are due. One pass over the marks of all changes.
+    pub(crate) fn is_cut(&self) -> bool
+        ensures { result ≡ of_due.is_cut (length self.now.changes.items) self.now.marks.items }
+    {
+        self.changes.len() < count(&self.marks)
     }
 }
 
@@ -200,20 +198,21 @@ fn joined(alloc: Global, front: &[Hash], rest: &[Hash]) -> Result<Vec<Hash>, All
 }
 
 // What the next message to a peer that declared that it has these changes carries.
-fn load_declared<S: Sequence>(
+fn load_declared<'a, S: Sequence>(
     alloc: Global,
-    document: &Document<S>,
+    document: &'a Document<S>,
     theirs: &[Hash],
     state: &SyncState,
-) -> Result<Load, SyncError>
+) -> Result<Load<'a>, SyncError>
     requires { declared state.now ≡ Some theirs.now }
-    ensures changes { IfOk result
-        (λ l. l.changes.items ≡ carried document.now.applied state.now) }
-    ensures next { IfOk result (λ l. MovesOn document.now.applied l.changes.items
-        state.now.next l.next) }
+    ensures changes { IfOk result (λ l. map (λ c. c.now) l.changes.items
+        ≡ carried document.now.applied state.now) }
+    ensures next { IfOk result (λ l. MovesOn document.now.applied
+        (carried document.now.applied state.now) state.now.next l.next) }
     ensures again { IfOk result
         (λ l. l.again ≡ of_due.begins_again document.now.applied state.now) }
-    ensures cut { IfOk result (λ l. l.cut ≡ leaves_out document.now.applied state.now) }
+    ensures cut { IfOk result (λ l. of_due.is_cut (length l.changes.items) l.marks.items
+        ≡ leaves_out document.now.applied state.now) }
     ensures err { IsOkUnless result OutOfMemory }
 {
     let applied = document.changes();
@@ -224,32 +223,33 @@ fn load_declared<S: Sequence>(
     let next = state.next;
     let goes_on = is_any_from(&marks, next);
     let from = first_place(goes_on, next);
-    let due = count(&marks);
-    let taken = take_from(alloc, applied, &marks, from, next, due.min(MAX_CHANGES))?;
-    let cut = taken.is_short_of(due);
+    let taken = take_from(alloc, applied, &marks, from, next)?;
+    let again = begins_again(taken.changes.len(), goes_on);
     Ok(Load {
         changes: taken.changes,
+        bytes: taken.bytes,
         next: taken.next,
-        again: begins_again(due, goes_on),
-        cut,
+        again,
+        marks,
     })
 }
 
 /// What the next message to the other carries: nothing where the other declared no heads yet, or where they are the
-/// heads that are there and nothing is wanted. Else one pass over the changes, of which only those that are carried are
-/// copied.
-pub(crate) fn load_for<S: Sequence>(
+/// heads that are there and nothing is wanted. Else their marks are made by one pass over the changes, and those from the
+/// first that is carried up to the last are looked at. No change is copied.
+pub(crate) fn load_for<'a, S: Sequence>(
     alloc: Global,
-    document: &Document<S>,
+    document: &'a Document<S>,
     state: &SyncState,
-) -> Result<Load, SyncError>
-    ensures changes { IfOk result
-        (λ l. l.changes.items ≡ carried document.now.applied state.now) }
-    ensures next { IfOk result (λ l. MovesOn document.now.applied l.changes.items
-        state.now.next l.next) }
+) -> Result<Load<'a>, SyncError>
+    ensures changes { IfOk result (λ l. map (λ c. c.now) l.changes.items
+        ≡ carried document.now.applied state.now) }
+    ensures next { IfOk result (λ l. MovesOn document.now.applied
+        (carried document.now.applied state.now) state.now.next l.next) }
     ensures again { IfOk result
         (λ l. l.again ≡ of_due.begins_again document.now.applied state.now) }
-    ensures cut { IfOk result (λ l. l.cut ≡ leaves_out document.now.applied state.now) }
+    ensures cut { IfOk result (λ l. of_due.is_cut (length l.changes.items) l.marks.items
+        ≡ leaves_out document.now.applied state.now) }
     ensures err { IsOkUnless result OutOfMemory }
 {
     let _changes = document.changes();

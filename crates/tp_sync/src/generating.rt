@@ -1,19 +1,21 @@
 //! Making the next message to another peer.
 
-ghost use Rattle.std.specs.Prelude.{◌≡◌, ◌↔◌, ◌<◌, ◌≤◌, ◌⊎◌, length, Err, IfOk, IfErr, IfSome, IsTrue};
-ghost use Rattle.tp_sync.specs.Common.{AllByRecursion, IsRising, hash_cmp, IsHash, AllChanges, option_map};
+ghost use Rattle.std.specs.Prelude.{◌≡◌, ◌↔◌, ◌<◌, ◌≤◌, ◌⊎◌, length, map, Err, IfOk, IfErr, IfSome, IsOkUnless, IsTrue, MatchOption};
+ghost use Rattle.tp_sync.specs.Common.{option_map};
 ghost use Rattle.tp_graph.specs.Heads as head;
-ghost use Rattle.tp_sync.specs.Answer.{Answer, IsQuiet};
+ghost use Rattle.tp_sync.specs.Answer.{Answer, AnswerBytes, IsQuiet};
 ghost use Rattle.tp_sync.specs.Due.{leaves_out};
+ghost use Rattle.tp_sync.specs.Saying.{IsToSay};
 ghost use Rattle.tp_sync.specs.declared.error.SyncError.TheVariants.{OutOfMemory, TooManyHeads};
 
-use crate::due::{are, is_even, load_for};
+use crate::due::{Load, are, is_even, load_for};
 use crate::error::SyncError;
 use crate::known::known;
-use crate::limits::{MAX_CHANGES, MAX_HASHES, MAX_KNOWN};
+use crate::limits::MAX_HASHES;
 use crate::message::Message;
 use crate::state::SyncState;
 use crate::wanting::wants;
+use crate::writing::written;
 use std::alloc::Global;
 use tp_change::Change;
 use tp_document::Document;
@@ -26,6 +28,65 @@ fn is_quiet<S: Sequence>(document: &Document<S>, state: &SyncState) -> bool
     ensures { IsTrue result ↔ IsQuiet document.now.applied state.now }
 {
     are(&state.told, document.heads()) && is_even(document, state)
+}
+
+// What a message to another peer says.
+#[derive(Drop)]
+struct Saying<'a> {
+    // The heads that it declares.
+    heads: Vec<Hash>,
+    // The hashes that it wants.
+    wants: Vec<Hash>,
+    // The hashes of a few changes that are there.
+    known: Vec<Hash>,
+    // The changes that it carries.
+    load: Load<'a>,
+}
+
+// What the next message says, or `None` where nothing is to be said. No change is copied.
+fn to_say<'a, S: Sequence>(
+    alloc: Global,
+    document: &'a Document<S>,
+    state: &SyncState,
+) -> Result<Option<Saying<'a>>, SyncError>
+    ensures says { IfOk result (λ o. MatchOption o (IsQuiet document.now.applied state.now)
+        (IsToSay document.now.applied document.now.waiting state.now)) }
+    ensures many { (result ≡ Err TooManyHeads)
+        ↔ (MAX_HASHES < length (head.heads document.now.applied)) }
+    ensures err { IfErr result (λ e. (e ≡ TooManyHeads) ⊎ (e ≡ OutOfMemory)) }
+{
+    let heads = document.heads();
+    if heads.len() > MAX_HASHES {
+        return Err(SyncError::TooManyHeads);
+    }
+    if is_quiet(document, state) {
+        return Ok(None);
+    }
+    let load = load_for(alloc, document, state)?;
+    let wants = wants(document, state)?;
+    let known = known(alloc, document)?;
+    let heads = Vec::from_slice(alloc, heads)?;
+    Ok(Some(Saying {
+        heads,
+        wants,
+        known,
+        load,
+    }))
+}
+
+// Copies of the changes.
+fn copies_of(alloc: Global, changes: &[&Change]) -> Result<Vec<Change>, SyncError>
+    ensures copied { IfOk result (λ v. v.items ≡ map (λ c. c.now) changes.now) }
+    ensures err { IsOkUnless result OutOfMemory }
+{
+    let mut copies = Vec::with_capacity(alloc, changes.len())?;
+    for change in changes {
+        match change.copy() {
+            Ok(copied) => copies.push(copied)?,
+            Err(_) => return Err(SyncError::OutOfMemory),
+        }
+    }
+    Ok(copies)
 }
 
 /// A message for another peer.
@@ -52,25 +113,25 @@ pub(crate) fn send<S: Sequence>(
     ensures err { IfErr result
         (λ e. ((e ≡ TooManyHeads) ⊎ (e ≡ OutOfMemory)) × (state.new ≡ state.old)) }
 {
-    let heads = document.heads();
-    if heads.len() > MAX_HASHES {
-        return Err(SyncError::TooManyHeads);
-    }
-    if is_quiet(document, state) {
-        return Ok(None);
-    }
     let _changes = document.changes();
-    let load = load_for(alloc, document, state)?;
-    let wants = wants(document, state)?;
-    let known = known(alloc, document)?;
-    let told = Vec::from_slice(alloc, heads)?;
-    let heads = Vec::from_slice(alloc, heads)?;
-    let message = Message::new(heads, wants, known, load.changes);
-    state.tell(told, load.next, load.again);
-    Ok(Some(Sent {
-        message,
-        cut: load.cut,
-    }))
+    match to_say(alloc, document, state)? {
+        Some(
+            Saying {
+                heads,
+                wants,
+                known,
+                load,
+            },
+        ) => {
+            let cut = load.is_cut();
+            let changes = copies_of(alloc, &load.changes)?;
+            let told = Vec::from_slice(alloc, &heads)?;
+            let message = Message::new(heads, wants, known, changes);
+            state.tell(told, load.next, load.again);
+            Ok(Some(Sent { message, cut }))
+        }
+        None => Ok(None),
+    }
 }
 
 /// The next message to another peer, as Automerge's call `generate_sync_message`: the document's heads; the hashes that
@@ -108,5 +169,40 @@ pub fn generate<S: Sequence>(
         Ok(Some(sent)) => Ok(Some(sent.message)),
         Ok(None) => Ok(None),
         Err(error) => Err(error),
+    }
+}
+
+/// The bytes of the next message to another peer: those that [`encode`](Message::encode) gives of the message that
+/// [`generate`] makes, with what that tells the state and with its refusals. They are written once, into memory that is
+/// reserved once.
+///
+/// The cost is that of `generate` and of the bytes, but that no change is copied.
+pub fn generate_bytes<S: Sequence>(
+    alloc: Global,
+    document: &Document<S>,
+    state: &mut SyncState,
+) -> Result<Option<Vec<u8>>, SyncError>
+    ensures answer { IfOk result (λ bytes. AnswerBytes document.now.applied document.now.waiting
+        state.old (option_map (λ b. b.items) bytes) state.new) }
+    ensures many { (result ≡ Err TooManyHeads)
+        ↔ (MAX_HASHES < length (head.heads document.now.applied)) }
+    ensures err { IfErr result
+        (λ e. ((e ≡ TooManyHeads) ⊎ (e ≡ OutOfMemory)) × (state.new ≡ state.old)) }
+{
+    let _changes = document.changes();
+    match to_say(alloc, document, state)? {
+        Some(
+            Saying {
+                heads,
+                wants,
+                known,
+                load,
+            },
+        ) => {
+            let bytes = written(alloc, &heads, &wants, &known, &load.changes, load.bytes)?;
+            state.tell(heads, load.next, load.again);
+            Ok(Some(bytes))
+        }
+        None => Ok(None),
     }
 }

@@ -24,7 +24,7 @@ mod writing;
 
 pub use error::SyncError;
 pub use exchanging::{Exchanged, exchange};
-pub use generating::generate;
+pub use generating::{generate, generate_bytes};
 pub use limits::{FULL_BYTES, MAX_CHANGES, MAX_HASHES, MAX_KNOWN};
 pub use message::Message;
 pub use reading::MessageReader;

@@ -9,8 +9,8 @@ use tp_change::Change;
 use tp_list::array_len;
 use tp_opid::Hash;
 
-// The version of the messages that are made.
-const VERSION: u8 = 2;
+/// The version of the messages that are made.
+pub(crate) const VERSION: u8 = 2;
 
 /// A message: the heads of the sender, the hashes of the changes that it wants, those of a few changes that it has, and
 /// changes that it sends. Automerge's sync messages have a filter in place of the few.
@@ -37,8 +37,8 @@ impl Model for Message {
     ghost invariant = { λ m. IsMessage (record { version = m.version; heads = m.heads.items; wants = m.wants.items; known = m.known.items; changes = m.changes.items }) };
 }
 
-// What the type of hashes says: each has 32 bytes.
-fn of_hashes(hashes: &[Hash])
+/// What the type of hashes says: each has 32 bytes.
+pub(crate) fn of_hashes(hashes: &[Hash])
     ensures { AllByRecursion IsHash hashes.now }
 {
     for hash in hashes {

@@ -1,14 +1,15 @@
 //! The bytes of a message, written from first to last.
 
-ghost use Rattle.std.specs.Prelude.{◌≡◌, ◌<◌, ◌^◌, ◌++◌, length, IfOk, OnOk, IsOkUnless};
-ghost use Rattle.tp_sync.specs.Common.{flat_map, Hash};
+ghost use Rattle.std.specs.Prelude.{◌≡◌, ◌<◌, ◌≤◌, ◌^◌, ◌++◌, length, map, IfOk, OnOk, IsOkUnless};
+ghost use Rattle.tp_sync.specs.Common.{flat_map, IsRising, hash_cmp, AllChanges, Hash};
 ghost use Rattle.tp_sync.specs.declared.error.SyncError.TheVariants.{OutOfMemory};
-ghost use Rattle.tp_sync.specs.Message.{IsMessage};
+ghost use Rattle.tp_sync.specs.Message.{IsMessage, message_of};
 ghost use Rattle.tp_sync.specs.Spelling.{entry, spelling_of_hashes, spelling_of_known, message_spelling};
 
 use crate::error::SyncError;
-use crate::message::Message;
-use std::alloc::AllocError;
+use crate::limits::{MAX_CHANGES, MAX_HASHES, MAX_KNOWN};
+use crate::message::{Message, VERSION, of_hashes};
+use std::alloc::{AllocError, Global};
 use tp_change::Change;
 use tp_opid::Hash;
 
@@ -77,6 +78,55 @@ fn with_changes(out: Vec<u8>, changes: &[Change]) -> Result<Vec<u8>, SyncError>
         whole = with_change(whole, change)?;
     }
     Ok(whole)
+}
+
+// The bytes with those of the borrowed changes and their lengths behind them.
+fn with_each(out: Vec<u8>, changes: &[&Change]) -> Result<Vec<u8>, SyncError>
+    ensures bytes { IfOk result
+        (λ v. v.items ≡ out.items ++ flat_map entry (map (λ c. c.now) changes.now)) }
+    ensures err { IsOkUnless result OutOfMemory }
+{
+    let mut whole = out;
+    for change in changes {
+        whole = with_change(whole, change)?;
+    }
+    Ok(whole)
+}
+
+/// The bytes of the message of version 2 of these parts, which are within the limits, where the changes have so many
+/// bytes. They are written once, into memory that is reserved once, and no change is copied. The only refusal is
+/// `OutOfMemory`.
+pub(crate) fn written(
+    alloc: Global,
+    heads: &[Hash],
+    wants: &[Hash],
+    known: &[Hash],
+    changes: &[&Change],
+    bytes: usize,
+) -> Result<Vec<u8>, SyncError>
+    requires heads { IsRising hash_cmp heads.now × (length heads.now ≤ MAX_HASHES) }
+    requires wants { IsRising hash_cmp wants.now × (length wants.now ≤ MAX_HASHES) }
+    requires known { IsRising hash_cmp known.now × (length known.now ≤ MAX_KNOWN) }
+    requires changes { AllChanges (map (λ c. c.now) changes.now)
+        × (length (map (λ c. c.now) changes.now) ≤ MAX_CHANGES) }
+    ensures limits { IsMessage
+        (message_of heads.now wants.now known.now (map (λ c. c.now) changes.now)) }
+    ensures bytes { IfOk result (λ v. v.items ≡ message_spelling
+        (message_of heads.now wants.now known.now (map (λ c. c.now) changes.now))) }
+    ensures err { IsOkUnless result OutOfMemory }
+{
+    of_hashes(heads);
+    of_hashes(wants);
+    of_hashes(known);
+    let hashes = 32 * (heads.len() + wants.len() + known.len());
+    let len = bytes.saturating_add(17 + hashes + 4 * changes.len());
+    let mut out = Vec::with_capacity(alloc, len)?;
+    out.push(VERSION)?;
+    put_hashes(&mut out, heads)?;
+    put_hashes(&mut out, wants)?;
+    put_known(&mut out, VERSION, known)?;
+    out.extend_from_slice(&(changes.len() as u32).to_be_bytes())?;
+    with_each(out, changes)
 }
 
 impl Message {

@@ -1,35 +1,27 @@
-use Rattle.tp_sync.proofs.Common.{◌≡◌, ◌≤◌, ◌∙◌, List, length, sym, subst, In, IsRising, Hash, hash_cmp, ChangeParts, MAX_CHANGES, MAX_HASHES, MAX_KNOWN, heads_rise}
-use Rattle.tp_graph.specs.Heads as head
-use Rattle.tp_sync.proofs.KnownLaws.{known_few, known_rises}
-use Rattle.tp_sync.proofs.TakeLaws.{carried-In, carried_few}
-use Rattle.tp_sync.proofs.WantLaws.{wanted_few, wanted_rises}
+use Rattle.tp_sync.proofs.Common.{◌∙◌, ap, map, refl, Some, Hash, List}
+use Rattle.tp_sync.proofs.SayLaws.{heads_fit, wants_fit, known_fit, changes_fit, says_it}
 use Rattle.tp_sync.proofs.generating.send.Goals as goal
 
 pub new-message-requires-clause-heads : goal.new-message-requires-clause-heads
 new-message-requires-clause-heads g c =
-    let e : c.in_ok-heads.heads.items ≡ head.heads c.args.document.now.applied = c.in_ok-heads.ensures.items ∙ c.heads-heads.ensures in (
-      subst (IsRising hash_cmp) (sym e) (heads_rise c.args.document.now.applied),
-      subst (λ (l : List Hash). length l ≤ MAX_HASHES) (sym c.in_ok-heads.ensures.items) c.if-heads-gt-MAX_HASHES.false,
-    )
+    heads_fit c.args.document.now.applied c.args.document.now.waiting c.args.state.now c.in-Some.field-0 c.in-Some.field-0.heads.items (rw c.in-Some.is at c.in_ok-heads.ensures.says) refl
 
 pub new-message-requires-clause-wants : goal.new-message-requires-clause-wants
 new-message-requires-clause-wants g c =
-    let C : List ChangeParts = c.args.document.now.applied in
-    let W : List ChangeParts = c.args.document.now.waiting in (
-      subst (IsRising hash_cmp) (sym c.in_ok-wants.ensures.wants) (wanted_rises C W c.args.state.now.theirs),
-      subst (λ (l : List Hash). length l ≤ MAX_HASHES) (sym c.in_ok-wants.ensures.wants) (wanted_few C W c.args.state.now.theirs),
-    )
+    wants_fit c.args.document.now.applied c.args.document.now.waiting c.args.state.now c.in-Some.field-0 c.in-Some.field-0.wants.items (rw c.in-Some.is at c.in_ok-heads.ensures.says) refl
 
 pub new-message-requires-clause-known : goal.new-message-requires-clause-known
 new-message-requires-clause-known g c =
-    let C : List ChangeParts = c.args.document.now.applied in (
-      subst (IsRising hash_cmp) (sym c.in_ok-known.ensures.known) (known_rises C),
-      subst (λ (l : List Hash). length l ≤ MAX_KNOWN) (sym c.in_ok-known.ensures.known) (known_few C),
-    )
+    known_fit c.args.document.now.applied c.args.document.now.waiting c.args.state.now c.in-Some.field-0 c.in-Some.field-0.known.items (rw c.in-Some.is at c.in_ok-heads.ensures.says) refl
 
 pub new-message-requires-clause-changes : goal.new-message-requires-clause-changes
 new-message-requires-clause-changes g c =
-    let C : List ChangeParts = c.args.document.now.applied in (
-      λ d i. c.changes-changes.ensures.limits d (carried-In C c.args.state.now d (subst (In d) c.in_ok-load.ensures.changes i)),
-      subst (λ (l : List ChangeParts). length l ≤ MAX_CHANGES) (sym c.in_ok-load.ensures.changes) (carried_few C c.args.state.now),
-    )
+    changes_fit c.args.document.now.applied c.args.document.now.waiting c.args.state.now c.in-Some.field-0 c.in_ok-changes-in-Some.changes.items c.changes-changes.ensures.limits (rw c.in-Some.is at c.in_ok-heads.ensures.says)
+    (c.in_ok-changes-in-Some.ensures.copied ∙ ap (map (λ c. c.now)) c.deref.ensures.value)
+
+pub returns-in_ok-told-in-Some-clause-answer : goal.returns-in_ok-told-in-Some-clause-answer
+returns-in_ok-told-in-Some-clause-answer g c =
+    says_it c.args.document.now.applied c.args.document.now.waiting c.args.state.now c.in-Some.field-0 c.new-message.result c.tell.new.self (rw c.in-Some.is at c.in_ok-heads.ensures.says)
+    c.new-message.ensures.version c.new-message.ensures.heads c.new-message.ensures.wants c.new-message.ensures.known
+    (c.new-message.ensures.changes ∙ c.in_ok-changes-in-Some.ensures.copied ∙ ap (map (λ c. c.now)) c.deref.ensures.value)
+    (c.tell.ensures ∙ ap (λ (told : List Hash). record c.args.state.now { told = Some told; next = c.in-Some.field-0.load.next; again = c.in-Some.field-0.load.again }) (c.in_ok-told-in-Some.ensures.items ∙ c.deref-in-Some.ensures.value))
