@@ -2,6 +2,7 @@ pub mod ChangeError
 pub mod ChangeHash
 pub mod Elements
 pub mod Faults
+pub mod Gathered
 pub mod Gives
 pub mod Validated
 pub mod Limits

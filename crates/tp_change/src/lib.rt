@@ -10,6 +10,7 @@ mod copying;
 mod counting;
 mod error;
 mod facts;
+mod gatherer;
 pub mod laws;
 pub mod layout;
 mod limits;

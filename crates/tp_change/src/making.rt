@@ -8,10 +8,10 @@ ghost use Rattle.tp_change.specs.declared.error.ChangeError.TheVariants.{OutOfMe
 
 use crate::change::Change;
 use crate::error::ChangeError;
+use crate::gatherer::Gatherer;
 use crate::parts::ChangeParts;
 use crate::validating::validate;
 use crate::writing::put_change;
-use sha2::{Digest, Sha256};
 use std::alloc::Global;
 use tp_opid::Hash;
 
@@ -20,12 +20,12 @@ fn hash_parts(parts: &ChangeParts) -> Hash
     requires { IsChange parts.now }
     ensures { result ≡ hash_of parts.now }
 {
-    let mut hasher = Sha256::new();
-    match put_change(&mut hasher, parts) {
+    let mut gatherer = Gatherer::new();
+    match put_change(&mut gatherer, parts) {
         Ok(()) => {}
         Err(_) => unreachable!(),
     }
-    Hash(hasher.finalize())
+    Hash(gatherer.finish())
 }
 
 impl Change {

@@ -3,7 +3,6 @@
 ghost use Rattle.std.specs.Prelude.{◌≡◌, ℕ, List, IsOk, OnOk};
 ghost use Rattle.tp_change.specs.Puts.{Puts};
 
-use sha2::{Digest, Sha256};
 use std::alloc::AllocError;
 
 /// What takes bytes, one piece after another.
@@ -26,18 +25,5 @@ impl Sink for Vec<u8> {
 
     fn put(&mut self, bytes: &[u8]) -> Result<(), AllocError> {
         self.extend_from_slice(bytes)
-    }
-}
-
-impl Sink for Sha256 {
-    ghost use Rattle.sha2.specs.Hashers.{Holds256};
-
-    ghost holds = { λ s m. Holds256 s m };
-
-    ghost takes_all = { Unit {0} };
-
-    fn put(&mut self, bytes: &[u8]) -> Result<(), AllocError> {
-        self.update(bytes);
-        Ok(())
     }
 }

@@ -8,4 +8,4 @@ pub returns : goal.returns
 unfolding hash_of
 returns c =
     ap (λ (bytes : List ℕ). let h : Hash = record { 0 = bytes } in h)
-    (c.finalize.ensures (spelling c.args.parts.now) (c.in-Ok.ensures.puts.after [] c.new-hasher.ensures))
+    (c.finish.ensures (spelling c.args.parts.now) (c.in-Ok.ensures.puts.after [] c.new-gatherer.ensures))
