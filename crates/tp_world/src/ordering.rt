@@ -9,8 +9,12 @@ ghost use Rattle.tp_world.specs.Order.{IsOneList, pairs_of};
 use std::alloc::{AllocError, Global};
 use tp_change::Change;
 use tp_opid::OpId;
+use tp_posindex::BlockSequence;
 use tp_rga::{PlainSequence, Sequence};
 use tp_text::apply_change;
+
+// How many elements a sequence in blocks holds at most.
+const MOST_IN_BLOCKS: usize = 4_294_967_295;
 
 // A sequence with all elements of the changes.
 fn sequence_of<S: Sequence>(alloc: Global, changes: &[Change]) -> Result<S, AllocError>
@@ -38,12 +42,33 @@ fn elements_of<S: Sequence>(alloc: Global, sequence: &S) -> Result<Vec<(OpId, ch
     Ok(pairs)
 }
 
+// The elements of the changes, in a sequence that is made for them.
+fn order_in<S: Sequence>(alloc: Global, changes: &[Change]) -> Result<Vec<(OpId, char)>, AllocError>
+    requires { Sound changes.now }
+    ensures { IfOk result (λ v. IsOneList changes.now v.items) }
+{
+    let sequence: S = sequence_of(alloc, changes)?;
+    elements_of(alloc, &sequence)
+}
+
+// Whether the changes have no more operations than a sequence in blocks holds elements.
+fn fits_blocks(changes: &[Change]) -> bool {
+    let mut count: usize = 0;
+    for change in changes {
+        count = count.saturating_add(change.op_count());
+    }
+    count <= MOST_IN_BLOCKS
+}
+
 /// The one list of all elements that the changes insert, each with its identifier and its character. Each change is
-/// entered anew.
+/// entered anew, into blocks, or into a plain sequence where there are more elements than blocks hold.
 pub(crate) fn order_of(alloc: Global, changes: &[Change]) -> Result<Vec<(OpId, char)>, AllocError>
     requires { Sound changes.now }
     ensures { IfOk result (λ v. IsOneList changes.now v.items) }
 {
-    let sequence: PlainSequence = sequence_of(alloc, changes)?;
-    elements_of(alloc, &sequence)
+    if fits_blocks(changes) {
+        order_in::<BlockSequence>(alloc, changes)
+    } else {
+        order_in::<PlainSequence>(alloc, changes)
+    }
 }
