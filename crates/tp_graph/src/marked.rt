@@ -11,6 +11,7 @@ ghost use Rattle.tp_graph.specs.Marked.{IsMarked, AreMarked};
 use crate::before::put;
 use crate::judge::FEW;
 use crate::lists::push_within;
+use crate::own::next_to_look_at;
 use std::alloc::{AllocError, Global};
 use tp_change::Change;
 
@@ -61,7 +62,8 @@ pub(crate) fn keep(marked: &mut Vec<Marked>, place: usize, change: &Change, room
 }
 
 /// The marks of the change at the place, where they are kept. The entries stand in the order of their places, so it
-/// takes a number of comparisons that grows with the logarithm of their number; where they didn't, marks could be missed.
+/// takes a number of comparisons that grows with the logarithm of their number, and few for one of the latest; where they
+/// didn't, marks could be missed.
 pub(crate) fn find(marked: &[Marked], place: usize) -> Option<&[bool]>
     ensures { IfSome result (λ deletes. (C : List ChangeParts) → AreMarked C marked.now
         → (c : ChangeParts) → slice_get C place ≡ Some c → IsMarked c deletes.now) }
@@ -69,7 +71,7 @@ pub(crate) fn find(marked: &[Marked], place: usize) -> Option<&[bool]>
     let mut low = 0;
     let mut high = marked.len();
     while low < high {
-        let middle = low + (high - low) / 2;
+        let middle = next_to_look_at(low, high, marked.len());
         if marked[middle].place < place {
             low = middle + 1;
         } else {

@@ -11,6 +11,7 @@ ghost use Rattle.tp_graph.specs.Sound.{Sound, Fits};
 
 use crate::extent::Extent;
 use crate::lists::push_within;
+use crate::own::next_to_look_at;
 use std::alloc::Global;
 
 /// Stands for a past that isn't all before a place, or isn't known: no list has more changes.
@@ -49,8 +50,8 @@ fn span_of(past: &Option<Extent>) -> u32
 }
 
 /// The extent of the past of the change at the place, where it is kept apart. The entries stand in the order of their
-/// places, so it takes a number of comparisons that grows with the logarithm of their number; where they didn't, an
-/// extent could be missed.
+/// places, so it takes a number of comparisons that grows with the logarithm of their number, and few for one of the
+/// latest; where they didn't, an extent could be missed.
 pub(crate) fn find(apart: &[Apart], place: usize) -> Option<&Extent>
     ensures { IfSome result (λ extent. (C : List ChangeParts) → AreApart C apart.now
         → (c : ChangeParts) → slice_get C place ≡ Some c → IsExtent C c.deps extent.now) }
@@ -58,7 +59,7 @@ pub(crate) fn find(apart: &[Apart], place: usize) -> Option<&Extent>
     let mut low = 0;
     let mut high = apart.len();
     while low < high {
-        let middle = low + (high - low) / 2;
+        let middle = next_to_look_at(low, high, apart.len());
         if apart[middle].place < place {
             low = middle + 1;
         } else {
