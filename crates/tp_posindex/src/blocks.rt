@@ -212,6 +212,7 @@ impl Blocks {
 
     /// Where the number at an index of the whole list stands, or `None` past its end. It passes over four bytes for each
     /// 2,048 blocks before, and for up to 144 more.
+    #[inline(never)]
     pub fn spot_at(&self, index: usize) -> Option<Spot>
         ensures found { IfSome result
             (λ s. (s.block < length self.now.blocks)

@@ -213,6 +213,7 @@ impl Sequence for BlockSequence {
 
     /// The next element of a walk. Only the first of a walk is looked up: then the walk goes on in the block where it
     /// stands, and from there into the next.
+    #[inline]
     fn next_element(&self, walk: &mut Walk) -> Option<Seen> {
         match spot_from(&self.blocks, walk) {
             Some(spot) => {
