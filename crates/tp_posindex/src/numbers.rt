@@ -11,18 +11,44 @@ pub(crate) fn index_of(numbers: &[u32], number: usize) -> Option<usize>
     numbers.iter().position(|other| *other as usize == number)
 }
 
+/// How many counts are passed over by their sum, where they can be.
+const STRIDE: usize = 8;
+
+/// From an index on, past counts in which the `n`-th of what is counted doesn't fall, as long as they can be passed over
+/// by the sum of several: the index behind them, and how many are left to count then.
+fn skip(counts: &[u32], from: usize, n: usize) -> (usize, usize)
+    requires from { from ≤ length counts.now }
+    requires fits { sum counts.now < 2 ^ 64 }
+    ensures within { result.0 ≤ length counts.now }
+    ensures passed { sum (take result.0 counts.now) + result.1 ≡ sum (take from counts.now) + n }
+{
+    let mut index = from;
+    let mut left = n;
+    'strides: while counts.len() - index >= STRIDE {
+        let sum = total(&counts[index..index + STRIDE]);
+        if left < sum {
+            break;
+        }
+        left -= sum;
+        index += STRIDE;
+    }
+    (index, left)
+}
+
 /// From an index on, the index of the count in which the `n`-th of what is counted falls, from 0, and how many of it
-/// come before in that count; `None` where less is counted. One pass over the counts up to it.
+/// come before in that count; `None` where less is counted. One pass over the counts up to it, most of them eight at a
+/// time.
 pub(crate) fn nth_counted(counts: &[u32], from: usize, n: usize) -> Option<(usize, usize)>
-    requires { from ≤ length counts.now }
+    requires from { from ≤ length counts.now }
+    requires fits { sum counts.now < 2 ^ 64 }
     ensures found { IfSome result
         (λ r. (r.0 < length counts.now)
         × (sum (take r.0 counts.now) + r.1 ≡ sum (take from counts.now) + n)
         × (r.1 < slice_index_or counts.now r.0 0)) }
     ensures none { IfNone result (sum counts.now ≤ sum (take from counts.now) + n) }
 {
-    let mut left = n;
-    for index in from..counts.len() {
+    let (start, mut left) = skip(counts, from, n);
+    for index in start..counts.len() {
         let count = counts[index] as usize;
         if left < count {
             return Some((index, left));
