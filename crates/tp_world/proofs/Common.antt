@@ -9,7 +9,7 @@ pub use Rattle.tp_change.specs.ChangeHash.{hash_of}
 pub use Rattle.tp_change.specs.Elements.{deletes, inserts, next_counter}
 pub use Rattle.tp_change.specs.Spelling.{spelling}
 pub use Rattle.tp_change.specs.declared.parts.ChangeParts.{ChangeParts}
-pub use Rattle.tp_graph.proofs.NamedLaws.{In-has, has-In}
+pub use Rattle.tp_graph.proofs.NamedLaws.{In-has, has-In, has-append}
 pub use Rattle.tp_graph.proofs.SoundLaws.{Fits-at, Sound-prefix, hashes_apart}
 pub use Rattle.tp_graph.specs.Named.{HashesApart, has}
 pub use Rattle.tp_graph.specs.Sound.{Sound}
@@ -32,10 +32,11 @@ pub use Rattle.tp_headline.specs.declared.error.WorldError.TheVariants.{ActorUse
 pub use Rattle.tp_journal.proofs.RecordLaws.{length-record_of}
 pub use Rattle.tp_journal.specs.Layout.{journal, record_of, records_of}
 pub use Rattle.tp_journal.specs.Recovery.{IsHistory, Recovers, recovered}
-pub use Rattle.tp_list.proofs.Tests.{both, both_left, both_right, neither, never, or_left, or_right, truth}
+pub use Rattle.tp_list.proofs.Tests.{both, both_left, both_right, neither, never, not_true, or_cases, or_left, or_right, truth}
 pub use Rattle.tp_list.specs.Members.{AllIn, In}
-pub use Rattle.tp_opid.proofs.Orders.{same_actor-itself, same_actor-same, same_hash-same}
+pub use Rattle.tp_opid.proofs.Orders.{same_actor-itself, same_actor-same, same_hash-itself, same_hash-same}
 pub use Rattle.tp_opid.specs.Insert.{Insert}
+pub use Rattle.tp_opid.specs.Same.{same_hash}
 pub use Rattle.tp_opid.specs.declared.actor.Actor.{Actor}
 pub use Rattle.tp_opid.specs.declared.doc_id.DocId.{DocId}
 pub use Rattle.tp_opid.specs.declared.hash.Hash.{Hash}
@@ -48,6 +49,7 @@ pub use Rattle.tp_rga.specs.Order.{IsInOrder}
 pub use Rattle.tp_rga.specs.Shown.{element_of, shown}
 pub use Rattle.tp_world.specs.Judging.{AllRun, AllThere, IsFresh, Judges, Meets, PassesBefore, clashes_in, is_named}
 pub use Rattle.tp_world.specs.Lives.{member_data}
+pub use Rattle.tp_world.specs.Made.{AreNoted, IsNotedFor, IsReady, MadeData, is_noted}
 pub use Rattle.tp_world.specs.Making.{AnswersAt, IsRunningEdit, IsWould, Notes, entered_of, heads_named, is_kept_in, is_made}
 pub use Rattle.tp_world.specs.Members.{ArmsAt, MergesAt, OpensAgainAt, OpensOn, StepsAt, left_with}
 pub use Rattle.tp_world.specs.Order.{pairs_of}

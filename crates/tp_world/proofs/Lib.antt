@@ -3,6 +3,7 @@ pub mod RefusedEdits
 pub mod MemberLaws
 pub mod Happenings
 pub mod JudgeLaws
+pub mod MadeLaws
 pub mod Runs
 pub mod OrderLaws
 pub mod ForeignLaws

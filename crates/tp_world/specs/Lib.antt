@@ -4,5 +4,6 @@ pub mod Members
 pub mod Lives
 pub mod Judging
 pub mod Making
+pub mod Made
 pub mod Order
 pub mod States

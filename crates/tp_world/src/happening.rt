@@ -10,12 +10,14 @@ ghost use Rattle.tp_headline.specs.Refusing.{MayHappen};
 ghost use Rattle.tp_headline.specs.World.{beginning};
 ghost use Rattle.tp_peer.specs.PeerData.{PeerData};
 ghost use Rattle.tp_world.specs.Judging.{Meets};
+ghost use Rattle.tp_world.specs.Made.{IsReady};
 ghost use Rattle.tp_world.specs.Making.{AnswersAt, IsWould, JoinsAs, Notes, entered_of, heads_named, is_kept_in, is_made};
 ghost use Rattle.tp_world.specs.States.{world_of};
 ghost use Rattle.tp_world.specs.Told.{answer_of, call_of, during_of, event_of, reply_of};
 
 use crate::entry::Entry;
 use crate::event::{Call, Event};
+use crate::made::Made;
 use crate::member::{Member, record_len};
 use crate::members::{
     arm_at, call_at, disarm_at, fork_at, heads_at, journal_len_at, merge_at, receive_at, reopen_at,
@@ -29,9 +31,9 @@ use tp_headline::WorldError;
 use tp_opid::{Actor, DocId, Hash};
 use tp_peer::{Call as PeerCall, Outgoing, PeerError, Reply as PeerReply};
 
-// Puts the change behind those that were made, if it was. There is room for it.
-fn add_if(made: &mut Vec<Change>, change: Option<Change>, entered: bool)
-    requires { vec_len made.old < vec_capacity made.old }
+// Puts the change behind those that were made, if it was. There is room for it, and its hash is noted.
+fn add_if(made: &mut Made, change: Option<Change>, entered: bool)
+    requires { IsReady made.old change }
     ensures { made.new.items ≡ made.old.items ++ entered_of change entered }
 {
     if entered {
@@ -85,7 +87,7 @@ impl State {
             id,
             peers: Vec::new(alloc),
             wire: Vec::new(alloc),
-            made: Vec::new(alloc),
+            made: Made::new(alloc),
             used: Vec::new(alloc),
             reads: Vec::new(alloc),
         }
@@ -200,7 +202,7 @@ impl State {
         ensures { Meets (world_of self.old) (events.Call n (call_of call.entry)) (reply_of result)
             (world_of self.new) }
     {
-        if self.made.reserve(1).is_err() {
+        if self.made.prepare(&change).is_err() {
             return Reply::Refused(WorldError::OutOfMemory);
         }
         if self.wire.reserve(1).is_err() {
@@ -258,7 +260,7 @@ impl State {
         if self.used.reserve(1).is_err() {
             return Reply::Refused(WorldError::OutOfMemory);
         }
-        if self.made.reserve(1).is_err() {
+        if self.made.prepare(&change).is_err() {
             return Reply::Refused(WorldError::OutOfMemory);
         }
         disarm_at(&mut self.peers, n);

@@ -11,6 +11,7 @@ mod event;
 mod foreign;
 mod happening;
 mod judging;
+mod made;
 mod member;
 mod members;
 mod ordering;

@@ -12,8 +12,8 @@ ghost use Rattle.tp_world.specs.Told.{event_of};
 use crate::event::{Call, Event};
 use crate::foreign::carry_made;
 use crate::judging::{
-    actor_of, are_running, are_there, bytes_of, called_in, edit_change_at, entry_of, has_hash,
-    is_fresh, is_sent, keeps_whole, peers_of, running_of,
+    actor_of, are_running, are_there, bytes_of, called_in, edit_change_at, entry_of, is_fresh,
+    is_sent, keeps_whole, peers_of, running_of,
 };
 use crate::state::State;
 use tp_change::Change;
@@ -42,7 +42,7 @@ impl State {
         ensures err { IsOkUnless result OutOfMemory }
     {
         match bytes_of(event) {
-            Some(bytes) => carry_made(self.alloc, bytes, &self.made),
+            Some(bytes) => carry_made(self.alloc, bytes, self.made.as_slice()),
             None => Ok(true),
         }
     }
@@ -63,7 +63,7 @@ impl State {
         ensures { result ≡ clashes_in self.now.made.items (event_of event.now) change.now }
     {
         match change {
-            Some(change) => has_hash(&self.made, &change.hash()) && keeps_whole(event, change),
+            Some(change) => self.made.has(&change.hash()) && keeps_whole(event, change),
             None => false,
         }
     }

@@ -70,9 +70,10 @@ impl World {
     /// names. It may be refused as `OutOfMemory` at any time, where a growth of the world's own was refused.
     ///
     /// A step costs what its call on the peer costs, and what judging it takes. A new actor is compared with those that
-    /// were named. An edit is made twice, and its hash is compared with those of all changes that were made. Bytes of any
-    /// origin are decoded twice, and so is the hash of each change that they carry compared; one that was made is written
-    /// out, and so is the one with its hash. A message that was sent isn't judged. A crash opens the journal again.
+    /// were named. An edit is made twice, and its hash is looked up among those that were noted; only where it is there,
+    /// it is compared with those of all changes that were made. Bytes of any origin are decoded twice, and the hash of
+    /// each change that they carry is compared with those of all that were made; one that was made is written out, and so
+    /// is the one with its hash. A message that was sent isn't judged. A crash opens the journal again.
     pub fn step(&mut self, event: Event) -> Reply
         ensures next { Next self.old (event_of event.entry) (reply_of result) self.new }
         ensures headline { Headline self.new }
@@ -124,7 +125,7 @@ impl World {
         ensures list { IfOk result (λ v. IsOneList self.now.made v.items) }
         ensures err { IsOkUnless result OutOfMemory }
     {
-        match order_of(self.state.alloc, &self.state.made) {
+        match order_of(self.state.alloc, self.state.made.as_slice()) {
             Ok(list) => Ok(list),
             Err(_) => Err(WorldError::OutOfMemory),
         }

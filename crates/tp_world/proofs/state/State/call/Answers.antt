@@ -1,6 +1,7 @@
 use Rattle.tp_world.proofs.Common.{◌≡◌, ◌<◌, List, length, Some, false, inl, refl, sym, subst, slice_get, PeerData, Entry, World, AnswersAt, world_of, answer_of, call_of, reply_of}
 use Rattle.tp_world.proofs.Happenings.{call_meets, roomy}
 use Rattle.tp_world.proofs.JudgeLaws.{runs_there, sent_below, there_below}
+use Rattle.tp_world.proofs.MadeLaws.{ready_for}
 use Rattle.tp_headline.specs.Event as events
 use Rattle.tp_world.proofs.state.State.call.Goals as goal
 
@@ -14,18 +15,21 @@ answer-answer-requires-clause-peers c = λ m i. there_below (world_of c.args.sel
 
 pub answer-answer-requires-clause-entries : goal.answer-answer-requires-clause-entries
 answer-answer-requires-clause-entries c = λ k i.
-    subst (λ (l : List Entry). k < length l) (sym c.reserve-2.ensures.items) (sent_below (world_of c.args.self.now) (events.Call c.args.n (call_of c.args.call)) k c.requires.may i)
+    subst (λ (l : List Entry). k < length l) (sym c.reserve.ensures.items) (sent_below (world_of c.args.self.now) (events.Call c.args.n (call_of c.args.call)) k c.requires.may i)
 
 pub journal_len_at-before-requires : goal.journal_len_at-before-requires
 journal_len_at-before-requires c =
     subst (λ (l : List PeerData). c.args.n < length l) (sym c.deref-2.ensures.value) (there_below (world_of c.args.self.now) (events.Call c.args.n (call_of c.args.call)) c.args.n c.requires.may (inl refl))
+
+pub add_if-requires : goal.add_if-requires
+add_if-requires c = ready_for c.prepare.result c.is_err.result c.prepare.new.self c.answer-answer.new.self.made c.args.change c.is_err.ensures.value c.if-is_err.false c.prepare.ensures.ready c.answer-answer.ensures.made
 
 pub returns : goal.returns
 returns c =
     let w = world_of c.args.self.now in
     let m = world_of c.answer-answer.new.self in
     let answer = answer_of c.answer-answer.result in
-    let room = roomy w c.reserve.new.self.items c.reserve-2.new.self.items c.reserve-3.new.self.items c.reserve.ensures.items c.reserve-2.ensures.items c.reserve-3.ensures.items in
+    let room = roomy w c.prepare.new.self.items c.reserve.new.self.items c.reserve-2.new.self.items c.prepare.ensures.items c.reserve.ensures.items c.reserve-2.ensures.items in
     call_meets w m c.args.n (call_of c.args.call) c.args.change c.in-Ok.heads.items answer c.add_if.new.made.items c.journal_len_at-before.result c.journal_len_at.result c.saturating_sub-grown.result c.is_kept-whole.result
     (reply_of c.note.result) (world_of c.note.new.self)
     c.requires.carried c.requires.may c.requires.change

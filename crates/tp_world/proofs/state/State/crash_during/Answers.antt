@@ -1,6 +1,7 @@
 use Rattle.tp_world.proofs.Common.{◌≡◌, ◌<◌, List, length, Some, false, inl, refl, sym, ap, subst, slice_get, PeerData, arming, World, AnswersAt, world_of, answer_of, call_of, reply_of}
 use Rattle.tp_world.proofs.Happenings.{during_meets, entry_named, roomy_crash}
 use Rattle.tp_world.proofs.JudgeLaws.{sent_below, there_below}
+use Rattle.tp_world.proofs.MadeLaws.{ready_for}
 use Rattle.tp_world.proofs.MemberLaws.{set_below}
 use Rattle.tp_headline.specs.Event as events
 use Rattle.tp_world.proofs.state.State.crash_during.Goals as goal
@@ -33,6 +34,9 @@ reopen_at-opened-requires c =
     (set_below c.args.self.now.peers.items c.disarm_at.new.members.items c.args.n c.args.n (arming a.before false) a.left
     (there_below (world_of c.args.self.now) (events.Crash c.args.n (Some (call_of c.args.call)) c.args.kept c.args.actor) c.args.n c.requires.may (inl refl)))
 
+pub add_if-requires : goal.add_if-requires
+add_if-requires c = ready_for c.prepare.result c.is_err-2.result c.prepare.new.self c.answer-answer.new.self.made c.args.change c.is_err-2.ensures.value c.if-is_err-2.false c.prepare.ensures.ready c.answer-answer.ensures.made
+
 pub returns : goal.returns
 returns c =
     let w = world_of c.args.self.now in
@@ -40,7 +44,7 @@ returns c =
     let m = world_of c.answer-answer.new.self in
     let a = c.disarm_at.ensures in
     let answer = answer_of c.answer-answer.result in
-    let room = roomy_crash v c.reserve-2.new.self.items c.reserve.new.self.items c.reserve-2.ensures.items c.reserve.ensures.items in
+    let room = roomy_crash v c.prepare.new.self.items c.reserve.new.self.items c.prepare.ensures.items c.reserve.ensures.items in
     during_meets w v m c.args.n (call_of c.args.call) c.args.kept c.journal_len_at.result c.saturating_add-len.result c.args.actor c.args.change answer c.is_made_whole-whole.result c.add_if.new.made.items
     c.reopen_at-opened.new.members.items c.push_reserved.new.self.items (reply_of c.reopen_at-opened.result) c.requires.carried c.requires.may c.requires.change
     a (ap (λ (l : List PeerData). record w { peers = l }) a.left)
