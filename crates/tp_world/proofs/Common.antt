@@ -46,7 +46,7 @@ pub use Rattle.tp_peer.specs.PeerStep.{Edit, Merge, Merged, PeerStep, Refused, R
 pub use Rattle.tp_peer.specs.Taking.{Takes, journal_of, report_of}
 pub use Rattle.tp_peer.specs.declared.error.PeerError.{PeerError}
 pub use Rattle.tp_rga.specs.Order.{IsInOrder}
-pub use Rattle.tp_rga.specs.Shown.{element_of, shown}
+pub use Rattle.tp_rga.specs.Shown.{shown}
 pub use Rattle.tp_world.specs.Judging.{AllRun, AllThere, IsFresh, Judges, Meets, PassesBefore, clashes_in, is_named}
 pub use Rattle.tp_world.specs.Lives.{member_data}
 pub use Rattle.tp_world.specs.Made.{AreNoted, IsNotedFor, IsReady, MadeData, is_noted}

@@ -1,9 +1,11 @@
 -- The changes that were made, entered one after another.
-use Rattle.tp_world.proofs.Common.{◌≡◌, ℕ, zero, suc, ◌+◌, ◌<◌, List, [], ◌∷◌, ◌++◌, length, take, drop, get_or, Some, None, sym, ap, ◌∙◌, subst, add-one, arith, take-append-drop, slice_get, option_map, element_of, pairs_of, take_more, Insert, ChangeParts, inserts, IsInOrder, Sound, Fits-at, Sound-prefix}
+use Rattle.tp_world.proofs.Common.{◌≡◌, ℕ, zero, suc, ◌+◌, ◌<◌, List, [], ◌∷◌, ◌++◌, length, take, drop, get_or, Some, None, sym, ap, ◌∙◌, subst, add-one, take-append-drop, slice_get, option_map, pairs_of, take_all, take_more, Insert, ChangeParts, inserts, IsInOrder, Sound, Fits-at, Sound-prefix}
 use Rattle.std.proofs.Math.Seq.{drop-cons}
 use Rattle.tp_graph.proofs.TreeLaws.{inserts_tree}
 use Rattle.tp_opid.specs.declared.op_id.OpId.{OpId}
-use Rattle.tp_rga.specs.declared.element.Element.{Element}
+use Rattle.tp_rga.specs.declared.walk.Seen.{Seen}
+use Rattle.tp_rga.specs.Shown.{seen_of}
+use Rattle.tp_rga.proofs.Walking.{seen_end}
 use Rattle.tp_change.specs.Operations.{ops_of}
 use Rattle.tp_change.proofs.ElementLaws.{inserts-push}
 use Rattle.tp_text.specs.Applying.{CanApply, Extends}
@@ -33,17 +35,15 @@ next_placed C i x L M s lt is order grown =
 
 -- ---- the elements, one after another
 
-one_more : (R : List (OpId × OpId)) (L : List Insert) (k : ℕ) (e : Element) → Some e ≡ option_map (element_of R) (slice_get L k) → pairs_of (take (suc k) L) ≡ pairs_of (take k L) ++ (e.id, e.ch) ∷ []
+one_more : (R : List (OpId × OpId)) (L : List Insert) (k : ℕ) (e : Seen) → Some e ≡ option_map (seen_of R) (slice_get L k) → pairs_of (take (suc k) L) ≡ pairs_of (take k L) ++ (e.id, e.ch) ∷ []
 one_more R [] k e h = absurd cc
-one_more R (x ∷ L) zero e h = let same : e ≡ element_of R x = cc in ap (λ (y : Element). (y.id, y.ch) ∷ []) (sym same)
+one_more R (x ∷ L) zero e h = let same : e ≡ seen_of R x = cc in ap (λ (y : Seen). (y.id, y.ch) ∷ []) (sym same)
 one_more R (x ∷ L) (suc k) e h = ap (λ l. (x.id, x.ch) ∷ l) (one_more R L k e h)
 
 -- one element more
-pub pairs_more : (R : List (OpId × OpId)) (L : List Insert) (k : ℕ) (e : Element) → Some e ≡ option_map (element_of R) (slice_get L k) → pairs_of (take (k + 1) L) ≡ pairs_of (take k L) ++ (e.id, e.ch) ∷ []
-pairs_more R L k e h = ap (λ n. pairs_of (take n L)) (add-one k) ∙ one_more R L k e h
+pub pairs_more : (R : List (OpId × OpId)) (L : List Insert) (k n : ℕ) (e : Seen) → Some e ≡ option_map (seen_of R) (slice_get L k) → n ≡ k + 1 → pairs_of (take n L) ≡ pairs_of (take k L) ++ (e.id, e.ch) ∷ []
+pairs_more R L k n e h next = ap (λ m. pairs_of (take m L)) (next ∙ add-one k) ∙ one_more R L k e h
 
--- an element is there
-pub no_more : {A : Type 0} (R : List (OpId × OpId)) (L : List Insert) (k : ℕ) → k < length L → None ≡ option_map (element_of R) (slice_get L k) → A
-no_more R [] k h e = absurd (omega arith)
-no_more R (x ∷ L) zero h e = absurd cc
-no_more R (x ∷ L) (suc k) h e = no_more R L k (omega arith) e
+-- at the end of a walk there are all
+pub pairs_all : (R : List (OpId × OpId)) (L : List Insert) (k : ℕ) → None ≡ option_map (seen_of R) (slice_get L k) → pairs_of (take k L) ≡ pairs_of L
+pairs_all R L k end = ap pairs_of (take_all k L (seen_end R L k end))

@@ -10,7 +10,7 @@ use std::alloc::{AllocError, Global};
 use tp_change::Change;
 use tp_opid::OpId;
 use tp_posindex::BlockSequence;
-use tp_rga::{PlainSequence, Sequence};
+use tp_rga::{PlainSequence, Sequence, Walk};
 use tp_text::apply_change;
 
 // How many elements a sequence in blocks holds at most.
@@ -29,15 +29,14 @@ fn sequence_of<S: Sequence>(alloc: Global, changes: &[Change]) -> Result<S, Allo
     Ok(sequence)
 }
 
-// The elements of a sequence, deleted ones among them.
+// The elements of a sequence, deleted ones among them, by one walk over them.
 fn elements_of<S: Sequence>(alloc: Global, sequence: &S) -> Result<Vec<(OpId, char)>, AllocError>
     ensures { IfOk result (λ v. v.items ≡ pairs_of (S.placed sequence.now)) }
 {
-    let mut pairs = Vec::new(alloc);
-    for index in 0..sequence.all() {
-        if let Some(element) = sequence.element(index) {
-            pairs.push((element.id, element.ch))?;
-        }
+    let mut pairs = Vec::with_capacity(alloc, sequence.all())?;
+    let mut walk = Walk::start();
+    while let Some(element) = sequence.next_element(&mut walk) {
+        pairs.push((element.id, element.ch))?;
     }
     Ok(pairs)
 }

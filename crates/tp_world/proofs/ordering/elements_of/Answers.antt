@@ -1,18 +1,27 @@
-use Rattle.tp_world.proofs.Common.{◌++◌, ◌∷◌, [], ◌∙◌, sym, ap, length, ◌<◌, arith}
-use Rattle.tp_world.proofs.OrderLaws.{no_more, pairs_more}
+use Rattle.tp_world.proofs.Common.{◌++◌, ◌∷◌, [], sym, ap, ◌∙◌, arith}
+use Rattle.tp_rga.proofs.Walking.{seen_within}
+use Rattle.tp_world.proofs.OrderLaws.{pairs_all, pairs_more}
 use Rattle.tp_world.proofs.ordering.elements_of.Goals as goal
-use Rattle.tp_world.proofs.ordering.elements_of.Goals.{in-Some+in_ok-push, in_default}
 
-pub loop-index-preserved : goal.loop-index-preserved
-loop-index-preserved g c =
-    let R = g.S.Sequence.removals c.args.sequence.now in
-    let L = g.S.Sequence.placed c.args.sequence.now in
-    let k = c.loop-index.index in
-    elim c.match-element.branch [
-      | in-Some+in_ok-push w ↦
-          ap (λ v. v.items) w.pairs-is ∙ w.in_ok-push.ensures.items ∙ ap (λ l. l ++ (w.in-Some.element.id, w.in-Some.element.ch) ∷ []) c.loop-index.invariant
-          ∙ sym (pairs_more R L k w.in-Some.element w.in-Some.ensures)
-      | in_default w ↦
-          let within : k < length L = omega arith in
-          no_more R L k within (sym w.in_default.is ∙ c.element.ensures)
-    ]
+pub loop-element-preserved : goal.loop-element-preserved
+loop-element-preserved g c =
+    let s = g.S.Sequence in
+    let R = s.removals c.args.sequence.now in
+    let L = s.placed c.args.sequence.now in
+    let element = c.in-Some.element in
+    record {
+      noted = c.in-Some.ensures.spot;
+      pairs = c.in_ok-push.ensures.items ∙ ap (λ l. l ++ (element.id, element.ch) ∷ []) c.loop-element.invariant.pairs
+          ∙ sym (pairs_more R L c.loop-element.walk.index _ element c.in-Some.ensures.seen c.in-Some.ensures.next);
+    }
+
+pub loop-element-smaller : goal.loop-element-smaller
+loop-element-smaller g c =
+    let s = g.S.Sequence in
+    let within = seen_within (s.removals c.args.sequence.now) (s.placed c.args.sequence.now) c.loop-element.walk.index c.in-Some.element c.in-Some.ensures.seen in
+    omega (arith, c.in-Some.ensures.next)
+
+pub returns : goal.returns
+returns g c =
+    let s = g.S.Sequence in
+    c.loop-element.invariant.pairs ∙ pairs_all (s.removals c.args.sequence.now) (s.placed c.args.sequence.now) c.loop-element.walk.index (sym c.in_default.is ∙ c.next_element.ensures.seen)

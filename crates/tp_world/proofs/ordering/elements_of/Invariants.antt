@@ -1,6 +1,14 @@
-use Rattle.tp_world.proofs.Common.{◌≡◌, take, pairs_of}
+use Rattle.std.specs.Prelude.{IfSome}
+use Rattle.tp_world.proofs.Common.{◌≡◌, ◌-◌, length, take, pairs_of}
 use Rattle.tp_world.proofs.ordering.elements_of.Given as goal
 
--- the elements so far
-abbrev pub invariant-loop-index : goal.invariant-loop-index
-invariant-loop-index g l = l.pairs.items ≡ pairs_of (take l.index (g.S.Sequence.placed l.sequence))
+-- the elements that the walk has passed
+abbrev pub invariant-loop-element : goal.invariant-loop-element
+invariant-loop-element g l =
+    let s = g.S.Sequence in record {
+      noted : IfSome l.walk.spot (λ spot. s.stands_at l.sequence spot l.walk.index);
+      pairs : l.pairs.items ≡ pairs_of (take l.walk.index (s.placed l.sequence));
+    }
+
+abbrev pub decreases-loop-element : goal.decreases-loop-element
+decreases-loop-element g l = length (g.S.Sequence.placed l.sequence) - l.walk.index
