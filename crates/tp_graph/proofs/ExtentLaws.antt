@@ -56,6 +56,16 @@ pub reached-stop : (C : List ChangeParts) (T : List ℕ) (k i : ℕ) → k < len
 reached-stop C T k i small e t =
     sym (sym e ∙ reached-drop C T k i small ∙ ap (λ b. b || is_reached C (drop (k + 1) T) i) t)
 
+always : (b : Bool) → true ≡ (b || true)
+always true = refl
+always false = refl
+
+-- a tip that reaches the place does, whatever its number
+pub reached-at : (C : List ChangeParts) (T : List ℕ) (k i : ℕ) → k < length T → reaches C (get_or T k 0) i ≡ true → true ≡ is_reached C T i
+reached-at C [] k i small t = absurd (omega arith)
+reached-at C (x ∷ T) zero i small t = sym (ap (λ b. b || is_reached C T i) t)
+reached-at C (x ∷ T) (suc k) i small t = always (reaches C x i) ∙ ap (λ b. reaches C x i || b) (reached-at C T k i (omega arith) t)
+
 pub reached-on : (C : List ChangeParts) (T : List ℕ) (k i : ℕ) → k < length T → is_reached C (drop k T) i ≡ is_reached C T i → reaches C (get_or T k 0) i ≡ false → is_reached C (drop (k + 1) T) i ≡ is_reached C T i
 reached-on C T k i small e f =
     sym (sym e ∙ reached-drop C T k i small ∙ ap (λ b. b || is_reached C (drop (k + 1) T) i) f)

@@ -2,6 +2,7 @@
 //! comparison of places, and no walk.
 
 ghost use Rattle.std.specs.Prelude.{◌≡◌, ℕ, ◌+◌, ◌<◌, ◌≤◌, ◌||◌, ◌∷◌, [], true, length, take, IsTrue, IfOk, OnOk};
+ghost use Rattle.std.specs.Option.{is_some};
 ghost use Rattle.std.specs.declared.cmp.Ordering.TheVariants.{Equal};
 ghost use Rattle.tp_change.specs.Elements as made;
 ghost use Rattle.tp_graph.specs.Extents as extents;
@@ -163,12 +164,27 @@ impl Applied {
         requires place { place < length self.now.changes }
         ensures { result ≡ extents.is_reached self.now.changes tips.now place }
     {
-        for i in 0..tips.len() {
-            if self.reaches(tips[i] as usize, place) {
-                return true;
+        self.reaching(tips, tips.len(), place).is_some()
+    }
+
+    // The number of a tip that reaches the place, if there is one. The one with the number `first` is looked at before the
+    // others: changes of one actor often stand one behind another.
+    fn reaching(&self, tips: &[u32], first: usize, place: usize) -> Option<usize>
+        requires tips { ArePlaces self.now.changes tips.now }
+        requires place { place < length self.now.changes }
+        ensures { is_some result ≡ extents.is_reached self.now.changes tips.now place }
+    {
+        if first < tips.len() {
+            if self.reaches(tips[first] as usize, place) {
+                return Some(first);
             }
         }
-        false
+        for i in 0..tips.len() {
+            if self.reaches(tips[i] as usize, place) {
+                return Some(i);
+            }
+        }
+        None
     }
 
     // Takes the next tip of the two lists, and says how many of each are taken then: of two that are of one actor the
@@ -249,12 +265,14 @@ impl Applied {
             ≡ extents.is_held self.now.changes prefix tips.now i }
     {
         let mut next = prefix;
+        let mut latest = 0;
         for step in 0..MOST_STEPS {
             if next == self.len() {
                 return next;
             }
-            if !self.is_reached(tips, next) {
-                return next;
+            match self.reaching(tips, latest, next) {
+                Some(number) => latest = number,
+                None => return next,
             }
             next += 1;
         }
