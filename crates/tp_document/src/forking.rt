@@ -1,6 +1,6 @@
 //! Copies of documents.
 
-ghost use Rattle.std.specs.Prelude.{◌≡◌, ◌↔◌, ◌⊎◌, ◌<◌, ◌≤◌, ℕ, [], ◌∷◌, ◌++◌, None, false, length, IfOk, IfErr, IsOkUnless, OnOk};
+ghost use Rattle.std.specs.Prelude.{◌≡◌, ◌↔◌, ◌⊎◌, ◌<◌, ◌≤◌, ℕ, [], ◌∷◌, ◌++◌, None, false, length, IfOk, IfErr, IfSome, IsOkUnless, OnOk};
 ghost use Rattle.tp_document.specs.Common.{cause, most_changes, Sound, In, has_all};
 ghost use Rattle.tp_graph.specs.Past as pasts;
 ghost use Rattle.tp_document.specs.DocState.{HasJust};
@@ -9,7 +9,7 @@ ghost use Rattle.tp_document.specs.declared.error.DocError.TheVariants.{OutOfMem
 
 use crate::document::Document;
 use crate::error::DocError;
-use std::alloc::Global;
+use std::alloc::{AllocError, Global};
 use tp_change::Change;
 use tp_graph::GraphError;
 use tp_opid::{DocId, Hash};
@@ -74,13 +74,41 @@ fn document_at<S: Sequence>(
 }
 
 impl<S: Sequence> Document<S> {
+    // A copy of the document as it stands, but for what waits; `None` where its sequence has to be made anew.
+    fn copied(&self) -> Result<Option<Document<S>>, AllocError>
+        ensures { IfOk result (λ copy. IfSome copy (HasJust self.now.id self.now.applied)) }
+    {
+        let sequence = match self.sequence.copied(self.alloc)? {
+            Some(sequence) => sequence,
+            None => return Ok(None),
+        };
+        match self.graph.copied() {
+            Ok(graph) => Ok(Some(Document {
+                alloc: self.alloc,
+                id: self.id,
+                graph,
+                sequence,
+            })),
+            Err(error) => {
+                drop(sequence);
+                Err(error)
+            }
+        }
+    }
+
     /// A document with the same identifier and copies of the applied changes; nothing waits in it. The only refusal
-    /// is `OutOfMemory`. It enters each change anew without judging it, which joins the pasts of its dependencies where they aren't all heads.
+    /// is `OutOfMemory`. The changes are copied one by one, and what is kept beside them as it stands. Where the sequence
+    /// can't be copied so, each change is entered anew without judging it, which joins the pasts of its dependencies where
+    /// they aren't all heads.
     pub fn fork(&self) -> Result<Document<S>, DocError>
         ensures ok { IfOk result (λ d. HasJust self.now.id self.now.applied d) }
         ensures err { IsOkUnless result OutOfMemory }
     {
-        document_of(self.alloc, self.id, self.changes())
+        match self.copied() {
+            Ok(Some(copy)) => Ok(copy),
+            Ok(None) => document_of(self.alloc, self.id, self.changes()),
+            Err(_) => Err(DocError::OutOfMemory),
+        }
     }
 
     /// A document with the same identifier and copies of the past of the hashes: the changes that have them and all

@@ -27,3 +27,4 @@ pub mod BeforeLaws
 pub mod MarkedLaws
 pub mod PastsLaws
 pub mod NotesLaws
+pub mod CopyLaws

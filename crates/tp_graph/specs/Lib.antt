@@ -19,6 +19,7 @@ pub mod ByActor
 pub mod Clocks
 pub mod AppliedState
 pub mod Lists
+pub mod Copies
 pub mod Kept
 pub mod Answers
 pub mod Since

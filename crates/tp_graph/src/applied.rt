@@ -104,6 +104,21 @@ impl Applied {
         }
     }
 
+    /// The same changes, copied, with what is kept beside them as it stands. Nothing is made ready in the copy.
+    pub(crate) fn copied(&self) -> Result<Applied, AllocError>
+        ensures changes { IfOk result (λ a. a.changes ≡ self.now.changes) }
+        ensures room { IfOk result (λ a. a.room ≡ None) }
+    {
+        Ok(Applied {
+            alloc: self.alloc,
+            lists: self.lists.copied(self.alloc)?,
+            next: self.next,
+            index: self.index.clone()?,
+            by_actor: self.by_actor.clone()?,
+            room: None,
+        })
+    }
+
     /// Where memory is taken from.
     pub(crate) fn alloc(&self) -> Global {
         self.alloc

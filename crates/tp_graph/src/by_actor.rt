@@ -8,6 +8,7 @@ ghost use Rattle.tp_opid.specs.declared.actor.Actor.{Actor};
 ghost use Rattle.tp_opid.specs.Same.{same_actor};
 ghost use Rattle.tp_change.specs.declared.parts.ChangeParts.{ChangeParts};
 ghost use Rattle.tp_graph.specs.ByActor.{actor_word, listed_places, option_items, place_by, place_if_by, places_of, AreBelow, HasActorAt, IsOwn, IsByActor};
+ghost use Rattle.tp_graph.specs.Copies.{AreSamePlaces};
 ghost use Rattle.tp_graph.specs.Fit.{most_changes};
 ghost use Rattle.tp_graph.specs.Places.{noted_word};
 ghost use Rattle.tp_graph.specs.Sound.{Sound};
@@ -31,6 +32,16 @@ impl Model for Places {
     ghost Value = { List ℕ };
 
     ghost view = { λ p. p.items.items };
+}
+
+impl Clone for Places {
+    ghost is_clone = { λ p q. q ≡ p };
+
+    fn clone(&self) -> Result<Places, AllocError> {
+        Ok(Places {
+            items: Vec::from_slice(*self.items.allocator(), self.items.as_slice())?,
+        })
+    }
 }
 
 impl Places {
@@ -72,6 +83,18 @@ pub(crate) struct ByActor {
     firsts: BTreeMap<u32, u32>,
     lists: BTreeMap<Actor, Places>,
     listed: usize,
+}
+
+impl Clone for ByActor {
+    ghost is_clone = { AreSamePlaces };
+
+    fn clone(&self) -> Result<ByActor, AllocError> {
+        Ok(ByActor {
+            firsts: self.firsts.clone()?,
+            lists: self.lists.clone()?,
+            listed: self.listed,
+        })
+    }
 }
 
 // The first 4 bytes of the actor as a number.

@@ -5,6 +5,7 @@ ghost use Rattle.std.specs.Prelude.{◌≡◌, ℕ, ◌+◌, ◌<◌, ◌≤◌,
 ghost use Rattle.std.specs.Option.{is_some};
 ghost use Rattle.std.specs.declared.cmp.Ordering.TheVariants.{Equal};
 ghost use Rattle.tp_change.specs.Elements as made;
+ghost use Rattle.tp_graph.specs.Copies.{IsSameExtent};
 ghost use Rattle.tp_graph.specs.Extents as extents;
 ghost use Rattle.tp_graph.specs.Extents.{ArePlaces, IsPlaced, IsExtent, IsKnown, HasTaken};
 ghost use Rattle.tp_graph.specs.Fit.{most_changes};
@@ -41,6 +42,17 @@ pub(crate) struct Room {
     pub(crate) deps: Option<Vec<Hash>>,
     pub(crate) past: Option<Extent>,
     pub(crate) deletes: Vec<bool>,
+}
+
+impl Clone for Extent {
+    ghost is_clone = { IsSameExtent };
+
+    fn clone(&self) -> Result<Extent, AllocError> {
+        Ok(Extent {
+            prefix: self.prefix,
+            tips: Vec::from_slice(*self.tips.allocator(), self.tips.as_slice())?,
+        })
+    }
 }
 
 // The greater of two places.

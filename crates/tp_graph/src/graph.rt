@@ -81,6 +81,22 @@ impl Graph {
         }
     }
 
+    /// A graph with copies of the applied changes, in their order; nothing waits in it, and no room is made. The only
+    /// refusal is that memory is short.
+    ///
+    /// The changes are copied one by one, and what is kept beside them as it stands: nothing is judged and no past is
+    /// joined. It takes as much memory as the graph without what waits.
+    pub fn copied(&self) -> Result<Graph, AllocError>
+        ensures applied { IfOk result (λ g. g.applied ≡ self.now.applied) }
+        ensures waiting { IfOk result (λ g. g.waiting ≡ []) }
+        ensures room { IfOk result (λ g. g.room ≡ None) }
+    {
+        Ok(Graph {
+            applied: self.applied.copied()?,
+            waiting: Vec::new(self.applied.alloc()),
+        })
+    }
+
     /// The applied changes, in the order in which they entered: dependencies stand before dependents. At most
     /// 4,294,967,295.
     pub fn changes(&self) -> &[Change]

@@ -51,6 +51,17 @@ impl Model for Index {
     ghost view = { λ a. record { slots = a.slots.items; hashes = a.clashing.entries } };
 }
 
+impl Clone for Index {
+    ghost is_clone = { λ a b. b ≡ a };
+
+    fn clone(&self) -> Result<Index, AllocError> {
+        Ok(Index {
+            slots: Vec::from_slice(*self.slots.allocator(), self.slots.as_slice())?,
+            clashing: self.clashing.clone()?,
+        })
+    }
+}
+
 // The first 4 bytes of the hash as a number.
 #[tactic(auto, unfolding(crate::specs::Notes::first_word))]
 fn word_of(hash: &Hash) -> u32

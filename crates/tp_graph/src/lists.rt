@@ -1,10 +1,11 @@
 //! The lists of a graph: its changes, and what is kept for each.
 
-ghost use Rattle.std.specs.Prelude.{◌≡◌, [], ◌∷◌, ◌++◌, OnOk, vec_len, vec_capacity, ◌<◌};
+ghost use Rattle.std.specs.Prelude.{◌≡◌, [], ◌∷◌, ◌++◌, IfOk, OnOk, vec_len, vec_capacity, ◌<◌};
 ghost use Rattle.tp_list.specs.Rising as list;
 ghost use Rattle.tp_opid.specs.Order.{hash_cmp};
 ghost use Rattle.tp_change.specs.ChangeHash.{hash_of};
 ghost use Rattle.tp_graph.specs.Before.{IsClear};
+ghost use Rattle.tp_graph.specs.Copies.{AreSameLists};
 ghost use Rattle.tp_graph.specs.Extents.{IsKnown};
 ghost use Rattle.tp_graph.specs.Heads as head;
 ghost use Rattle.tp_graph.specs.Lists.{HasRoom, HasSameItems, AreEmpty};
@@ -56,6 +57,20 @@ pub(crate) fn narrow(counter: u64) -> u32
     }
 }
 
+// Copies of the changes, one by one.
+fn copies_of(alloc: Global, changes: &[Change]) -> Result<Vec<Change>, AllocError>
+    ensures { IfOk result (λ v. v.items ≡ changes.now) }
+{
+    let mut copies = Vec::with_capacity(alloc, changes.len())?;
+    for change in changes {
+        match change.copy() {
+            Ok(copied) => copies.push(copied)?,
+            Err(_) => return Err(AllocError),
+        }
+    }
+    Ok(copies)
+}
+
 impl Lists {
     /// No changes. It takes no memory.
     pub(crate) fn new(alloc: Global) -> Lists
@@ -68,6 +83,19 @@ impl Lists {
             pasts: Pasts::new(alloc),
             marked: Vec::new(alloc),
         }
+    }
+
+    /// Equal lists. The changes are copied one by one, and what is kept of them as it stands.
+    pub(crate) fn copied(&self, alloc: Global) -> Result<Lists, AllocError>
+        ensures { IfOk result (AreSameLists self.now) }
+    {
+        Ok(Lists {
+            changes: copies_of(alloc, self.changes.as_slice())?,
+            heads: Vec::from_slice(alloc, self.heads.as_slice())?,
+            ends: Vec::from_slice(alloc, self.ends.as_slice())?,
+            pasts: self.pasts.clone()?,
+            marked: self.marked.clone()?,
+        })
     }
 
     /// Makes room for one more change. Room that was there stays.

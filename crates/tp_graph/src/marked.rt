@@ -6,6 +6,7 @@ ghost use Rattle.std.specs.List.{slice_get};
 ghost use Rattle.tp_change.specs.declared.parts.ChangeParts.{ChangeParts};
 ghost use Rattle.tp_change.specs.Operations.{op_count};
 ghost use Rattle.tp_graph.specs.Before.{IsClear};
+ghost use Rattle.tp_graph.specs.Copies.{IsSameMarked};
 ghost use Rattle.tp_graph.specs.Marked.{IsMarked, AreMarked};
 
 use crate::before::put;
@@ -20,6 +21,17 @@ use tp_change::Change;
 pub(crate) struct Marked {
     pub(crate) place: usize,
     pub(crate) deletes: Vec<bool>,
+}
+
+impl Clone for Marked {
+    ghost is_clone = { IsSameMarked };
+
+    fn clone(&self) -> Result<Marked, AllocError> {
+        Ok(Marked {
+            place: self.place,
+            deletes: Vec::from_slice(*self.deletes.allocator(), self.deletes.as_slice())?,
+        })
+    }
 }
 
 /// Room for the marks of the change: none where it has few operations.

@@ -5,6 +5,7 @@ ghost use Rattle.std.specs.Prelude.{◌≡◌, ◌<◌, ◌≤◌, List, [], ◌
 ghost use Rattle.std.specs.List.{slice_get};
 ghost use Rattle.tp_opid.specs.declared.hash.Hash.{Hash as HashOf};
 ghost use Rattle.tp_change.specs.declared.parts.ChangeParts.{ChangeParts};
+ghost use Rattle.tp_graph.specs.Copies.{IsSameApart, AreSamePasts};
 ghost use Rattle.tp_graph.specs.Extents.{IsExtent, IsKnown};
 ghost use Rattle.tp_graph.specs.Pasts.{IsSpan, AreApart, ArePasts};
 ghost use Rattle.tp_graph.specs.Sound.{Sound, Fits};
@@ -12,7 +13,7 @@ ghost use Rattle.tp_graph.specs.Sound.{Sound, Fits};
 use crate::extent::Extent;
 use crate::lists::push_within;
 use crate::own::next_to_look_at;
-use std::alloc::Global;
+use std::alloc::{AllocError, Global};
 
 /// Stands for a past that isn't all before a place, or isn't known: no list has more changes.
 pub(crate) const APART: u32 = 4_294_967_295;
@@ -24,12 +25,34 @@ pub(crate) struct Apart {
     pub(crate) extent: Extent,
 }
 
+impl Clone for Apart {
+    ghost is_clone = { IsSameApart };
+
+    fn clone(&self) -> Result<Apart, AllocError> {
+        Ok(Apart {
+            place: self.place,
+            extent: self.extent.clone()?,
+        })
+    }
+}
+
 /// For each change the place before which all changes are its past, or `APART`; and the extents of pasts that are no
 /// such ones.
 #[derive(Drop)]
 pub(crate) struct Pasts {
     pub(crate) prefixes: Vec<u32>,
     pub(crate) apart: Vec<Apart>,
+}
+
+impl Clone for Pasts {
+    ghost is_clone = { AreSamePasts };
+
+    fn clone(&self) -> Result<Pasts, AllocError> {
+        Ok(Pasts {
+            prefixes: Vec::from_slice(*self.prefixes.allocator(), self.prefixes.as_slice())?,
+            apart: self.apart.clone()?,
+        })
+    }
 }
 
 // The prefix of the extent, where it holds no more than that; else `APART`.

@@ -43,6 +43,20 @@ impl Block {
         self.numbers.as_slice()
     }
 
+    /// A block with the same numbers.
+    pub fn copied(&self) -> Block
+        ensures { result ≡ self.now }
+    {
+        let mut numbers = ArrayVec::new();
+        if numbers
+            .try_extend_from_slice(self.numbers.as_slice())
+            .is_err()
+        {
+            unreachable!()
+        }
+        Block { numbers }
+    }
+
     /// Puts a number in at an offset. It moves those behind it.
     pub fn put(&mut self, offset: usize, number: u32)
         requires offset { offset ≤ length self.old }

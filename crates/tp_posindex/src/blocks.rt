@@ -1,6 +1,6 @@
 //! The numbers of elements in blocks, in the order of the text, with a flag for each that is deleted.
 
-ghost use Rattle.std.specs.Prelude.{◌≡◌, ℕ, ◌+◌, ◌-◌, ◌^◌, ◌<◌, ◌≤◌, Bool, true, false, not, [], ◌∷◌, ◌++◌, length, take, drop, filter, insert, slice_set, slice_index_or, IfSome, IfNone, IsOk, IsTrue, OnOk, OnErr};
+ghost use Rattle.std.specs.Prelude.{◌≡◌, ℕ, ◌+◌, ◌-◌, ◌^◌, ◌<◌, ◌≤◌, Bool, true, false, not, [], ◌∷◌, ◌++◌, length, take, drop, filter, insert, slice_set, slice_index_or, IfSome, IfNone, IsOk, IsTrue, IfOk, OnOk, OnErr};
 ghost use Rattle.std.specs.List.{All};
 ghost use Rattle.tp_list.specs.Members.{In};
 ghost use Rattle.tp_posindex.specs.Layout.{joined, block_at, index_at, IsGap, StandsAt, AreSized};
@@ -79,6 +79,30 @@ impl Blocks {
                 offset: 0,
             },
         }
+    }
+
+    /// The same numbers in the same blocks, with the same flags. Where memory is short it is an `Err`.
+    pub fn copied(&self, alloc: Global) -> Result<Blocks, AllocError>
+        ensures blocks { IfOk result (λ copy. copy.blocks ≡ self.now.blocks) }
+        ensures flags { IfOk result (λ copy. copy.flags ≡ self.now.flags) }
+    {
+        let pool = copies(alloc, &self.pool)?;
+        let order = Vec::from_slice(alloc, self.order.as_slice())?;
+        let index = Vec::from_slice(alloc, self.index.as_slice())?;
+        let lens = self.lens.copied(alloc)?;
+        let visible = self.visible.copied(alloc)?;
+        let home = Vec::from_slice(alloc, self.home.as_slice())?;
+        let deleted = Vec::from_slice(alloc, self.deleted.as_slice())?;
+        Ok(Blocks {
+            pool,
+            order,
+            index,
+            lens,
+            visible,
+            home,
+            deleted,
+            recent: self.recent,
+        })
     }
 
     /// Makes room for `n` more numbers, wherever they go. Where memory is short, or there would be more than
@@ -422,6 +446,17 @@ impl Blocks {
         self.deleted[number] = true;
         self.visible.lower(spot.block, 1);
     }
+}
+
+/// Blocks with the same numbers, in their order.
+fn copies(alloc: Global, pool: &[Block]) -> Result<Vec<Block>, AllocError>
+    ensures { IfOk result (λ copy. copy.items ≡ pool.now) }
+{
+    let mut copy = Vec::with_capacity(alloc, pool.len())?;
+    for block in pool {
+        copy.push(block.copied())?;
+    }
+    Ok(copy)
 }
 
 /// Says of each number that its home is a block.

@@ -1,6 +1,6 @@
 //! Entries in two columns: their characters, and rows of what else they have.
 
-ghost use Rattle.std.specs.Prelude.{◌≡◌, ◌+◌, ◌<◌, ◌≤◌, [], ◌∷◌, ◌++◌, length, IsOk, OnOk};
+ghost use Rattle.std.specs.Prelude.{◌≡◌, ◌+◌, ◌<◌, ◌≤◌, [], ◌∷◌, ◌++◌, length, IsOk, OnOk, IfOk};
 ghost use Rattle.tp_posindex.specs.Entered.{entry_at, IsNumberBelow};
 ghost use Rattle.tp_posindex.specs.Columns.{reference_of};
 
@@ -49,6 +49,15 @@ impl Columns {
             rows: Vec::new(alloc),
             chars: Vec::new(alloc),
         }
+    }
+
+    /// The same entries. Where memory is short it is an `Err`.
+    pub fn copied(&self, alloc: Global) -> Result<Columns, AllocError>
+        ensures { IfOk result (λ copy. copy.items ≡ self.now.items) }
+    {
+        let rows = Vec::from_slice(alloc, self.rows.as_slice())?;
+        let chars = Vec::from_slice(alloc, self.chars.as_slice())?;
+        Ok(Columns { rows, chars })
     }
 
     /// Makes room for `n` more entries. Where memory is short it is an `Err`, and the entries stay.

@@ -1,6 +1,6 @@
 //! Counts in an order, with sums of groups of them.
 
-ghost use Rattle.std.specs.Prelude.{◌≡◌, ◌+◌, ◌-◌, ◌*◌, ◌^◌, ◌<◌, ◌≤◌, [], length, take, sum, insert, slice_set, slice_index_or, vec_capacity, IsOk, OnOk, IfSome, IfNone};
+ghost use Rattle.std.specs.Prelude.{◌≡◌, ◌+◌, ◌-◌, ◌*◌, ◌^◌, ◌<◌, ◌≤◌, [], length, take, sum, insert, slice_set, slice_index_or, vec_capacity, IsOk, OnOk, IfOk, IfSome, IfNone};
 ghost use Rattle.tp_posindex.specs.Counted.{AreSums, IsGrouped, split_at};
 
 use crate::numbers::{nth_counted, total};
@@ -53,6 +53,20 @@ impl Counts {
             sums: Vec::new(alloc),
             range_sums: Vec::new(alloc),
         }
+    }
+
+    /// The same counts, with the sums as they are. Where memory is short it is an `Err`.
+    pub fn copied(&self, alloc: Global) -> Result<Counts, AllocError>
+        ensures { IfOk result (λ copy. copy.counts ≡ self.now.counts) }
+    {
+        let counts = Vec::from_slice(alloc, self.counts.as_slice())?;
+        let sums = Vec::from_slice(alloc, self.sums.as_slice())?;
+        let range_sums = Vec::from_slice(alloc, self.range_sums.as_slice())?;
+        Ok(Counts {
+            counts,
+            sums,
+            range_sums,
+        })
     }
 
     /// Makes room for `n` more counts. Where memory is short it is an `Err`, and the counts stay.

@@ -1,6 +1,6 @@
 //! The elements by number, with an index by identifier.
 
-ghost use Rattle.std.specs.Prelude.{◌≡◌, ◌+◌, ◌^◌, ◌<◌, ◌≤◌, [], ◌∷◌, ◌++◌, length, position, IsOk, OnOk};
+ghost use Rattle.std.specs.Prelude.{◌≡◌, ◌+◌, ◌^◌, ◌<◌, ◌≤◌, [], ◌∷◌, ◌++◌, length, position, IsOk, OnOk, IfOk};
 ghost use Rattle.tp_opid.specs.Insert.{Insert};
 ghost use Rattle.tp_opid.specs.Same.{id_eq};
 ghost use Rattle.tp_opid.specs.Tree.{HasReference};
@@ -59,6 +59,21 @@ impl Elements {
             links: Vec::new(alloc),
             rising: true,
         }
+    }
+
+    /// The same elements, with the index as it is. Where memory is short it is an `Err`.
+    pub fn copied(&self, alloc: Global) -> Result<Elements, AllocError>
+        ensures { IfOk result (λ copy. copy.items ≡ self.now.items) }
+    {
+        let entries = self.entries.copied(alloc)?;
+        let latest = Vec::from_slice(alloc, self.latest.as_slice())?;
+        let links = Vec::from_slice(alloc, self.links.as_slice())?;
+        Ok(Elements {
+            entries,
+            latest,
+            links,
+            rising: self.rising,
+        })
     }
 
     /// Makes room for `n` more elements, of whatever actors. Where memory is short, or there would be more than

@@ -1,6 +1,6 @@
 //! The elements by number, as entries of 20 bytes.
 
-ghost use Rattle.std.specs.Prelude.{◌≡◌, ◌+◌, ◌-◌, ◌^◌, ◌<◌, ◌≤◌, [], ◌∷◌, ◌++◌, length, position, vec_len, vec_capacity, IsOk, OnOk, IfSome};
+ghost use Rattle.std.specs.Prelude.{◌≡◌, ◌+◌, ◌-◌, ◌^◌, ◌<◌, ◌≤◌, [], ◌∷◌, ◌++◌, length, position, vec_len, vec_capacity, IsOk, OnOk, IfOk, IfSome};
 ghost use Rattle.tp_opid.specs.Insert.{Insert};
 ghost use Rattle.tp_opid.specs.Same.{id_eq};
 ghost use Rattle.tp_posindex.specs.Blocked.{element_at};
@@ -54,6 +54,15 @@ impl Entries {
             columns: Columns::new(alloc),
             actors: Vec::new(alloc),
         }
+    }
+
+    /// The same elements. Where memory is short it is an `Err`.
+    pub fn copied(&self, alloc: Global) -> Result<Entries, AllocError>
+        ensures { IfOk result (λ copy. copy.items ≡ self.now.items) }
+    {
+        let columns = self.columns.copied(alloc)?;
+        let actors = Vec::from_slice(alloc, self.actors.as_slice())?;
+        Ok(Entries { columns, actors })
     }
 
     /// Makes room for `n` more elements, of whatever actors. Where memory is short, or there would be more than

@@ -1,7 +1,7 @@
 //! A sequence whose elements stand in blocks.
 
 ghost use Rattle.tp_opid.specs.Tree.{IsThere, IsNew};
-ghost use Rattle.std.specs.Prelude.{◌≡◌, ◌↔◌, ℕ, ◌+◌, ◌-◌, ◌^◌, ◌<◌, ◌≤◌, List, [], ◌∷◌, ◌++◌, length, IsTrue, IsOk, OnOk, OnErr, Some, MatchOption, IfSome, IfNone, slice_get};
+ghost use Rattle.std.specs.Prelude.{◌≡◌, ◌↔◌, ℕ, ◌+◌, ◌-◌, ◌^◌, ◌<◌, ◌≤◌, List, [], ◌∷◌, ◌++◌, length, IsTrue, IsOk, OnOk, OnErr, Some, MatchOption, IfOk, IfSome, IfNone, IsSome, slice_get};
 ghost use Rattle.tp_opid.specs.declared.op_id.OpId.{OpId as Id};
 ghost use Rattle.tp_opid.specs.Insert.{Insert};
 ghost use Rattle.tp_posindex.specs.Layout.{joined, block_at, index_at, IsAfter, AreSized};
@@ -209,6 +209,24 @@ impl Sequence for BlockSequence {
 
     fn deletes(&self) -> &[(OpId, OpId)] {
         self.deletes.as_slice()
+    }
+
+    /// A copy of each vector as it stands: some 45 bytes for each element, and 48 for each delete. The blocks are the
+    /// same, and it is never `None`.
+    fn copied(&self, alloc: Global) -> Result<Option<Self>, AllocError>
+        ensures blocks { IfOk result (λ copy. IfSome copy (λ s. s.blocks ≡ self.now.blocks)) }
+        ensures removals { IfOk result (λ copy. IfSome copy (λ s. s.removals ≡ self.now.removals)) }
+        ensures given { IfOk result (λ copy. IsSome copy) }
+    {
+        let elements = self.elements.copied(alloc)?;
+        let blocks = self.blocks.copied(alloc)?;
+        let deletes = Vec::from_slice(alloc, self.deletes.as_slice())?;
+        Ok(Some(BlockSequence {
+            elements,
+            blocks,
+            deletes,
+            left: self.left,
+        }))
     }
 
     /// The next element of a walk. Only the first of a walk is looked up: then the walk goes on in the block where it

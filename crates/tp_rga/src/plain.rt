@@ -1,6 +1,6 @@
 //! A sequence in three plain vectors.
 
-ghost use Rattle.std.specs.Prelude.{◌≡◌, ◌↔◌, ℕ, ◌+◌, ◌-◌, ◌^◌, ◌<◌, ◌≤◌, List, [], ◌∷◌, ◌++◌, length, insert, IsTrue, IsOk, OnOk, OnErr, slice_get, false};
+ghost use Rattle.std.specs.Prelude.{◌≡◌, ◌↔◌, ℕ, ◌+◌, ◌-◌, ◌^◌, ◌<◌, ◌≤◌, List, [], ◌∷◌, ◌++◌, length, insert, IsTrue, IsOk, OnOk, OnErr, IfOk, IfSome, IsSome, slice_get, false};
 ghost use Rattle.tp_opid.specs.declared.op_id.OpId.{OpId as Id};
 ghost use Rattle.tp_opid.specs.Insert.{Insert};
 ghost use Rattle.std.specs.Vec.{vec_len, vec_capacity};
@@ -159,6 +159,23 @@ impl Sequence for PlainSequence {
 
     fn deletes(&self) -> &[(OpId, OpId)] {
         self.deletes.as_slice()
+    }
+
+    /// A copy of the vectors, in one pass over each. It is never `None`.
+    fn copied(&self, alloc: Global) -> Result<Option<Self>, AllocError>
+        ensures placed { IfOk result (λ copy. IfSome copy (λ s. s.placed ≡ self.now.placed)) }
+        ensures removals { IfOk result (λ copy. IfSome copy (λ s. s.removals ≡ self.now.removals)) }
+        ensures given { IfOk result (λ copy. IsSome copy) }
+    {
+        let elements = Vec::from_slice(alloc, self.elements.as_slice())?;
+        let deleted = Vec::from_slice(alloc, self.deleted.as_slice())?;
+        let deletes = Vec::from_slice(alloc, self.deletes.as_slice())?;
+        Ok(Some(PlainSequence {
+            elements,
+            deleted,
+            deletes,
+            left: self.left,
+        }))
     }
 }
 

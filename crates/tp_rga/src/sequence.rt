@@ -1,6 +1,6 @@
 //! What a sequence of elements does, whatever keeps it.
 
-ghost use Rattle.std.specs.Prelude.{◌≡◌, ◌↔◌, ℕ, ◌+◌, ◌<◌, ◌≤◌, List, [], ◌∷◌, ◌++◌, length, IsTrue, IsOk, OnOk, OnErr, IfSome, OnSome, slice_get};
+ghost use Rattle.std.specs.Prelude.{◌≡◌, ◌↔◌, ℕ, ◌+◌, ◌<◌, ◌≤◌, List, [], ◌∷◌, ◌++◌, length, IsTrue, IsOk, OnOk, OnErr, IfOk, IfSome, OnSome, slice_get};
 ghost use Rattle.std.specs.Option.{option_map};
 ghost use Rattle.tp_opid.specs.declared.op_id.OpId.{OpId as Id};
 ghost use Rattle.tp_opid.specs.Insert.{Insert};
@@ -133,5 +133,16 @@ pub trait Sequence: Drop {
             ch: element.ch,
             deleted: element.deleted,
         })
+    }
+
+    /// A sequence with the same elements and deletes, where it can be copied as it stands: no element is looked up or put
+    /// in anew. It is `None` where a sequence doesn't offer that, and a copy has to be made by calls of `insert` and
+    /// `delete`. The copy may have less room. Where memory is short it is an `Err`.
+    fn copied(&self, alloc: Global) -> Result<Option<Self>, AllocError>
+        ensures placed { IfOk result (λ copy. IfSome copy (λ s. placed s ≡ placed self.now)) }
+        ensures removals { IfOk result (λ copy. IfSome copy (λ s. removals s ≡ removals self.now)) }
+    {
+        let _ = alloc;
+        Ok(None)
     }
 }
