@@ -1,0 +1,4 @@
+pub mod Hashing
+pub mod Lanewise
+pub mod Paddings
+pub mod Schedules

@@ -1,0 +1,14 @@
+use Rattle.std.proofs.Common.{◌∙◌, ◌<◌, sym, ap, arith, length}
+use Rattle.std.proofs.lemmas.List.{get_or-map}
+use Rattle.std.proofs.lemmas.Slice.Eq.{bytes_eq-Decides}
+use Rattle.sha2.specs.Sha256.{sha256}
+use Rattle.tp_digest.proofs.ahead.Ahead.digest.Goals as goal
+
+-- the piece is the bytes, so what is ready for it is their digest
+pub returns-then-eq : goal.returns-then-eq
+returns-then-eq c =
+    let self = c.args.self.now in
+    let within : self.next < length self.pieces = omega arith in
+    self.ready self.next (omega arith) c.if-self-lt4.true
+    ∙ get_or-map (λ piece. sha256 piece.now) self.pieces self.next _ _ within
+    ∙ ap (λ m. sha256 m) ((bytes_eq-Decides _ c.args.bytes.now).0 (sym c.eq.ensures ∙ c.if-eq.true))
