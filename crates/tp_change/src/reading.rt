@@ -27,10 +27,10 @@ use crate::limits::{COUNTERS_END, FEWEST_DELETES, MAX_BYTES, MAX_OPS, are_counte
 use crate::parts::ChangeParts;
 use crate::record::Record;
 use crate::version::version_of;
-use sha2::{Digest, Sha256};
 use std::alloc::Global;
 use std::cmp::Ordering;
 use tp_codec::Reader;
+use tp_digest::Ahead;
 use tp_list::{Items, Text, char_count};
 use tp_opid::{Actor, Hash, OpId, Place};
 
@@ -442,8 +442,22 @@ impl Change {
             → Gives (λ d. d) result (Ok c) }
         ensures exact { Gives (λ c. c) result (change_at bytes.now) }
     {
+        Change::decode_ahead(alloc, bytes, &mut Ahead::none())
+    }
+
+    /// The same, with the digest of the bytes from those that were taken ahead, where it is among them.
+    pub fn decode_ahead(
+        alloc: Global,
+        bytes: &[u8],
+        ahead: &mut Ahead<'_>,
+    ) -> Result<Change, ChangeError>
+        ensures found { IfOk result (λ c. IsChange c × (bytes.now ≡ spelling c)) }
+        ensures only { (c : ChangeParts) → IsChange c → bytes.now ≡ spelling c
+            → Gives (λ d. d) result (Ok c) }
+        ensures exact { Gives (λ c. c) result (change_at bytes.now) }
+    {
         let parts = change_of(alloc, bytes)?;
-        let hash = Hash(Sha256::digest(bytes));
+        let hash = Hash(ahead.digest(bytes));
         Ok(Change { alloc, parts, hash })
     }
 }

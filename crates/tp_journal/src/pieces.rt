@@ -11,12 +11,13 @@ ghost use Rattle.tp_store.specs.declared.error.StoreError.TheVariants.{OutOfMemo
 
 use crate::content::Content;
 use crate::layout::HEADER_BYTES;
-use crate::reading::read_header;
+use crate::reading::{digests_of_next, read_header};
 use crate::recovering::{Recovered, enter_next, history};
 use std::alloc::{AllocError, Global};
 use std::io;
 use std::io::Write;
 use std::marker::Model;
+use tp_digest::Ahead;
 use tp_document::Document;
 use tp_rga::Sequence;
 use tp_store::StoreError;
@@ -84,8 +85,18 @@ fn enter_records<'a, S: Sequence>(
     ensures err { IfErr result (IsRefusedFrom _came.now.bytes) }
 {
     let mut rest = bytes;
-    loop {
-        match enter_next(alloc, &mut recovered.document, rest, recovered.keep) {
+    let mut ahead = Ahead::none();
+    'records: loop {
+        if ahead.is_used_up() {
+            ahead = digests_of_next(rest);
+        }
+        match enter_next(
+            alloc,
+            &mut recovered.document,
+            rest,
+            recovered.keep,
+            &mut ahead,
+        ) {
             Ok(Some(next)) => {
                 history(&recovered.document);
                 recovered.keep += (rest.len() - next.len()) as u64;

@@ -13,6 +13,7 @@ ghost use Rattle.tp_store.specs.declared.error.StoreError.TheVariants.{Damaged, 
 use crate::layout::{DIGEST_BYTES, HEADER_BYTES, MAGIC};
 use std::alloc::Global;
 use tp_change::{Change, ChangeError, MAX_BYTES};
+use tp_digest::Ahead;
 use tp_opid::{DocId, Hash};
 use tp_store::StoreError;
 
@@ -107,20 +108,37 @@ pub(crate) fn split_record<'a>(bytes: &'a [u8], at: u64) -> Result<Option<Laid<'
     }))
 }
 
-/// The change of a record: its bytes are decoded, and their digest is taken, once. `Damaged`, with the offset `at`,
-/// where they are no change's or the digest isn't theirs.
+/// The digests of the changes of the next records, taken together: none where fewer than four are whole.
+pub(crate) fn digests_of_next(bytes: &[u8]) -> Ahead<'_> {
+    let mut pieces: [&[u8]; 4] = [&[]; 4];
+    let mut rest = bytes;
+    for i in 0..4 {
+        match split_record(rest, 0) {
+            Ok(Some(laid)) => {
+                pieces[i] = laid.change;
+                rest = laid.rest;
+            }
+            Ok(None) | Err(_) => return Ahead::none(),
+        }
+    }
+    Ahead::of(pieces)
+}
+
+/// The change of a record: its bytes are decoded, and their digest is taken, once, or was taken ahead. `Damaged`, with the
+/// offset `at`, where they are no change's or the digest isn't theirs.
 pub(crate) fn change_of(
     alloc: Global,
     bytes: &[u8],
     digest: &Hash,
     at: u64,
+    ahead: &mut Ahead<'_>,
 ) -> Result<Change, StoreError>
     ensures found { IfOk result
         (λ c. IsChange c × (bytes.now ≡ spelling c) × (digest.now ≡ hash_of c)) }
     ensures err { IfErr result (λ e. (e ≡ OutOfMemory)
         ⊎ ((e ≡ Damaged at) × IsNoChange bytes.now digest.now.0)) }
 {
-    match Change::decode(alloc, bytes) {
+    match Change::decode_ahead(alloc, bytes, ahead) {
         Ok(change) => {
             if !change.hash().is(digest) {
                 return Err(StoreError::Damaged { at });

@@ -15,6 +15,7 @@ use crate::pieces::Recovering;
 use crate::reading::{change_of, split_record};
 use std::alloc::Global;
 use tp_change::Change;
+use tp_digest::Ahead;
 use tp_document::Document;
 use tp_graph::GraphError;
 use tp_rga::Sequence;
@@ -55,6 +56,7 @@ pub(crate) fn enter_next<'a, S: Sequence>(
     document: &mut Document<S>,
     bytes: &'a [u8],
     at: u64,
+    ahead: &mut Ahead<'_>,
 ) -> Result<Option<&'a [u8]>, StoreError>
     ensures next { IfOk result (λ found. IfSome found (λ rest. (c : ChangeParts)
         × (bytes.now ≡ record_of c ++ rest.now)
@@ -69,7 +71,7 @@ pub(crate) fn enter_next<'a, S: Sequence>(
         ⊎ IsFaultAt document.old.applied at bytes.now e) }
 {
     match split_record(bytes, at) {
-        Ok(Some(laid)) => match change_of(alloc, laid.change, &laid.digest, at) {
+        Ok(Some(laid)) => match change_of(alloc, laid.change, &laid.digest, at, ahead) {
             Ok(change) => match enter_change(document, change) {
                 Ok(()) => Ok(Some(laid.rest)),
                 Err(error) => Err(error),

@@ -15,6 +15,7 @@ use crate::host::Host;
 use crate::session::{Phase, Session, late};
 use crate::turn::{Ended, Turn};
 use std::alloc::Global;
+use tp_digest::Ahead;
 use tp_frame::Part;
 use tp_peer::PeerError;
 use tp_sync::{Message, MessageReader, SyncError};
@@ -33,9 +34,14 @@ fn read_on(reader: MessageReader, piece: &[u8]) -> Result<MessageReader, SyncErr
         → Reads (and_given frame piece.now) result }
 {
     let mut taking = reader;
+    let mut ahead = Ahead::none();
     let mut at = 0;
-    while at < piece.len() && !taking.whole() {
-        at += taking.take(&piece[at..])?;
+    'fields: while at < piece.len() && !taking.whole() {
+        let rest = &piece[at..];
+        if ahead.is_used_up() {
+            ahead = taking.digests_of_next(rest);
+        }
+        at += taking.take_ahead(rest, &mut ahead)?;
     }
     Ok(taking)
 }

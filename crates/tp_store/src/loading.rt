@@ -18,6 +18,7 @@ use sha2::{Digest, Sha256};
 use std::alloc::Global;
 use tp_change::{Change, ChangeError};
 use tp_codec::Reader;
+use tp_digest::Ahead;
 use tp_document::Document;
 use tp_graph::GraphError;
 use tp_rga::Sequence;
@@ -31,11 +32,30 @@ fn has_digest(bytes: &[u8], digest: &[u8; 32]) -> bool
     *digest == Sha256::digest(body)
 }
 
+// The digests of the next changes, whose lengths and bytes these are, taken together: none where fewer than four are
+// whole.
+fn digests_of_next(bytes: &[u8]) -> Ahead<'_> {
+    let mut pieces: [&[u8]; 4] = [&[]; 4];
+    let mut reader = Reader::new(bytes);
+    for i in 0..4 {
+        match piece_of(&mut reader, 0) {
+            Ok(piece) => pieces[i] = piece,
+            Err(_) => return Ahead::none(),
+        }
+    }
+    Ahead::of(pieces)
+}
+
 // The change that the bytes are, whose length stands at the offset.
-fn change_of(alloc: Global, at: u64, bytes: &[u8]) -> Result<Change, StoreError>
+fn change_of(
+    alloc: Global,
+    at: u64,
+    bytes: &[u8],
+    ahead: &mut Ahead<'_>,
+) -> Result<Change, StoreError>
     ensures { Gives (λ c. c) result (loading.decoded at (reading.change_at bytes.now)) }
 {
-    match Change::decode(alloc, bytes) {
+    match Change::decode_ahead(alloc, bytes, ahead) {
         Ok(change) => Ok(change),
         Err(ChangeError::OutOfMemory) => Err(StoreError::OutOfMemory),
         Err(_) => Err(StoreError::Damaged { at }),
@@ -65,20 +85,22 @@ fn enter_piece<S: Sequence>(
     document: &mut Document<S>,
     at: u64,
     bytes: &[u8],
+    ahead: &mut Ahead<'_>,
 ) -> Result<(), StoreError>
     ensures grown { Gives (λ _. document.new.applied) result
         (loading.grown at document.old.applied bytes.now) }
     ensures id { document.new.id ≡ document.old.id }
     ensures waiting { document.new.waiting ≡ document.old.waiting }
 {
-    let change = change_of(alloc, at, bytes)?;
+    let change = change_of(alloc, at, bytes, ahead)?;
     push(document, change)
 }
 
-// Enters so many changes, which the reader has next.
+// Enters so many changes, which the reader has next: what it has left is the end of the body.
 fn enter_pieces<S: Sequence>(
     alloc: Global,
     document: &mut Document<S>,
+    body: &[u8],
     reader: &mut Reader<'_>,
     count: u32,
 ) -> Result<(), StoreError>
@@ -91,9 +113,13 @@ fn enter_pieces<S: Sequence>(
     ensures waiting { document.new.waiting ≡ document.old.waiting }
 {
     let mut at = HEADER_LEN as u64;
+    let mut ahead = Ahead::none();
     for _ in 0..count {
+        if ahead.is_used_up() {
+            ahead = digests_of_next(&body[body.len().saturating_sub(reader.len())..]);
+        }
         let piece = piece_of(reader, at)?;
-        enter_piece(alloc, document, at, piece)?;
+        enter_piece(alloc, document, at, piece, &mut ahead)?;
         at += 4 + piece.len() as u64;
     }
     Ok(())
@@ -114,8 +140,9 @@ fn document_of<S: Sequence>(
     ensures waiting { IfOk result (λ d. d.waiting ≡ []) }
 {
     let mut document = Document::new(alloc, header.id);
-    let mut reader = Reader::new(&bytes[HEADER_LEN..]);
-    enter_pieces(alloc, &mut document, &mut reader, header.count)?;
+    let body = &bytes[HEADER_LEN..];
+    let mut reader = Reader::new(body);
+    enter_pieces(alloc, &mut document, body, &mut reader, header.count)?;
     Ok(document)
 }
 

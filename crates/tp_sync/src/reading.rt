@@ -13,10 +13,11 @@ ghost use Rattle.tp_sync.specs.ReaderState.{reads, Answers};
 
 use crate::error::SyncError;
 use crate::message::Message;
-use crate::stages::{Lists, Stage, field_len, next_stage};
+use crate::stages::{Lists, Stage, digests_of_next, field_len, next_stage};
 use std::alloc::Global;
 use std::marker::Model;
 use tp_change::MAX_BYTES;
+use tp_digest::Ahead;
 
 // The fewest bytes that a message has.
 const SMALLEST: usize = 13;
@@ -105,6 +106,23 @@ impl MessageReader {
         ensures again { (e : Refusal) → fault_of self.old.stage ≡ Some e
             → (result ≡ Err e) × (self.new ≡ self.old) }
     {
+        self.take_ahead(piece, &mut Ahead::none())
+    }
+
+    /// The digests of the next four changes, which belong to the bytes that come next, taken together; none where a change
+    /// isn't what comes next, or fewer than four are whole. Two passes over the bytes of these changes, one of them that
+    /// takes the digests.
+    pub fn digests_of_next<'a>(&self, bytes: &'a [u8]) -> Ahead<'a> {
+        digests_of_next(self.stage, bytes)
+    }
+
+    /// As [`take`](MessageReader::take), with the digests of changes from those that were taken ahead, where they are among
+    /// them.
+    pub fn take_ahead(&mut self, piece: &[u8], ahead: &mut Ahead<'_>) -> Result<usize, SyncError>
+        ensures answers { Answers self.old piece.now result self.new }
+        ensures again { (e : Refusal) → fault_of self.old.stage ≡ Some e
+            → (result ≡ Err e) × (self.new ≡ self.old) }
+    {
         match self.stage {
             Stage::Whole => return Ok(0),
             Stage::Failed(error) => return Err(error),
@@ -118,7 +136,14 @@ impl MessageReader {
         }
         let left = self.left - missing;
         let last = &piece[..missing];
-        match next_stage(self.stage, &mut self.lists, &mut self.held, last, left) {
+        match next_stage(
+            self.stage,
+            &mut self.lists,
+            &mut self.held,
+            last,
+            left,
+            ahead,
+        ) {
             Ok(next) => {
                 self.stage = next;
                 self.left = left;
@@ -196,9 +221,14 @@ impl Message {
         ensures exact { Gives (λ m. m) result (message_at bytes.now) }
     {
         let mut reader = MessageReader::of_len(alloc, bytes.len())?;
+        let mut ahead = Ahead::none();
         let mut at = 0;
-        while !reader.whole() {
-            at += reader.take(&bytes[at..])?;
+        'fields: while !reader.whole() {
+            let rest = &bytes[at..];
+            if ahead.is_used_up() {
+                ahead = reader.digests_of_next(rest);
+            }
+            at += reader.take_ahead(rest, &mut ahead)?;
         }
         Ok(reader.finish())
     }

@@ -22,6 +22,7 @@ use crate::limits::{MAX_CHANGES, MAX_HASHES, MAX_KNOWN};
 use std::alloc::Global;
 use std::cmp::Ordering;
 use tp_change::{Change, ChangeError, MAX_BYTES};
+use tp_digest::Ahead;
 use tp_opid::Hash;
 
 /// A list of hashes of a message.
@@ -124,13 +125,52 @@ fn follows(before: Option<Hash>, hash: &Hash) -> bool
 }
 
 // The change that the bytes are.
-fn change_of(alloc: Global, bytes: &[u8]) -> Result<Change, SyncError>
+fn change_of(alloc: Global, bytes: &[u8], ahead: &mut Ahead<'_>) -> Result<Change, SyncError>
     ensures { (rest : List ℕ) → Gives (λ c. (c, rest)) result (decoded (change_at bytes.now) rest) }
 {
-    match Change::decode(alloc, bytes) {
+    match Change::decode_ahead(alloc, bytes, ahead) {
         Ok(change) => Ok(change),
         Err(ChangeError::OutOfMemory) => Err(SyncError::OutOfMemory),
         Err(_) => Err(SyncError::BadChange),
+    }
+}
+
+// A change at the start of the bytes, behind its length, and the bytes behind it. `None` where it isn't whole.
+fn split_change(bytes: &[u8]) -> Option<(&[u8], &[u8])> {
+    if bytes.len() < 4 {
+        return None;
+    }
+    let (prefix, behind) = bytes.split_at(4);
+    let len = number_in(prefix) as usize;
+    if behind.len() < len {
+        return None;
+    }
+    Some(behind.split_at(len))
+}
+
+// The digests of the next changes, whose lengths and bytes these are, taken together: none where fewer than four are
+// whole.
+fn digests_of(bytes: &[u8]) -> Ahead<'_> {
+    let mut pieces: [&[u8]; 4] = [&[]; 4];
+    let mut rest = bytes;
+    for i in 0..4 {
+        match split_change(rest) {
+            Some((change, behind)) => {
+                pieces[i] = change;
+                rest = behind;
+            }
+            None => return Ahead::none(),
+        }
+    }
+    Ahead::of(pieces)
+}
+
+/// The digests of the next changes, where a change's length comes next and the bytes are those that do: none where fewer
+/// than four changes are whole.
+pub(crate) fn digests_of_next(stage: Stage, bytes: &[u8]) -> Ahead<'_> {
+    match stage {
+        Stage::Length { .. } => digests_of(bytes),
+        _ => Ahead::none(),
     }
 }
 
@@ -252,17 +292,27 @@ fn on_change_count(field: &[u8]) -> Result<Stage, SyncError>
     Ok(changes_left(count))
 }
 
-fn on_body(lists: &mut Lists, more: u32, field: &[u8]) -> Result<Stage, SyncError>
+fn on_body(
+    lists: &mut Lists,
+    more: u32,
+    field: &[u8],
+    ahead: &mut Ahead<'_>,
+) -> Result<Stage, SyncError>
     ensures { Steps (Body (length field.now) more) (parts_in lists.old) field.now result
         (parts_in lists.new) }
 {
-    let change = change_of(*lists.changes.allocator(), field)?;
+    let change = change_of(*lists.changes.allocator(), field, ahead)?;
     lists.changes.push(change)?;
     Ok(changes_left(more))
 }
 
 // What comes behind the field at a stage, which the bytes are.
-fn after(stage: Stage, lists: &mut Lists, field: &[u8]) -> Result<Stage, SyncError>
+fn after(
+    stage: Stage,
+    lists: &mut Lists,
+    field: &[u8],
+    ahead: &mut Ahead<'_>,
+) -> Result<Stage, SyncError>
     requires { length field.now ≡ need stage }
     ensures { Steps stage (parts_in lists.old) field.now result (parts_in lists.new) }
 {
@@ -275,7 +325,7 @@ fn after(stage: Stage, lists: &mut Lists, field: &[u8]) -> Result<Stage, SyncErr
             len: number_in(field),
             more,
         }),
-        Stage::Body { more, .. } => on_body(lists, more, field),
+        Stage::Body { more, .. } => on_body(lists, more, field, ahead),
         Stage::Whole | Stage::Failed(_) => Ok(stage),
     }
 }
@@ -286,6 +336,7 @@ fn after_held(
     lists: &mut Lists,
     held: &mut Vec<u8>,
     last: &[u8],
+    ahead: &mut Ahead<'_>,
 ) -> Result<Stage, SyncError>
     requires { length held.old.items + length last.now ≡ need stage }
     ensures steps { Steps stage (parts_in lists.old) (held.old.items ++ last.now) result
@@ -294,11 +345,11 @@ fn after_held(
     ensures err { OnErr result (held.new.items ≡ held.old.items) }
 {
     if held.is_empty() {
-        return after(stage, lists, last);
+        return after(stage, lists, last, ahead);
     }
     let before = held.len();
     held.extend_from_slice(last)?;
-    let next = after(stage, lists, held.as_slice());
+    let next = after(stage, lists, held.as_slice(), ahead);
     held.truncate(if next.is_ok() { 0 } else { before });
     next
 }
@@ -330,6 +381,7 @@ pub(crate) fn next_stage(
     held: &mut Vec<u8>,
     last: &[u8],
     left: usize,
+    ahead: &mut Ahead<'_>,
 ) -> Result<Stage, SyncError>
     requires { length held.old.items + length last.now ≡ need stage }
     ensures moves { Moves stage (parts_in lists.old) (held.old.items ++ last.now) left result
@@ -338,7 +390,7 @@ pub(crate) fn next_stage(
     ensures few { OnErr result (length held.new.items ≤ length held.old.items) }
     ensures memory { IfErr result (λ e. e ≡ OutOfMemory → held.new.items ≡ held.old.items) }
 {
-    let next = after_held(stage, lists, held, last)?;
+    let next = after_held(stage, lists, held, last, ahead)?;
     judge(next, left)?;
     Ok(next)
 }

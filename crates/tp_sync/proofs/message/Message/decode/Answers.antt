@@ -13,30 +13,30 @@ pub returns-in_err-at-clause-exact : goal.returns-in_err-at-clause-exact
 returns-in_err-at-clause-exact c =
     let p = err_from_is_err_and c.from_residual-in_err-at.result c.from_residual-in_err-at.ensures.1 in
     rw (p.1, p.2)
-    (fails_of_answers c.loop-reader.reader c.take.new.self c.args.bytes.now (take (length c.args.bytes.now - c.loop-reader.at) (drop c.loop-reader.at c.args.bytes.now)) c.loop-reader.at c.in_err-at.field-0.0 (take_rest c.args.bytes.now c.loop-reader.at) c.loop-reader.invariant.0 c.in_err-at.ensures.answers c.loop-reader.invariant.1)
+    (fails_of_answers c.fields.reader c.take_ahead.new.self c.args.bytes.now (take (length c.args.bytes.now - c.fields.at) (drop c.fields.at c.args.bytes.now)) c.fields.at c.in_err-at.field-0.0 (take_rest c.args.bytes.now c.fields.at) c.fields.invariant.0 c.in_err-at.ensures.answers c.fields.invariant.1)
 
 pub returns-in_err-at-clause-only : goal.returns-in_err-at-clause-only
 returns-in_err-at-clause-only c = λ m is e.
     let p = err_from_is_err_and c.from_residual-in_err-at.result c.from_residual-in_err-at.ensures.1 in
     rw (p.1, p.2)
     (subst (λ (r : Result MessageParts SyncError). FailsWith c.in_err-at.field-0.0 r) (ap message_at e ∙ message_again m is)
-    (fails_of_answers c.loop-reader.reader c.take.new.self c.args.bytes.now (take (length c.args.bytes.now - c.loop-reader.at) (drop c.loop-reader.at c.args.bytes.now)) c.loop-reader.at c.in_err-at.field-0.0 (take_rest c.args.bytes.now c.loop-reader.at) c.loop-reader.invariant.0 c.in_err-at.ensures.answers c.loop-reader.invariant.1))
+    (fails_of_answers c.fields.reader c.take_ahead.new.self c.args.bytes.now (take (length c.args.bytes.now - c.fields.at) (drop c.fields.at c.args.bytes.now)) c.fields.at c.in_err-at.field-0.0 (take_rest c.args.bytes.now c.fields.at) c.fields.invariant.0 c.in_err-at.ensures.answers c.fields.invariant.1))
 
-pub loop-reader-preserved : goal.loop-reader-preserved
-loop-reader-preserved c =
+pub fields-preserved : goal.fields-preserved
+fields-preserved c =
     let taken = c.in_ok-at.ensures.answers in (
-      omega (arith, taken.left, c.loop-reader.invariant.0),
-      taken_on c.loop-reader.reader c.take.new.self c.args.bytes.now (take (length c.args.bytes.now - c.loop-reader.at) (drop c.loop-reader.at c.args.bytes.now)) c.loop-reader.at c.in_ok-at.field-0 (take_rest c.args.bytes.now c.loop-reader.at) taken c.loop-reader.invariant.1,
+      omega (arith, taken.left, c.fields.invariant.0),
+      taken_on c.fields.reader c.take_ahead.new.self c.args.bytes.now (take (length c.args.bytes.now - c.fields.at) (drop c.fields.at c.args.bytes.now)) c.fields.at c.in_ok-at.field-0 (take_rest c.args.bytes.now c.fields.at) taken c.fields.invariant.1,
     )
 
 pub returns-clause-found : goal.returns-clause-found
 returns-clause-found c =
-    let none : c.loop-reader.reader.left ≡ 0 = c.whole.ensures.taken (sym c.whole.ensures.exact ∙ c.loop-reader-test.false) in
-    let read : message_at c.args.bytes.now ≡ Ok c.finish.result = sym c.loop-reader.invariant.1 ∙ ap (reads c.loop-reader.reader) (drop_all c.loop-reader.at c.args.bytes.now (omega (arith, none, c.loop-reader.invariant.0))) ∙ c.finish.ensures.exact in
+    let none : c.fields.reader.left ≡ 0 = c.whole.ensures.taken (sym c.whole.ensures.exact ∙ c.fields-test.false) in
+    let read : message_at c.args.bytes.now ≡ Ok c.finish.result = sym c.fields.invariant.1 ∙ ap (reads c.fields.reader) (drop_all c.fields.at c.args.bytes.now (omega (arith, none, c.fields.invariant.0))) ∙ c.finish.ensures.exact in
     message_takes c.args.bytes.now c.finish.result (λ i. omega (arith, c.type_inv.bytes i)) read
 
 pub returns-clause-only : goal.returns-clause-only
 returns-clause-only c = λ m is e.
-    let none : c.loop-reader.reader.left ≡ 0 = c.whole.ensures.taken (sym c.whole.ensures.exact ∙ c.loop-reader-test.false) in
-    let read : message_at c.args.bytes.now ≡ Ok c.finish.result = sym c.loop-reader.invariant.1 ∙ ap (reads c.loop-reader.reader) (drop_all c.loop-reader.at c.args.bytes.now (omega (arith, none, c.loop-reader.invariant.0))) ∙ c.finish.ensures.exact in
+    let none : c.fields.reader.left ≡ 0 = c.whole.ensures.taken (sym c.whole.ensures.exact ∙ c.fields-test.false) in
+    let read : message_at c.args.bytes.now ≡ Ok c.finish.result = sym c.fields.invariant.1 ∙ ap (reads c.fields.reader) (drop_all c.fields.at c.args.bytes.now (omega (arith, none, c.fields.invariant.0))) ∙ c.finish.ensures.exact in
     sym (ap message_at e ∙ message_again m is) ∙ read

@@ -6,7 +6,7 @@ use Rattle.tp_change.specs.ChangeHash.{hash_of}
 use Rattle.tp_change.specs.Gives.{FailsWith}
 use Rattle.tp_change.specs.Reading.{change_at}
 use Rattle.tp_change.proofs.WholeChange.{change_takes, change_again}
-use Rattle.tp_change.proofs.change.Change.decode.Goals as goal
+use Rattle.tp_change.proofs.change.Change.decode_ahead.Goals as goal
 
 pub returns-in_err-parts-clause-only : goal.returns-in_err-parts-clause-only
 returns-in_err-parts-clause-only c = λ d is e.
