@@ -1,25 +1,52 @@
 //! Merging documents.
 
-ghost use Rattle.std.specs.Prelude.{◌≡◌, ◌++◌, ◌∷◌, [], IfOk, IsOkUnless};
+ghost use Rattle.std.specs.Prelude.{◌≡◌, ◌++◌, ◌∷◌, [], true, IsTrue, IfOk, IsOkUnless};
+ghost use Rattle.std.specs.Option.{is_some};
+ghost use Rattle.tp_graph.specs.Named.{has};
 ghost use Rattle.tp_document.specs.Merging as merging;
 ghost use Rattle.tp_document.specs.declared.error.DocError.TheVariants.{OutOfMemory};
 
 use crate::document::Document;
 use crate::error::DocError;
 use tp_change::Change;
+use tp_opid::Hash;
 use tp_rga::Sequence;
 
-// Puts a copy of the change behind the changes, where the document hasn't its hash.
+// Whether the change at the place has the hash.
+fn is_at(changes: &[Change], place: usize, hash: &Hash) -> bool
+    ensures { IsTrue result → has changes.now hash.now ≡ true }
+{
+    if place < changes.len() {
+        changes[place].hash().is(hash)
+    } else {
+        false
+    }
+}
+
+// The place of a change with the hash, if the document has one. One place is looked at before any look-up: where the
+// changes of two documents stand in one order for a while, each is found behind the one before.
+fn place_of<S: Sequence>(document: &Document<S>, first: usize, hash: &Hash) -> Option<usize>
+    ensures { is_some result ≡ has document.now.applied hash.now }
+{
+    if is_at(document.changes(), first, hash) {
+        return Some(first);
+    }
+    document.graph.place(hash)
+}
+
+// Puts a copy of the change behind the changes, where the document hasn't its hash; and else notes the place behind it.
 fn note_absent<S: Sequence>(
     document: &Document<S>,
     changes: &mut Vec<Change>,
+    next: &mut usize,
     change: &Change,
 ) -> Result<(), DocError>
     ensures ok { IfOk result (λ _. changes.new.items
         ≡ changes.old.items ++ merging.absent document.now.applied (change.now ∷ [])) }
     ensures err { IsOkUnless result OutOfMemory }
 {
-    if document.contains(&change.hash()) {
+    if let Some(place) = place_of(document, *next, &change.hash()) {
+        *next = place.saturating_add(1);
         return Ok(());
     }
     match change.copy() {
@@ -37,8 +64,9 @@ pub(crate) fn absent<S: Sequence>(
     ensures err { IsOkUnless result OutOfMemory }
 {
     let mut found = Vec::new(document.alloc);
+    let mut next = 0;
     for change in changes {
-        note_absent(document, &mut found, change)?;
+        note_absent(document, &mut found, &mut next, change)?;
     }
     Ok(found)
 }
