@@ -1,5 +1,6 @@
 -- What a snapshot shows, element by element.
-use Rattle.tp_document.proofs.Common.{◌≡◌, ℕ, suc, zero, ◌+◌, ◌-◌, ◌<◌, List, [], ◌∷◌, ◌++◌, length, take, drop, get_or, Bool, true, false, not, ◌||◌, ◌&&◌, cond, Option, Some, None, position, refl, sym, ap, ◌∙◌, arith, append-nil, drop-cons, slice_get, option_map, take_more, length-append, Actor, OpId, Insert, id_eq, is_removed, shown, shown_before, chars_of, shown_by, id_eq-same, has_op, AreTargets, is_one_of, inserts_by, deletes_by, map-append, or_right, encode_utf8, encode_utf8_all, encodes-append, filter-append, seen_of, seen_at, seen_end, take_all, drop_all}
+use Rattle.tp_document.proofs.Common.{◌≡◌, ℕ, suc, zero, ◌+◌, ◌-◌, ◌<◌, List, [], ◌∷◌, ◌++◌, length, take, drop, get_or, Bool, true, false, not, ◌||◌, ◌&&◌, cond, Option, Some, None, position, refl, sym, ap, ◌∙◌, arith, append-nil, drop-cons, slice_get, option_map, take_more, length-append, Actor, OpId, Insert, id_eq, is_removed, shown, shown_before, chars_of, shown_by, id_eq-same, has_op, AreTargets, covers, inserts_by, deletes_by, map-append, or_right, encode_utf8, encode_utf8_all, encodes-append, filter-append, seen_of, seen_at, seen_end, take_all, drop_all}
+use Rattle.tp_document.specs.declared.targets.Stretch.{Stretch}
 use Rattle.tp_rga.specs.declared.walk.Seen.{Seen}
 use Rattle.tp_rga.proofs.Lookups.{position-cons}
 
@@ -8,8 +9,8 @@ abbrev is_shown : List (Actor × ℕ) → List (OpId × OpId) → Insert → Boo
 is_shown K R e = has_op K e.id && not (is_removed (deletes_by K R) e.id)
 
 -- the test that a snapshot makes
-abbrev tested : List (Actor × ℕ) → List OpId → Seen → Bool
-tested K T x = has_op K x.id && not (x.deleted && is_one_of T x.id)
+abbrev tested : List (Actor × ℕ) → List Stretch → Seen → Bool
+tested K T x = has_op K x.id && not (x.deleted && covers T x.id)
 
 -- what one of the kept deletes names, one of all names
 removed_before : (K : List (Actor × ℕ)) (R : List (OpId × OpId)) (x : OpId) → is_removed (deletes_by K R) x ≡ true → is_removed R x ≡ true
@@ -23,9 +24,9 @@ removed_before K (r ∷ R) x h =
       either true b c f h = refl
       either false b c f h = f h
 
-test_is : (K : List (Actor × ℕ)) (R : List (OpId × OpId)) (T : List OpId) (e : Insert) → AreTargets T K R → tested K T (seen_of R e) ≡ is_shown K R e
+test_is : (K : List (Actor × ℕ)) (R : List (OpId × OpId)) (T : List Stretch) (e : Insert) → AreTargets T K R → tested K T (seen_of R e) ≡ is_shown K R e
 test_is K R T e targets =
-    ap (λ b. has_op K e.id && not b) (both_are (is_removed R e.id) (is_one_of T e.id) (is_removed (deletes_by K R) e.id) (targets e.id) (removed_before K R e.id)) where
+    ap (λ b. has_op K e.id && not b) (both_are (is_removed R e.id) (covers T e.id) (is_removed (deletes_by K R) e.id) (targets e.id) (removed_before K R e.id)) where
       both_are : (a b c : Bool) → b ≡ c → (c ≡ true → a ≡ true) → (a && b) ≡ c
       both_are true b c e f = e
       both_are false b true e f = f refl
@@ -46,7 +47,7 @@ shown_append K R A B =
     ap (shown (deletes_by K R)) (filter-append (λ (e : Insert). has_op K e.id) A B)
     ∙ filter-append (λ (e : Insert). not (is_removed (deletes_by K R) e.id)) (inserts_by K A) (inserts_by K B)
 
-test_at : (K : List (Actor × ℕ)) (R : List (OpId × OpId)) (T : List OpId) (x : Seen) (e : Insert) (b : Bool) → AreTargets T K R → x ≡ seen_of R e → tested K T x ≡ b → is_shown K R e ≡ b
+test_at : (K : List (Actor × ℕ)) (R : List (OpId × OpId)) (T : List Stretch) (x : Seen) (e : Insert) (b : Bool) → AreTargets T K R → x ≡ seen_of R e → tested K T x ≡ b → is_shown K R e ≡ b
 test_at K R T x e b targets is h = sym (test_is K R T e targets) ∙ ap (tested K T) (sym is) ∙ h
 
 -- ---- the text of a prefix
@@ -61,17 +62,17 @@ shown_more K R L k e lt is =
     ap (shown_by K R) more ∙ shown_append K R (take k L) (e ∷ []) ∙ ap (λ l. shown_by K R (take k L) ++ l) (shown_first K R e [])
 
 -- an element that is shown comes behind those before it, and another adds nothing
-shown_next : (K : List (Actor × ℕ)) (R : List (OpId × OpId)) (T : List OpId) (L : List Insert) (k : ℕ) (x : Seen) (b : Bool) → AreTargets T K R → Some x ≡ option_map (seen_of R) (slice_get L k)
+shown_next : (K : List (Actor × ℕ)) (R : List (OpId × OpId)) (T : List Stretch) (L : List Insert) (k : ℕ) (x : Seen) (b : Bool) → AreTargets T K R → Some x ≡ option_map (seen_of R) (slice_get L k)
     → tested K T x ≡ b → (e : Insert) × (x ≡ seen_of R e) × (shown_by K R (take (k + 1) L) ≡ shown_by K R (take k L) ++ cond b (e ∷ []) [])
 shown_next K R T L k x b targets h t =
     let p = seen_at R L k x h in
     (p.0, p.3, shown_more K R L k p.0 p.1 p.2 ∙ ap (λ t. shown_by K R (take k L) ++ cond t (p.0 ∷ []) []) (test_at K R T x p.0 b targets p.3 t))
 
-pub hidden_by : (K : List (Actor × ℕ)) (R : List (OpId × OpId)) (T : List OpId) (L : List Insert) (k : ℕ) (x : Seen) → AreTargets T K R → Some x ≡ option_map (seen_of R) (slice_get L k)
+pub hidden_by : (K : List (Actor × ℕ)) (R : List (OpId × OpId)) (T : List Stretch) (L : List Insert) (k : ℕ) (x : Seen) → AreTargets T K R → Some x ≡ option_map (seen_of R) (slice_get L k)
     → tested K T x ≡ false → shown_by K R (take (k + 1) L) ≡ shown_by K R (take k L)
 hidden_by K R T L k x targets h t = (shown_next K R T L k x false targets h t).2 ∙ append-nil (shown_by K R (take k L))
 
-pub bytes_by-shown : (K : List (Actor × ℕ)) (R : List (OpId × OpId)) (T : List OpId) (L : List Insert) (k : ℕ) (x : Seen) → AreTargets T K R → Some x ≡ option_map (seen_of R) (slice_get L k)
+pub bytes_by-shown : (K : List (Actor × ℕ)) (R : List (OpId × OpId)) (T : List Stretch) (L : List Insert) (k : ℕ) (x : Seen) → AreTargets T K R → Some x ≡ option_map (seen_of R) (slice_get L k)
     → tested K T x ≡ true → bytes_by K R (take (k + 1) L) ≡ bytes_by K R (take k L) ++ encode_utf8 x.ch
 bytes_by-shown K R T L k x targets h t =
     let p = shown_next K R T L k x true targets h t in
@@ -80,7 +81,7 @@ bytes_by-shown K R T L k x targets h t =
     ∙ encodes-append (chars_of (shown_by K R (take k L))) (chars_of (p.0 ∷ []))
     ∙ ap (λ l. bytes_by K R (take k L) ++ l) (append-nil (encode_utf8 p.0.ch) ∙ ap (λ (y : Seen). encode_utf8 y.ch) (sym p.1))
 
-pub length_by-shown : (K : List (Actor × ℕ)) (R : List (OpId × OpId)) (T : List OpId) (L : List Insert) (k : ℕ) (x : Seen) → AreTargets T K R → Some x ≡ option_map (seen_of R) (slice_get L k)
+pub length_by-shown : (K : List (Actor × ℕ)) (R : List (OpId × OpId)) (T : List Stretch) (L : List Insert) (k : ℕ) (x : Seen) → AreTargets T K R → Some x ≡ option_map (seen_of R) (slice_get L k)
     → tested K T x ≡ true → length (shown_by K R (take (k + 1) L)) ≡ length (shown_by K R (take k L)) + 1
 length_by-shown K R T L k x targets h t = let p = shown_next K R T L k x true targets h t in ap length p.2 ∙ length-append (shown_by K R (take k L)) (p.0 ∷ [])
 
@@ -147,7 +148,7 @@ before_here K R L k n x id in_past h same inv =
     ap (λ l. before_by K R l id) (left_from L k p.0 p.1 p.2) ∙ ap (λ b. shown_before D (cond b (p.0 ∷ M) M) id) kept ∙ first in
     ap Some (omega arith) ∙ sym (ap (option_map (λ m. n + m)) here) ∙ inv
 
-before_step : (K : List (Actor × ℕ)) (R : List (OpId × OpId)) (T : List OpId) (L : List Insert) (k : ℕ) (x : Seen) (id : OpId) (b : Bool) → AreTargets T K R → Some x ≡ option_map (seen_of R) (slice_get L k)
+before_step : (K : List (Actor × ℕ)) (R : List (OpId × OpId)) (T : List Stretch) (L : List Insert) (k : ℕ) (x : Seen) (id : OpId) (b : Bool) → AreTargets T K R → Some x ≡ option_map (seen_of R) (slice_get L k)
     → id_eq x.id id ≡ false → tested K T x ≡ b → before_by K R (drop k L) id ≡ option_map (λ n. cond b 1 0 + n) (before_by K R (drop (k + 1) L) id)
 before_step K R T L k x id b targets h apart t =
     let p = seen_at R L k x h in
@@ -161,7 +162,7 @@ before_step K R T L k x id b targets h apart t =
       size e false = refl
 
 -- one that is shown before it
-pub before_shown : (K : List (Actor × ℕ)) (R : List (OpId × OpId)) (T : List OpId) (L : List Insert) (k n : ℕ) (x : Seen) (id : OpId) → AreTargets T K R → Some x ≡ option_map (seen_of R) (slice_get L k)
+pub before_shown : (K : List (Actor × ℕ)) (R : List (OpId × OpId)) (T : List Stretch) (L : List Insert) (k n : ℕ) (x : Seen) (id : OpId) → AreTargets T K R → Some x ≡ option_map (seen_of R) (slice_get L k)
     → id_eq x.id id ≡ false → tested K T x ≡ true → option_map (λ m. n + m) (before_by K R (drop k L) id) ≡ before_by K R L id
     → option_map (λ m. n + 1 + m) (before_by K R (drop (k + 1) L) id) ≡ before_by K R L id
 before_shown K R T L k n x id targets h apart t inv =
@@ -171,7 +172,7 @@ before_shown K R T L k n x id targets h apart t inv =
       both (Some i) = ap Some (omega arith)
 
 -- one that is hidden
-pub before_hidden : (K : List (Actor × ℕ)) (R : List (OpId × OpId)) (T : List OpId) (L : List Insert) (k n : ℕ) (x : Seen) (id : OpId) → AreTargets T K R → Some x ≡ option_map (seen_of R) (slice_get L k)
+pub before_hidden : (K : List (Actor × ℕ)) (R : List (OpId × OpId)) (T : List Stretch) (L : List Insert) (k n : ℕ) (x : Seen) (id : OpId) → AreTargets T K R → Some x ≡ option_map (seen_of R) (slice_get L k)
     → id_eq x.id id ≡ false → tested K T x ≡ false → option_map (λ m. n + m) (before_by K R (drop k L) id) ≡ before_by K R L id
     → option_map (λ m. n + m) (before_by K R (drop (k + 1) L) id) ≡ before_by K R L id
 before_hidden K R T L k n x id targets h apart t inv =
@@ -185,7 +186,7 @@ left_shown K R L k e lt is =
     ∙ shown_first K R e (drop (k + 1) L)
 
 -- the element that is asked for
-pub found_here : (K : List (Actor × ℕ)) (R : List (OpId × OpId)) (T : List OpId) (L : List Insert) (k left at : ℕ) (x : Seen) → AreTargets T K R → Some x ≡ option_map (seen_of R) (slice_get L k)
+pub found_here : (K : List (Actor × ℕ)) (R : List (OpId × OpId)) (T : List Stretch) (L : List Insert) (k left at : ℕ) (x : Seen) → AreTargets T K R → Some x ≡ option_map (seen_of R) (slice_get L k)
     → tested K T x ≡ true → left ≡ 0 → slice_get (shown_by K R (drop k L)) left ≡ slice_get (shown_by K R L) at → Some x.id ≡ option_map (λ (e : Insert). e.id) (slice_get (shown_by K R L) at)
 found_here K R T L k left at x targets h t none inv =
     let p = seen_at R L k x h in
@@ -195,7 +196,7 @@ found_here K R T L k left at x targets h t none inv =
     ∙ ap (option_map (λ (e : Insert). e.id)) inv
 
 -- an element that is shown before it
-pub found_later : (K : List (Actor × ℕ)) (R : List (OpId × OpId)) (T : List OpId) (L : List Insert) (k left : ℕ) (x : Seen) → AreTargets T K R → Some x ≡ option_map (seen_of R) (slice_get L k)
+pub found_later : (K : List (Actor × ℕ)) (R : List (OpId × OpId)) (T : List Stretch) (L : List Insert) (k left : ℕ) (x : Seen) → AreTargets T K R → Some x ≡ option_map (seen_of R) (slice_get L k)
     → tested K T x ≡ true → (left ≡ 0 → ⊥) → slice_get (shown_by K R (drop (k + 1) L)) (left - 1) ≡ slice_get (shown_by K R (drop k L)) left
 found_later K R T L k left x targets h t some =
     let p = seen_at R L k x h in
@@ -206,7 +207,7 @@ found_later K R T L k left x targets h t some =
       next e M (suc n) some = let s : suc n - 1 ≡ n = omega arith in ap (slice_get M) s
 
 -- an element that is hidden
-pub found_after : (K : List (Actor × ℕ)) (R : List (OpId × OpId)) (T : List OpId) (L : List Insert) (k left : ℕ) (x : Seen) → AreTargets T K R → Some x ≡ option_map (seen_of R) (slice_get L k)
+pub found_after : (K : List (Actor × ℕ)) (R : List (OpId × OpId)) (T : List Stretch) (L : List Insert) (k left : ℕ) (x : Seen) → AreTargets T K R → Some x ≡ option_map (seen_of R) (slice_get L k)
     → tested K T x ≡ false → slice_get (shown_by K R (drop (k + 1) L)) left ≡ slice_get (shown_by K R (drop k L)) left
 found_after K R T L k left x targets h t =
     let p = seen_at R L k x h in

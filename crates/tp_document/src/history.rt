@@ -4,7 +4,7 @@ ghost use Rattle.std.specs.Prelude.{◌≡◌, ◌↔◌, ◌⊎◌, ◌&&◌, �
 ghost use Rattle.tp_document.specs.Common.{slice_get, chars, IsTextOf, option_map, string_bytes, past, shown_before, chars_of};
 ghost use Rattle.tp_graph.specs.Named as named;
 ghost use Rattle.tp_graph.specs.Clocks.{has_op, IsClockOf};
-ghost use Rattle.tp_document.specs.History.{is_one_of, shown_by, deletes_by, inserts_by, AreTargets, IsAuthorOf};
+ghost use Rattle.tp_document.specs.History.{covers, shown_by, deletes_by, inserts_by, AreTargets, IsAuthorOf};
 ghost use Rattle.tp_document.specs.Showing.{HasElementAt, HasLength, HasPosition};
 
 use crate::author::Author;
@@ -24,8 +24,8 @@ struct Snapshot {
     targets: Targets,
 }
 
-// What is kept from one element of a walk to the next, so that most take no look-up: who inserted it, and the place
-// behind it among the targets, where it is one.
+// What is kept from one element of a walk to the next, so that most take no look-up: who inserted it, and the place of
+// the targets' stretch that has it, where it is one.
 #[derive(Clone, Copy)]
 struct Trail {
     author: Author,
@@ -48,7 +48,7 @@ impl Snapshot {
         requires { IsAuthorOf self.now.clock trail.old.author }
         ensures trail { IsAuthorOf self.now.clock trail.new.author }
         ensures shown { result ≡ (has_op self.now.clock element.now.id
-            && not (element.now.deleted && is_one_of self.now.targets element.now.id)) }
+            && not (element.now.deleted && covers self.now.targets element.now.id)) }
     {
         trail.author.has(&self.clock, &element.id)
             && !(element.deleted && self.targets.contains(&element.id, &mut trail.place))
@@ -183,7 +183,7 @@ impl<S: Sequence> Document<S> {
     /// Nothing is rebuilt, and no change is walked over: the past is asked for the last change of each actor, as often as
     /// the logarithm of the number of its changes ([`Graph::clock`](tp_graph::Graph::clock)); then comes one walk over all
     /// deletes, and one over the elements, deleted ones among them. Each takes a look-up among the actors, and an element
-    /// that is deleted now one more among those that the past deletes.
+    /// that is deleted now one more among the stretches of elements that the past deletes.
     pub fn text_at(&self, heads: &[Hash]) -> Result<String, DocError>
         ensures text { IfOk result
             (λ t. IsTextOf (past self.now.applied heads.now) (chars (string_bytes t))) }

@@ -1,59 +1,156 @@
 //! What a past deletes.
 
-ghost use Rattle.std.specs.Prelude.{◌≡◌, List, IfOk};
+ghost use Rattle.std.specs.Prelude.{◌≡◌, ◌||◌, List, length, IfOk, IfSome};
+ghost use Rattle.std.specs.List.{AllAdjacentBelow};
+ghost use Rattle.tp_opid.specs.Same.{id_eq};
 ghost use Rattle.tp_opid.specs.declared.op_id.OpId.{OpId as Id};
-ghost use Rattle.tp_document.specs.History.{is_one_of, AreTargets};
+ghost use Rattle.tp_document.specs.History.{is_within, covers, side, StartsBefore, Precedes, AreTargets};
 
 use crate::author::Author;
 use std::alloc::{AllocError, Global};
+use std::cmp::Ordering;
 use std::marker::Model;
 use tp_graph::Clock;
-use tp_opid::OpId;
+use tp_opid::{Actor, OpId};
 
-/// Elements that are deleted in a past, by their identifiers, which rise.
+/// The elements of one actor from one counter to another, both among them. Deletes come in such stretches: rising where
+/// a piece of text is deleted, falling where it is deleted backwards.
+#[derive(Clone, Copy, PartialEq, Eq, PartialOrd, Ord)]
+struct Stretch {
+    actor: Actor,
+    low: u64,
+    high: u64,
+}
+
+impl Stretch {
+    // One element.
+    fn of(id: &OpId) -> Stretch
+        ensures { (x : Id) → is_within result x ≡ id_eq id.now x }
+    {
+        Stretch {
+            actor: id.actor,
+            low: id.counter,
+            high: id.counter,
+        }
+    }
+
+    // Whether the element is one of these.
+    fn has(&self, id: &OpId) -> bool
+        ensures { result ≡ is_within self.now id.now }
+    {
+        self.low <= id.counter && id.counter <= self.high && self.actor.is(&id.actor)
+    }
+
+    // These and the element, where it is one of them or the next to them on either side.
+    fn with(&self, id: &OpId) -> Option<Stretch>
+        ensures { IfSome result (λ s. (x : Id) → is_within s x ≡ (is_within self.now x || id_eq id.now x)) }
+    {
+        if self.low.saturating_sub(1) > id.counter || id.counter.saturating_sub(1) > self.high {
+            return None;
+        }
+        if !self.actor.is(&id.actor) {
+            return None;
+        }
+        Some(Stretch {
+            actor: self.actor,
+            low: self.low.min(id.counter),
+            high: self.high.max(id.counter),
+        })
+    }
+
+    // `Equal` where the element is one of these, else on which side of it they stand.
+    fn order(&self, id: &OpId) -> Ordering
+        ensures { result ≡ side self.now id.now }
+    {
+        match self.actor.order(&id.actor) {
+            Ordering::Equal => {
+                if self.high < id.counter {
+                    Ordering::Less
+                } else if id.counter < self.low {
+                    Ordering::Greater
+                } else {
+                    Ordering::Equal
+                }
+            }
+            other => other,
+        }
+    }
+
+    // These, and what the stretch before them has behind them: it begins no later.
+    fn raised(&self, before: &Stretch) -> Stretch
+        requires { StartsBefore before.now self.now }
+        ensures start { (result.actor ≡ self.now.actor) × (result.low ≡ self.now.low) }
+        ensures order { Precedes before.now result }
+        ensures covers { (x : Id) → (is_within before.now x || is_within result x)
+            ≡ (is_within before.now x || is_within self.now x) }
+    {
+        if before.actor.is(&self.actor) {
+            Stretch {
+                actor: self.actor,
+                low: self.low,
+                high: self.high.max(before.high),
+            }
+        } else {
+            *self
+        }
+    }
+}
+
+// Makes the ends rise with the beginnings. What the stretches have together stays the same.
+fn raise_ends(stretches: &mut [Stretch])
+    requires { AllAdjacentBelow StartsBefore stretches.old (length stretches.old) }
+    ensures order { AllAdjacentBelow Precedes stretches.new (length stretches.new) }
+    ensures covers { (x : Id) → covers stretches.new x ≡ covers stretches.old x }
+{
+    for i in 1..stretches.len() {
+        stretches[i] = stretches[i].raised(&stretches[i - 1]);
+    }
+}
+
+/// Elements that are deleted in a past, in stretches that rise: by their actors, and of one actor both by where they
+/// begin and by where they end. Those of one actor may overlap.
 #[derive(Drop)]
 pub(crate) struct Targets {
-    ids: Vec<OpId>,
+    stretches: Vec<Stretch>,
 }
 
 impl Model for Targets {
-    ghost use Rattle.std.specs.Prelude.{List};
-    ghost use Rattle.std.specs.List.Sorted.{IsSorted};
-    ghost use Rattle.tp_opid.specs.declared.op_id.OpId.{OpId};
-    ghost use Rattle.tp_opid.specs.Order.{id_cmp};
+    ghost use Rattle.std.specs.Prelude.{List, length};
+    ghost use Rattle.std.specs.List.{AllAdjacentBelow};
+    ghost use Rattle.tp_document.specs.declared.targets.Stretch.{Stretch};
+    ghost use Rattle.tp_document.specs.History.{Precedes};
 
-    ghost Value = { List OpId };
+    ghost Value = { List Stretch };
 
-    ghost view = { λ a. a.ids.items };
+    ghost view = { λ a. a.stretches.items };
 
-    ghost invariant = { λ a. IsSorted id_cmp a.ids.items };
+    ghost invariant = { λ a. AllAdjacentBelow Precedes a.stretches.items (length a.stretches.items) };
 }
 
 impl Targets {
-    /// These elements, in whatever order they come.
-    #[tactic(auto, unfolding(tp_opid::specs::Order::id_cmp))]
-    fn new(ids: Vec<OpId>) -> Targets
-        ensures { (x : Id) → is_one_of result x ≡ is_one_of ids.items x }
+    /// The elements of these stretches, in whatever order they come.
+    fn new(stretches: Vec<Stretch>) -> Targets
+        ensures { (x : Id) → covers result x ≡ covers stretches.items x }
     {
-        let mut ids = ids;
-        ids.sort_unstable();
-        Targets { ids }
+        let mut stretches = stretches;
+        stretches.sort_unstable();
+        raise_ends(&mut stretches);
+        Targets { stretches }
     }
 
-    /// Whether the element is one of them. It is looked for at a place first, which is then that behind it, and so takes no
-    /// look-up where one stands behind the one that was found before.
+    /// Whether the element is one of them. The stretch at a place is asked first, which is then that of the last element
+    /// that was found: an element of the same stretch takes no look-up.
     pub(crate) fn contains(&self, id: &OpId, place: &mut usize) -> bool
-        ensures { result ≡ is_one_of self.now id.now }
+        ensures { result ≡ covers self.now id.now }
     {
-        if let Some(other) = self.ids.get(*place) {
-            if other.is(id) {
-                *place += 1;
+        if let Some(stretch) = self.stretches.get(*place) {
+            if stretch.has(id) {
                 return true;
             }
         }
-        match self.ids.binary_search(id) {
+        match self.stretches.binary_search_by(|stretch| stretch.order(id)) {
             Ok(found) => {
-                *place = found + 1;
+                *place = found;
                 true
             }
             Err(_) => false,
@@ -61,7 +158,23 @@ impl Targets {
     }
 }
 
-/// The elements that the operations of a clock delete. One pass over all deletes, whose targets are then sorted.
+// Adds an element: to the last stretch where it is next to that, else as a stretch of its own.
+fn add(stretches: &mut Vec<Stretch>, id: &OpId) -> Result<(), AllocError>
+    ensures { IfOk result
+        (λ _. (x : Id) → covers stretches.new.items x ≡ (covers stretches.old.items x || id_eq id.now x)) }
+{
+    if let Some(last) = stretches.last_mut() {
+        if let Some(longer) = last.with(id) {
+            *last = longer;
+            return Ok(());
+        }
+    }
+    stretches.push(Stretch::of(id))?;
+    Ok(())
+}
+
+/// The elements that the operations of a clock delete. One pass over all deletes, and a sort of the stretches in which
+/// their targets come.
 pub(crate) fn targets_of(
     alloc: Global,
     clock: &Clock,
@@ -70,11 +183,11 @@ pub(crate) fn targets_of(
     ensures { IfOk result (λ targets. AreTargets targets clock.now deletes.now) }
 {
     let mut author = Author::of(clock);
-    let mut ids = Vec::new(alloc);
+    let mut stretches = Vec::new(alloc);
     for delete in deletes {
         if author.has(clock, &delete.1) {
-            ids.push(delete.0)?;
+            add(&mut stretches, &delete.0)?;
         }
     }
-    Ok(Targets::new(ids))
+    Ok(Targets::new(stretches))
 }

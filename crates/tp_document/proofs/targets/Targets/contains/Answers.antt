@@ -1,27 +1,24 @@
-use Rattle.tp_document.proofs.Common.{sym, ap, ◌∙◌, subst, List, IsSorted, OpId, is_one_of}
-use Rattle.tp_opid.specs.Order.{id_cmp}
-use Rattle.tp_document.proofs.TargetLaws.{one_at, one_found, none_found}
+use Rattle.tp_document.proofs.Common.{length, sym, ap, ◌∙◌, subst, List, Precedes, covers, side}
+use Rattle.std.proofs.Common.{rules}
+use Rattle.std.specs.List.{AllAdjacentBelow}
+use Rattle.std.proofs.lemmas.Fn.{always_returns_same}
+use Rattle.tp_document.specs.declared.targets.Stretch.{Stretch}
+use Rattle.tp_document.proofs.TargetLaws.{one_found, none_found}
 use Rattle.tp_document.proofs.targets.Targets.contains.Goals as goal
 
-pub returns-then-is : goal.returns-then-is
-returns-then-is c =
-    let x = c.args.id.now in
-    let other = c.in-Some.other.now in
-    let at = c.in-Some.ensures.lookup.3 in
-    sym (one_at c.deref.result.now c.args.place.now x other at.0 (at.1 other) (sym c.is.ensures ∙ c.if-is.true))
-    ∙ ap (λ (ids : List OpId). is_one_of ids x) (c.deref.ensures.value ∙ c.self.view_is)
-
 pub returns-in-Ok : goal.returns-in-Ok
-unfolding id_cmp
 returns-in-Ok c =
     let x = c.args.id.now in
-    sym (one_found c.deref-2.result.now c.in-Ok.found x c.in-Ok.ensures.bound c.in-Ok.ensures.ok)
-    ∙ ap (λ (ids : List OpId). is_one_of ids x) (c.deref-2.ensures.value ∙ c.self.view_is)
+    let stretches = c.deref-2.result.now in
+    let at = c.in-Ok.ensures.position (λ s. side s x) (always_returns_same _ _ _ (λ a r f called. search rules)) in
+    sym (one_found stretches c.in-Ok.found x c.in-Ok.ensures.bound at)
+    ∙ ap (λ (l : List Stretch). covers l x) (c.deref-2.ensures.value ∙ c.self.view_is)
 
 pub returns-in-Err : goal.returns-in-Err
-unfolding id_cmp
 returns-in-Err c =
     let x = c.args.id.now in
-    let sorted = subst (λ (ids : List OpId). IsSorted id_cmp ids) (sym c.deref-2.ensures.value) c.self.invariant in
-    sym (none_found c.deref-2.result.now c.in-Err.field-0 x sorted c.in-Err.ensures.position)
-    ∙ ap (λ (ids : List OpId). is_one_of ids x) (c.deref-2.ensures.value ∙ c.self.view_is)
+    let stretches = c.deref-2.result.now in
+    let order = subst (λ (l : List Stretch). AllAdjacentBelow Precedes l (length l)) (sym c.deref-2.ensures.value) c.self.invariant in
+    let search_result = c.in-Err.ensures.position (λ s. side s x) (always_returns_same _ _ _ (λ a r f called. search rules)) in
+    sym (none_found stretches c.in-Err.field-0 x order search_result)
+    ∙ ap (λ (l : List Stretch). covers l x) (c.deref-2.ensures.value ∙ c.self.view_is)
