@@ -1,5 +1,6 @@
 pub mod Utf8Tests
 pub mod Refusals
+pub mod OneLaws
 pub mod ChangeFields
 pub mod WholeChange
 pub mod Blame

@@ -1,5 +1,5 @@
 -- Bytes put one after another.
-use Rattle.std.proofs.Common.{ℕ, List, ◌++◌, append_assoc, Result, Ok, Err, OnOk}
+use Rattle.std.proofs.Common.{◌≡◌, subst, ℕ, List, ◌++◌, append_assoc, Result, Ok, Err, OnOk}
 use Rattle.tp_change.specs.Puts.{Puts}
 
 -- what was put before, and what after it
@@ -11,3 +11,7 @@ Puts-then holds a b c x y p q =
 pub OnOk-then : {S E : Type 0} (holds : S → List ℕ → Type 0) (a b c : S) (x y : List ℕ) (r : Result (Unit {0}) E) → Puts holds a b x → OnOk r (Puts holds b c y) → OnOk r (Puts holds a c (x ++ y))
 OnOk-then holds a b c x y (Ok _) p q = Puts-then holds a b c x y p q
 OnOk-then holds a b c x y (Err _) p q = tt
+
+-- the same bytes under another name
+pub OnOk-as : {S E : Type 0} (holds : S → List ℕ → Type 0) (a b : S) (x y : List ℕ) (r : Result (Unit {0}) E) → x ≡ y → OnOk r (Puts holds a b x) → OnOk r (Puts holds a b y)
+OnOk-as holds a b x y r e p = subst (λ bytes. OnOk r (Puts holds a b bytes)) e p

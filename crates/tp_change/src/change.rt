@@ -3,7 +3,7 @@
 ghost use Rattle.std.specs.Prelude.{◌≡◌};
 ghost use Rattle.std.specs.Str.{chars};
 
-use crate::parts::ChangeParts;
+use crate::body::Body;
 use crate::record::Record;
 use std::alloc::Global;
 use std::marker::Model;
@@ -14,7 +14,7 @@ use tp_opid::{Actor, Hash};
 /// Contracts see its parts. It keeps the allocator that it was made with, and its hash, which is taken once.
 pub struct Change {
     pub(crate) alloc: Global,
-    pub(crate) parts: ChangeParts,
+    pub(crate) body: Body,
     pub(crate) hash: Hash,
 }
 
@@ -22,7 +22,7 @@ impl Drop for Change {
     fn drop(self) {
         let Change {
             alloc: _,
-            parts: _,
+            body: _,
             hash: _,
         } = self;
     }
@@ -36,9 +36,9 @@ impl Model for Change {
 
     ghost Value = { ChangeParts };
 
-    ghost view = { λ c. c.parts };
+    ghost view = { λ c. c.body };
 
-    ghost invariant = { λ c. IsChange c.parts × (c.hash ≡ hash_of c.parts) };
+    ghost invariant = { λ c. IsChange c.body × (c.hash ≡ hash_of c.body) };
 }
 
 impl Change {
@@ -57,48 +57,48 @@ impl Change {
     pub fn actor(&self) -> Actor
         ensures { result ≡ self.now.actor }
     {
-        self.parts.actor
+        self.body.actor
     }
 
     /// Its number among the actor's changes, from 1.
     pub fn seq(&self) -> u64
         ensures { result ≡ self.now.seq }
     {
-        self.parts.seq
+        self.body.seq
     }
 
     /// The counter of its first operation, from 1.
     pub fn start(&self) -> u64
         ensures { result ≡ self.now.start }
     {
-        self.parts.start
+        self.body.start
     }
 
     /// When it was made, as the caller counts time.
     pub fn time(&self) -> u64
         ensures { result ≡ self.now.time }
     {
-        self.parts.time
+        self.body.time
     }
 
     /// The message for people.
     pub fn message(&self) -> &str
         ensures { chars result.now ≡ self.now.message }
     {
-        self.parts.message.as_str()
+        self.body.message.as_str()
     }
 
     /// The hashes of the changes that it depends on, rising.
     pub fn deps(&self) -> &[Hash]
         ensures { result.now ≡ self.now.deps }
     {
-        self.parts.deps.as_slice()
+        self.body.deps.as_slice()
     }
 
     /// The records, one at least.
     pub fn records(&self) -> &[Record]
         ensures { result.now ≡ self.now.records }
     {
-        self.parts.records.as_slice()
+        self.body.records.as_slice()
     }
 }

@@ -3,19 +3,20 @@
 ghost use Rattle.std.specs.Prelude.{◌≡◌, IfOk, IsOkUnless};
 ghost use Rattle.tp_change.specs.declared.error.ChangeError.TheVariants.{OutOfMemory};
 
+use crate::body::Body;
 use crate::change::Change;
 use crate::error::ChangeError;
-use crate::parts::ChangeParts;
 use crate::record::Record;
 use std::alloc::Global;
-use tp_list::{Items, Text};
+use tp_list::{Few, Text};
+use tp_opid::Hash;
 
 /// An equal text.
 fn copy_text(alloc: Global, text: &Text) -> Result<Text, ChangeError>
     ensures copied { IfOk result (λ copied. copied ≡ text.now) }
     ensures err { IsOkUnless result OutOfMemory }
 {
-    Ok(Text::new(String::from_str(alloc, text.as_str())?))
+    Ok(Text::of(alloc, text.as_str())?)
 }
 
 /// An equal record.
@@ -37,33 +38,47 @@ fn copy_record(alloc: Global, entry: &Record) -> Result<Record, ChangeError>
 }
 
 /// Equal records, in memory that is reserved once.
-fn copy_records(alloc: Global, records: &[Record]) -> Result<Vec<Record>, ChangeError>
-    ensures copied { IfOk result (λ copied. copied.items ≡ records.now) }
+fn copy_records(alloc: Global, records: &[Record]) -> Result<Few<Record>, ChangeError>
+    ensures copied { IfOk result (λ copied. copied ≡ records.now) }
     ensures err { IsOkUnless result OutOfMemory }
 {
+    if records.len() == 1 {
+        return Ok(Few::one(copy_record(alloc, &records[0])?));
+    }
     let mut copied = Vec::with_capacity(alloc, records.len())?;
     for entry in records {
         copied.push(copy_record(alloc, entry)?)?;
     }
-    Ok(copied)
+    Ok(Few::new(copied))
+}
+
+/// Equal dependencies.
+fn copy_deps(alloc: Global, deps: &[Hash]) -> Result<Few<Hash>, ChangeError>
+    ensures copied { IfOk result (λ copied. copied ≡ deps.now) }
+    ensures err { IsOkUnless result OutOfMemory }
+{
+    if deps.len() == 1 {
+        return Ok(Few::one(deps[0]));
+    }
+    Ok(Few::new(Vec::from_slice(alloc, deps)?))
 }
 
 /// Equal parts.
-fn copy_parts(alloc: Global, parts: &ChangeParts) -> Result<ChangeParts, ChangeError>
-    ensures copied { IfOk result (λ copied. copied ≡ parts.now) }
+fn copy_body(alloc: Global, body: &Body) -> Result<Body, ChangeError>
+    ensures copied { IfOk result (λ copied. copied ≡ body.now) }
     ensures err { IsOkUnless result OutOfMemory }
 {
-    let message = copy_text(alloc, &parts.message)?;
-    let deps = Vec::from_slice(alloc, parts.deps.as_slice())?;
-    let records = copy_records(alloc, parts.records.as_slice())?;
-    Ok(ChangeParts {
-        actor: parts.actor,
-        seq: parts.seq,
-        start: parts.start,
-        time: parts.time,
+    let message = copy_text(alloc, &body.message)?;
+    let deps = copy_deps(alloc, body.deps.as_slice())?;
+    let records = copy_records(alloc, body.records.as_slice())?;
+    Ok(Body {
+        actor: body.actor,
+        seq: body.seq,
+        start: body.start,
+        time: body.time,
         message,
-        deps: Items::new(deps),
-        records: Items::new(records),
+        deps,
+        records,
     })
 }
 
@@ -76,7 +91,7 @@ impl Change {
     {
         Ok(Change {
             alloc: self.alloc,
-            parts: copy_parts(self.alloc, &self.parts)?,
+            body: copy_body(self.alloc, &self.body)?,
             hash: self.hash,
         })
     }

@@ -5,6 +5,7 @@
 //! of which docs/FORMATS.md says every byte; its hash is their SHA-256.
 #![tactic(auto)]
 
+mod body;
 mod change;
 mod copying;
 mod counting;

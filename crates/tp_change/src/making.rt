@@ -6,6 +6,7 @@ ghost use Rattle.tp_change.specs.Validated.{is_fault_of_parts, validated};
 ghost use Rattle.tp_change.specs.Limits.{IsChange};
 ghost use Rattle.tp_change.specs.declared.error.ChangeError.TheVariants.{OutOfMemory};
 
+use crate::body::Body;
 use crate::change::Change;
 use crate::error::ChangeError;
 use crate::gatherer::Gatherer;
@@ -16,12 +17,12 @@ use std::alloc::Global;
 use tp_opid::Hash;
 
 /// The hash of the parts, from their bytes as they come: no copy is made.
-fn hash_parts(parts: &ChangeParts) -> Hash
-    requires { IsChange parts.now }
-    ensures { result ≡ hash_of parts.now }
+fn hash_body(body: &Body) -> Hash
+    requires { IsChange body.now }
+    ensures { result ≡ hash_of body.now }
 {
     let mut gatherer = Gatherer::new();
-    match put_change(&mut gatherer, parts) {
+    match put_change(&mut gatherer, body) {
         Ok(()) => {}
         Err(_) => unreachable!(),
     }
@@ -49,8 +50,9 @@ impl Change {
         ensures faults { IfErr result (λ e. IsTrue (is_fault_of_parts e)) }
         ensures memory { IfErr result (λ e. e ≡ OutOfMemory → ⊥) }
     {
-        validate(&parts)?;
-        let hash = hash_parts(&parts);
-        Ok(Change { alloc, parts, hash })
+        let body = Body::of(parts);
+        validate(&body)?;
+        let hash = hash_body(&body);
+        Ok(Change { alloc, body, hash })
     }
 }

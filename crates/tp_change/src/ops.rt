@@ -158,16 +158,16 @@ impl Change {
     {
         Ops {
             walk: Walk {
-                actor: self.parts.actor,
-                counter: self.parts.start,
+                actor: self.body.actor,
+                counter: self.body.start,
                 after: Place::Start,
                 text: "",
                 target: OpId {
                     counter: 0,
-                    actor: self.parts.actor,
+                    actor: self.body.actor,
                 },
                 deletes: 0,
-                records: self.parts.records.as_slice(),
+                records: self.body.records.as_slice(),
             },
         }
     }

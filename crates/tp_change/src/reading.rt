@@ -21,17 +21,17 @@ ghost use Rattle.tp_change.specs.declared.parts.ChangeParts.{ChangeParts};
 ghost use Rattle.tp_change.specs.Gives.{Gives};
 ghost use Rattle.tp_change.specs.Reading.{actor_at, hash_at, id_at, version_at, seq_at, start_at, rises, dep_at, next_before, room_after, deps_at, place_after_tag, place_at, insert_at, delete_at, delete_run_at, record_after_tag, record_at, records_at, room_from, parts_at, sized_at, change_at};
 
+use crate::body::Body;
 use crate::change::Change;
 use crate::error::ChangeError;
 use crate::limits::{COUNTERS_END, FEWEST_DELETES, MAX_BYTES, MAX_OPS, are_counters};
-use crate::parts::ChangeParts;
 use crate::record::Record;
 use crate::version::version_of;
 use std::alloc::Global;
 use std::cmp::Ordering;
 use tp_codec::Reader;
 use tp_digest::Ahead;
-use tp_list::{Items, Text, char_count};
+use tp_list::{Few, Text, char_count};
 use tp_opid::{Actor, Hash, OpId, Place};
 
 // The bytes of a hash.
@@ -127,7 +127,7 @@ fn characters_of(alloc: Global, reader: &mut Reader<'_>, count: usize) -> Result
     ensures { Gives (λ t. (t, reader.new)) result (characters_at Short BadUtf8 count reader.old) }
 {
     let text = utf8_of(bytes_of(reader, count)?)?;
-    Ok(Text::new(String::from_str(alloc, text)?))
+    Ok(Text::of(alloc, text)?)
 }
 
 fn message_of(alloc: Global, reader: &mut Reader<'_>) -> Result<Text, ChangeError>
@@ -216,11 +216,22 @@ fn counted_deps_of(
     Ok(deps)
 }
 
-fn deps_of(alloc: Global, reader: &mut Reader<'_>) -> Result<Items<Hash>, ChangeError>
+// One dependency. It takes no memory.
+fn one_dep_of(reader: &mut Reader<'_>) -> Result<Few<Hash>, ChangeError>
+    ensures { Gives (λ d. (d, reader.new)) result
+        (repeat_at dep_at next_before 1 None reader.old) }
+{
+    Ok(Few::one(dep_of(reader, None)?))
+}
+
+fn deps_of(alloc: Global, reader: &mut Reader<'_>) -> Result<Few<Hash>, ChangeError>
     ensures { Gives (λ d. (d, reader.new)) result (deps_at reader.old) }
 {
     let count = u16_of(reader)?;
-    Ok(Items::new(counted_deps_of(alloc, reader, count)?))
+    if count == 1 {
+        return one_dep_of(reader);
+    }
+    Ok(Few::new(counted_deps_of(alloc, reader, count)?))
 }
 
 fn place_behind_tag(reader: &mut Reader<'_>, tag: u8) -> Result<Place, ChangeError>
@@ -354,12 +365,26 @@ fn counted_records_of(
     Ok(records)
 }
 
+// One record. It takes memory only for a long text.
+fn one_record_of(
+    alloc: Global,
+    reader: &mut Reader<'_>,
+    runs: bool,
+    room: usize,
+) -> Result<Few<Record>, ChangeError>
+    ensures { Gives (λ r. (r, reader.new)) result
+        (repeat_at (record_at runs) room_after 1 room reader.old) }
+{
+    let (record, _) = record_of(alloc, reader, runs, room)?;
+    Ok(Few::one(record))
+}
+
 fn records_of(
     alloc: Global,
     reader: &mut Reader<'_>,
     runs: bool,
     room: usize,
-) -> Result<Items<Record>, ChangeError>
+) -> Result<Few<Record>, ChangeError>
     ensures { Gives (λ r. (r, reader.new)) result (records_at runs room reader.old) }
 {
     let count = u32_of(reader)?;
@@ -369,7 +394,10 @@ fn records_of(
     if count as usize > MAX_OPS {
         return Err(ChangeError::Limit);
     }
-    Ok(Items::new(counted_records_of(alloc, reader, runs, count, room)?))
+    if count == 1 {
+        return one_record_of(alloc, reader, runs, room);
+    }
+    Ok(Few::new(counted_records_of(alloc, reader, runs, count, room)?))
 }
 
 // How many operations a change may have whose first counter is start.
@@ -379,7 +407,7 @@ fn room_of(start: u64) -> usize
     COUNTERS_END.saturating_sub(start).min(MAX_OPS as u64) as usize
 }
 
-fn parts_of(alloc: Global, reader: &mut Reader<'_>, runs: bool) -> Result<ChangeParts, ChangeError>
+fn parts_of(alloc: Global, reader: &mut Reader<'_>, runs: bool) -> Result<Body, ChangeError>
     ensures { Gives (λ c. (c, reader.new)) result (parts_at runs reader.old) }
 {
     let actor = actor_of(reader)?;
@@ -389,7 +417,7 @@ fn parts_of(alloc: Global, reader: &mut Reader<'_>, runs: bool) -> Result<Change
     let message = message_of(alloc, reader)?;
     let deps = deps_of(alloc, reader)?;
     let records = records_of(alloc, reader, runs, room_of(start))?;
-    Ok(ChangeParts {
+    Ok(Body {
         actor,
         seq,
         start,
@@ -401,11 +429,7 @@ fn parts_of(alloc: Global, reader: &mut Reader<'_>, runs: bool) -> Result<Change
 }
 
 // The version and the parts.
-fn sized_of(
-    alloc: Global,
-    reader: &mut Reader<'_>,
-    size: usize,
-) -> Result<(u8, ChangeParts), ChangeError>
+fn sized_of(alloc: Global, reader: &mut Reader<'_>, size: usize) -> Result<(u8, Body), ChangeError>
     ensures { Gives (λ x. ((x.0, x.1), reader.new)) result (sized_at size reader.old) }
 {
     let version = version_byte_of(reader)?;
@@ -417,7 +441,7 @@ fn sized_of(
 
 // The parts of the change that the bytes are.
 #[tactic(auto, unfolding(crate::specs::Reading::change_at, crate::specs::Reading::ended, crate::specs::Reading::versioned))]
-fn change_of(alloc: Global, bytes: &[u8]) -> Result<ChangeParts, ChangeError>
+fn change_of(alloc: Global, bytes: &[u8]) -> Result<Body, ChangeError>
     ensures { Gives (λ c. c) result (change_at bytes.now) }
 {
     let mut reader = Reader::new(bytes);
@@ -456,8 +480,8 @@ impl Change {
             → Gives (λ d. d) result (Ok c) }
         ensures exact { Gives (λ c. c) result (change_at bytes.now) }
     {
-        let parts = change_of(alloc, bytes)?;
+        let body = change_of(alloc, bytes)?;
         let hash = Hash(ahead.digest(bytes));
-        Ok(Change { alloc, parts, hash })
+        Ok(Change { alloc, body, hash })
     }
 }

@@ -5,7 +5,7 @@ ghost use Rattle.std.specs.List.{flat_map};
 ghost use Rattle.tp_opid.specs.declared.hash.Hash.{Hash};
 ghost use Rattle.tp_change.specs.Spelling.{spelling, spelling_of_id, spelling_of_place, spelling_of_record};
 
-use crate::parts::ChangeParts;
+use crate::body::Body;
 use crate::record::Record;
 use tp_list::array_len;
 use tp_opid::{Hash, OpId, Place};
@@ -65,13 +65,13 @@ fn hashes_len(hashes: &[Hash]) -> usize
 /// How many bytes the parts are spelled with, or `usize::MAX` where a `usize` can't hold it. No memory; the cost
 /// is that of going over the dependencies and the records, and not over their texts.
 #[tactic(auto, using(crate::proofs::Lengths::length_spelling))]
-pub(crate) fn parts_len(parts: &ChangeParts) -> usize
-    ensures { result ≡ min usize.MAX (length (spelling parts.now)) }
+pub(crate) fn body_len(body: &Body) -> usize
+    ensures { result ≡ min usize.MAX (length (spelling body.now)) }
 {
-    let deps = hashes_len(parts.deps.as_slice());
-    let records = records_len(parts.records.as_slice());
-    let message = parts.message.byte_len();
-    let head: usize = 33 + array_len(parts.actor.0);
+    let deps = hashes_len(body.deps.as_slice());
+    let records = records_len(body.records.as_slice());
+    let message = body.message.byte_len();
+    let head: usize = 33 + array_len(body.actor.0);
     head.saturating_add(message)
         .saturating_add(deps)
         .saturating_add(records)

@@ -11,15 +11,15 @@ ghost use Rattle.tp_change.specs.Validated.{is_fault_of_parts, unless, is_above,
 ghost use Rattle.tp_change.specs.Limits.{IsHash, IsChange, IsTypedRecord, IsTyped};
 ghost use Rattle.tp_change.specs.Operations.{count_in};
 
+use crate::body::Body;
 use crate::error::ChangeError;
 use crate::facts::ops_in;
 use crate::limits::{
     COUNTERS_END, FEWEST_DELETES, MAX_BYTES, MAX_DEPS, MAX_MESSAGE_BYTES, MAX_OPS, are_counters,
 };
-use crate::parts::ChangeParts;
 use crate::record::Record;
-use crate::size::parts_len;
-use tp_list::{Items, Text, array_len};
+use crate::size::body_len;
+use tp_list::{Few, Text, array_len};
 use tp_opid::Hash;
 
 /// The fault, unless the test holds.
@@ -56,7 +56,7 @@ fn do_rise(hashes: &[Hash]) -> bool
 }
 
 /// At most so many dependencies, rising.
-fn validate_deps(deps: &Items<Hash>) -> Result<(), ChangeError>
+fn validate_deps(deps: &Few<Hash>) -> Result<(), ChangeError>
     ensures value { result ≡ validated_deps deps.now }
     ensures bytes { OnOk result (All IsHash deps.now) }
 {
@@ -132,7 +132,7 @@ fn validate_message(message: &Text) -> Result<(), ChangeError>
 }
 
 /// The record count, and the records.
-fn validate_list(start: u64, records: &Items<Record>) -> Result<(), ChangeError>
+fn validate_list(start: u64, records: &Few<Record>) -> Result<(), ChangeError>
     requires { start < COUNTERS_END }
     ensures value { result ≡ validated_list start records.now }
     ensures typed { OnOk result (All IsTypedRecord records.now) }
@@ -150,27 +150,27 @@ fn validate_list(start: u64, records: &Items<Record>) -> Result<(), ChangeError>
 
 /// The whole size and then each field, with what the types say of them.
 #[tactic(auto, unfolding(crate::specs::Validated::validated))]
-fn validate_fields(parts: &ChangeParts) -> Result<(), ChangeError>
-    ensures value { result ≡ validated parts.now }
-    ensures typed { OnOk result (IsTyped parts.now) }
+fn validate_fields(body: &Body) -> Result<(), ChangeError>
+    ensures value { result ≡ validated body.now }
+    ensures typed { OnOk result (IsTyped body.now) }
 {
-    ensure(parts_len(parts) <= MAX_BYTES, ChangeError::Limit)?;
-    validate_numbers(parts.seq, parts.start)?;
-    validate_message(&parts.message)?;
-    validate_deps(&parts.deps)?;
-    let _time = parts.time;
-    let _actor = array_len(parts.actor.0);
-    validate_list(parts.start, &parts.records)
+    ensure(body_len(body) <= MAX_BYTES, ChangeError::Limit)?;
+    validate_numbers(body.seq, body.start)?;
+    validate_message(&body.message)?;
+    validate_deps(&body.deps)?;
+    let _time = body.time;
+    let _actor = array_len(body.actor.0);
+    validate_list(body.start, &body.records)
 }
 
 /// The first fault of the parts: the whole size first, then each field in turn. No memory; the cost is that of
 /// going over the parts once.
-pub(crate) fn validate(parts: &ChangeParts) -> Result<(), ChangeError>
-    ensures value { result ≡ validated parts.now }
-    ensures within { OnOk result (IsChange parts.now) }
-    ensures only { IsChange parts.now → result ≡ Ok tt }
+pub(crate) fn validate(body: &Body) -> Result<(), ChangeError>
+    ensures value { result ≡ validated body.now }
+    ensures within { OnOk result (IsChange body.now) }
+    ensures only { IsChange body.now → result ≡ Ok tt }
     ensures faults { IfErr result (λ e. IsTrue (is_fault_of_parts e)) }
     ensures memory { IfErr result (λ e. e ≡ OutOfMemory → ⊥) }
 {
-    validate_fields(parts)
+    validate_fields(body)
 }

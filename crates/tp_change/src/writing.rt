@@ -8,15 +8,15 @@ ghost use Rattle.tp_change.specs.Limits.{IsChange, IsRecord};
 ghost use Rattle.tp_change.specs.Puts.{Puts};
 ghost use Rattle.tp_change.specs.Spelling.{spelling, spelling_of_id, spelling_of_place, spelling_of_run, spelling_of_message, spelling_of_deps, spelling_of_record, spelling_of_records};
 
+use crate::body::Body;
 use crate::change::Change;
 use crate::error::ChangeError;
-use crate::parts::ChangeParts;
 use crate::record::Record;
 use crate::sink::Sink;
-use crate::size::parts_len;
+use crate::size::body_len;
 use crate::version::version_of;
 use std::alloc::AllocError;
-use tp_list::{Items, Text};
+use tp_list::{Few, Text};
 use tp_opid::{Hash, OpId, Place};
 
 /// Eight bytes.
@@ -120,7 +120,7 @@ fn put_records<S: Sink>(out: &mut S, records: &[Record]) -> Result<(), AllocErro
 }
 
 /// The dependency count and the dependencies.
-fn put_deps<S: Sink>(out: &mut S, deps: &Items<Hash>) -> Result<(), AllocError>
+fn put_deps<S: Sink>(out: &mut S, deps: &Few<Hash>) -> Result<(), AllocError>
     requires { length deps.now < 2 ^ 16 }
     ensures puts { OnOk result (Puts S.holds out.old out.new (spelling_of_deps deps.now)) }
     ensures taken { S.takes_all → IsOk result }
@@ -131,30 +131,30 @@ fn put_deps<S: Sink>(out: &mut S, deps: &Items<Hash>) -> Result<(), AllocError>
 
 /// The record count and the records.
 #[tactic(auto, using(crate::proofs::Counts::few_records))]
-fn put_counted<S: Sink>(out: &mut S, parts: &ChangeParts) -> Result<(), AllocError>
-    requires { IsChange parts.now }
+fn put_counted<S: Sink>(out: &mut S, body: &Body) -> Result<(), AllocError>
+    requires { IsChange body.now }
     ensures puts { OnOk result
-        (Puts S.holds out.old out.new (spelling_of_records parts.now.records)) }
+        (Puts S.holds out.old out.new (spelling_of_records body.now.records)) }
     ensures taken { S.takes_all → IsOk result }
 {
-    out.put(&(parts.records.len() as u32).to_be_bytes())?;
-    put_records(out, parts.records.as_slice())
+    out.put(&(body.records.len() as u32).to_be_bytes())?;
+    put_records(out, body.records.as_slice())
 }
 
 /// Puts the bytes of a change.
-pub(crate) fn put_change<S: Sink>(out: &mut S, parts: &ChangeParts) -> Result<(), AllocError>
-    requires { IsChange parts.now }
-    ensures puts { OnOk result (Puts S.holds out.old out.new (spelling parts.now)) }
+pub(crate) fn put_change<S: Sink>(out: &mut S, body: &Body) -> Result<(), AllocError>
+    requires { IsChange body.now }
+    ensures puts { OnOk result (Puts S.holds out.old out.new (spelling body.now)) }
     ensures taken { S.takes_all → IsOk result }
 {
-    out.put(&[version_of(parts.records.as_slice())])?;
-    out.put(&parts.actor.0)?;
-    put_u64(out, parts.seq)?;
-    put_u64(out, parts.start)?;
-    put_u64(out, parts.time)?;
-    put_message(out, &parts.message)?;
-    put_deps(out, &parts.deps)?;
-    put_counted(out, parts)
+    out.put(&[version_of(body.records.as_slice())])?;
+    out.put(&body.actor.0)?;
+    put_u64(out, body.seq)?;
+    put_u64(out, body.start)?;
+    put_u64(out, body.time)?;
+    put_message(out, &body.message)?;
+    put_deps(out, &body.deps)?;
+    put_counted(out, body)
 }
 
 impl Change {
@@ -166,7 +166,7 @@ impl Change {
     pub fn encoded_len(&self) -> usize
         ensures { result ≡ length (spelling self.now) }
     {
-        parts_len(&self.parts)
+        body_len(&self.body)
     }
 
     /// The bytes of the change, as docs/FORMATS.md lays them out. They are written once, into memory that is
@@ -185,7 +185,7 @@ impl Change {
         ensures err { IsOkUnless result OutOfMemory }
     {
         out.reserve(self.encoded_len())?;
-        put_change(&mut out, &self.parts)?;
+        put_change(&mut out, &self.body)?;
         Ok(out)
     }
 }

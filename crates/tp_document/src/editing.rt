@@ -47,7 +47,7 @@ fn parts_of<S: Sequence>(
         (visible_ids (S.removals sequence.now) (S.placed sequence.now))) }
 {
     let records = records(alloc, sequence, actor, start, splices)?;
-    let message = Text::new(String::from_str(alloc, message)?);
+    let message = Text::of(alloc, message)?;
     let deps = Vec::from_slice(alloc, deps)?;
     Ok(ChangeParts {
         actor,

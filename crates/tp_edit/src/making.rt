@@ -116,7 +116,7 @@ fn append_splice<S: Sequence>(
         } else {
             Place::After(id_through(sequence, actor, landings, at - 1))
         };
-        let text = Text::new(String::from_str(alloc, splice.text)?);
+        let text = Text::of(alloc, splice.text)?;
         records.push(Record::Insert { after, text })?;
     }
     Ok(())

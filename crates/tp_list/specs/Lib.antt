@@ -1,4 +1,5 @@
 pub mod Bytes
+pub mod Kept
 pub mod Members
 pub mod Rising
 pub mod Traces

@@ -3,9 +3,11 @@
 #![tactic(auto)]
 
 mod bytes;
+mod few;
 mod items;
 mod text;
 
 pub use bytes::array_len;
+pub use few::Few;
 pub use items::Items;
 pub use text::{Text, char_count};

@@ -1,37 +1,77 @@
-ghost use Rattle.std.specs.Prelude.{◌≡◌, ◌==◌, true, length, encode_utf8_all};
+ghost use Rattle.std.specs.Prelude.{◌≡◌, ◌==◌, true, length, encode_utf8_all, IfOk};
 ghost use Rattle.std.specs.Str.{chars, all_scalars};
 ghost use Rattle.std.specs.String.{string_bytes};
+ghost use Rattle.tp_list.specs.Kept.{bytes_of};
 
+use arrayvec::ArrayString;
+use std::alloc::{AllocError, Global};
 use std::marker::Model;
 
-/// A `String` that contracts see as the list of its characters (Unicode scalar values). It is made from a
-/// `String` and gives it back, without memory.
+/// Where the bytes of a text are.
+#[derive(Drop)]
+enum Kept {
+    // In the text itself.
+    Short(ArrayString<16>),
+    // In memory of their own.
+    Long(String),
+}
+
+impl Kept {
+    // The text, borrowed.
+    fn as_str(&self) -> &str
+        ensures { result.now ≡ bytes_of self.now }
+    {
+        match self {
+            Kept::Short(text) => text.as_str(),
+            Kept::Long(text) => text.as_str(),
+        }
+    }
+}
+
+/// A text that contracts see as the list of its characters (Unicode scalar values). Up to 16 bytes of UTF-8 lie in the
+/// value itself; a longer one is a `String`.
 #[derive(Drop)]
 pub struct Text {
-    string: String,
+    kept: Kept,
 }
 
 impl Model for Text {
     ghost use Rattle.std.specs.Prelude.{List, ℕ};
     ghost use Rattle.std.specs.Str.{chars};
-    ghost use Rattle.std.specs.String.{string_bytes};
+    ghost use Rattle.tp_list.specs.Kept.{bytes_of};
 
     ghost Value = { List ℕ };
 
-    ghost view = { λ t. chars (string_bytes t.string) };
+    ghost view = { λ t. chars (bytes_of t.kept) };
 
     ghost use Rattle.tp_list.specs.Utf8.{IsEncodedText};
 
-    ghost invariant = { λ t. IsEncodedText (string_bytes t.string) };
+    ghost invariant = { λ t. IsEncodedText (bytes_of t.kept) };
 }
 
 impl Text {
-    /// The characters of a `String`.
+    /// The characters of a `String`. It takes no memory; that of a short one is given back.
     pub fn new(string: String) -> Text
         ensures { result ≡ chars (string_bytes string) }
     {
-        let _utf8 = string.as_str();
-        Text { string }
+        let kept = match ArrayString::from(string.as_str()) {
+            Ok(short) => Kept::Short(short),
+            Err(_) => Kept::Long(string),
+        };
+        let _utf8 = kept.as_str();
+        Text { kept }
+    }
+
+    /// A copy of the text. It takes memory only where there are more than 16 bytes.
+    pub fn of(alloc: Global, text: &str) -> Result<Text, AllocError>
+        ensures { IfOk result (λ copy. copy ≡ chars text.now) }
+    {
+        let kept = match ArrayString::from(text) {
+            Ok(short) => Kept::Short(short),
+            Err(_) => Kept::Long(String::from_str(alloc, text)?),
+        };
+        let _utf8 = kept.as_str();
+        Ok(Text { kept })
     }
 
     /// The text, borrowed.
@@ -40,21 +80,21 @@ impl Text {
         ensures chars { chars result.now ≡ self.now }
         ensures scalars { all_scalars self.now ≡ true }
     {
-        self.string.as_str()
+        self.kept.as_str()
     }
 
     /// How many bytes of UTF-8 it has.
     pub fn byte_len(&self) -> usize
         ensures { result ≡ length (encode_utf8_all self.now) }
     {
-        self.string.len()
+        self.kept.as_str().len()
     }
 
     /// Whether it has no character.
     pub fn is_empty(&self) -> bool
         ensures { result ≡ (length self.now == 0) }
     {
-        self.string.as_str().is_empty()
+        self.kept.as_str().is_empty()
     }
 }
 

@@ -4,7 +4,11 @@ use Rattle.tp_change.proofs.OpsBegin.{ops_begin, walk_begin}
 use Rattle.tp_change.proofs.change.Change.ops.Goals as goal
 
 pub invariant_of-result : goal.invariant_of-result
-invariant_of-result c = walk_begin c.self.inside.parts _ c.self.invariant.0 refl refl refl refl c.as_slice.ensures
+invariant_of-result c =
+    let is = c.self-inside.view_is in
+    walk_begin c.self.inside.body _ c.self.invariant.0 refl (ap (λ i. i.body.start) is) refl refl (c.as_slice.ensures ∙ ap (λ i. i.body.records) is)
 
 pub returns : goal.returns
-returns c = ops_begin c.self.inside.parts _ (record { counter = 0; actor = c.self.inside.parts.actor }) _ c.as_slice.ensures ∙ ap ops_of c.self.view_is
+returns c =
+    let is = c.self-inside.view_is in
+    ops_begin _ _ (record { counter = 0; actor = c.self-inside.inside.0.1.0.actor }) _ c.as_slice.ensures ∙ ap (λ i. ops_of i.body) is ∙ ap ops_of c.self.view_is
