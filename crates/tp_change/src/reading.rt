@@ -469,7 +469,8 @@ impl Change {
         Change::decode_ahead(alloc, bytes, &mut Ahead::none())
     }
 
-    /// The same, with the digest of the bytes from those that were taken ahead, where it is among them.
+    /// As [`decode`](Change::decode), with the digest of the bytes from those of the changes that are expected, where
+    /// these bytes are the next of them. It is asked for only where the bytes are a change.
     pub fn decode_ahead(
         alloc: Global,
         bytes: &[u8],

@@ -28,6 +28,12 @@ const OF_256_ZEROS: [u8; 32] = [
     0x16, 0x94, 0x21, 0xec, 0x9b, 0xdd, 0x9f, 0x1a, 0x56, 0x48, 0xf7, 0x5a, 0xde, 0x00, 0x5a, 0xf1,
 ];
 
+// By `sha256sum`.
+const OF_512_ZEROS: [u8; 32] = [
+    0x07, 0x6a, 0x27, 0xc7, 0x9e, 0x5a, 0xce, 0x2a, 0x3d, 0x47, 0xf9, 0xdd, 0x2e, 0x83, 0xe4, 0xff,
+    0x6e, 0xa8, 0x87, 0x2b, 0x3c, 0x22, 0x18, 0xf6, 0x6c, 0x92, 0xb8, 0x9b, 0x55, 0xf3, 0x65, 0x60,
+];
+
 const LONG: &[u8] = b"abcdbcdecdefdefgefghfghighijhijkijkljklmklmnlmnomnopnopq";
 
 const LONGER: &[u8] =
@@ -65,5 +71,17 @@ fn ahead(rt: HostRuntime) -> Result<(), Fail> {
     assert!(rt; !ahead.is_used_up());
     assert_eq!(rt; ahead.digest(b""), OF_NOTHING);
     assert!(rt; ahead.is_used_up());
+    Ok(())
+}
+
+#[test]
+fn a_piece_that_is_much_longer(rt: HostRuntime) -> Result<(), Fail> {
+    let mut ahead = Ahead::of([b"abc", LONG, &[0; 512], b""]);
+    assert_eq!(rt; ahead.digest(LONG), OF_56);
+    assert!(rt; !ahead.is_used_up());
+    assert_eq!(rt; ahead.digest(b"abc"), OF_ABC);
+    assert!(rt; ahead.is_used_up());
+    assert_eq!(rt; ahead.digest(LONG), OF_56);
+    assert_eq!(rt; ahead.digest(&[0; 512]), OF_512_ZEROS);
     Ok(())
 }

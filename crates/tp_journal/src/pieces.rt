@@ -11,7 +11,7 @@ ghost use Rattle.tp_store.specs.declared.error.StoreError.TheVariants.{OutOfMemo
 
 use crate::content::Content;
 use crate::layout::HEADER_BYTES;
-use crate::reading::{digests_of_next, read_header};
+use crate::reading::{expected, read_header};
 use crate::recovering::{Recovered, enter_next, history};
 use std::alloc::{AllocError, Global};
 use std::io;
@@ -88,7 +88,7 @@ fn enter_records<'a, S: Sequence>(
     let mut ahead = Ahead::none();
     'records: loop {
         if ahead.is_used_up() {
-            ahead = digests_of_next(rest);
+            ahead = expected(rest);
         }
         match enter_next(
             alloc,

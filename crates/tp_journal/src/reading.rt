@@ -108,8 +108,9 @@ pub(crate) fn split_record<'a>(bytes: &'a [u8], at: u64) -> Result<Option<Laid<'
     }))
 }
 
-/// The digests of the changes of the next records, taken together: none where fewer than four are whole.
-pub(crate) fn digests_of_next(bytes: &[u8]) -> Ahead<'_> {
+/// The changes of the next four records as those whose digests are expected: none where fewer records are whole. It looks
+/// at their lengths alone.
+pub(crate) fn expected(bytes: &[u8]) -> Ahead<'_> {
     let mut pieces: [&[u8]; 4] = [&[]; 4];
     let mut rest = bytes;
     for i in 0..4 {
@@ -124,8 +125,8 @@ pub(crate) fn digests_of_next(bytes: &[u8]) -> Ahead<'_> {
     Ahead::of(pieces)
 }
 
-/// The change of a record: its bytes are decoded, and their digest is taken, once, or was taken ahead. `Damaged`, with the
-/// offset `at`, where they are no change's or the digest isn't theirs.
+/// The change of a record: its bytes are decoded, and their digest is taken, once, where they are those that are expected
+/// beside the next. `Damaged`, with the offset `at`, where they are no change's or the digest isn't theirs.
 pub(crate) fn change_of(
     alloc: Global,
     bytes: &[u8],

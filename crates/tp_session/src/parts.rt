@@ -39,7 +39,9 @@ fn read_on(reader: MessageReader, piece: &[u8]) -> Result<MessageReader, SyncErr
     'fields: while at < piece.len() && !taking.whole() {
         let rest = &piece[at..];
         if ahead.is_used_up() {
-            ahead = taking.digests_of_next(rest);
+            if let Some(next) = taking.expected(rest) {
+                ahead = next;
+            }
         }
         at += taking.take_ahead(rest, &mut ahead)?;
     }

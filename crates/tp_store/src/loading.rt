@@ -32,9 +32,9 @@ fn has_digest(bytes: &[u8], digest: &[u8; 32]) -> bool
     *digest == Sha256::digest(body)
 }
 
-// The digests of the next changes, whose lengths and bytes these are, taken together: none where fewer than four are
-// whole.
-fn digests_of_next(bytes: &[u8]) -> Ahead<'_> {
+// The next four changes, whose lengths and bytes these are, as those whose digests are expected: none where fewer are
+// whole. It looks at their lengths alone.
+fn expected(bytes: &[u8]) -> Ahead<'_> {
     let mut pieces: [&[u8]; 4] = [&[]; 4];
     let mut reader = Reader::new(bytes);
     for i in 0..4 {
@@ -116,7 +116,7 @@ fn enter_pieces<S: Sequence>(
     let mut ahead = Ahead::none();
     for _ in 0..count {
         if ahead.is_used_up() {
-            ahead = digests_of_next(&body[body.len().saturating_sub(reader.len())..]);
+            ahead = expected(&body[body.len().saturating_sub(reader.len())..]);
         }
         let piece = piece_of(reader, at)?;
         enter_piece(alloc, document, at, piece, &mut ahead)?;

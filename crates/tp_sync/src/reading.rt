@@ -13,7 +13,7 @@ ghost use Rattle.tp_sync.specs.ReaderState.{reads, Answers};
 
 use crate::error::SyncError;
 use crate::message::Message;
-use crate::stages::{Lists, Stage, digests_of_next, field_len, next_stage};
+use crate::stages::{Lists, Stage, expected, field_len, next_stage};
 use std::alloc::Global;
 use std::marker::Model;
 use tp_change::MAX_BYTES;
@@ -109,15 +109,16 @@ impl MessageReader {
         self.take_ahead(piece, &mut Ahead::none())
     }
 
-    /// The digests of the next four changes, which belong to the bytes that come next, taken together; none where a change
-    /// isn't what comes next, or fewer than four are whole. Two passes over the bytes of these changes, one of them that
-    /// takes the digests.
-    pub fn digests_of_next<'a>(&self, bytes: &'a [u8]) -> Ahead<'a> {
-        digests_of_next(self.stage, bytes)
+    /// The next four changes, which are among the bytes that come next, as those whose digests are expected. `None` where a
+    /// change isn't what comes next, or fewer than four are whole. It looks at their lengths alone.
+    pub fn expected<'a>(&self, bytes: &'a [u8]) -> Option<Ahead<'a>> {
+        if !self.held.is_empty() {
+            return None;
+        }
+        expected(self.stage, bytes)
     }
 
-    /// As [`take`](MessageReader::take), with the digests of changes from those that were taken ahead, where they are among
-    /// them.
+    /// As [`take`](MessageReader::take), with the digests of changes from `ahead`, where they are those that it expects.
     pub fn take_ahead(&mut self, piece: &[u8], ahead: &mut Ahead<'_>) -> Result<usize, SyncError>
         ensures answers { Answers self.old piece.now result self.new }
         ensures again { (e : Refusal) → fault_of self.old.stage ≡ Some e
@@ -226,7 +227,9 @@ impl Message {
         'fields: while !reader.whole() {
             let rest = &bytes[at..];
             if ahead.is_used_up() {
-                ahead = reader.digests_of_next(rest);
+                if let Some(next) = reader.expected(rest) {
+                    ahead = next;
+                }
             }
             at += reader.take_ahead(rest, &mut ahead)?;
         }

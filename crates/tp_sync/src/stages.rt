@@ -148,29 +148,24 @@ fn split_change(bytes: &[u8]) -> Option<(&[u8], &[u8])> {
     Some(behind.split_at(len))
 }
 
-// The digests of the next changes, whose lengths and bytes these are, taken together: none where fewer than four are
-// whole.
-fn digests_of(bytes: &[u8]) -> Ahead<'_> {
+// The next four changes, whose lengths and bytes these are, as those that are expected. `None` where fewer are whole.
+fn changes_in(bytes: &[u8]) -> Option<Ahead<'_>> {
     let mut pieces: [&[u8]; 4] = [&[]; 4];
     let mut rest = bytes;
     for i in 0..4 {
-        match split_change(rest) {
-            Some((change, behind)) => {
-                pieces[i] = change;
-                rest = behind;
-            }
-            None => return Ahead::none(),
-        }
+        let (change, behind) = split_change(rest)?;
+        pieces[i] = change;
+        rest = behind;
     }
-    Ahead::of(pieces)
+    Some(Ahead::of(pieces))
 }
 
-/// The digests of the next changes, where a change's length comes next and the bytes are those that do: none where fewer
-/// than four changes are whole.
-pub(crate) fn digests_of_next(stage: Stage, bytes: &[u8]) -> Ahead<'_> {
+/// The next four changes as those that are expected, where a change's length comes next, of four changes or more, and the
+/// bytes begin with it. `None` where fewer are whole.
+pub(crate) fn expected(stage: Stage, bytes: &[u8]) -> Option<Ahead<'_>> {
     match stage {
-        Stage::Length { .. } => digests_of(bytes),
-        _ => Ahead::none(),
+        Stage::Length { more } if more >= 3 => changes_in(bytes),
+        _ => None,
     }
 }
 
