@@ -1,7 +1,16 @@
 -- Lists of hashes: those of changes, and those that are held.
-use Rattle.std.proofs.lemmas.List.Folds.{list_any-append, list_any_more}
+use Rattle.std.proofs.lemmas.Bool.{cases_lt}
+use Rattle.std.proofs.lemmas.List.Folds.{list_any-append, list_any_at, list_any_more, list_any_none}
+use Rattle.std.proofs.lemmas.List.Sorted.{searchable_from_sorted}
+use Rattle.std.specs.List.Sorted.{IsBinarySearchResult, IsSearchInRange, IsSorted}
+use Rattle.std.specs.Ordering.{is_eq}
+use Rattle.std.specs.Prelude.{is_ok}
+use Rattle.tp_opid.specs.Order.{hash_cmp}
+use Rattle.tp_opid.specs.Same.{same_hash}
+use Rattle.tp_opid.proofs.Orders.{hash_total}
 use Rattle.tp_list.proofs.Tests.{same_test}
-use Rattle.tp_receive.proofs.Common.{◌≡◌, ℕ, ◌+◌, ◌<◌, List, [], ◌∷◌, ◌++◌, length, Bool, ◌||◌, take, get_or, true, false, cond, inl, inr, refl, sym, ap, ◌∙◌, subst, truth, never, not_true, take_more, same_hash, Hash, ChangeParts, hash_of, has, hashes, or_cases, among, HashesOnce, held_of, or_left, or_right, EachOnce, has_hash, same_hash-itself, same_hash-same}
+use Rattle.std.proofs.Common.{Result, Ok, Err, ⊎_elim, arith}
+use Rattle.tp_receive.proofs.Common.{◌≡◌, ℕ, ◌+◌, ◌<◌, List, [], ◌∷◌, ◌++◌, length, Bool, ◌||◌, take, get_or, true, false, cond, inl, inr, refl, sym, ap, ◌∙◌, subst, truth, never, not_true, take_more, Hash, ChangeParts, hash_of, has, hashes, or_cases, among, HashesOnce, held_of, or_left, or_right, EachOnce, has_hash, same_hash-itself, same_hash-same}
 
 -- ---- a hash more
 
@@ -20,6 +29,15 @@ has_hash-push H h x = has_hash-append H (h ∷ []) x ∙ ap (λ b. has_hash H x 
   turned true false = refl
   turned false true = refl
   turned false false = refl
+
+-- A search by halves finds just the hashes that are there.
+pub found_in_order : (hs : List Hash) (h : Hash) (r : Result ℕ ℕ) → IsSorted hash_cmp hs → IsSearchInRange r (length hs)
+    → IsBinarySearchResult (λ y. hash_cmp y h) hs r → is_ok r ≡ has_hash hs h
+unfolding same_hash
+found_in_order hs h (Ok i) sorted lt equal = sym (list_any_at (same_hash h) hs i h lt (same_hash-turned h (get_or hs i h) ∙ ap is_eq (equal h)))
+found_in_order hs h (Err i) sorted le parted =
+    let around = parted (searchable_from_sorted hash_total (λ x. x) hs h sorted) in
+    sym (list_any_none (same_hash h) hs (λ k d lt. same_hash-turned h (get_or hs k d) ∙ ⊎_elim (λ below. ap is_eq (around.0 k d (omega arith) below)) (λ above. ap is_eq (around.1 k d above lt)) (cases_lt k i)))
 
 -- Of two lists the second is put into a set one after another.
 pub has_hash-more : (S T U G : List Hash) (i : ℕ) (d x : Hash) → i < length G → has_hash S x ≡ (has_hash T x || has_hash (take i G) x)

@@ -101,37 +101,80 @@ impl HashSet {
     }
 }
 
-/// The hashes of the changes.
-pub(crate) fn hashes_of(alloc: Global, changes: &[Change]) -> Result<HashSet, AllocError>
-    ensures { IfOk result (λ set. IsHashSetOf set changes.now) }
+/// The hashes of the changes, in their order.
+pub(crate) fn list_of(alloc: Global, changes: &[Change]) -> Result<Vec<Hash>, AllocError>
+    ensures { IfOk result (λ list. IsHashSetOf list.items changes.now) }
 {
-    let mut hashes = HashSet::with_room(alloc, changes.len())?;
+    let mut hashes = Vec::with_capacity(alloc, changes.len())?;
     for change in changes {
-        hashes.add(change.hash())?;
+        hashes.push(change.hash())?;
     }
     Ok(hashes)
 }
 
+/// The hashes of the changes as a set.
+pub(crate) fn hashes_of(alloc: Global, changes: &[Change]) -> Result<HashSet, AllocError>
+    ensures { IfOk result (λ set. IsHashSetOf set changes.now) }
+{
+    Ok(HashSet {
+        sorted: BTreeSet::new(alloc),
+        late: list_of(alloc, changes)?,
+    })
+}
+
+/// Hashes in order.
+#[derive(Drop)]
+struct Sorted {
+    hashes: Vec<Hash>,
+}
+
+impl Model for Sorted {
+    ghost use Rattle.std.specs.Prelude.{List};
+    ghost use Rattle.std.specs.List.Sorted.{IsSorted};
+    ghost use Rattle.tp_opid.specs.declared.hash.Hash.{Hash};
+    ghost use Rattle.tp_opid.specs.Order.{hash_cmp};
+
+    ghost Value = { List Hash };
+
+    ghost view = { λ s. s.hashes.items };
+
+    ghost invariant = { λ s. IsSorted hash_cmp s.hashes.items };
+}
+
+impl Sorted {
+    // The hashes of the list, put in order where they stand. It takes no memory, and whatever hashes strangers choose a
+    // number of comparisons that grows as n log n.
+    fn of(hashes: Vec<Hash>) -> Sorted
+        ensures { (h : HashOf) → has_hash result h ≡ has_hash hashes.items h }
+    {
+        let mut hashes = hashes;
+        hashes.sort_unstable();
+        Sorted { hashes }
+    }
+
+    // Whether it has the hash. A number of comparisons that grows with the logarithm of how many there are.
+    fn has(&self, hash: &Hash) -> bool
+        ensures { result ≡ has_hash self.now hash.now }
+    {
+        self.hashes.binary_search(hash).is_ok()
+    }
+}
+
 // Notes the hash of the change where it is one of those that came.
-fn note_held(held: &mut Vec<Hash>, came: &mut HashSet, change: &Change) -> Result<(), AllocError>
-    ensures held { (K : List ChangeParts) → IsHashSetOf came.old K → OnOk result (held.new.items
+fn note_held(held: &mut Vec<Hash>, came: &Sorted, change: &Change) -> Result<(), AllocError>
+    ensures { (K : List ChangeParts) → IsHashSetOf came.now K → IfOk result (λ _. held.new.items
         ≡ held.old.items ++ receiving.held_of (receiving.hashes K) (change.now ∷ [])) }
-    ensures stays { OnOk result ((h : HashOf) → has_hash came.new h ≡ has_hash came.old h) }
 {
     let hash = change.hash();
-    if came.contains(&hash)? {
+    if came.has(&hash) {
         held.push(hash)?;
     }
     Ok(())
 }
 
-/// The hashes of those changes that are among the hashes that came, in the order of the changes.
-pub(crate) fn held_of(
-    alloc: Global,
-    came: &mut HashSet,
-    changes: &[Change],
-) -> Result<Vec<Hash>, AllocError>
-    ensures { (K : List ChangeParts) → IsHashSetOf came.old K
+// The hashes of those changes that are among the hashes that came, in the order of the changes.
+fn held_among(alloc: Global, came: &Sorted, changes: &[Change]) -> Result<Vec<Hash>, AllocError>
+    ensures { (K : List ChangeParts) → IsHashSetOf came.now K
         → IfOk result (λ v. v.items ≡ receiving.held_of (receiving.hashes K) changes.now) }
 {
     let mut held = Vec::new(alloc);
@@ -139,4 +182,20 @@ pub(crate) fn held_of(
         note_held(&mut held, came, change)?;
     }
     Ok(held)
+}
+
+/// The hashes of those changes that are among the hashes that came, in the order of the changes. Where there are
+/// changes, those that came are put in order first, which takes no memory: only the hashes that are given do.
+pub(crate) fn held_of(
+    alloc: Global,
+    came: Vec<Hash>,
+    changes: &[Change],
+) -> Result<Vec<Hash>, AllocError>
+    ensures { (K : List ChangeParts) → IsHashSetOf came.items K
+        → IfOk result (λ v. v.items ≡ receiving.held_of (receiving.hashes K) changes.now) }
+{
+    if changes.is_empty() {
+        return Ok(Vec::new(alloc));
+    }
+    held_among(alloc, &Sorted::of(came), changes)
 }

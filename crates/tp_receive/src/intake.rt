@@ -12,7 +12,7 @@ ghost use Rattle.tp_receive.specs.Trying.{so_far};
 
 use crate::coming::{Slots, reserve};
 use crate::error::ReceiveError;
-use crate::hashes::{hashes_of, held_of};
+use crate::hashes::{held_of, list_of};
 use crate::keeper::Keeper;
 use crate::lacking::Lacking;
 use crate::log::Log;
@@ -114,7 +114,7 @@ pub fn receive<R: Replica, K: Keeper>(
         (receiver keeper.new (R.applied replica.new) (R.waiting replica.new))) }
 {
     let _applied = replica.changes();
-    let mut came = hashes_of(alloc, &changes)?;
+    let came = list_of(alloc, &changes)?;
     let slots = reserve(alloc, replica, &changes)?;
     if MOST_WAITING - replica.pending().len() < slots.reserved {
         return Err(ReceiveError::PendingFull);
@@ -129,7 +129,7 @@ pub fn receive<R: Replica, K: Keeper>(
         &slots,
         &mut reported,
     )?;
-    let held = held_of(alloc, &mut came, replica.pending())?;
+    let held = held_of(alloc, came, replica.pending())?;
     Ok(Applied {
         applied: reported.applied,
         held,

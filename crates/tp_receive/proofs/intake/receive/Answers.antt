@@ -44,7 +44,7 @@ returns-clause-outcome g c =
     let C = R.applied c.args.replica.now in
     let W = R.waiting c.args.replica.now in
     let K = c.args.changes.items in
-    let came : IsHashSetOf c.in_ok-came.came K = subst (IsHashSetOf c.in_ok-came.came) c.deref.ensures.value c.in_ok-came.ensures in
+    let came : IsHashSetOf c.in_ok-came.came.items K = subst (IsHashSetOf c.in_ok-came.came.items) c.deref.ensures.value c.in_ok-came.ensures in
     let marked : zip K c.in_ok-slots.slots.marks.items ≡ with_slots W (delivery C K) = rw c.deref-2.ensures.value at c.in_ok-slots.ensures.marks in
     let counted : c.in_ok-slots.slots.reserved ≡ slots (zip K c.in_ok-slots.slots.marks.items) = rw c.deref-2.ensures.value at c.in_ok-slots.ensures.reserved in
     record {
