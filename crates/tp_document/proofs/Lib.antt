@@ -13,3 +13,4 @@ pub mod ChangePlaces
 pub mod SnapshotLaws
 pub mod TargetLaws
 pub mod TextLaws
+pub mod RepeatLaws

@@ -1,12 +1,14 @@
 -- Stretches of elements: what each covers, their order, and the search for an element among them.
 use Rattle.tp_document.proofs.Common.{◌≡◌, ◌⊎◌, ℕ, zero, suc, ◌<◌, ◌≤◌, ◌+◌, ◌-◌, Bool, true, false, cond, ◌||◌, ◌&&◌, refl, subst, List, [], ◌∷◌, ◌++◌, length, take, get_or, Err, inl, inr, ap, sym, ◌∙◌, arith, nat_lt, IsBinarySearchResult, IsSorted, OpId, Actor, id_eq, id_eq-same, id_eq-itself, same_actor, same_actor-same, same_actor-apart, take_more, filter-append, same_test, not_true, or_cases, or_right, has_op, is_removed, is_within, covers, side, StartsBefore, Precedes, deletes_by, AreTargets}
-use Rattle.std.specs.Prelude.{min, max, nat_le, set}
+use Rattle.std.specs.Prelude.{min, max, nat_eq, nat_le, set}
 use Rattle.std.specs.List.{AllAdjacentBelow, HoldsAt}
 use Rattle.std.specs.Ordering.{nat_cmp, is_lt, ordering_then, ordering_index, ordering_reverse}
 use Rattle.std.specs.Cmp.Lexicographic.{slice_cmp}
 use Rattle.std.specs.declared.cmp.Ordering.{Ordering}
 use Rattle.std.specs.declared.cmp.Ordering.TheVariants.{Less, Equal, Greater}
-use Rattle.std.proofs.lemmas.Bool.{cases_eq, cases_lt, leb-true, le-leb, ltb-true, ltb-false, lt-ltb}
+use Rattle.std.proofs.lemmas.Slice.Eq.{bytes_eq-Decides}
+use Rattle.std.specs.Str.{bytes_eq}
+use Rattle.std.proofs.lemmas.Bool.{cases_eq, cases_lt, eqb-true, leb-true, le-leb, ltb-true, ltb-false, lt-ltb}
 use Rattle.std.proofs.lemmas.Bool.Decides.{nat_tests}
 use Rattle.std.proofs.lemmas.Cmp.{tied_itself}
 use Rattle.std.proofs.lemmas.List.{get_or-set_same, get_or-set_other, get_or_default, length-set}
@@ -190,6 +192,27 @@ sorted_starts stretches sorted k d lt =
 begins_no_later : (s t : Stretch) → s.actor ≡ t.actor → StartsBefore s t → s.low ≤ t.low
 begins_no_later s t one (inl below) = let tied : actor_cmp s.actor t.actor ≡ Equal = ap (actor_cmp s.actor) (sym one) ∙ tied_itself actor_total s.actor in cc
 begins_no_later s t one (inr p) = p.1
+
+-- ---- a stretch that comes again
+
+abbrev pub is_same : Stretch → Stretch → Bool
+is_same s t = bytes_eq s.actor.0 t.actor.0 && (nat_eq s.low t.low && nat_eq s.high t.high)
+
+all_three : (a b c : Bool) → (a && (b && c)) ≡ true → (a ≡ true) × (b ≡ true) × (c ≡ true)
+all_three true true true h = (refl, refl, refl)
+all_three true true false h = absurd cc
+all_three true false c h = absurd cc
+all_three false b c h = absurd cc
+
+pub one_stretch : (s t : Stretch) → is_same s t ≡ true → s ≡ t
+one_stretch s t h =
+    let each = all_three (bytes_eq s.actor.0 t.actor.0) (nat_eq s.low t.low) (nat_eq s.high t.high) h in
+    let bytes : s.actor.0 ≡ t.actor.0 = (bytes_eq-Decides s.actor.0 t.actor.0).0 each.0 in
+    let low : s.low ≡ t.low = eqb-true s.low t.low each.1 in
+    let high : s.high ≡ t.high = eqb-true s.high t.high each.2 in
+    ap (λ (b : List ℕ). let u : Stretch = record { actor = record { 0 = b }; low = s.low; high = s.high } in u) bytes
+    ∙ ap (λ (l : ℕ). let u : Stretch = record { actor = t.actor; low = l; high = s.high } in u) low
+    ∙ ap (λ (l : ℕ). let u : Stretch = record { actor = t.actor; low = t.low; high = l } in u) high
 
 -- ---- an end that rises
 

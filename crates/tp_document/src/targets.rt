@@ -128,13 +128,14 @@ impl Model for Targets {
 }
 
 impl Targets {
-    /// The elements of these stretches, in whatever order they come.
+    /// The elements of these stretches, in whatever order they come. One that comes again is kept once.
     fn new(stretches: Vec<Stretch>) -> Targets
         ensures { (x : Id) → covers result x ≡ covers stretches.items x }
     {
         let mut stretches = stretches;
         stretches.sort_unstable();
         raise_ends(&mut stretches);
+        stretches.dedup();
         Targets { stretches }
     }
 
