@@ -1,5 +1,5 @@
 -- The hashes of the changes that were made, among those that are noted.
-use Rattle.tp_world.proofs.Common.{◌≡◌, inl, inr, List, [], ◌∷◌, ◌++◌, Bool, true, false, cond, Option, Result, Ok, Err, OnOk, is_err, refl, sym, ap, ◌∙◌, subst, or_cases, Hash, same_hash, same_hash-itself, same_hash-same, ChangeParts, hash_of, has, has-append, AreNoted, IsReady, MadeData, is_noted}
+use Rattle.tp_world.proofs.Common.{◌≡◌, inl, inr, List, [], ◌∷◌, ◌++◌, Bool, true, false, cond, Option, Result, Ok, Err, OnOk, is_err, refl, sym, ap, ◌∙◌, subst, never, not_true, or_cases, Hash, same_hash, same_hash-itself, same_hash-same, ChangeParts, hash_of, has, has-append, AreNoted, IsReady, MadeData, is_noted}
 
 -- a change whose hash is noted is made
 pub noted_push : (made : List ChangeParts) (noted : List Hash) (c : ChangeParts) → AreNoted made noted → is_noted noted (hash_of c) ≡ true → AreNoted (made ++ c ∷ []) noted
@@ -24,6 +24,12 @@ noted_more made old new k are more h there = more h ∙ ap (λ b. cond (same_has
 
 pub noted_now : (old new : List Hash) (k : Hash) → ((h : Hash) → is_noted new h ≡ cond (same_hash k h) true (is_noted old h)) → is_noted new k ≡ true
 noted_now old new k more = more k ∙ ap (λ b. cond b true (is_noted old k)) (same_hash-itself k)
+
+-- ---- a hash is noted no more
+
+pub noted_fewer : (made : List ChangeParts) (old new : List Hash) (k : Hash) → AreNoted made old → has made k ≡ false → ((h : Hash) → same_hash k h ≡ false → is_noted new h ≡ is_noted old h) → AreNoted made new
+noted_fewer made old new k are lacks others h there =
+    others h (not_true (same_hash k h) (λ same. never (subst (λ (x : Hash). has made x ≡ true) (sym (same_hash-same k h same)) there) lacks)) ∙ are h there
 
 -- ---- room
 

@@ -31,7 +31,8 @@ use tp_headline::WorldError;
 use tp_opid::{Actor, DocId, Hash};
 use tp_peer::{Call as PeerCall, Outgoing, PeerError, Reply as PeerReply};
 
-// Puts the change behind those that were made, if it was. There is room for it, and its hash is noted.
+// Puts the change behind those that were made, if it was; else its hash isn't noted any more. There is room for it, and
+// its hash is noted.
 fn add_if(made: &mut Made, change: Option<Change>, entered: bool)
     requires { IsReady made.old change }
     ensures { made.new.items ≡ made.old.items ++ entered_of change entered }
@@ -40,6 +41,8 @@ fn add_if(made: &mut Made, change: Option<Change>, entered: bool)
         if let Some(change) = change {
             made.push_reserved(change);
         }
+    } else {
+        made.forget(&change);
     }
 }
 
@@ -202,9 +205,6 @@ impl State {
         ensures { Meets (world_of self.old) (events.Call n (call_of call.entry)) (reply_of result)
             (world_of self.new) }
     {
-        if self.made.prepare(&change).is_err() {
-            return Reply::Refused(WorldError::OutOfMemory);
-        }
         if self.wire.reserve(1).is_err() {
             return Reply::Refused(WorldError::OutOfMemory);
         }
@@ -215,6 +215,9 @@ impl State {
             Ok(heads) => heads,
             Err(_) => return Reply::Refused(WorldError::OutOfMemory),
         };
+        if self.made.prepare(&change).is_err() {
+            return Reply::Refused(WorldError::OutOfMemory);
+        }
         let before = journal_len_at(&self.peers, n);
         let answer = self.answer(n, call);
         let grown = journal_len_at(&self.peers, n).saturating_sub(before);

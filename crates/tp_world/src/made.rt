@@ -19,7 +19,7 @@ use tp_opid::Hash;
 #[derive(Drop)]
 pub(crate) struct Made {
     changes: Vec<Change>,
-    // The hash of each change, and of some that were to be made and weren't.
+    // The hash of each change, and of the one that is about to be made.
     hashes: BTreeSet<Hash>,
 }
 
@@ -74,6 +74,19 @@ impl Made {
             self.hashes.insert(change.hash())?;
         }
         Ok(())
+    }
+
+    /// Takes the note of the hash of a change back, if there is one that wasn't made: no hash is kept that no change has.
+    /// One look-up, and one pass over the changes.
+    pub(crate) fn forget(&mut self, change: &Option<Change>)
+        ensures { self.new.items ≡ self.old.items }
+    {
+        if let Some(change) = change {
+            let hash = change.hash();
+            if !has_hash(&self.changes, &hash) {
+                self.hashes.remove(&hash);
+            }
+        }
     }
 
     /// Puts a change behind the others. There is room for it, and its hash is noted.

@@ -13,9 +13,6 @@ use tp_posindex::BlockSequence;
 use tp_rga::{PlainSequence, Sequence, Walk};
 use tp_text::apply_change;
 
-// How many elements a sequence in blocks holds at most.
-const MOST_IN_BLOCKS: usize = 4_294_967_295;
-
 // A sequence with all elements of the changes.
 fn sequence_of<S: Sequence>(alloc: Global, changes: &[Change]) -> Result<S, AllocError>
     requires { Sound changes.now }
@@ -50,24 +47,14 @@ fn order_in<S: Sequence>(alloc: Global, changes: &[Change]) -> Result<Vec<(OpId,
     elements_of(alloc, &sequence)
 }
 
-// Whether the changes have no more operations than a sequence in blocks holds elements.
-fn fits_blocks(changes: &[Change]) -> bool {
-    let mut count: usize = 0;
-    for change in changes {
-        count = count.saturating_add(change.op_count());
-    }
-    count <= MOST_IN_BLOCKS
-}
-
 /// The one list of all elements that the changes insert, each with its identifier and its character. Each change is
-/// entered anew, into blocks, or into a plain sequence where there are more elements than blocks hold.
+/// entered anew, into blocks, or into a plain sequence where blocks refuse them: they hold 4,294,967,295 elements at most.
 pub(crate) fn order_of(alloc: Global, changes: &[Change]) -> Result<Vec<(OpId, char)>, AllocError>
     requires { Sound changes.now }
     ensures { IfOk result (λ v. IsOneList changes.now v.items) }
 {
-    if fits_blocks(changes) {
-        order_in::<BlockSequence>(alloc, changes)
-    } else {
-        order_in::<PlainSequence>(alloc, changes)
+    match order_in::<BlockSequence>(alloc, changes) {
+        Ok(list) => Ok(list),
+        Err(_) => order_in::<PlainSequence>(alloc, changes),
     }
 }

@@ -22,7 +22,7 @@ journal_len_at-before-requires c =
     subst (λ (l : List PeerData). c.args.n < length l) (sym c.deref-2.ensures.value) (there_below (world_of c.args.self.now) (events.Call c.args.n (call_of c.args.call)) c.args.n c.requires.may (inl refl))
 
 pub add_if-requires : goal.add_if-requires
-add_if-requires c = ready_for c.prepare.result c.is_err.result c.prepare.new.self c.answer-answer.new.self.made c.args.change c.is_err.ensures.value c.if-is_err.false c.prepare.ensures.ready c.answer-answer.ensures.made
+add_if-requires c = ready_for c.prepare.result c.is_err-3.result c.prepare.new.self c.answer-answer.new.self.made c.args.change c.is_err-3.ensures.value c.if-is_err-3.false c.prepare.ensures.ready c.answer-answer.ensures.made
 
 pub returns : goal.returns
 returns c =
