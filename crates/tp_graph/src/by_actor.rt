@@ -18,6 +18,7 @@ use std::alloc::{AllocError, Global};
 use std::collections::BTreeMap;
 use std::marker::Model;
 use tp_change::Change;
+use tp_list::copy_with_room;
 use tp_opid::Actor;
 
 /// Places of changes, rising.
@@ -39,7 +40,7 @@ impl Clone for Places {
 
     fn clone(&self) -> Result<Places, AllocError> {
         Ok(Places {
-            items: Vec::from_slice(*self.items.allocator(), self.items.as_slice())?,
+            items: copy_with_room(*self.items.allocator(), self.items.as_slice())?,
         })
     }
 }

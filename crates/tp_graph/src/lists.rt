@@ -19,6 +19,7 @@ use crate::marked::{self, Marked};
 use crate::pasts::Pasts;
 use std::alloc::{AllocError, Global};
 use tp_change::Change;
+use tp_list::{copy_with_room, with_room};
 use tp_opid::Hash;
 
 /// Stands for a counter that four bytes don't hold.
@@ -57,11 +58,11 @@ pub(crate) fn narrow(counter: u64) -> u32
     }
 }
 
-// Copies of the changes, one by one.
+// Copies of the changes, one by one, with room for more.
 fn copies_of(alloc: Global, changes: &[Change]) -> Result<Vec<Change>, AllocError>
     ensures { IfOk result (λ v. v.items ≡ changes.now) }
 {
-    let mut copies = Vec::with_capacity(alloc, changes.len())?;
+    let mut copies = Vec::with_capacity(alloc, with_room(changes.len()))?;
     for change in changes {
         match change.copy() {
             Ok(copied) => copies.push(copied)?,
@@ -85,14 +86,14 @@ impl Lists {
         }
     }
 
-    /// Equal lists. The changes are copied one by one, and what is kept of them as it stands.
+    /// Equal lists, with room for more changes. These are copied one by one, and what is kept of them as it stands.
     pub(crate) fn copied(&self, alloc: Global) -> Result<Lists, AllocError>
         ensures { IfOk result (AreSameLists self.now) }
     {
         Ok(Lists {
             changes: copies_of(alloc, self.changes.as_slice())?,
             heads: Vec::from_slice(alloc, self.heads.as_slice())?,
-            ends: Vec::from_slice(alloc, self.ends.as_slice())?,
+            ends: copy_with_room(alloc, self.ends.as_slice())?,
             pasts: self.pasts.clone()?,
             marked: self.marked.clone()?,
         })

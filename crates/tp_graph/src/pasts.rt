@@ -14,6 +14,7 @@ use crate::extent::Extent;
 use crate::lists::push_within;
 use crate::own::next_to_look_at;
 use std::alloc::{AllocError, Global};
+use tp_list::copy_with_room;
 
 /// Stands for a past that isn't all before a place, or isn't known: no list has more changes.
 pub(crate) const APART: u32 = 4_294_967_295;
@@ -49,7 +50,7 @@ impl Clone for Pasts {
 
     fn clone(&self) -> Result<Pasts, AllocError> {
         Ok(Pasts {
-            prefixes: Vec::from_slice(*self.prefixes.allocator(), self.prefixes.as_slice())?,
+            prefixes: copy_with_room(*self.prefixes.allocator(), self.prefixes.as_slice())?,
             apart: self.apart.clone()?,
         })
     }

@@ -1,4 +1,4 @@
-ghost use Rattle.std.specs.Prelude.{◌≡◌, ◌==◌, true, length, encode_utf8_all, IfOk};
+ghost use Rattle.std.specs.Prelude.{◌≡◌, ◌==◌, ◌≤◌, true, length, encode_utf8_all, IfOk, IsOk};
 ghost use Rattle.std.specs.Str.{chars, all_scalars};
 ghost use Rattle.std.specs.String.{string_bytes};
 ghost use Rattle.tp_list.specs.Kept.{bytes_of};
@@ -62,9 +62,10 @@ impl Text {
         Text { kept }
     }
 
-    /// A copy of the text. It takes memory only where there are more than 16 bytes.
+    /// A copy of the text. It takes memory only where there are more than 16 bytes, and only then it may be refused.
     pub fn of(alloc: Global, text: &str) -> Result<Text, AllocError>
-        ensures { IfOk result (λ copy. copy ≡ chars text.now) }
+        ensures copied { IfOk result (λ copy. copy ≡ chars text.now) }
+        ensures short { length text.now ≤ 16 → IsOk result }
     {
         let kept = match ArrayString::from(text) {
             Ok(short) => Kept::Short(short),

@@ -12,6 +12,7 @@ use crate::counts::Counts;
 use crate::numbers::{count_down, index_of, nth_down};
 use std::alloc::{AllocError, Global};
 use std::marker::Model;
+use tp_list::{copy_with_room, with_room};
 use tp_rga::Spot;
 
 /// How many numbers there are at most: 4,294,967,295.
@@ -87,12 +88,12 @@ impl Blocks {
         ensures flags { IfOk result (λ copy. copy.flags ≡ self.now.flags) }
     {
         let pool = copies(alloc, &self.pool)?;
-        let order = Vec::from_slice(alloc, self.order.as_slice())?;
-        let index = Vec::from_slice(alloc, self.index.as_slice())?;
+        let order = copy_with_room(alloc, self.order.as_slice())?;
+        let index = copy_with_room(alloc, self.index.as_slice())?;
         let lens = self.lens.copied(alloc)?;
         let visible = self.visible.copied(alloc)?;
-        let home = Vec::from_slice(alloc, self.home.as_slice())?;
-        let deleted = Vec::from_slice(alloc, self.deleted.as_slice())?;
+        let home = copy_with_room(alloc, self.home.as_slice())?;
+        let deleted = copy_with_room(alloc, self.deleted.as_slice())?;
         Ok(Blocks {
             pool,
             order,
@@ -448,11 +449,11 @@ impl Blocks {
     }
 }
 
-/// Blocks with the same numbers, in their order.
+/// Blocks with the same numbers, in their order, with room for more.
 fn copies(alloc: Global, pool: &[Block]) -> Result<Vec<Block>, AllocError>
     ensures { IfOk result (λ copy. copy.items ≡ pool.now) }
 {
-    let mut copy = Vec::with_capacity(alloc, pool.len())?;
+    let mut copy = Vec::with_capacity(alloc, with_room(pool.len()))?;
     for block in pool {
         copy.push(block.copied())?;
     }

@@ -7,6 +7,7 @@ ghost use Rattle.tp_posindex.specs.Columns.{reference_of};
 use crate::entry::{Entry, Reference};
 use std::alloc::{AllocError, Global};
 use std::marker::Model;
+use tp_list::copy_with_room;
 
 /// What an entry has beside its character, in 16 bytes: its counter, its actor's index in a table, and as `after` 0 for
 /// the start, or one more than the number of the element that it refers to.
@@ -55,8 +56,8 @@ impl Columns {
     pub fn copied(&self, alloc: Global) -> Result<Columns, AllocError>
         ensures { IfOk result (λ copy. copy.items ≡ self.now.items) }
     {
-        let rows = Vec::from_slice(alloc, self.rows.as_slice())?;
-        let chars = Vec::from_slice(alloc, self.chars.as_slice())?;
+        let rows = copy_with_room(alloc, self.rows.as_slice())?;
+        let chars = copy_with_room(alloc, self.chars.as_slice())?;
         Ok(Columns { rows, chars })
     }
 

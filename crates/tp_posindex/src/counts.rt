@@ -6,6 +6,7 @@ ghost use Rattle.tp_posindex.specs.Counted.{AreSums, IsGrouped, split_at};
 use crate::numbers::{nth_counted, total};
 use std::alloc::{AllocError, Global};
 use std::marker::Model;
+use tp_list::copy_with_room;
 
 /// How many counts a group has.
 const GROUP: usize = 128;
@@ -59,9 +60,9 @@ impl Counts {
     pub fn copied(&self, alloc: Global) -> Result<Counts, AllocError>
         ensures { IfOk result (λ copy. copy.counts ≡ self.now.counts) }
     {
-        let counts = Vec::from_slice(alloc, self.counts.as_slice())?;
-        let sums = Vec::from_slice(alloc, self.sums.as_slice())?;
-        let range_sums = Vec::from_slice(alloc, self.range_sums.as_slice())?;
+        let counts = copy_with_room(alloc, self.counts.as_slice())?;
+        let sums = copy_with_room(alloc, self.sums.as_slice())?;
+        let range_sums = copy_with_room(alloc, self.range_sums.as_slice())?;
         Ok(Counts {
             counts,
             sums,

@@ -13,6 +13,7 @@ use crate::links::{Latest, Link};
 use crate::lookup::{likely, link_next, seek};
 use std::alloc::{AllocError, Global};
 use std::marker::Model;
+use tp_list::copy_with_room;
 use tp_opid::{OpId, Place};
 
 /// The elements in the order in which they came: the number of an element is how many came before it.
@@ -66,8 +67,8 @@ impl Elements {
         ensures { IfOk result (λ copy. copy.items ≡ self.now.items) }
     {
         let entries = self.entries.copied(alloc)?;
-        let latest = Vec::from_slice(alloc, self.latest.as_slice())?;
-        let links = Vec::from_slice(alloc, self.links.as_slice())?;
+        let latest = copy_with_room(alloc, self.latest.as_slice())?;
+        let links = copy_with_room(alloc, self.links.as_slice())?;
         Ok(Elements {
             entries,
             latest,

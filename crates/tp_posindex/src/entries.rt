@@ -11,6 +11,7 @@ use crate::columns::Columns;
 use crate::entry::{Entry, Reference};
 use std::alloc::{AllocError, Global};
 use std::marker::Model;
+use tp_list::copy_with_room;
 use tp_opid::{Actor, OpId, Place};
 use tp_rga::Insertion;
 
@@ -61,7 +62,7 @@ impl Entries {
         ensures { IfOk result (λ copy. copy.items ≡ self.now.items) }
     {
         let columns = self.columns.copied(alloc)?;
-        let actors = Vec::from_slice(alloc, self.actors.as_slice())?;
+        let actors = copy_with_room(alloc, self.actors.as_slice())?;
         Ok(Entries { columns, actors })
     }
 

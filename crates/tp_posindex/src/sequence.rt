@@ -13,6 +13,7 @@ use crate::elements::Elements;
 use crate::spots::spot_for;
 use std::alloc::{AllocError, Global};
 use std::marker::Model;
+use tp_list::copy_with_room;
 use tp_opid::{OpId, Place};
 use tp_rga::{Element, Seen, Sequence, Spot, Walk};
 
@@ -211,8 +212,8 @@ impl Sequence for BlockSequence {
         self.deletes.as_slice()
     }
 
-    /// A copy of each vector as it stands: some 45 bytes for each element, and 48 for each delete. The blocks are the
-    /// same, and it is never `None`.
+    /// A copy of each vector as it stands, with room for an eighth more: some 52 bytes for each element, and 54 for each
+    /// delete. The blocks are the same, and it is never `None`.
     fn copied(&self, alloc: Global) -> Result<Option<Self>, AllocError>
         ensures blocks { IfOk result (λ copy. IfSome copy (λ s. s.blocks ≡ self.now.blocks)) }
         ensures removals { IfOk result (λ copy. IfSome copy (λ s. s.removals ≡ self.now.removals)) }
@@ -220,7 +221,7 @@ impl Sequence for BlockSequence {
     {
         let elements = self.elements.copied(alloc)?;
         let blocks = self.blocks.copied(alloc)?;
-        let deletes = Vec::from_slice(alloc, self.deletes.as_slice())?;
+        let deletes = copy_with_room(alloc, self.deletes.as_slice())?;
         Ok(Some(BlockSequence {
             elements,
             blocks,

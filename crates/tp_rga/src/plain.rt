@@ -12,6 +12,7 @@ use crate::placed::{can_insert, contains, index_for, index_of};
 use crate::sequence::Sequence;
 use std::alloc::{AllocError, Global};
 use std::marker::Model;
+use tp_list::copy_with_room;
 use tp_opid::{OpId, Place};
 
 /// A sequence whose elements stand in one vector, in order.
@@ -167,9 +168,9 @@ impl Sequence for PlainSequence {
         ensures removals { IfOk result (λ copy. IfSome copy (λ s. s.removals ≡ self.now.removals)) }
         ensures given { IfOk result (λ copy. IsSome copy) }
     {
-        let elements = Vec::from_slice(alloc, self.elements.as_slice())?;
-        let deleted = Vec::from_slice(alloc, self.deleted.as_slice())?;
-        let deletes = Vec::from_slice(alloc, self.deletes.as_slice())?;
+        let elements = copy_with_room(alloc, self.elements.as_slice())?;
+        let deleted = copy_with_room(alloc, self.deleted.as_slice())?;
+        let deletes = copy_with_room(alloc, self.deletes.as_slice())?;
         Ok(Some(PlainSequence {
             elements,
             deleted,

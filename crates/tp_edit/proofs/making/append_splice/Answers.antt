@@ -19,7 +19,7 @@ returns-in_ok-push g c =
       | then-at-eq0 w ↦ rw w.after-is (after_last-start W at w.if-at-eq0.true)
       | else-at-eq0 w ↦ rw w.after-is (after_last-at W at w.id_through.result (omega (arith, w.if-at-eq0.false)) w.id_through.ensures)
     ] in
-    let text : c.in_ok-text.text ≡ inserted s = c.in_ok-text.ensures in
+    let text : c.in_ok-text.text ≡ inserted s = c.in_ok-text.ensures.copied in
     let some : 0 < length (inserted s) = omega (arith, c.requires.count, c.if-count-gt0.true) in
     run_put removed (after_last Start (take at W)) (inserted s) c.if-at-eq0.after c.in_ok-text.text c.args.records.now.items _ _ c.in_ok-push.ensures.items c.in_ok-append_removals.ensures after text some
 

@@ -1,0 +1,20 @@
+//! Copies of lists that are to grow.
+
+ghost use Rattle.std.specs.Prelude.{◌≡◌, IfOk};
+
+use std::alloc::{AllocError, Global};
+
+/// For how many elements a copy of so many has room: for an eighth more, and four. What is put behind the copy then moves
+/// it no sooner than it moves a list that grew.
+pub fn with_room(len: usize) -> usize {
+    len.saturating_add(len / 8).saturating_add(4)
+}
+
+/// An equal list, with room for an eighth more elements, and four. One pass.
+pub fn copy_with_room<T: Copy>(alloc: Global, items: &[T]) -> Result<Vec<T>, AllocError>
+    ensures { IfOk result (λ copy. copy.items ≡ items.now) }
+{
+    let mut copy = Vec::with_capacity(alloc, with_room(items.len()))?;
+    copy.extend_from_slice(items)?;
+    Ok(copy)
+}
