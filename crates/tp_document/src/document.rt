@@ -1,12 +1,13 @@
 //! The document: applied changes with the elements that they insert, and changes that wait.
 
-ghost use Rattle.std.specs.Prelude.{◌≡◌, ◌↔◌, ◌<◌, ◌≤◌, [], ◌∷◌, ◌++◌, length, map, false, None, Some, is_ok, if◌then◌else◌, MatchOption, IfOk, IfErr, IsOkUnless, OnOk, OnErr};
+ghost use Rattle.std.specs.Prelude.{◌≡◌, ◌↔◌, ◌<◌, ◌≤◌, List, [], ◌∷◌, ◌++◌, length, map, false, None, Some, is_ok, if◌then◌else◌, MatchOption, IfOk, IfErr, IsOkUnless, OnOk, OnErr};
 ghost use Rattle.tp_document.specs.Common.{slice_get, chars, In, IsTextOf, cause, most_changes, Sound, hash_of, ChangeParts, string_bytes, remove};
 ghost use Rattle.tp_list.specs.Rising.{IsRising};
 ghost use Rattle.tp_opid.specs.declared.hash.Hash.{Hash as HashOf};
 ghost use Rattle.tp_opid.specs.Order.{hash_cmp};
 ghost use Rattle.tp_graph.specs.Named as named;
 ghost use Rattle.tp_graph.specs.Heads as head;
+ghost use Rattle.tp_graph.specs.Outside.{IsNext, IsOutside};
 ghost use Rattle.tp_graph.specs.Since.{marks_since, since, IsMissing};
 ghost use Rattle.tp_graph.specs.Answers.{Answers};
 ghost use Rattle.tp_graph.specs.GraphState.{most_waiting, HashesOnce};
@@ -18,7 +19,7 @@ use crate::error::DocError;
 use std::alloc::{AllocError, Global};
 use std::marker::Model;
 use tp_change::Change;
-use tp_graph::{Graph, GraphError, Rejected};
+use tp_graph::{Graph, GraphError, Outside, Rejected};
 use tp_opid::{DocId, Hash};
 use tp_rga::Sequence;
 use tp_text::apply_change;
@@ -210,6 +211,29 @@ impl<S: Sequence> Document<S> {
             Ok(marks) => Ok(marks),
             Err(_) => Err(DocError::OutOfMemory),
         }
+    }
+
+    /// The changes that [`marks_since`](Document::marks_since) marks, to be found one after another by
+    /// [`next_outside`](Document::next_outside). The only refusal is `OutOfMemory`. Where no change has one of the hashes
+    /// `also` that is no pass.
+    pub fn outside(&self, hashes: &[Hash], also: &[Hash]) -> Result<Outside, DocError>
+        ensures outside { IfOk result (IsOutside self.now.applied hashes.now also.now) }
+        ensures err { IsOkUnless result OutOfMemory }
+    {
+        match self.graph.outside(hashes, also) {
+            Ok(outside) => Ok(outside),
+            Err(_) => Err(DocError::OutOfMemory),
+        }
+    }
+
+    /// The first place, from a given one on, of a change that is outside; where there is none, a place behind all
+    /// changes. Its cost is that of [`Graph::next_outside`](tp_graph::Graph::next_outside).
+    pub fn next_outside(&self, outside: &Outside, from: usize) -> usize
+        requires { (H : List HashOf) × (K : List HashOf) × IsOutside self.now.applied H K outside.now }
+        ensures { (H K : List HashOf) → IsOutside self.now.applied H K outside.now
+            → IsNext (marks_since self.now.applied H K) from result }
+    {
+        self.graph.next_outside(outside, from)
     }
 
     /// Drops the changes that wait. No memory.

@@ -28,3 +28,4 @@ pub mod MarkedLaws
 pub mod PastsLaws
 pub mod NotesLaws
 pub mod CopyLaws
+pub mod OutsideLaws

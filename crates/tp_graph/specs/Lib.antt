@@ -26,3 +26,4 @@ pub mod Since
 pub mod Before
 pub mod Marked
 pub mod Pasts
+pub mod Outside

@@ -1,6 +1,6 @@
 //! The graph: applied changes in order, and changes that wait.
 
-ghost use Rattle.std.specs.Prelude.{◌≡◌, ◌↔◌, ◌⊎◌, ◌+◌, ◌<◌, ◌≤◌, [], ◌∷◌, ◌++◌, false, length, map, Some, None, is_ok, if◌then◌else◌, MatchOption, MatchResult, IfErr, IfOk, IsOkUnless, OnOk, OnErr};
+ghost use Rattle.std.specs.Prelude.{◌≡◌, ◌↔◌, ◌⊎◌, ◌+◌, ◌<◌, ◌≤◌, List, [], ◌∷◌, ◌++◌, false, length, map, Some, None, is_ok, if◌then◌else◌, MatchOption, MatchResult, IfErr, IfOk, IsOkUnless, OnOk, OnErr};
 ghost use Rattle.std.specs.List.{slice_get, remove};
 ghost use Rattle.tp_list.specs.Members.{In};
 ghost use Rattle.tp_change.specs.declared.parts.ChangeParts.{ChangeParts};
@@ -16,6 +16,7 @@ ghost use Rattle.tp_graph.specs.Places.{place_from};
 ghost use Rattle.tp_graph.specs.Sound.{Sound};
 ghost use Rattle.tp_graph.specs.Answers.{Answers, IsCause, TakesMemory};
 ghost use Rattle.tp_graph.specs.GraphState.{most_waiting, HashesOnce};
+ghost use Rattle.tp_graph.specs.Outside.{IsNext, IsOutside};
 ghost use Rattle.tp_graph.specs.Since.{marks_since, past_places, since, IsMissing};
 ghost use Rattle.tp_list.specs.Rising.{IsRising};
 ghost use Rattle.tp_opid.specs.Order.{hash_cmp};
@@ -24,6 +25,7 @@ ghost use Rattle.tp_opid.specs.declared.hash.Hash.{Hash};
 use crate::applied::Applied;
 use crate::clock::Clock;
 use crate::error::GraphError;
+use crate::outside::Outside;
 use crate::past::Past;
 use crate::since::has;
 use std::alloc::{AllocError, Global};
@@ -362,6 +364,29 @@ impl Graph {
         ensures err { IsOkUnless result GraphError.OutOfMemory }
     {
         Ok(self.applied.marks_since(hashes, also)?)
+    }
+
+    /// The changes that [`marks_since`](Graph::marks_since) marks, to be found one after another by
+    /// [`next_outside`](Graph::next_outside). The only refusal is `OutOfMemory`.
+    ///
+    /// The pasts of the hashes are joined as [`check`](Graph::check) does. Only where a change has one of the hashes `also`
+    /// each place is asked for, and it takes a byte for each applied change.
+    pub fn outside(&self, hashes: &[Hash], also: &[Hash]) -> Result<Outside, GraphError>
+        ensures outside { IfOk result (IsOutside self.now.applied hashes.now also.now) }
+        ensures err { IsOkUnless result GraphError.OutOfMemory }
+    {
+        Ok(self.applied.outside_of(hashes, also)?)
+    }
+
+    /// The first place, from a given one on, of a change that is outside; where there is none, a place behind all
+    /// changes. It asks for the places from there, or from the prefix of the past, up to that: a comparison each where
+    /// the past has no tip.
+    pub fn next_outside(&self, outside: &Outside, from: usize) -> usize
+        requires { (H : List Hash) × (K : List Hash) × IsOutside self.now.applied H K outside.now }
+        ensures { (H K : List Hash) → IsOutside self.now.applied H K outside.now
+            → IsNext (marks_since self.now.applied H K) from result }
+    {
+        self.applied.next_outside(outside, from)
     }
 
     /// The dependencies of waiting changes that are neither applied nor waiting, rising, each once. The only

@@ -16,3 +16,4 @@ pub mod StepLaws
 pub mod SizeLaws
 pub mod JudgeLaws
 pub mod ReaderLaws
+pub mod NextLaws

@@ -3,6 +3,8 @@ use Rattle.std.specs.Prelude.{◌≡◌, ◌⊎◌, ℕ, ◌+◌, List, [], ◌�
 use Rattle.tp_sync.specs.Common.{Hash, ChangeParts, hash_of, spelling, has, slice_get, names}
 use Rattle.tp_graph.specs.Past.{past}
 use Rattle.tp_graph.specs.Heads.{heads}
+use Rattle.tp_graph.specs.Outside.{IsOutside}
+use Rattle.tp_graph.specs.declared.outside.Outside.{Outside}
 use Rattle.tp_sync.specs.declared.limits.TheConstants.{MAX_CHANGES, FULL_BYTES}
 use Rattle.tp_sync.specs.State.{SyncParts, declared}
 
@@ -58,6 +60,11 @@ carried C s = take_due 0 0 (due_from C s (begins_at C s))
 -- a message carries fewer changes than are due
 abbrev pub leaves_out : List ChangeParts → SyncParts → Bool
 leaves_out C s = nat_lt (length (carried C s)) (length (due C s))
+
+-- The changes that are due are told; none is due where nothing is told.
+abbrev pub AreDue : List ChangeParts → SyncParts → Option Outside → Type 0
+AreDue C s None = due C s ≡ []
+AreDue C s (Some o) = (theirs : List Hash) × (declared s ≡ Some theirs) × IsOutside C theirs s.wants o
 
 -- so many changes are fewer than are marked
 abbrev pub is_cut : ℕ → List Bool → Bool

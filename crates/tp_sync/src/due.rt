@@ -1,11 +1,15 @@
 //! Which changes are due to another peer, and which of them a message carries.
 
-ghost use Rattle.std.specs.Prelude.{◌≡◌, ◌↔◌, ◌+◌, ◌<◌, ◌^◌, ◌∷◌, ◌++◌, ◌&&◌, [], cond, length, nat_lt, drop, filter, map, not, false, Some, IfOk, IsTrue, OnOk, IsOkUnless};
+ghost use Rattle.std.specs.Prelude.{◌≡◌, ◌↔◌, ◌+◌, ◌<◌, ◌^◌, ◌∷◌, ◌++◌, ◌&&◌, List, [], cond, length, nat_lt, drop, map, not, false, Some, None, IfOk, IsTrue, OnOk, IsOkUnless};
 ghost use Rattle.std.specs.List.{list_any};
 ghost use Rattle.tp_sync.specs.Common.{spelling, has};
 ghost use Rattle.tp_graph.specs.Marks.{pick};
 ghost use Rattle.tp_sync.specs.Due as of_due;
-ghost use Rattle.tp_sync.specs.Due.{carried, leaves_out, take_due, IsEven, MovesOn};
+ghost use Rattle.tp_sync.specs.Due.{carried, leaves_out, take_due, AreDue, IsEven, MovesOn};
+ghost use Rattle.tp_sync.specs.State.{SyncParts};
+ghost use Rattle.tp_graph.specs.Outside.{IsOutside};
+ghost use Rattle.tp_graph.specs.Since.{marks_since};
+ghost use Rattle.tp_opid.specs.declared.hash.Hash.{Hash as HashOf};
 ghost use Rattle.tp_sync.specs.State.{declared};
 ghost use Rattle.tp_sync.specs.declared.error.SyncError.TheVariants.{OutOfMemory};
 
@@ -15,7 +19,7 @@ use crate::state::SyncState;
 use std::alloc::{AllocError, Global};
 use tp_change::Change;
 use tp_document::Document;
-use tp_graph::same_hashes;
+use tp_graph::{Outside, same_hashes};
 use tp_list::Items;
 use tp_opid::Hash;
 use tp_rga::Sequence;
@@ -57,52 +61,64 @@ impl<'a> Taken<'a> {
     }
 }
 
-// Takes the changes that are marked, from the place on, until the message takes no further one.
-fn take_from<'a>(
+// Takes the changes that are due, from the place on, until the message takes no further one.
+fn take_from<'a, S: Sequence>(
     alloc: Global,
-    applied: &'a [Change],
-    marks: &[bool],
+    document: &'a Document<S>,
+    due: &Outside,
     from: usize,
     next: usize,
 ) -> Result<Taken<'a>, AllocError>
-    requires { length marks.now ≡ length applied.now }
-    ensures changes { IfOk result (λ t. map (λ c. c.now) t.changes.items
-        ≡ take_due 0 0 (pick (drop from marks.now) (drop from applied.now))) }
+    requires { (H : List HashOf) × (K : List HashOf) × IsOutside document.now.applied H K due.now }
+    ensures changes { (H K : List HashOf) → IsOutside document.now.applied H K due.now
+        → IfOk result (λ t. map (λ c. c.now) t.changes.items
+        ≡ take_due 0 0 (pick (drop from (marks_since document.now.applied H K))
+        (drop from document.now.applied))) }
     ensures next { IfOk result
-        (λ t. MovesOn applied.now (map (λ c. c.now) t.changes.items) next t.next) }
+        (λ t. MovesOn document.now.applied (map (λ c. c.now) t.changes.items) next t.next) }
 {
+    let applied = document.changes();
     let room = applied.len().saturating_sub(from).min(MAX_CHANGES);
     let mut taken = Taken {
         changes: Vec::with_capacity(alloc, room)?,
         bytes: 0,
         next,
     };
-    for place in from..applied.len() {
+    let mut place = document.next_outside(due, from);
+    'places: while place < applied.len() {
         if taken.is_laden() {
             return Ok(taken);
         }
-        if marks[place] {
-            taken.take(&applied[place], place)?;
-        }
+        taken.take(&applied[place], place)?;
+        place = document.next_outside(due, place + 1);
     }
     Ok(taken)
 }
 
-// How many of the marks are set.
-fn count(marks: &[bool]) -> usize
-    ensures { result ≡ length (filter (λ b. b) marks.now) }
+// Whether a change is due that stands at the place or behind it.
+fn is_any_from<S: Sequence>(document: &Document<S>, due: &Outside, place: usize) -> bool
+    requires { (H : List HashOf) × (K : List HashOf) × IsOutside document.now.applied H K due.now }
+    ensures { (H K : List HashOf) → IsOutside document.now.applied H K due.now
+        → result ≡ list_any (λ b. b) (drop place (marks_since document.now.applied H K)) }
 {
-    marks.iter().filter(|mark| **mark).count()
+    document.next_outside(due, place) < document.changes().len()
 }
 
-// Whether a mark is set from the place on.
-fn is_any_from(marks: &[bool], place: usize) -> bool
-    ensures { result ≡ list_any (λ b. b) (drop place marks.now) }
+// Whether more changes are due than so many. One more is looked for at most.
+fn are_more_due<S: Sequence>(document: &Document<S>, due: &Outside, count: usize) -> bool
+    requires { (H : List HashOf) × (K : List HashOf) × IsOutside document.now.applied H K due.now }
+    ensures { (H K : List HashOf) → IsOutside document.now.applied H K due.now
+        → result ≡ of_due.is_cut count (marks_since document.now.applied H K) }
 {
-    for i in place..marks.len() {
-        if marks[i] {
+    let len = document.changes().len();
+    let mut left = count;
+    let mut place = document.next_outside(due, 0);
+    'places: while place < len {
+        if left == 0 {
             return true;
         }
+        left -= 1;
+        place = document.next_outside(due, place + 1);
     }
     false
 }
@@ -158,8 +174,8 @@ pub(crate) struct Load<'a> {
     pub(crate) next: usize,
     /// Whether it begins again with the first that is due.
     pub(crate) again: bool,
-    // Of each applied change whether it is due, where any may be.
-    marks: Vec<bool>,
+    // The changes that are due, where any may be.
+    due: Option<Outside>,
 }
 
 impl<'a> Load<'a> {
@@ -168,22 +184,29 @@ impl<'a> Load<'a> {
         ensures changes { result.changes.items ≡ [] }
         ensures next { result.next ≡ next }
         ensures again { result.again ≡ false }
-        ensures marks { result.marks.items ≡ [] }
+        ensures due { result.due ≡ None }
     {
         Load {
             changes: Vec::new(alloc),
             bytes: 0,
             next,
             again: false,
-            marks: Vec::new(alloc),
+            due: None,
         }
     }
 
-    /// Whether it leaves out changes that are due. One pass over the marks of all changes.
-    pub(crate) fn is_cut(&self) -> bool
-        ensures { result ≡ of_due.is_cut (length self.now.changes.items) self.now.marks.items }
+    /// Whether it leaves out changes that are due. Those that it carries are looked for once more, and one behind them.
+    pub(crate) fn is_cut<S: Sequence>(&self, document: &Document<S>) -> bool
+        requires { (s : SyncParts) × AreDue document.now.applied s self.now.due }
+        ensures { (s : SyncParts) → AreDue document.now.applied s self.now.due
+            → map (λ c. c.now) self.now.changes.items ≡ carried document.now.applied s
+            → result ≡ leaves_out document.now.applied s }
     {
-        self.changes.len() < count(&self.marks)
+        let _changes = document.changes();
+        match &self.due {
+            Some(due) => are_more_due(document, due, self.changes.len()),
+            None => false,
+        }
     }
 }
 
@@ -211,32 +234,32 @@ fn load_declared<'a, S: Sequence>(
         (carried document.now.applied state.now) state.now.next l.next) }
     ensures again { IfOk result
         (λ l. l.again ≡ of_due.begins_again document.now.applied state.now) }
-    ensures cut { IfOk result (λ l. of_due.is_cut (length l.changes.items) l.marks.items
-        ≡ leaves_out document.now.applied state.now) }
+    ensures due { IfOk result (λ l. AreDue document.now.applied state.now l.due) }
     ensures err { IsOkUnless result OutOfMemory }
 {
-    let applied = document.changes();
-    let marks = match document.marks_since(theirs, state.wants.as_slice()) {
-        Ok(marks) => marks,
+    let _changes = document.changes();
+    let due = match document.outside(theirs, state.wants.as_slice()) {
+        Ok(due) => due,
         Err(_) => return Err(SyncError::OutOfMemory),
     };
     let next = state.next;
-    let goes_on = is_any_from(&marks, next);
+    let goes_on = is_any_from(document, &due, next);
     let from = first_place(goes_on, next);
-    let taken = take_from(alloc, applied, &marks, from, next)?;
+    let taken = take_from(alloc, document, &due, from, next)?;
     let again = begins_again(taken.changes.len(), goes_on);
     Ok(Load {
         changes: taken.changes,
         bytes: taken.bytes,
         next: taken.next,
         again,
-        marks,
+        due: Some(due),
     })
 }
 
 /// What the next message to the other carries: nothing where the other declared no heads yet, or where they are the
-/// heads that are there and nothing is wanted. Else their marks are made by one pass over the changes, and those from the
-/// first that is carried up to the last are looked at. No change is copied.
+/// heads that are there and nothing is wanted. Else the changes from the first that is carried up to the last are looked
+/// at, and those that the other has from the prefix of its past on. Only where a change that is there is wanted all
+/// changes are passed over. No change is copied.
 pub(crate) fn load_for<'a, S: Sequence>(
     alloc: Global,
     document: &'a Document<S>,
@@ -248,8 +271,7 @@ pub(crate) fn load_for<'a, S: Sequence>(
         (carried document.now.applied state.now) state.now.next l.next) }
     ensures again { IfOk result
         (λ l. l.again ≡ of_due.begins_again document.now.applied state.now) }
-    ensures cut { IfOk result (λ l. of_due.is_cut (length l.changes.items) l.marks.items
-        ≡ leaves_out document.now.applied state.now) }
+    ensures due { IfOk result (λ l. AreDue document.now.applied state.now l.due) }
     ensures err { IsOkUnless result OutOfMemory }
 {
     let _changes = document.changes();

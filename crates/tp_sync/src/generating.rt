@@ -123,7 +123,7 @@ pub(crate) fn send<S: Sequence>(
                 load,
             },
         ) => {
-            let cut = load.is_cut();
+            let cut = load.is_cut(document);
             let changes = copies_of(alloc, &load.changes)?;
             let told = Vec::from_slice(alloc, &heads)?;
             let message = Message::new(heads, wants, known, changes);

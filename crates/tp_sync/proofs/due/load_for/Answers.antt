@@ -1,5 +1,4 @@
-use Rattle.tp_sync.proofs.Common.{◌∙◌, [], ap, map, inl, length, sym, SyncParts}
-use Rattle.tp_sync.specs.Due.{is_cut}
+use Rattle.tp_sync.proofs.Common.{◌∙◌, ap, map, inl, sym, subst, List, ChangeParts, SyncParts, Option}
 use Rattle.tp_sync.proofs.LoadLaws.{CarriesNone, carries_none}
 use Rattle.tp_sync.proofs.due.load_for.Goals as goal
 
@@ -12,8 +11,3 @@ pub returns-then-is_even-clause-next : goal.returns-then-is_even-clause-next
 returns-then-is_even-clause-next g c =
     let n : CarriesNone c.args.document.now.applied c.args.state.now = carries_none c.args.document.now.applied c.args.state.now (c.is_even.ensures.0 c.if-is_even.true).none in
     inl (sym n.none, c.nothing.ensures.next ∙ ap (λ (t : SyncParts). t.next) c.state.view_is)
-
-pub returns-then-is_even-clause-cut : goal.returns-then-is_even-clause-cut
-returns-then-is_even-clause-cut g c =
-    let n : CarriesNone c.args.document.now.applied c.args.state.now = carries_none c.args.document.now.applied c.args.state.now (c.is_even.ensures.0 c.if-is_even.true).none in
-    ap (is_cut (length c.nothing.result.changes.items)) c.nothing.ensures.marks ∙ ap (λ l. is_cut (length l) []) c.nothing.ensures.changes ∙ n.whole

@@ -2,6 +2,9 @@ use Rattle.tp_sync.proofs.Common.{◌∙◌, ap, map, refl, Some, Hash, List}
 use Rattle.tp_sync.proofs.SayLaws.{heads_fit, wants_fit, known_fit, changes_fit, says_it}
 use Rattle.tp_sync.proofs.generating.send.Goals as goal
 
+pub is_cut-cut-requires : goal.is_cut-cut-requires
+is_cut-cut-requires g c = let say = rw c.in-Some.is at c.in_ok-heads.ensures.says in (c.args.state.now, say.due)
+
 pub new-message-requires-clause-heads : goal.new-message-requires-clause-heads
 new-message-requires-clause-heads g c =
     heads_fit c.args.document.now.applied c.args.document.now.waiting c.args.state.now c.in-Some.field-0 c.in-Some.field-0.heads.items (rw c.in-Some.is at c.in_ok-heads.ensures.says) refl
