@@ -4,13 +4,13 @@ ghost use Rattle.std.specs.Prelude.{◌≡◌, IfOk};
 
 use std::alloc::{AllocError, Global};
 
-/// For how many elements a copy of so many has room: for an eighth more, and four. What is put behind the copy then moves
-/// it no sooner than it moves a list that grew.
+/// For how many elements a copy of so many has room: for an eighth more, and up to four. What is put behind the copy then
+/// moves it no sooner than it moves a list that grew. A copy of nothing takes no memory.
 pub fn with_room(len: usize) -> usize {
-    len.saturating_add(len / 8).saturating_add(4)
+    len.saturating_add(len / 8).saturating_add(len.min(4))
 }
 
-/// An equal list, with room for an eighth more elements, and four. One pass.
+/// An equal list, with room for an eighth more elements, and up to four. One pass.
 pub fn copy_with_room<T: Copy>(alloc: Global, items: &[T]) -> Result<Vec<T>, AllocError>
     ensures { IfOk result (λ copy. copy.items ≡ items.now) }
 {
