@@ -5,6 +5,7 @@ pub mod Faults
 pub mod Gathered
 pub mod Gives
 pub mod Validated
+pub mod Kept
 pub mod Limits
 pub mod OpIds
 pub mod Operations

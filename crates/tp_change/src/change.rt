@@ -64,7 +64,7 @@ impl Change {
     pub fn seq(&self) -> u64
         ensures { result ≡ self.now.seq }
     {
-        self.body.seq
+        self.body.seq()
     }
 
     /// The counter of its first operation, from 1.
@@ -85,20 +85,20 @@ impl Change {
     pub fn message(&self) -> &str
         ensures { chars result.now ≡ self.now.message }
     {
-        self.body.message.as_str()
+        self.body.message()
     }
 
     /// The hashes of the changes that it depends on, rising.
     pub fn deps(&self) -> &[Hash]
         ensures { result.now ≡ self.now.deps }
     {
-        self.body.deps.as_slice()
+        self.body.deps()
     }
 
     /// The records, one at least.
     pub fn records(&self) -> &[Record]
         ensures { result.now ≡ self.now.records }
     {
-        self.body.records.as_slice()
+        self.body.records()
     }
 }

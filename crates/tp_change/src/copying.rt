@@ -1,15 +1,15 @@
 //! Copies of changes.
 
 ghost use Rattle.std.specs.Prelude.{◌≡◌, IfOk, IsOkUnless};
+ghost use Rattle.tp_change.specs.Kept.{seq_of, message_of, deps_of, records_of, Has};
 ghost use Rattle.tp_change.specs.declared.error.ChangeError.TheVariants.{OutOfMemory};
 
-use crate::body::Body;
+use crate::body::{Body, Kept};
 use crate::change::Change;
 use crate::error::ChangeError;
 use crate::record::Record;
 use std::alloc::Global;
-use tp_list::{Few, Text};
-use tp_opid::Hash;
+use tp_list::Text;
 
 /// An equal text.
 fn copy_text(alloc: Global, text: &Text) -> Result<Text, ChangeError>
@@ -38,29 +38,40 @@ fn copy_record(alloc: Global, entry: &Record) -> Result<Record, ChangeError>
 }
 
 /// Equal records, in memory that is reserved once.
-fn copy_records(alloc: Global, records: &[Record]) -> Result<Few<Record>, ChangeError>
-    ensures copied { IfOk result (λ copied. copied ≡ records.now) }
+fn copy_records(alloc: Global, records: &[Record]) -> Result<Vec<Record>, ChangeError>
+    ensures copied { IfOk result (λ copied. copied.items ≡ records.now) }
     ensures err { IsOkUnless result OutOfMemory }
 {
-    if records.len() == 1 {
-        return Ok(Few::one(copy_record(alloc, &records[0])?));
-    }
     let mut copied = Vec::with_capacity(alloc, records.len())?;
     for entry in records {
         copied.push(copy_record(alloc, entry)?)?;
     }
-    Ok(Few::new(copied))
+    Ok(copied)
 }
 
-/// Equal dependencies.
-fn copy_deps(alloc: Global, deps: &[Hash]) -> Result<Few<Hash>, ChangeError>
-    ensures copied { IfOk result (λ copied. copied ≡ deps.now) }
+/// The same parts.
+fn copy_kept(alloc: Global, kept: &Kept) -> Result<Kept, ChangeError>
+    ensures copied { IfOk result (Has (seq_of kept.now) (message_of kept.now) (deps_of kept.now) (records_of kept.now)) }
     ensures err { IsOkUnless result OutOfMemory }
 {
-    if deps.len() == 1 {
-        return Ok(Few::one(deps[0]));
-    }
-    Ok(Few::new(Vec::from_slice(alloc, deps)?))
+    Ok(match kept {
+        Kept::Small { seq, dep, entry } => Kept::Small {
+            seq: *seq,
+            dep: *dep,
+            entry: copy_record(alloc, entry)?,
+        },
+        Kept::Large {
+            seq,
+            message,
+            deps,
+            records,
+        } => Kept::Large {
+            seq: *seq,
+            message: copy_text(alloc, message)?,
+            deps: Vec::from_slice(alloc, deps.as_slice())?,
+            records: copy_records(alloc, records.as_slice())?,
+        },
+    })
 }
 
 /// Equal parts.
@@ -68,17 +79,11 @@ fn copy_body(alloc: Global, body: &Body) -> Result<Body, ChangeError>
     ensures copied { IfOk result (λ copied. copied ≡ body.now) }
     ensures err { IsOkUnless result OutOfMemory }
 {
-    let message = copy_text(alloc, &body.message)?;
-    let deps = copy_deps(alloc, body.deps.as_slice())?;
-    let records = copy_records(alloc, body.records.as_slice())?;
     Ok(Body {
         actor: body.actor,
-        seq: body.seq,
         start: body.start,
         time: body.time,
-        message,
-        deps,
-        records,
+        kept: copy_kept(alloc, &body.kept)?,
     })
 }
 

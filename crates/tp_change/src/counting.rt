@@ -26,7 +26,7 @@ impl Change {
     pub fn op_count(&self) -> usize
         ensures { result ≡ op_count self.now }
     {
-        count_ops(self.body.records.as_slice())
+        count_ops(self.body.records())
     }
 
     /// The counter after its last operation's, at most 2^48. The cost is that of [`op_count`](Change::op_count).
@@ -34,6 +34,6 @@ impl Change {
     pub fn next_start(&self) -> u64
         ensures { result ≡ self.now.start + op_count self.now }
     {
-        self.body.start + count_ops(self.body.records.as_slice()) as u64
+        self.body.start + count_ops(self.body.records()) as u64
     }
 }

@@ -167,7 +167,7 @@ impl Change {
                     actor: self.body.actor,
                 },
                 deletes: 0,
-                records: self.body.records.as_slice(),
+                records: self.body.records(),
             },
         }
     }

@@ -20,8 +20,9 @@ ghost use Rattle.tp_change.specs.Spelling.{spelling};
 ghost use Rattle.tp_change.specs.declared.parts.ChangeParts.{ChangeParts};
 ghost use Rattle.tp_change.specs.Gives.{Gives};
 ghost use Rattle.tp_change.specs.Reading.{actor_at, hash_at, id_at, version_at, seq_at, start_at, rises, dep_at, next_before, room_after, deps_at, place_after_tag, place_at, insert_at, delete_at, delete_run_at, record_after_tag, record_at, records_at, room_from, parts_at, sized_at, change_at};
+ghost use Rattle.tp_change.specs.Kept.{items_of};
 
-use crate::body::Body;
+use crate::body::{Body, Few, Kept};
 use crate::change::Change;
 use crate::error::ChangeError;
 use crate::limits::{COUNTERS_END, FEWEST_DELETES, MAX_BYTES, MAX_OPS, are_counters};
@@ -31,7 +32,7 @@ use std::alloc::Global;
 use std::cmp::Ordering;
 use tp_codec::Reader;
 use tp_digest::Ahead;
-use tp_list::{Few, Text, char_count};
+use tp_list::{Text, char_count};
 use tp_opid::{Actor, Hash, OpId, Place};
 
 // The bytes of a hash.
@@ -218,20 +219,20 @@ fn counted_deps_of(
 
 // One dependency. It takes no memory.
 fn one_dep_of(reader: &mut Reader<'_>) -> Result<Few<Hash>, ChangeError>
-    ensures { Gives (λ d. (d, reader.new)) result
+    ensures { Gives (λ d. (items_of d, reader.new)) result
         (repeat_at dep_at next_before 1 None reader.old) }
 {
-    Ok(Few::one(dep_of(reader, None)?))
+    Ok(Few::One(dep_of(reader, None)?))
 }
 
 fn deps_of(alloc: Global, reader: &mut Reader<'_>) -> Result<Few<Hash>, ChangeError>
-    ensures { Gives (λ d. (d, reader.new)) result (deps_at reader.old) }
+    ensures { Gives (λ d. (items_of d, reader.new)) result (deps_at reader.old) }
 {
     let count = u16_of(reader)?;
     if count == 1 {
         return one_dep_of(reader);
     }
-    Ok(Few::new(counted_deps_of(alloc, reader, count)?))
+    Ok(Few::More(counted_deps_of(alloc, reader, count)?))
 }
 
 fn place_behind_tag(reader: &mut Reader<'_>, tag: u8) -> Result<Place, ChangeError>
@@ -372,11 +373,11 @@ fn one_record_of(
     runs: bool,
     room: usize,
 ) -> Result<Few<Record>, ChangeError>
-    ensures { Gives (λ r. (r, reader.new)) result
+    ensures { Gives (λ r. (items_of r, reader.new)) result
         (repeat_at (record_at runs) room_after 1 room reader.old) }
 {
     let (record, _) = record_of(alloc, reader, runs, room)?;
-    Ok(Few::one(record))
+    Ok(Few::One(record))
 }
 
 fn records_of(
@@ -385,7 +386,7 @@ fn records_of(
     runs: bool,
     room: usize,
 ) -> Result<Few<Record>, ChangeError>
-    ensures { Gives (λ r. (r, reader.new)) result (records_at runs room reader.old) }
+    ensures { Gives (λ r. (items_of r, reader.new)) result (records_at runs room reader.old) }
 {
     let count = u32_of(reader)?;
     if count < 1 {
@@ -397,7 +398,7 @@ fn records_of(
     if count == 1 {
         return one_record_of(alloc, reader, runs, room);
     }
-    Ok(Few::new(counted_records_of(alloc, reader, runs, count, room)?))
+    Ok(Few::More(counted_records_of(alloc, reader, runs, count, room)?))
 }
 
 // How many operations a change may have whose first counter is start.
@@ -417,14 +418,12 @@ fn parts_of(alloc: Global, reader: &mut Reader<'_>, runs: bool) -> Result<Body, 
     let message = message_of(alloc, reader)?;
     let deps = deps_of(alloc, reader)?;
     let records = records_of(alloc, reader, runs, room_of(start))?;
+    let kept = Kept::of_few(alloc, seq, message, deps, records)?;
     Ok(Body {
         actor,
-        seq,
         start,
         time,
-        message,
-        deps,
-        records,
+        kept,
     })
 }
 
@@ -449,7 +448,7 @@ fn change_of(alloc: Global, bytes: &[u8]) -> Result<Body, ChangeError>
     if !reader.is_empty() {
         return Err(ChangeError::Trailing);
     }
-    if version != version_of(parts.records.as_slice()) {
+    if version != version_of(parts.records()) {
         return Err(ChangeError::NoRun);
     }
     Ok(parts)

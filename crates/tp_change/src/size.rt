@@ -68,9 +68,9 @@ fn hashes_len(hashes: &[Hash]) -> usize
 pub(crate) fn body_len(body: &Body) -> usize
     ensures { result ≡ min usize.MAX (length (spelling body.now)) }
 {
-    let deps = hashes_len(body.deps.as_slice());
-    let records = records_len(body.records.as_slice());
-    let message = body.message.byte_len();
+    let deps = hashes_len(body.deps());
+    let records = records_len(body.records());
+    let message = body.message().len();
     let head: usize = 33 + array_len(body.actor.0);
     head.saturating_add(message)
         .saturating_add(deps)

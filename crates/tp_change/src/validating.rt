@@ -19,7 +19,7 @@ use crate::limits::{
 };
 use crate::record::Record;
 use crate::size::body_len;
-use tp_list::{Few, Text, array_len};
+use tp_list::array_len;
 use tp_opid::Hash;
 
 /// The fault, unless the test holds.
@@ -56,12 +56,12 @@ fn do_rise(hashes: &[Hash]) -> bool
 }
 
 /// At most so many dependencies, rising.
-fn validate_deps(deps: &Few<Hash>) -> Result<(), ChangeError>
+fn validate_deps(deps: &[Hash]) -> Result<(), ChangeError>
     ensures value { result ≡ validated_deps deps.now }
     ensures bytes { OnOk result (All IsHash deps.now) }
 {
     ensure(deps.len() <= MAX_DEPS, ChangeError::Limit)?;
-    ensure(do_rise(deps.as_slice()), ChangeError::DepsOrder)
+    ensure(do_rise(deps), ChangeError::DepsOrder)
 }
 
 /// The fewest operations that such a record has.
@@ -120,19 +120,19 @@ fn validate_numbers(seq: u64, start: u64) -> Result<(), ChangeError>
 }
 
 /// The length of the message.
-fn validate_message(message: &Text) -> Result<(), ChangeError>
+fn validate_message(body: &Body) -> Result<(), ChangeError>
     ensures value { result ≡ unless
-        (nat_le (length (encode_utf8_all message.now)) MAX_MESSAGE_BYTES) Limit }
-    ensures typed { all_scalars message.now ≡ true }
+        (nat_le (length (encode_utf8_all body.now.message)) MAX_MESSAGE_BYTES) Limit }
+    ensures typed { all_scalars body.now.message ≡ true }
 {
     ensure(
-        message.as_str().len() <= MAX_MESSAGE_BYTES,
+        body.message().len() <= MAX_MESSAGE_BYTES,
         ChangeError::Limit,
     )
 }
 
 /// The record count, and the records.
-fn validate_list(start: u64, records: &Few<Record>) -> Result<(), ChangeError>
+fn validate_list(start: u64, records: &[Record]) -> Result<(), ChangeError>
     requires { start < COUNTERS_END }
     ensures value { result ≡ validated_list start records.now }
     ensures typed { OnOk result (All IsTypedRecord records.now) }
@@ -145,7 +145,7 @@ fn validate_list(start: u64, records: &Few<Record>) -> Result<(), ChangeError>
     } else {
         MAX_OPS
     };
-    validate_records(room, records.as_slice())
+    validate_records(room, records)
 }
 
 /// The whole size and then each field, with what the types say of them.
@@ -155,12 +155,12 @@ fn validate_fields(body: &Body) -> Result<(), ChangeError>
     ensures typed { OnOk result (IsTyped body.now) }
 {
     ensure(body_len(body) <= MAX_BYTES, ChangeError::Limit)?;
-    validate_numbers(body.seq, body.start)?;
-    validate_message(&body.message)?;
-    validate_deps(&body.deps)?;
+    validate_numbers(body.seq(), body.start)?;
+    validate_message(body)?;
+    validate_deps(body.deps())?;
     let _time = body.time;
     let _actor = array_len(body.actor.0);
-    validate_list(body.start, &body.records)
+    validate_list(body.start, body.records())
 }
 
 /// The first fault of the parts: the whole size first, then each field in turn. No memory; the cost is that of

@@ -16,7 +16,7 @@ use crate::sink::Sink;
 use crate::size::body_len;
 use crate::version::version_of;
 use std::alloc::AllocError;
-use tp_list::{Few, Text};
+use tp_list::Text;
 use tp_opid::{Hash, OpId, Place};
 
 /// Eight bytes.
@@ -61,13 +61,14 @@ fn put_run<S: Sink>(out: &mut S, text: &Text) -> Result<(), AllocError>
 }
 
 /// The length and the text of the message.
-fn put_message<S: Sink>(out: &mut S, text: &Text) -> Result<(), AllocError>
-    requires { length (encode_utf8_all text.now) < 2 ^ 16 }
-    ensures puts { OnOk result (Puts S.holds out.old out.new (spelling_of_message text.now)) }
+fn put_message<S: Sink>(out: &mut S, body: &Body) -> Result<(), AllocError>
+    requires { length (encode_utf8_all body.now.message) < 2 ^ 16 }
+    ensures puts { OnOk result (Puts S.holds out.old out.new (spelling_of_message body.now.message)) }
     ensures taken { S.takes_all → IsOk result }
 {
-    out.put(&(text.byte_len() as u16).to_be_bytes())?;
-    out.put(text.as_str().as_bytes())
+    let text = body.message();
+    out.put(&(text.len() as u16).to_be_bytes())?;
+    out.put(text.as_bytes())
 }
 
 /// The tag of a record, and what stands behind it.
@@ -120,13 +121,13 @@ fn put_records<S: Sink>(out: &mut S, records: &[Record]) -> Result<(), AllocErro
 }
 
 /// The dependency count and the dependencies.
-fn put_deps<S: Sink>(out: &mut S, deps: &Few<Hash>) -> Result<(), AllocError>
+fn put_deps<S: Sink>(out: &mut S, deps: &[Hash]) -> Result<(), AllocError>
     requires { length deps.now < 2 ^ 16 }
     ensures puts { OnOk result (Puts S.holds out.old out.new (spelling_of_deps deps.now)) }
     ensures taken { S.takes_all → IsOk result }
 {
     out.put(&(deps.len() as u16).to_be_bytes())?;
-    put_hashes(out, deps.as_slice())
+    put_hashes(out, deps)
 }
 
 /// The record count and the records.
@@ -137,8 +138,9 @@ fn put_counted<S: Sink>(out: &mut S, body: &Body) -> Result<(), AllocError>
         (Puts S.holds out.old out.new (spelling_of_records body.now.records)) }
     ensures taken { S.takes_all → IsOk result }
 {
-    out.put(&(body.records.len() as u32).to_be_bytes())?;
-    put_records(out, body.records.as_slice())
+    let records = body.records();
+    out.put(&(records.len() as u32).to_be_bytes())?;
+    put_records(out, records)
 }
 
 /// Puts the bytes of a change.
@@ -147,13 +149,13 @@ pub(crate) fn put_change<S: Sink>(out: &mut S, body: &Body) -> Result<(), AllocE
     ensures puts { OnOk result (Puts S.holds out.old out.new (spelling body.now)) }
     ensures taken { S.takes_all → IsOk result }
 {
-    out.put(&[version_of(body.records.as_slice())])?;
+    out.put(&[version_of(body.records())])?;
     out.put(&body.actor.0)?;
-    put_u64(out, body.seq)?;
+    put_u64(out, body.seq())?;
     put_u64(out, body.start)?;
     put_u64(out, body.time)?;
-    put_message(out, &body.message)?;
-    put_deps(out, &body.deps)?;
+    put_message(out, body)?;
+    put_deps(out, body.deps())?;
     put_counted(out, body)
 }
 

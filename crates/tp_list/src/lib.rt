@@ -3,13 +3,11 @@
 #![tactic(auto)]
 
 mod bytes;
-mod few;
 mod items;
 mod room;
 mod text;
 
 pub use bytes::array_len;
-pub use few::Few;
 pub use items::Items;
 pub use room::{copy_with_room, with_room};
 pub use text::{Text, char_count};

@@ -1,12 +1,15 @@
 //! Copies of lists that are to grow.
 
-ghost use Rattle.std.specs.Prelude.{◌≡◌, IfOk};
+ghost use Rattle.std.specs.Prelude.{◌≡◌, ◌≤◌, ◌*◌, IfOk};
 
 use std::alloc::{AllocError, Global};
 
 /// For how many elements a copy of so many has room: for an eighth more, and up to four. What is put behind the copy then
 /// moves it no sooner than it moves a list that grew. A copy of nothing takes no memory.
-pub fn with_room(len: usize) -> usize {
+pub fn with_room(len: usize) -> usize
+    ensures least { len ≤ result }
+    ensures most { result ≤ 2 * len }
+{
     len.saturating_add(len / 8).saturating_add(len.min(4))
 }
 

@@ -14,4 +14,4 @@ returns-in_err-dep_of c =
     (one_refused dep_at next_before None c.in_err-dep_of.field-0.0 c.args.reader.now) c.in_err-dep_of.ensures)
 
 pub returns : goal.returns
-returns c = rw c.one.ensures (one_there dep_at next_before None c.in_ok-dep_of.field-0 c.args.reader.now c.dep_of.new.reader c.in_ok-dep_of.ensures)
+returns c = (one_there dep_at next_before None c.in_ok-dep_of.field-0 c.args.reader.now c.dep_of.new.reader c.in_ok-dep_of.ensures)

@@ -13,4 +13,4 @@ returns-in_err-record c =
     (one_refused (record_at c.args.runs) room_after c.args.room c.in_err-record.field-0.0 c.args.reader.now) c.in_err-record.ensures.record)
 
 pub returns : goal.returns
-returns c = rw c.one.ensures (one_there (record_at c.args.runs) room_after c.args.room c.in_ok-record.record c.args.reader.now c.record_of.new.reader c.in_ok-record.ensures.record)
+returns c = (one_there (record_at c.args.runs) room_after c.args.room c.in_ok-record.record c.args.reader.now c.record_of.new.reader c.in_ok-record.ensures.record)
