@@ -43,7 +43,7 @@ pub use Rattle.tp_graph.specs.Named.{HashesApart, among, has, has_all, is_needed
 pub use Rattle.tp_graph.specs.Parts.{IsPartOf, bits, holds, picked, prefix_of}
 pub use Rattle.tp_graph.specs.Past.{past, with_reached}
 pub use Rattle.tp_graph.specs.Pasts.{AreApart, ArePasts, IsApart, IsSpan}
-pub use Rattle.tp_graph.specs.Notes.{AreNoted, IsFree, IsNotedAt, IsReached, Notes, Stands, first_slot, first_word, noted}
+pub use Rattle.tp_graph.specs.Notes.{AreNoted, IsFree, IsLike, IsNotedAt, IsReached, IsSlotFor, Notes, Stands, first_slot, first_word, noted, place_in}
 pub use Rattle.tp_graph.specs.Places.{HasAt, ends_of, noted_word, place_from}
 pub use Rattle.tp_graph.specs.Reach.{Chain, InPast}
 pub use Rattle.tp_graph.specs.Since.{IsMissing, gather, gather_all, is_wanted, past_places, since, skip}
@@ -52,7 +52,6 @@ pub use Rattle.tp_graph.specs.declared.by_actor.ByActor.{ByActor}
 pub use Rattle.tp_graph.specs.declared.error.GraphError.{GraphError}
 pub use Rattle.tp_graph.specs.declared.error.GraphError.TheVariants.{BadReference, BadSeq, BadStart, Full, Known, MissingDeps, OutOfMemory, SeqClash, UnknownHead}
 pub use Rattle.tp_graph.specs.declared.extent.Extent.{Extent}
-pub use Rattle.tp_graph.specs.declared.index.Slot.{Slot}
 pub use Rattle.tp_graph.specs.declared.index.TheConstants.{NOWHERE, WINDOW}
 pub use Rattle.tp_graph.specs.declared.part.Part.{Part}
 pub use Rattle.tp_list.proofs.Members.{In-append, In-get_or, In-index, In-last, In-left, In-push, In-right, In-slice_get, In-split, slice_get-there}

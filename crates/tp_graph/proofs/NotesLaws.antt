@@ -1,5 +1,5 @@
 -- Laws of the notes of places.
-use Rattle.tp_graph.proofs.Common.{◌≡◌, ℕ, suc, zero, ◌+◌, ◌-◌, ◌<◌, ◌≤◌, inl, inr, List, [], ◌∷◌, ◌++◌, length, take, ◌||◌, true, false, cond, Option, Some, None, IfSome, refl, sym, ap, ◌∙◌, subst, arith, add-zero, slice_get, slice_get_within, get_or_from_slice_get, length-take-le, take_more, set, never, not_true, In-slice_get, Hash, same_hash, same_hash-same, same_hash-itself, ChangeParts, hash_of, HashesOnce, has, place_from, noted, first_word, first_slot, Slot, NOWHERE, WINDOW, Notes, IsReached, IsFree, Stands, IsNotedAt, AreNoted, HasAt}
+use Rattle.tp_graph.proofs.Common.{◌≡◌, ◌≢◌, ℕ, suc, zero, ◌+◌, ◌-◌, ◌<◌, ◌≤◌, inl, inr, List, [], ◌∷◌, ◌++◌, length, take, ◌||◌, true, false, cond, Option, Some, None, IfSome, refl, sym, ap, ◌∙◌, subst, arith, add-zero, slice_get, slice_get_within, get_or_from_slice_get, length-take-le, take_more, set, never, not_true, In-slice_get, Hash, same_hash, same_hash-same, same_hash-itself, ChangeParts, hash_of, HashesOnce, has, place_from, noted, first_word, first_slot, place_in, NOWHERE, WINDOW, Notes, IsLike, IsSlotFor, IsReached, IsFree, Stands, IsNotedAt, AreNoted, HasAt}
 use Rattle.std.proofs.lemmas.Bool.{cases_eq}
 use Rattle.std.proofs.lemmas.List.{length-set}
 use Rattle.std.proofs.lemmas.Nat.{and_le_r}
@@ -55,9 +55,9 @@ noted_hash old new h p notes = inr (notes h ∙ ap (λ b. cond b (Some p) (noted
 
 -- ---- slots
 
--- None of the slots from the first to before the number has the word and the place of a change with the hash.
-abbrev pub Passed : List Slot → List ChangeParts → Hash → ℕ → ℕ → ℕ → Type 0
-Passed slots C h word first number = (k : ℕ) → k < number → first ≤ k → (s : Slot) → slice_get slots k ≡ Some s → s.word ≡ word → HasAt C s.place h → ⊥
+-- None of the slots from the first to before the number is like the word and notes the place of a change with the hash.
+abbrev pub Passed : List ℕ → List ChangeParts → Hash → ℕ → ℕ → ℕ → Type 0
+Passed slots C h word first number = (k : ℕ) → k < number → first ≤ k → (s : ℕ) → slice_get slots k ≡ Some s → IsLike (length slots) s word → HasAt C (place_in (length slots) s) h → ⊥
 
 -- what is read in a list in which an item was put at a place
 at_set : {X : Type 0} (xs : List X) (i : ℕ) (y : X) → i < length xs → slice_get (set xs i y) i ≡ Some y
@@ -72,75 +72,78 @@ beside_set (x ∷ xs) zero (suc k) y apart = refl
 beside_set (x ∷ xs) (suc i) zero y apart = refl
 beside_set (x ∷ xs) (suc i) (suc k) y apart = beside_set xs i k y (λ e. apart (ap suc e))
 
--- the place of a hash with the word
-abbrev pub slot_for : ℕ → ℕ → Slot
-slot_for word place = record { word = word; place = place }
-
 -- a slot that is reached stays so where a place is put into a slot
-reached_still : (slots : List Slot) (word k number w place : ℕ) → place < NOWHERE → IsReached slots word k → IsReached (set slots number (slot_for w place)) word k
-reached_still slots word k number w place small r =
-    let same : length (set slots number (slot_for w place)) ≡ length slots = length-set slots number (slot_for w place) in
+reached_still : (slots : List ℕ) (word k number slot : ℕ) → slot ≢ NOWHERE → IsReached slots word k → IsReached (set slots number slot) word k
+reached_still slots word k number slot is_taken r =
+    let same : length (set slots number slot) ≡ length slots = length-set slots number slot in
     record {
       room = subst (λ n. WINDOW ≤ n) (sym same) r.room;
       low = subst (λ n. first_slot word n ≤ k) (sym same) r.low;
       high = subst (λ n. k < first_slot word n + WINDOW) (sym same) r.high;
-      taken = subst (λ n. (i : ℕ) → first_slot word n ≤ i → i < k → (s : Slot) → slice_get (set slots number (slot_for w place)) i ≡ Some s → s.place ≡ NOWHERE → ⊥) (sym same) taken;
+      taken = subst (λ n. (i : ℕ) → first_slot word n ≤ i → i < k → (s : ℕ) → slice_get (set slots number slot) i ≡ Some s → s ≡ NOWHERE → ⊥) (sym same) taken;
     } where
-      taken : (i : ℕ) → first_slot word (length slots) ≤ i → i < k → (s : Slot) → slice_get (set slots number (slot_for w place)) i ≡ Some s → s.place ≡ NOWHERE → ⊥
+      taken : (i : ℕ) → first_slot word (length slots) ≤ i → i < k → (s : ℕ) → slice_get (set slots number slot) i ≡ Some s → s ≡ NOWHERE → ⊥
       taken i low high s is none = elim (cases_eq i number) [
         | inl e ↦
             let room = r.room in
-            let within : i < length (set slots number (slot_for w place)) = slice_get_within (set slots number (slot_for w place)) i s is in
-            let inside : number < length slots = omega (arith, length-set slots number (slot_for w place)) in
-            let here : Some s ≡ Some (slot_for w place) = sym is ∙ ap (slice_get (set slots number (slot_for w place))) e ∙ at_set slots number (slot_for w place) inside in
-            let one : s ≡ slot_for w place = cc in
-            let nowhere : place ≡ NOWHERE = ap (λ (x : Slot). x.place) (sym one) ∙ none in
-            absurd (omega arith)
-        | inr apart ↦ r.taken i low high s (sym (beside_set slots number i (slot_for w place) apart) ∙ is) none
+            let within : i < length (set slots number slot) = slice_get_within (set slots number slot) i s is in
+            let inside : number < length slots = omega (arith, length-set slots number slot) in
+            let here : Some s ≡ Some slot = sym is ∙ ap (slice_get (set slots number slot)) e ∙ at_set slots number slot inside in
+            let one : s ≡ slot = cc in
+            is_taken (sym one ∙ none)
+        | inr apart ↦ r.taken i low high s (sym (beside_set slots number i slot apart) ∙ is) none
       ]
 
 -- a place that is put into a free slot stands there
-stands_there : (slots : List Slot) (word place number : ℕ) → place < NOWHERE → number < length slots → IsFree slots word place number → Stands (set slots number (slot_for word place)) word place
-stands_there slots word place number small inside f = record {
+stands_there : (slots : List ℕ) (word place number slot : ℕ) → number < length slots → IsFree slots word place number → IsSlotFor (length slots) word place slot → Stands (set slots number slot) word place
+stands_there slots word place number slot inside f w = record {
   number = number;
-  reached = reached_still slots word number number word place small f.reached;
-  here = at_set slots number (slot_for word place) inside;
+  reached = reached_still slots word number number slot w.taken f.reached;
+  slot = slot;
+  here = at_set slots number slot inside;
+  is = subst (λ n. IsSlotFor n word place slot) (sym (length-set slots number slot)) w;
 }
 
 -- and what stood for an earlier place stays
-stands_still : (slots : List Slot) (w place number word p : ℕ) → place < NOWHERE → IsFree slots w place number → p < place → Stands slots word p → Stands (set slots number (slot_for w place)) word p
-stands_still slots w place number word p small f less r = record {
+stands_still : (slots : List ℕ) (w place number slot word p : ℕ) → slot ≢ NOWHERE → IsFree slots w place number → p < place → Stands slots word p → Stands (set slots number slot) word p
+stands_still slots w place number slot word p is_taken f less r = record {
   number = r.number;
-  reached = reached_still slots word r.number number w place small r.reached;
-  here = beside_set slots number r.number (slot_for w place) apart ∙ r.here;
+  reached = reached_still slots word r.number number slot is_taken r.reached;
+  slot = r.slot;
+  here = beside_set slots number r.number slot apart ∙ r.here;
+  is = subst (λ n. IsSlotFor n word p r.slot) (sym (length-set slots number slot)) r.is;
 } where
   apart : r.number ≡ number → ⊥
-  apart e =
-      let free : place ≤ p = f.free (slot_for word p) (ap (slice_get slots) (sym e) ∙ r.here) in
-      absurd (omega arith)
+  apart e = elim (f.free r.slot (ap (slice_get slots) (sym e) ∙ r.here)) [
+    | inl none ↦ r.is.taken none
+    | inr free ↦
+        let notes = r.is.notes in
+        absurd (omega arith)
+  ]
 
 -- a free slot is within the table
-pub free_within : (slots : List Slot) (word place number : ℕ) → IsFree slots word place number → number < length slots
+free_within : (slots : List ℕ) (word place number : ℕ) → IsFree slots word place number → number < length slots
 free_within slots word place number f =
     let room = f.reached.room in
     let high = f.reached.high in
     omega (arith, and_le_r word (length slots - WINDOW))
 
 -- so a note in a free slot for the place behind those of all changes leaves the others
-pub AreNoted-slot : (C : List ChangeParts) (old new : Notes) (word p number : ℕ) → p < NOWHERE → p ≡ length C → IsFree old.slots word p number
-    → new.slots ≡ set old.slots number (slot_for word p) → new.hashes ≡ old.hashes → AreNoted C old → AreNoted C new
-AreNoted-slot C old new word p number small end f slots hashes w i c at = elim (w i c at) [
+pub AreNoted-slot : (C : List ChangeParts) (old new : Notes) (word p number slot : ℕ) → p ≡ length C → IsFree old.slots word p number → IsSlotFor (length old.slots) word p slot
+    → new.slots ≡ set old.slots number slot → new.hashes ≡ old.hashes → AreNoted C old → AreNoted C new
+AreNoted-slot C old new word p number slot end f is slots hashes w i c at = elim (w i c at) [
   | inl e ↦
       let within : i < length C = slice_get_within C i c at in
       let less : i < p = omega arith in
-      inl (subst (λ l. Stands l (first_word (hash_of c)) i) (sym slots) (stands_still old.slots word p number (first_word (hash_of c)) i small f less e))
+      inl (subst (λ l. Stands l (first_word (hash_of c)) i) (sym slots) (stands_still old.slots word p number slot (first_word (hash_of c)) i is.taken f less e))
   | inr e ↦ inr (ap (λ l. noted l (hash_of c)) hashes ∙ e)
 ]
 
 -- and notes it
-pub noted_slot : (old new : Notes) (h : Hash) (word p number : ℕ) → word ≡ first_word h → p < NOWHERE → number < length old.slots → IsFree old.slots word p number
-    → new.slots ≡ set old.slots number (slot_for word p) → IsNotedAt new h p
-noted_slot old new h word p number is small inside f slots = inl (subst (λ l. Stands l (first_word h) p) (sym slots) (subst (λ w. Stands (set old.slots number (slot_for word p)) w p) is (stands_there old.slots word p number small inside f)))
+pub noted_slot : (old new : Notes) (h : Hash) (word p number slot : ℕ) → word ≡ first_word h → IsFree old.slots word p number → IsSlotFor (length old.slots) word p slot
+    → new.slots ≡ set old.slots number slot → IsNotedAt new h p
+noted_slot old new h word p number slot is f w slots =
+    inl (subst (λ l. Stands l (first_word h) p) (sym slots) (subst (λ x. Stands (set old.slots number slot) x p) is (stands_there old.slots word p number slot (free_within old.slots word p number f) f w)))
 
 -- ---- all changes
 

@@ -1,6 +1,6 @@
 -- Laws of what is told to be outside a past.
 use Rattle.std.proofs.lemmas.List.{get_or_past}
-use Rattle.tp_graph.proofs.Common.{◌≡◌, ◌∙◌, ℕ, ◌<◌, ◌≤◌, List, [], ◌∷◌, length, Bool, true, false, ◌||◌, map, not, get_or, refl, sym, ap, inl, inr, arith, get_or-map, length-map, In, never, not_true, or_left, or_right, Hash, ChangeParts, hash_of, names, has, marked_more, marks, bits}
+use Rattle.tp_graph.proofs.Common.{◌≡◌, ◌∙◌, ℕ, ◌<◌, List, [], ◌∷◌, length, true, false, map, not, get_or, refl, sym, ap, inl, inr, arith, get_or-map, length-map, In, never, not_true, or_left, or_right, Hash, ChangeParts, hash_of, names, has, marks, bits}
 use Rattle.std.proofs.lemmas.Bool.{cases_lt}
 use Rattle.std.specs.List.{list_any}
 use Rattle.tp_graph.specs.declared.outside.Told.{Told}

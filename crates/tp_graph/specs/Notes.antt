@@ -1,7 +1,6 @@
 -- The table from hashes to places: what is noted by the first 4 bytes of hashes, and what by whole hashes.
-use Rattle.std.specs.Prelude.{◌≡◌, ◌≢◌, ◌⊎◌, ℕ, ◌+◌, ◌-◌, ◌<◌, ◌≤◌, List, [], ◌∷◌, length, slice_index, bit_and, Option, Some}
+use Rattle.std.specs.Prelude.{◌≡◌, ◌≢◌, ◌⊎◌, ℕ, ◌+◌, ◌-◌, ◌<◌, ◌≤◌, List, [], ◌∷◌, length, slice_index, bit_and, bit_or, Option, Some}
 use Rattle.tp_graph.specs.Common.{w32, from_be_bytes, slice_get, lookup, Hash, same_hash, ChangeParts, hash_of}
-use Rattle.tp_graph.specs.declared.index.Slot.{Slot}
 use Rattle.tp_graph.specs.declared.index.TheConstants.{WINDOW, NOWHERE}
 
 -- what a map with these entries has at the hash
@@ -14,30 +13,46 @@ first_word h = from_be_bytes w32 (slice_index h.0 0 ∷ slice_index h.0 1 ∷ sl
 
 -- Places that are noted: in slots, and for whole hashes.
 pub record Notes : Type 0 where
-  pub slots : List Slot
+  pub slots : List ℕ
   pub hashes : List (Hash × ℕ)
 
 -- the first slot of the window of a word, in a table of so many slots
 abbrev pub first_slot : ℕ → ℕ → ℕ
 first_slot word slots = bit_and word (slots - WINDOW)
 
+-- the place that a slot notes, in a table of so many slots
+abbrev pub place_in : ℕ → ℕ → ℕ
+place_in slots slot = bit_and slot (slots - WINDOW)
+
+-- The slot and the word have the same bits before those of a place, in a table of so many slots.
+abbrev pub IsLike : ℕ → ℕ → ℕ → Type 0
+IsLike slots slot word = bit_or slot (slots - WINDOW) ≡ bit_or word (slots - WINDOW)
+
+-- The slot notes the place for the word, in a table of so many slots.
+pub record IsSlotFor (slots word place slot : ℕ) : Type 0 where
+  pub taken : slot ≢ NOWHERE
+  pub notes : place_in slots slot ≡ place
+  pub like : IsLike slots slot word
+
 -- A look-up of the word gets to the slot with the number: it is in the window, and each before it there was taken.
-pub record IsReached (slots : List Slot) (word number : ℕ) : Type 0 where
+pub record IsReached (slots : List ℕ) (word number : ℕ) : Type 0 where
   pub room : WINDOW ≤ length slots
   pub low : first_slot word (length slots) ≤ number
   pub high : number < first_slot word (length slots) + WINDOW
-  pub taken : (k : ℕ) → first_slot word (length slots) ≤ k → k < number → (s : Slot) → slice_get slots k ≡ Some s → s.place ≢ NOWHERE
+  pub taken : (k : ℕ) → first_slot word (length slots) ≤ k → k < number → (s : ℕ) → slice_get slots k ≡ Some s → s ≢ NOWHERE
 
--- The same, and the slot notes no place before the given one.
-pub record IsFree (slots : List Slot) (word place number : ℕ) : Type 0 where
+-- The same, and the slot was never taken or notes no place before the given one.
+pub record IsFree (slots : List ℕ) (word place number : ℕ) : Type 0 where
   pub reached : IsReached slots word number
-  pub free : (s : Slot) → slice_get slots number ≡ Some s → place ≤ s.place
+  pub free : (s : ℕ) → slice_get slots number ≡ Some s → (s ≡ NOWHERE) ⊎ (place ≤ place_in (length slots) s)
 
 -- A look-up of the word gets to a slot that notes the place for it.
-pub record Stands (slots : List Slot) (word place : ℕ) : Type 0 where
+pub record Stands (slots : List ℕ) (word place : ℕ) : Type 0 where
   pub number : ℕ
   pub reached : IsReached slots word number
-  pub here : slice_get slots number ≡ Some (record { word = word; place = place })
+  pub slot : ℕ
+  pub here : slice_get slots number ≡ Some slot
+  pub is : IsSlotFor (length slots) word place slot
 
 -- The place is noted for the hash, in one way or the other.
 abbrev pub IsNotedAt : Notes → Hash → ℕ → Type 0

@@ -4,7 +4,7 @@ ghost use Rattle.std.specs.Prelude.{◌≡◌, ◌↔◌, ℕ, ◌+◌, ◌<◌,
 ghost use Rattle.tp_change.specs.declared.parts.ChangeParts.{ChangeParts};
 ghost use Rattle.tp_graph.specs.Fit.{most_changes};
 ghost use Rattle.tp_graph.specs.Named.{has};
-ghost use Rattle.tp_graph.specs.Notes.{noted, first_word, first_slot, IsFree, IsNotedAt, AreNoted, Stands};
+ghost use Rattle.tp_graph.specs.Notes.{noted, first_word, first_slot, place_in, IsLike, IsSlotFor, IsFree, IsNotedAt, AreNoted, Stands};
 ghost use Rattle.tp_graph.specs.Places.{place_from, HasAt};
 ghost use Rattle.tp_graph.specs.Sound.{Sound};
 
@@ -17,29 +17,24 @@ use tp_opid::Hash;
 /// In so many slots, from a first one on, the place of a hash may stand.
 pub(crate) const WINDOW: usize = 32;
 
-/// Stands in a slot that was never taken. It is the place of no change.
+/// Stands in a slot that was never taken.
 pub(crate) const NOWHERE: u32 = 4_294_967_295;
 
 // Windows begin at so many slots at least.
 const FEWEST: usize = 16;
 
-/// The place of a change, and the first 4 bytes of its hash.
-#[derive(Clone, Copy)]
-pub(crate) struct Slot {
-    pub(crate) word: u32,
-    pub(crate) place: u32,
-}
-
 /// From the hash of a change to its place in applied order: an open-addressing table with linear probing over a bounded
 /// window, by the first 4 bytes of the hash, and an ordered map by whole hashes for what finds no room in its window.
 ///
-/// The table has two to four slots of 8 bytes for each change, at least 16, and one less than a window behind the last.
+/// The table has two to four slots of 4 bytes for each change, at least 16, and one less than a window behind the last.
+/// A slot notes a place in its last bits. The bits before these are those of the word that it was taken for, whose last
+/// bits say where its window begins: so of the changes that a look-up comes by, it looks hardly at any but the right one.
 /// Of a million hashes that are what chance gives, a few find no room. Whatever hashes strangers choose, a look-up
 /// compares the first bytes of a window at most, and then makes a number of comparisons that grows with the logarithm
 /// of the number of changes.
 #[derive(Drop)]
 pub(crate) struct Index {
-    slots: Vec<Slot>,
+    slots: Vec<u32>,
     clashing: BTreeMap<Hash, u32>,
 }
 
@@ -89,6 +84,39 @@ fn slots_for(count: usize) -> usize
     (4 * count).max(FEWEST).next_power_of_two() + WINDOW - 1
 }
 
+// The place that a slot notes, in a table of so many slots.
+fn place_in(slot: u32, slots: usize) -> usize
+    requires { WINDOW ≤ slots }
+    ensures { result ≡ place_in slots slot }
+{
+    slot as usize & (slots - WINDOW)
+}
+
+// Whether a slot may have been taken for the word, in a table of so many slots: their bits before those of a place are
+// the same.
+fn is_like(slot: u32, word: u32, slots: usize) -> bool
+    requires { WINDOW ≤ slots }
+    ensures { IsTrue result ↔ IsLike slots slot word }
+{
+    let places = slots - WINDOW;
+    slot as usize | places == word as usize | places
+}
+
+// The slot that notes the place for the word, in a table of so many slots. There is one where the bits of a place
+// suffice for it, but for the one that stands where no slot was taken.
+fn slot_for(word: u32, place: u32, slots: usize) -> Option<u32>
+    requires { WINDOW ≤ slots }
+    ensures { IfSome result (IsSlotFor slots word place) }
+{
+    let slot = (word as usize & !(slots - WINDOW)) as u32 | place;
+    let is_right = place_in(slot, slots) == place as usize && is_like(slot, word, slots);
+    if is_right && slot != NOWHERE {
+        Some(slot)
+    } else {
+        None
+    }
+}
+
 impl Index {
     /// No entry. It takes no memory.
     pub(crate) fn new(alloc: Global) -> Index
@@ -116,11 +144,14 @@ impl Index {
         let first = first_of(word, self.slots.len());
         for number in first..first + WINDOW {
             let slot = self.slots[number];
-            if slot.place == NOWHERE {
+            if slot == NOWHERE {
                 return None;
             }
-            if slot.word == word && has_at(changes, slot.place as usize, hash) {
-                return Some(slot.place as usize);
+            if is_like(slot, word, self.slots.len()) {
+                let place = place_in(slot, self.slots.len());
+                if has_at(changes, place, hash) {
+                    return Some(place);
+                }
             }
         }
         None
@@ -136,7 +167,6 @@ impl Index {
 
     // The first slot of the window of the word that notes no place before the given one.
     fn free(&self, word: u32, place: u32) -> Option<usize>
-        requires { place < NOWHERE }
         ensures { IfSome result (IsFree self.now.slots word place) }
     {
         if self.slots.len() < WINDOW {
@@ -144,7 +174,8 @@ impl Index {
         }
         let first = first_of(word, self.slots.len());
         for number in first..first + WINDOW {
-            if place <= self.slots[number].place {
+            let slot = self.slots[number];
+            if slot == NOWHERE || place as usize <= place_in(slot, self.slots.len()) {
                 return Some(number);
             }
         }
@@ -153,19 +184,19 @@ impl Index {
 
     // Notes the place behind those of all changes for a hash that none of them has.
     fn put(&mut self, hash: &Hash, place: u32) -> Result<(), AllocError>
-        requires { place < NOWHERE }
         ensures notes { OnOk result ((C : List ChangeParts) → place ≡ length C → has C hash.now ≡ false
             → AreNoted C self.old → AreNoted C self.new) }
         ensures at { OnOk result (IsNotedAt self.new hash.now place) }
         ensures err { OnErr result (self.new ≡ self.old) }
     {
         let word = word_of(hash);
-        match self.free(word, place) {
-            Some(number) => self.slots[number] = Slot { word, place },
-            None => {
-                self.clashing.insert(*hash, place)?;
+        if let Some(number) = self.free(word, place) {
+            if let Some(slot) = slot_for(word, place, self.slots.len()) {
+                self.slots[number] = slot;
+                return Ok(());
             }
         }
+        self.clashing.insert(*hash, place)?;
         Ok(())
     }
 
@@ -175,12 +206,8 @@ impl Index {
         requires few { length changes.now ≤ most_changes }
         ensures { IfOk result (AreNoted changes.now) }
     {
-        let slot = Slot {
-            word: 0,
-            place: NOWHERE,
-        };
         let mut index = Index {
-            slots: vec![in alloc; slot; slots_for(changes.len())]?,
+            slots: vec![in alloc; NOWHERE; slots_for(changes.len())]?,
             clashing: BTreeMap::new(alloc),
         };
         for place in 0..changes.len() {

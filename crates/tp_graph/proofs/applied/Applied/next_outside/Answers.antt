@@ -1,5 +1,5 @@
-use Rattle.tp_graph.proofs.Common.{◌≡◌, ◌∙◌, ◌<◌, ◌≤◌, List, Bool, length, get_or, sym, ap, arith, false, inl, inr, subst}
-use Rattle.std.proofs.lemmas.Bool.{cases_eq, cases_lt}
+use Rattle.tp_graph.proofs.Common.{◌≡◌, ◌∙◌, List, Bool, length, get_or, sym, ap, arith, false, inl, inr}
+use Rattle.std.proofs.lemmas.Bool.{cases_lt}
 use Rattle.std.proofs.lemmas.List.{get_or_past}
 use Rattle.tp_graph.specs.Outside.{told_of}
 use Rattle.tp_graph.proofs.OutsideLaws.{none_before, length-told}

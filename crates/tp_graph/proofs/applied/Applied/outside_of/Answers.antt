@@ -1,4 +1,4 @@
-use Rattle.tp_graph.proofs.Common.{◌≡◌, ◌∙◌, length, map, not, ap, sym}
+use Rattle.tp_graph.proofs.Common.{◌∙◌, length, map, not, ap, sym}
 use Rattle.tp_graph.proofs.OutsideLaws.{nothing_more, length-marks_since}
 use Rattle.tp_graph.proofs.applied.Applied.outside_of.Goals as goal
 
