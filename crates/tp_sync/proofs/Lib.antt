@@ -16,4 +16,5 @@ pub mod StepLaws
 pub mod SizeLaws
 pub mod JudgeLaws
 pub mod ReaderLaws
+pub mod ReceivingLaws
 pub mod NextLaws

@@ -16,12 +16,6 @@ take_due-laden count bytes (c ∷ D) e = ap (λ b. cond b [] (c ∷ take_due (co
 pub take_due-on : (count bytes : ℕ) (c : ChangeParts) (D : List ChangeParts) → is_laden count bytes ≡ false → take_due count bytes (c ∷ D) ≡ c ∷ take_due (count + 1) (bytes + length (spelling c)) D
 take_due-on count bytes c D e = ap (λ b. cond b [] (c ∷ take_due (count + 1) (bytes + length (spelling c)) D)) e
 
--- a change that isn't marked is passed by
-pub passed_by : (bs : List Bool) (C : List ChangeParts) (i : ℕ) (c : ChangeParts) → length bs ≡ length C → slice_get C i ≡ Some c → get_or bs i false ≡ false
-    → pick (drop (i + 1) bs) (drop (i + 1) C) ≡ pick (drop i bs) (drop i C)
-passed_by bs C i c l e f =
-    rw add-one (sym (pick-step bs C i c l e ∙ ap (λ b. cond b (c ∷ pick (drop (suc i) bs) (drop (suc i) C)) (pick (drop (suc i) bs) (drop (suc i) C))) f))
-
 -- a change that is marked is the next that is taken
 pub taken_next : (bs : List Bool) (C : List ChangeParts) (i : ℕ) (c : ChangeParts) (count bytes : ℕ) → length bs ≡ length C → slice_get C i ≡ Some c → get_or bs i false ≡ true → is_laden count bytes ≡ false
     → take_due count bytes (pick (drop i bs) (drop i C)) ≡ c ∷ take_due (count + 1) (bytes + length (spelling c)) (pick (drop (i + 1) bs) (drop (i + 1) C))
@@ -101,13 +95,6 @@ pub TakesOn-laden : (C : List ChangeParts) (marks : List Bool) (from old place :
     → is_laden (length changes) bytes ≡ true → changes ≡ take_due 0 0 (pick (drop from marks) (drop from C))
 TakesOn-laden C marks from old place changes bytes next w e =
     sym (append-nil changes) ∙ ap (λ l. changes ++ l) (sym (take_due-laden (length changes) bytes (pick (drop place marks) (drop place C)) e)) ∙ w.on
-
-pub TakesOn-by : (C : List ChangeParts) (marks : List Bool) (from old place : ℕ) (changes : List ChangeParts) (bytes next : ℕ) (c : ChangeParts) → length marks ≡ length C → slice_get C place ≡ Some c
-    → get_or marks place false ≡ false → TakesOn C marks from old place changes bytes next → TakesOn C marks from old (place + 1) changes bytes next
-TakesOn-by C marks from old place changes bytes next c l e f w = record {
-  on = ap (λ d. changes ++ take_due (length changes) bytes d) (passed_by marks C place c l e f) ∙ w.on;
-  moved = w.moved;
-}
 
 pub TakesOn-on : (C : List ChangeParts) (marks : List Bool) (from old place : ℕ) (changes more : List ChangeParts) (bytes next bytes' next' : ℕ) (c : ChangeParts) → length marks ≡ length C → slice_get C place ≡ Some c
     → get_or marks place false ≡ true → is_laden (length changes) bytes ≡ false → more ≡ changes ++ c ∷ [] → bytes' ≡ bytes + length (spelling c) → next' ≡ place + 1
