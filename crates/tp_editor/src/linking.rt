@@ -7,7 +7,7 @@ ghost use Rattle.tp_editor.specs.Exchanging.{RefusesLink, Generates, RefusesGene
 use crate::editor::Editor;
 use crate::error::EditorError;
 use tp_document::Applied;
-use tp_sync::{Message, SyncError, SyncState, generate, receive};
+use tp_sync::{Message, SyncError, SyncState, generate_bytes, receive};
 
 impl Editor {
     // The state of the link, copied.
@@ -36,10 +36,10 @@ impl Editor {
         self.links[link] = state;
     }
 
-    /// Makes the next message to the other of the link, as [`generate`] does, and keeps its bytes as the answer. Answers
+    /// Makes the next message to the other of the link, as [`generate_bytes`] does, and keeps its bytes as the answer. Answers
     /// whether there is one. Where nothing is to be said nothing changes.
     ///
-    /// `NoLink` where there is no such link; of `generate`'s refusals `TooManyHeads`; and `OutOfMemory`. A refusal leaves the
+    /// `NoLink` where there is no such link; of `generate_bytes`'s refusals `TooManyHeads`; and `OutOfMemory`. A refusal leaves the
     /// editor as it was.
     pub fn generate(&mut self, link: usize) -> Result<bool, EditorError>
         ensures ok { IfOk result (λ made. Generates self.old link made self.new) }
@@ -49,14 +49,11 @@ impl Editor {
             Ok(state) => state,
             Err(error) => return Err(error),
         };
-        match generate(self.alloc, &self.document, &mut state) {
-            Ok(Some(message)) => match message.encode() {
-                Ok(bytes) => {
-                    self.keep_sent(link, state, bytes);
-                    Ok(true)
-                }
-                Err(_) => Err(EditorError::OutOfMemory),
-            },
+        match generate_bytes(self.alloc, &self.document, &mut state) {
+            Ok(Some(bytes)) => {
+                self.keep_sent(link, state, bytes);
+                Ok(true)
+            }
             Ok(None) => Ok(false),
             Err(SyncError::TooManyHeads) => Err(EditorError::Sync(SyncError::TooManyHeads)),
             Err(_) => Err(EditorError::OutOfMemory),
