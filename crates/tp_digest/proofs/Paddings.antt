@@ -63,10 +63,6 @@ tail_filled left new be n end k same long ends bytes =
 pub length-padded : (m : List ℕ) → length (padded_message m) ≡ length m + (9 + (119 - length m % 64) % 64)
 length-padded m = length-append m (padding (length m)) ∙ ap (λ n. length m + n) (length-padding (length m))
 
--- behind its whole blocks a padded message has the message's last bytes and its padding
-pub tail_of-is : (m : List ℕ) → tail_of m ≡ drop (length m / 64 * 64) m ++ padding (length m)
-tail_of-is m = drop-append-le (length m / 64 * 64) m (padding (length m)) (omega arith)
-
 -- a whole block of the message
 pub block_of-whole : (m : List ℕ) (i : ℕ) → i < length m / 64 → take 64 (drop (i * 64) m) ≡ block_of m i
 block_of-whole m i h =

@@ -1,5 +1,5 @@
 -- Stretches of elements: what each covers, their order, and the search for an element among them.
-use Rattle.tp_document.proofs.Common.{◌≡◌, ◌⊎◌, ℕ, zero, suc, ◌<◌, ◌≤◌, ◌+◌, ◌-◌, Bool, true, false, cond, ◌||◌, ◌&&◌, refl, subst, List, [], ◌∷◌, ◌++◌, length, take, get_or, Err, inl, inr, ap, sym, ◌∙◌, arith, nat_lt, IsBinarySearchResult, IsSorted, OpId, Actor, id_eq, id_eq-same, id_eq-itself, same_actor, same_actor-same, same_actor-apart, take_more, filter-append, same_test, not_true, or_cases, or_right, has_op, is_removed, is_within, covers, side, StartsBefore, Precedes, deletes_by, AreTargets}
+use Rattle.tp_document.proofs.Common.{◌≡◌, ◌⊎◌, ℕ, zero, suc, ◌<◌, ◌≤◌, ◌+◌, ◌-◌, Bool, true, false, cond, ◌||◌, ◌&&◌, refl, subst, List, [], ◌∷◌, length, take, get_or, Err, inl, inr, ap, sym, ◌∙◌, arith, nat_lt, IsBinarySearchResult, IsSorted, OpId, Actor, id_eq, id_eq-same, id_eq-itself, same_actor, same_actor-same, same_actor-apart, take_more, filter-append, same_test, not_true, or_cases, or_right, has_op, is_removed, is_within, covers, side, StartsBefore, Precedes, deletes_by, AreTargets}
 use Rattle.std.specs.Prelude.{min, max, nat_eq, nat_le, set}
 use Rattle.std.specs.List.{AllAdjacentBelow, HoldsAt}
 use Rattle.std.specs.Ordering.{nat_cmp, is_lt, ordering_then, ordering_index, ordering_reverse}
@@ -141,10 +141,6 @@ side_rises s t x (inr p) =
 
 -- ---- the search
 
--- one of a stretch that stands at an index
-pub one_at : (stretches : List Stretch) (i : ℕ) (x : OpId) (s : Stretch) → i < length stretches → s ≡ get_or stretches i s → is_within s x ≡ true → covers stretches x ≡ true
-one_at stretches i x s lt is h = list_any_at (λ s. is_within s x) stretches i s lt (ap (λ s. is_within s x) (sym is) ∙ h)
-
 -- one that is found
 pub one_found : (stretches : List Stretch) (i : ℕ) (x : OpId) → i < length stretches → HoldsAt (λ s. side s x ≡ Equal) stretches i → covers stretches x ≡ true
 one_found stretches i x lt at =
@@ -215,10 +211,6 @@ one_stretch s t h =
     ∙ ap (λ (l : ℕ). let u : Stretch = record { actor = t.actor; low = t.low; high = l } in u) high
 
 -- ---- an end that rises
-
-pub raised_order : (s t : Stretch) (end : ℕ) → s.high ≤ end → StartsBefore s t → Precedes s (record { actor = t.actor; low = t.low; high = end })
-raised_order s t end le (inl below) = inl below
-raised_order s t end le (inr p) = inr (p.0, p.1, le)
 
 pub apart_order : (s t : Stretch) → same_actor s.actor t.actor ≡ false → StartsBefore s t → Precedes s t
 apart_order s t apart (inl below) = inl below
@@ -326,10 +318,6 @@ covers_more (s ∷ l) (suc i) d t x more lt h = ap (λ b. is_within s x || b) (c
 or_none : (b : Bool) → (b || false) ≡ b
 or_none true = refl
 or_none false = refl
-
--- a stretch more
-pub covers_push : (l : List Stretch) (t : Stretch) (x : OpId) (more : Bool) → is_within t x ≡ more → covers (l ++ t ∷ []) x ≡ (covers l x || more)
-covers_push l t x more h = list_any-append (λ s. is_within s x) l (t ∷ []) ∙ ap (λ b. covers l x || b) (or_none (is_within t x) ∙ h)
 
 -- ---- the targets of one delete more
 

@@ -1,24 +1,21 @@
 -- Bytes that come in pieces: what is read of them stays so, whatever comes behind.
 use Rattle.std.proofs.Common.{◌≡◌, ℕ, ◌+◌, ◌-◌, ◌*◌, ◌^◌, ◌<◌, ◌≤◌, ◌⊎◌, inl, inr, List, [], ◌∷◌, ◌++◌, length, take, drop, refl, sym, ap, ◌∙◌, subst, append_assoc, append-nil, arith}
 use Rattle.std.specs.Int.{w32, to_be_bytes}
-use Rattle.std.proofs.lemmas.List.{length-append, length-take, length-drop, take-append-le, drop-append-le, take_all, take_at, drop_at, take-take}
-use Rattle.std.proofs.lemmas.Bool.{cases_lt}
+use Rattle.std.proofs.lemmas.List.{length-append, length-drop, take-append-le, drop-append-le}
 use Rattle.tp_opid.specs.declared.doc_id.DocId.{DocId}
 use Rattle.tp_change.specs.declared.parts.ChangeParts.{ChangeParts}
 use Rattle.tp_change.proofs.SpellingLaws.{spelling_bounds}
 use Rattle.tp_document.specs.DocState.{DocState, AllChanges}
 use Rattle.tp_graph.specs.declared.error.GraphError.{GraphError}
 use Rattle.tp_store.specs.declared.error.StoreError.{StoreError}
-use Rattle.tp_store.specs.declared.error.StoreError.TheVariants.{NoHeader, OutOfMemory}
-use Rattle.tp_journal.specs.declared.layout.TheConstants.{MAGIC}
+use Rattle.tp_store.specs.declared.error.StoreError.TheVariants.{OutOfMemory}
 use Rattle.tp_journal.specs.declared.pieces.Stage.{Stage}
-use Rattle.tp_journal.specs.declared.pieces.Stage.TheVariants.{Header, Records, Refused}
-use Rattle.tp_journal.specs.Layout.{IsDocId, header_of, record_of, records_of, journal, IsShortTail}
-use Rattle.tp_journal.specs.Pieces.{IsRefusedFrom, IsBehind, Reads, Stands}
-use Rattle.tp_journal.specs.Recovery.{IsHistory, Recovers}
-use Rattle.tp_journal.specs.Refusals.{HasMagic, IsNoChange, IsWrong, IsDamaged, IsRefusedNext, IsFaultAt, IsHeaderFault, IsRefusal}
+use Rattle.tp_journal.specs.declared.pieces.Stage.TheVariants.{Refused}
+use Rattle.tp_journal.specs.Layout.{IsDocId, header_of, record_of, records_of, journal}
+use Rattle.tp_journal.specs.Pieces.{IsRefusedFrom, IsBehind, Stands}
+use Rattle.tp_journal.specs.Recovery.{IsHistory}
+use Rattle.tp_journal.specs.Refusals.{IsNoChange, IsWrong, IsDamaged, IsRefusedNext, IsFaultAt, IsRefusal}
 use Rattle.tp_journal.proofs.CutLaws.{journal-push}
-use Rattle.tp_journal.proofs.HistoryLaws.{history_none}
 use Rattle.tp_journal.proofs.RecordLaws.{length-record_of, length-header_of}
 
 -- ---- how many bytes a journal can have
@@ -94,43 +91,7 @@ behind_refused came d keep rest e b (inr fault) = inr (λ more. inr (record {
   wrong = subst (λ at. IsFaultAt d.applied at (rest ++ more) e) b.keep_is (fault_stays d.applied keep rest more e fault);
 }))
 
--- the first of the first
-take_both : (n m : ℕ) (l : List ℕ) → take m (take n l) ≡ take n (take m l)
-take_both n m l =
-    elim (cases_lt n m) [
-      | inl lt ↦ take_all m (take n l) (let cut = length-take n l in omega arith) ∙ sym (take-take n m l (omega arith))
-      | inr le ↦ take-take m n l le ∙ sym (take_all n (take m l) (let cut = length-take m l in omega arith))
-    ]
-
--- bytes that are longer have the magic only where their beginning has it
-magic_before : (bytes more : List ℕ) → HasMagic (bytes ++ more) → HasMagic bytes
-magic_before bytes more magic =
-    let n = length bytes in
-    let parts = length-append bytes more in
-    let all : take n (bytes ++ more) ≡ bytes = take_at bytes more n refl in
-    ap (take 8) (sym all)
-    ∙ take_both n 8 (bytes ++ more)
-    ∙ ap (take n) magic
-    ∙ take-take n (length (bytes ++ more)) MAGIC (omega arith)
-
--- bytes that don't begin with the magic, whatever comes behind
-pub magic_refused : (came : List ℕ) (e : StoreError) → IsHeaderFault came e → (e ≡ NoHeader → ⊥) → IsRefusedFrom came e
-magic_refused came e (inl bad) other = inr (λ more. inl (inl (bad.0, λ magic. bad.1 (magic_before came more magic))))
-magic_refused came e (inr short) other = absurd (other short.0)
-
 -- ---- what is read
-
--- the header
-pub behind_header : (came : List ℕ) (d : DocState) (behind : List ℕ) → IsDocId d.id → d.applied ≡ [] → d.waiting ≡ [] → came ≡ header_of d.id ++ behind → IsBehind came d 24 behind
-behind_header came d behind is none waiting e =
-    let same : journal d.id d.applied ≡ header_of d.id = ap (journal d.id) none ∙ append-nil (header_of d.id) in
-    record {
-      is_id = is;
-      history = subst IsHistory (sym none) history_none;
-      waiting = waiting;
-      spelled = e ∙ ap (λ l. l ++ behind) (sym same);
-      keep_is = sym (ap length same ∙ length-header_of d.id is);
-    }
 
 -- one record more
 pub record NextRecord (came : List ℕ) (d d' : DocState) (keep : ℕ) (rest next : List ℕ) : Type 0 where
@@ -168,44 +129,7 @@ behind_next came d d' keep rest next c b e same_id more same_waiting h =
 pub read_more : (bytes read rest : List ℕ) (c : List ℕ) (next : List ℕ) → bytes ≡ read ++ rest → rest ≡ c ++ next → bytes ≡ (read ++ c) ++ next
 read_more bytes read rest c next e f = e ∙ ap (λ l. read ++ l) f ∙ sym (append_assoc read c next)
 
--- what is left of bytes, by how many they are
-pub last_of : (bytes read rest : List ℕ) → bytes ≡ read ++ rest → rest ≡ drop (length bytes - length rest) bytes
-last_of bytes read rest e =
-    let parts : length bytes ≡ length read + length rest = ap length e ∙ length-append read rest in
-    let count : length read ≡ length bytes - length rest = omega arith in
-    sym (ap (drop (length bytes - length rest)) e ∙ drop_at read rest (length bytes - length rest) count)
-
--- ---- a piece more
-
-refused_more : (before came piece : List ℕ) (e : StoreError) → came ≡ before ++ piece → IsRefusedFrom before e → IsRefusedFrom came e
-refused_more before came piece e c (inl memory) = inl memory
-refused_more before came piece e c (inr refused) = inr (λ more. subst (λ l. IsRefusal l e) (sym (ap (λ l. l ++ more) c ∙ append_assoc before piece more)) (refused (piece ++ more)))
-
-behind_more : (before came piece : List ℕ) (d : DocState) (keep : ℕ) (rest : List ℕ) → came ≡ before ++ piece → IsBehind before d keep rest → IsBehind came d keep (rest ++ piece)
-behind_more before came piece d keep rest c b = record {
-  is_id = b.is_id;
-  history = b.history;
-  waiting = b.waiting;
-  spelled = c ∙ ap (λ l. l ++ piece) b.spelled ∙ append_assoc (journal d.id d.applied) rest piece;
-  keep_is = b.keep_is;
-}
-
-pub fed : {S : Type 0} (before came piece held : List ℕ) (stage : Stage S) → came ≡ before ++ piece → Stands before stage held → Reads came stage (held ++ piece)
-fed before came piece held Header c s = c ∙ ap (λ l. l ++ piece) s.0
-fed before came piece held (Records r) c s = behind_more before came piece r.document r.keep held c s.0
-fed before came piece held (Refused e) c s = refused_more before came piece e c s
-
--- where none is held
-pub fed_alone : {S : Type 0} (before came piece held : List ℕ) (stage : Stage S) → held ≡ [] → came ≡ before ++ piece → Stands before stage held → Reads came stage piece
-fed_alone before came piece held stage none c s = subst (λ l. Reads came stage (l ++ piece)) none (fed before came piece held stage c s)
-
 -- ---- the end
-
-pub header_ends : (came rest : List ℕ) → came ≡ rest → HasMagic rest → length rest < 24 → IsRefusal came NoHeader
-header_ends came rest e magic short = inl (inr (refl, subst HasMagic (sym e) magic, subst (λ l. length l < 24) (sym e) short))
-
-pub behind_ends : (came : List ℕ) (d : DocState) (keep : ℕ) (rest : List ℕ) → IsBehind came d keep rest → IsShortTail rest → Recovers came d.id d.applied keep
-behind_ends came d keep rest b short = record { tail = rest; is_id = b.is_id; history = b.history; short = short; spelled = b.spelled; keep_is = b.keep_is }
 
 pub refused_ends : (came : List ℕ) (e : StoreError) → IsRefusedFrom came e → (e ≡ OutOfMemory) ⊎ IsRefusal came e
 refused_ends came e (inl memory) = inl memory
