@@ -5,7 +5,7 @@ use tp_document::{Applied, Document};
 use tp_edit::Splice;
 use tp_opid::{Actor, DocId};
 use tp_posindex::BlockSequence;
-use tp_sync::{Message, SyncError, SyncState, generate, receive};
+use tp_sync::{Message, SyncError, SyncState, generate, generate_bytes, receive};
 
 /// A neighbour of a peer in the ring.
 #[derive(Clone, Copy)]
@@ -101,10 +101,11 @@ impl Neighbour {
 
     /// The bytes of the next message to a neighbour; `None` where there is nothing to say.
     pub fn send(&mut self, link: Link) -> anyhow::Result<Option<Vec<u8>>> {
-        match self.message(link)? {
-            Some(message) => Ok(Some(message.encode()?)),
-            None => Ok(None),
-        }
+        let bytes = match link {
+            Link::Before => generate_bytes(self.alloc, &self.document, &mut self.before)?,
+            Link::Behind => generate_bytes(self.alloc, &self.document, &mut self.behind)?,
+        };
+        Ok(bytes)
     }
 
     /// Whether there is nothing to say to the neighbour behind.

@@ -4,7 +4,9 @@
 mod codec;
 mod copying;
 mod graphs;
+mod merging;
 mod messages;
+mod received;
 mod receiving;
 mod sequences;
 mod serving;
@@ -48,9 +50,11 @@ where
 {
     match name {
         "codec" => codec::run(rt),
+        "received" => received::run(rt),
         "apply" => receiving::run_list(rt),
         "reverse" => receiving::run_reverse(rt),
         "copies" => copying::run(rt),
+        "merging" => merging::run(rt),
         "journal-append" => store::run_append(rt),
         "journal-recover" => store::run_recover(rt),
         "saved" => store::run_saved(rt),

@@ -11,13 +11,16 @@ use tp_opid::DocId;
 use tp_posindex::BlockSequence;
 use tp_store::{load, save};
 
-type Doc = Document<BlockSequence>;
+/// A document.
+pub type Doc = Document<BlockSequence>;
 
-const CHANGES: u64 = 100_000;
+/// How many changes there are.
+pub const CHANGES: u64 = 100_000;
 
 const TENTHS: u64 = 10;
 
-const ID: DocId = DocId([7; 16]);
+/// The document.
+pub const ID: DocId = DocId([7; 16]);
 
 const PATH: &str = "tp_bench_runs.journal";
 
@@ -76,8 +79,8 @@ where
     Ok(fs::remove_file(rt, PATH)?)
 }
 
-// The bytes with the records of the changes behind them.
-fn with_records(bytes: Vec<u8>, changes: &[Change]) -> anyhow::Result<Vec<u8>> {
+/// The bytes with the records of the changes behind them.
+pub fn with_records(bytes: Vec<u8>, changes: &[Change]) -> anyhow::Result<Vec<u8>> {
     let mut whole = bytes;
     for change in changes {
         whole = put_record(whole, change)?;
@@ -128,18 +131,26 @@ pub fn run_recover<R: Files + Clock + Print + AllocGlobal>(rt: &R) -> anyhow::Re
     report_memory(rt)
 }
 
-// The journal of 100,000 changes of one character.
-fn long_journal(alloc: Global) -> anyhow::Result<Vec<u8>> {
-    let changes = Branch::new(0, 1).next(alloc, CHANGES)?;
-    let begun = header(alloc, ID)?;
-    with_records(begun, &changes)
+/// A chain of 100,000 changes of one character.
+pub fn long_changes(alloc: Global) -> anyhow::Result<Vec<Change>> {
+    Branch::new(0, 1).next(alloc, CHANGES)
 }
 
-// The document of that journal.
-fn long_document<R: Clock + AllocGlobal>(rt: &R) -> anyhow::Result<Doc> {
-    let bytes = long_journal(rt.alloc())?;
-    let (document, _micros) = recovered(rt, &bytes)?;
+// The journal of these.
+fn long_journal(alloc: Global) -> anyhow::Result<Vec<u8>> {
+    with_records(header(alloc, ID)?, &long_changes(alloc)?)
+}
+
+/// The document of a journal.
+pub fn opened<R: Clock + AllocGlobal>(rt: &R, bytes: &[u8]) -> anyhow::Result<Doc> {
+    let (document, _micros) = recovered(rt, bytes)?;
     Ok(document)
+}
+
+/// Opens the document of a journal, and prints what that took.
+pub fn report_opened<R: Clock + Print + AllocGlobal>(rt: &R, bytes: &[u8]) -> anyhow::Result<()> {
+    let (_document, micros) = recovered(rt, bytes)?;
+    Ok(println!(rt; "opened {:>18} bytes {micros:>8} micros", bytes.len())?)
 }
 
 // Saves the document, and prints what it took.
@@ -159,8 +170,8 @@ fn loaded<R: Clock + AllocGlobal>(rt: &R, bytes: &[u8]) -> anyhow::Result<(Doc, 
     Ok((document, micros))
 }
 
-// Loads the document, and prints what it took.
-fn report_loaded<R: Clock + Print + AllocGlobal>(rt: &R, bytes: &[u8]) -> anyhow::Result<()> {
+/// Loads a document, and prints what that took.
+pub fn report_loaded<R: Clock + Print + AllocGlobal>(rt: &R, bytes: &[u8]) -> anyhow::Result<()> {
     let (document, micros) = loaded(rt, bytes)?;
     let count = document.changes().len();
     let len = bytes.len();
@@ -169,7 +180,7 @@ fn report_loaded<R: Clock + Print + AllocGlobal>(rt: &R, bytes: &[u8]) -> anyhow
 
 // Saves and loads a document of 100,000 changes.
 fn save_and_load<R: Clock + Print + AllocGlobal>(rt: &R) -> anyhow::Result<()> {
-    let document = long_document(rt)?;
+    let document = opened(rt, &long_journal(rt.alloc())?)?;
     let bytes = saved(rt, &document)?;
     report_loaded(rt, &bytes)
 }

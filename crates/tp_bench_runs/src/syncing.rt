@@ -162,18 +162,20 @@ fn catch_up<R: Clock + Print>(rt: &R, ring: &mut Ring, changes: usize) -> anyhow
     ring.expect_counts(changes)
 }
 
-/// A peer that catches up on 100,000 changes.
-pub fn run_catch_up<R: Files + Clock + Print + AllocGlobal>(rt: &R) -> anyhow::Result<()> {
+// A peer that catches up on so many changes, and the most memory that was held then.
+fn run_catch_up_on<R: Files + Clock + Print + AllocGlobal>(
+    rt: &R,
+    changes: usize,
+) -> anyhow::Result<()> {
     let mut ring = Ring::new(rt.alloc(), 2, 1)?;
-    catch_up_in_memory(rt, &mut ring)
+    catch_up(rt, &mut ring, changes)?;
+    report_memory(rt)
 }
 
-fn catch_up_in_memory<R: Files + Clock + Print + AllocGlobal>(
-    rt: &R,
-    ring: &mut Ring,
-) -> anyhow::Result<()> {
-    catch_up(rt, ring, 100_000)?;
-    report_memory(rt)
+/// A peer that catches up on 25,000 changes, and one on 100,000.
+pub fn run_catch_up<R: Files + Clock + Print + AllocGlobal>(rt: &R) -> anyhow::Result<()> {
+    run_catch_up_on(rt, 25_000)?;
+    run_catch_up_on(rt, 100_000)
 }
 
 // Asks for messages where there is nothing to say.

@@ -6,9 +6,11 @@ pub const USAGE: &str = "usage: tp_bench_runs NAME
 Runs a benchmark and prints what it took:
 
   codec           decoding and encoding changes, beside the digest of the same bytes
+  received        100,000 changes received, opened and loaded, beside the digest of their bytes
   apply           applying a chain of 100,000 changes to a document as one list
   reverse         applying a chain of 1,024 changes in order, and the last first
   copies          forking a document of 100,000 changes, and reading its text at the half of them
+  merging         merging 1,000 changes into documents of 10,000 and 100,000
   journal-append  appending 100,000 records to a journal in a file
   journal-recover recovering journals of up to 100,000 records
   saved           saving and loading a document of 100,000 changes
@@ -37,7 +39,7 @@ Makes changes of one character, and passes messages as bytes until nobody has an
   merged    20 peers with 500 changes each; the first meets each of the others
   one-place two authors, 5,000 changes each at the start of the text
   ring      20 peers, each linked to two, 10 rounds of a change each
-  catch-up  a peer without changes, and one with 100,000
+  catch-up  a peer without changes, and one with 25,000; and one with 100,000
   idle      a message where there is nothing to say, with 1,000 to 100,000 changes
 
 Sends a session a message of 16 megabytes in pieces of 7 bytes:
