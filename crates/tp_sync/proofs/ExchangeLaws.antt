@@ -1,5 +1,5 @@
 -- What an exchange leaves, where nothing waited and nothing was left out or refused.
-use Rattle.tp_sync.proofs.Common.{◌≡◌, inl, inr, List, [], ◌++◌, false, Some, Option, refl, sym, ap, ◌∙◌, subst, append-nil, filter, Result, Ok, Err, IfOk, IfErr, IsSomeAnd, In, In-left, In-right, In-append, In-filter, neither_left, neither_right, Hash, ChangeParts, heads, Sound, SyncError, BadMessage, BadChange, OutOfMemory, SyncParts, declared, due_of, is_due, leaves_out, Stops, AllIn, SameMembers, GraphError, Known, HashesApart, Intake, OtherDocument, fresh, known_hashes, before_end, has_all, true, Exchanged, Exchanges, Passes, ReplyFails, side, SameMembers-trans, hashes_apart, heads_decide, Run, Ends, begin, intake, DocState, TooManyHeads, PendingFull, NotKept, IsOtherOnly, PassFails, RefusesKnownAlone, Side}
+use Rattle.tp_sync.proofs.Common.{◌≡◌, inl, inr, List, [], ◌++◌, false, Some, Option, refl, sym, ap, ◌∙◌, subst, append-nil, filter, Result, Ok, Err, IfOk, IfErr, IsSomeAnd, In, In-left, In-right, In-append, In-filter, neither_left, neither_right, Hash, ChangeParts, heads, Sound, SyncError, BadMessage, BadChange, OutOfMemory, SyncParts, declared, due_of, is_due, leaves_out, Stops, AllIn, SameMembers, GraphError, Known, HashesApart, Intake, OtherDocument, fresh, known_hashes, Exchanged, Exchanges, Passes, ReplyFails, side, SameMembers-trans, hashes_apart, heads_decide, Run, Ends, begin, intake, DocState, TooManyHeads, PendingFull, NotKept, IsOtherOnly, PassFails, RefusesKnownAlone, Side}
 use Rattle.tp_opid.specs.declared.doc_id.DocId.{DocId}
 use Rattle.tp_receive.specs.declared.intake.Applied.{Applied}
 use Rattle.tp_receive.specs.declared.keeper.NoKeeper.{NoKeeper}
@@ -9,8 +9,8 @@ use Rattle.tp_receive.proofs.ResultLaws.{results}
 use Rattle.tp_receive.proofs.RunLaws.{progress}
 use Rattle.tp_document.specs.Applying.{kept_by_none}
 use Rattle.tp_sync.specs.SyncError.{receiving}
-use Rattle.tp_sync.proofs.KnownLaws.{has_all-told}
-use Rattle.tp_sync.proofs.TakeLaws.{all_carried, carried-In}
+use Rattle.tp_sync.proofs.KnownLaws.{has_all-declared}
+use Rattle.tp_sync.proofs.TakeLaws.{all_carried}
 use Rattle.tp_sync.proofs.UnionLaws.{Arrived, Delivered, came_due, delivered, no_member, twins_of}
 
 -- ---- one message
@@ -33,37 +33,31 @@ arrived D W K t sound apart idle space run ends known =
       known = known;
     }
 
--- the hashes of changes that a document with these declares to have, where it sends these
-abbrev tells : List ChangeParts → List ChangeParts → List Hash
-tells C K = heads C ++ (known_hashes C ++ before_end K 1)
+-- the hashes of changes that a document with these declares to have
+abbrev tells : List ChangeParts → List Hash
+tells C = heads C ++ known_hashes C
 
 -- Who received a message knows what its sender has.
-declares : (from : Side) (told : SyncParts) (to to' : Side) (r : Applied) → (p : Passes from told to to' r) → declared to'.state ≡ Some (tells from.document.applied p.message.changes)
+declares : (from : Side) (told : SyncParts) (to to' : Side) (r : Applied) → Passes from told to to' r → declared to'.state ≡ Some (tells from.document.applied)
 declares from told to to' r p =
     let C : List ChangeParts = from.document.applied in
-    let last : List Hash = before_end p.message.changes 1 in
-    ap declared p.hears ∙ ap (λ (hs : List Hash). Some (hs ++ (p.message.known ++ last))) p.says.heads ∙ ap (λ (ks : List Hash). Some (heads C ++ (ks ++ last))) p.says.known
-
--- and that is there
-has_told : (from : Side) (told : SyncParts) (to to' : Side) (r : Applied) → (p : Passes from told to to' r) → has_all from.document.applied (tells from.document.applied p.message.changes) ≡ true
-has_told from told to to' r p =
-    let C : List ChangeParts = from.document.applied in
-    has_all-told C p.message.changes (subst (λ K. AllIn K C) (sym p.says.changes) (λ c i. carried-In C from.state c i))
+    ap declared p.hears ∙ ap (λ (hs : List Hash). Some (hs ++ p.message.known)) p.says.heads ∙ ap (λ (ks : List Hash). Some (heads C ++ ks)) p.says.known
 
 -- A message that leaves out nothing that is due, to a document that declared what it has and in which nothing waits,
 -- delivers the sender's changes.
 passed : (from : Side) (told : SyncParts) (to to' : Side) (r : Applied) → Passes from told to to' r → Sound from.document.applied → Sound to.document.applied
-    → HashesApart (to.document.applied ++ from.document.applied) → to.document.waiting ≡ [] → (H : List Hash) → declared from.state ≡ Some H → has_all to.document.applied H ≡ true
+    → HashesApart (to.document.applied ++ from.document.applied) → to.document.waiting ≡ [] → declared from.state ≡ Some (tells to.document.applied)
     → leaves_out from.document.applied from.state ≡ false → RefusesKnownAlone r
     → Delivered from.document.applied to.document.applied to'.document.applied to'.document.waiting
-passed from told to to' r p sound held apart idle H theirs there whole known =
+passed from told to to' r p sound held apart idle theirs whole known =
     let C : List ChangeParts = from.document.applied in
     let D : List ChangeParts = to.document.applied in
+    let H : List Hash = tells D in
     let F : List ChangeParts = filter (is_due C H from.state.wants) C in
     let sends : p.message.changes ≡ F = p.says.changes ∙ all_carried C from.state whole ∙ ap (λ o. due_of C o from.state.wants C) theirs in
     let t : Intake NoKeeper = intake nobody to'.document.applied to'.document.waiting [] r.applied.items r.refused.items in
     let mine : AllIn F C = λ c i. (In-filter (is_due C H from.state.wants) C c i).0 in
-    delivered keeps_nothing nobody C D F t sound apart mine (came_due C D H from.state.wants held there (twins_of D C apart))
+    delivered keeps_nothing nobody C D F t sound apart mine (came_due C D H from.state.wants held (has_all-declared D) (twins_of D C apart))
     (arrived D to.document.waiting F t held (apart_within C F mine (hashes_apart C sound)) idle
     (subst (λ K. is_full D to.document.waiting K ≡ false) sends p.takes.space)
     (subst (λ K. Run keeps_nothing (begin nobody D to.document.waiting K) t) sends p.takes.run) p.takes.ends known)
@@ -113,18 +107,17 @@ one_set a b a' b' r sa sb apart ia ib x whole ka kb =
     let still = begun_still B begun (subst (λ K. Run keeps_nothing (begin nobody B [] K) begun) none_sent (subst (λ W. Run keeps_nothing (begin nobody B W x.first.message.changes) begun) ib run)) in
     let B_is : x.asked.document.applied ≡ B = still.0 in
     let sasked : Sound x.asked.document.applied = subst Sound (sym B_is) sb in
-    let to_a : declared x.asked.state ≡ Some (tells A x.first.message.changes) = declares (side a fresh) x.told (side b fresh) x.asked x.begun x.first in
+    let to_a : declared x.asked.state ≡ Some (tells A) = declares (side a fresh) x.told (side b fresh) x.asked x.begun x.first in
     let lefts = sym whole ∙ x.replies.left_out in
-    let second = passed x.asked x.replies.answered (side a x.told) (side a' x.replies.knows) r.into_a x.replies.second sasked sa (subst (λ l. HashesApart (A ++ l)) (sym B_is) apart) ia (tells A x.first.message.changes) to_a (has_told (side a fresh) x.told (side b fresh) x.asked x.begun x.first)
+    let second = passed x.asked x.replies.answered (side a x.told) (side a' x.replies.knows) r.into_a x.replies.second sasked sa (subst (λ l. HashesApart (A ++ l)) (sym B_is) apart) ia to_a
     (neither_left (leaves_out x.asked.document.applied x.asked.state) (leaves_out a'.applied x.replies.knows) (sym lefts)) ka in
     let here : SameMembers a'.applied (A ++ B) = subst (λ l. SameMembers a'.applied (A ++ l)) B_is second.members in
     let to_b : x.replies.knows.theirs ≡ Some (heads x.asked.document.applied) = ap (λ (s : SyncParts). s.theirs) x.replies.second.hears ∙ ap Some x.replies.second.says.heads in
-    let told_b : declared x.replies.knows ≡ Some (tells x.asked.document.applied x.replies.second.message.changes) = declares x.asked x.replies.answered (side a x.told) (side a' x.replies.knows) r.into_a x.replies.second in
+    let told_b : declared x.replies.knows ≡ Some (tells x.asked.document.applied) = declares x.asked x.replies.answered (side a x.told) (side a' x.replies.knows) r.into_a x.replies.second in
     let apart_b : HashesApart (x.asked.document.applied ++ a'.applied) = subst (λ l. HashesApart (l ++ a'.applied)) (sym B_is) (apart_of A B a'.applied apart here) in
     let there : SameMembers b'.applied (x.asked.document.applied ++ a'.applied) = elim x.replies.third [
       | inl p ↦
-          (passed (side a' x.replies.knows) p.0 (side x.asked.document x.replies.answered) (side b' x.replies.ends) r.into_b p.1 second.sound sasked apart_b still.1 (tells x.asked.document.applied x.replies.second.message.changes) told_b
-          (has_told x.asked x.replies.answered (side a x.told) (side a' x.replies.knows) r.into_a x.replies.second)
+          (passed (side a' x.replies.knows) p.0 (side x.asked.document x.replies.answered) (side b' x.replies.ends) r.into_b p.1 second.sound sasked apart_b still.1 told_b
           (neither_right (leaves_out x.asked.document.applied x.asked.state) (leaves_out a'.applied x.replies.knows) (sym lefts)) kb).members
       | inr q ↦
           let heads_are : heads x.asked.document.applied ≡ heads a'.applied = some_is _ _ (sym to_b ∙ q.quiet.even.theirs) in

@@ -1,5 +1,5 @@
 -- Laws of the changes that a message tells of as known.
-use Rattle.tp_sync.proofs.Common.{◌≡◌, ◌↔◌, ◌<◌, ◌≤◌, ℕ, suc, zero, ◌+◌, ◌-◌, ◌*◌, ◌^◌, inl, inr, List, [], ◌∷◌, ◌++◌, length, true, false, cond, nat_le, Some, drop, take, map, refl, sym, ap, subst, ◌∙◌, arith, add-one, leb-true, slice_get, nat_tests, In, IsRising, put, rising, In-append, In-left, In-right, Hash, hash_cmp, ChangeParts, hash_of, heads, has, has_all, In-has, Less, Equal, Greater, cases_lt, length-append, put_at, In-rising, rising-In, rising-rises, hash_exact, hash_total, most_changes, In-has_all, has_all-In, AllIn, known_hashes, powers_before_end, In-slice_get, has_all-heads, before_end, IsPowerBeforeEnd}
+use Rattle.tp_sync.proofs.Common.{◌≡◌, ◌↔◌, ◌<◌, ◌≤◌, ℕ, suc, zero, ◌+◌, ◌-◌, ◌*◌, ◌^◌, inl, inr, List, [], ◌∷◌, ◌++◌, length, true, false, cond, nat_le, Some, drop, take, map, refl, sym, ap, subst, ◌∙◌, arith, add-one, leb-true, slice_get, nat_tests, In, IsRising, put, rising, In-append, In-left, In-right, Hash, hash_cmp, ChangeParts, hash_of, heads, has, has_all, In-has, Less, Equal, Greater, cases_lt, length-append, put_at, In-rising, rising-In, rising-rises, hash_exact, hash_total, most_changes, In-has_all, has_all-In, known_hashes, powers_before_end, In-slice_get, has_all-heads, before_end, IsPowerBeforeEnd}
 use Rattle.std.proofs.lemmas.Nat.{pow_pos}
 use Rattle.std.proofs.Math.Nat.{pow-suc}
 use Rattle.std.proofs.Math.Pow.{pow_mono}
@@ -74,20 +74,6 @@ pub has_all-declared : (C : List ChangeParts) → has_all C (heads C ++ known_ha
 has_all-declared C = In-has_all C (heads C ++ known_hashes C) (λ h i. elim (In-append h (heads C) (known_hashes C) i) [
   | inl j ↦ has_all-In C (heads C) (has_all-heads C) h j
   | inr j ↦ powers-In C 32 h (rising-In hash_cmp h (powers_before_end C 32) j)
-])
-
--- a hash that is told of the last of some changes that are there
-pub last_at : (K : List ChangeParts) (h : Hash) → In h (before_end K 1) → (c : ChangeParts) × In c K × (hash_of c ≡ h)
-last_at K h i = let w = power_at K 0 h i in (w.change, In-slice_get K (length K - 2 ^ w.k) w.change w.stands, w.hash)
-
--- what is declared, and the last of some changes that are there, are there
-pub has_all-told : (C K : List ChangeParts) → AllIn K C → has_all C (heads C ++ (known_hashes C ++ before_end K 1)) ≡ true
-has_all-told C K within = In-has_all C (heads C ++ (known_hashes C ++ before_end K 1)) (λ h i. elim (In-append h (heads C) (known_hashes C ++ before_end K 1) i) [
-  | inl j ↦ has_all-In C (heads C) (has_all-heads C) h j
-  | inr j ↦ elim (In-append h (known_hashes C) (before_end K 1) j) [
-    | inl k ↦ powers-In C 32 h (rising-In hash_cmp h (powers_before_end C 32) k)
-    | inr k ↦ let w = last_at K h k in In-has C w.0 h (within w.0 w.1) w.2
-  ]
 ])
 
 -- ---- one more of them

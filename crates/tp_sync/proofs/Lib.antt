@@ -16,5 +16,4 @@ pub mod StepLaws
 pub mod SizeLaws
 pub mod JudgeLaws
 pub mod ReaderLaws
-pub mod ReceivingLaws
 pub mod NextLaws

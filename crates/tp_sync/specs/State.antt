@@ -1,11 +1,9 @@
 -- What contracts see of a sync state.
 use Rattle.std.specs.Prelude.{ℕ, List, [], ◌∷◌, ◌++◌, Bool, false, Option, Some, None}
 use Rattle.tp_sync.specs.Common.{Hash, ChangeParts, option_map}
-use Rattle.tp_sync.specs.Known.{before_end}
 use Rattle.tp_sync.specs.Message.{MessageParts}
 
--- The heads that the other declared last, if any, the hashes that it wanted then, and those of changes that it knew then,
--- with that of the last one that it sent then;
+-- The heads that the other declared last, if any, the hashes that it wanted then, and those of changes that it knew then;
 -- the heads of the last message made for it, if there is one; the place from which the next one takes changes; and whether
 -- the last one took them from the first again.
 pub record SyncParts : Type 0 where
@@ -25,9 +23,9 @@ abbrev pub told_after : List ChangeParts → Option (List Hash) → Option (List
 told_after [] told = told
 told_after (c ∷ C) told = None
 
--- the state after a message was received: of the changes that came the last one counts as known to the other
+-- the state after a message was received
 abbrev pub heard : SyncParts → MessageParts → SyncParts
-heard s m = record s { theirs = Some m.heads; wants = m.wants; known = m.known ++ before_end m.changes 1; told = told_after m.changes s.told }
+heard s m = record s { theirs = Some m.heads; wants = m.wants; known = m.known; told = told_after m.changes s.told }
 
 -- the hashes of changes that the other has, where it declared its heads: these, and those of changes that it knew
 abbrev pub declared : SyncParts → Option (List Hash)

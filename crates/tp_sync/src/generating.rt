@@ -141,9 +141,10 @@ pub(crate) fn send<S: Sequence>(
 /// nothing is due; the state stays then.
 ///
 /// Nothing is due before the other declared heads. Then those of the applied changes are that the other wants, or that
-/// aren't in the past of those of its heads and of the changes that it knew, or sent as the last, that are applied here.
-/// Whether they were sent to it before makes no difference: nothing that was sent counts as received, so a lost message is
-/// made up for. The message takes them in applied order, from behind the place up to which the one before took them, or from the first where nothing is due from there on,
+/// aren't in the past of those of its heads and of the changes that it knew that are applied here. Whether they were sent
+/// before makes no difference: nothing that was sent counts as received, so a lost message is made up for. The message takes
+/// them in applied order,
+/// from behind the place up to which the one before took them, or from the first where nothing is due from there on,
 /// until it has 1,024 of them or 1,048,576 bytes of them.
 ///
 /// `TooManyHeads` exactly where the document has more than 65,535 heads; the only other refusal is `OutOfMemory`. A

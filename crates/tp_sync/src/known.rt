@@ -1,14 +1,13 @@
-//! Which changes the peers tell each other of as known.
+//! Which changes a message tells of as known.
 
-ghost use Rattle.std.specs.Prelude.{◌≡◌, ◌++◌, IfOk, IsOkUnless};
-ghost use Rattle.tp_sync.specs.Known.{before_end, known_hashes};
+ghost use Rattle.std.specs.Prelude.{◌≡◌, IfOk, IsOkUnless};
+ghost use Rattle.tp_sync.specs.Known.{known_hashes};
 ghost use Rattle.tp_sync.specs.declared.error.SyncError.TheVariants.{OutOfMemory};
 
 use crate::error::SyncError;
 use crate::limits::MAX_KNOWN;
 use crate::wanting::put;
-use std::alloc::{AllocError, Global};
-use tp_change::Change;
+use std::alloc::Global;
 use tp_document::Document;
 use tp_opid::Hash;
 use tp_rga::Sequence;
@@ -33,15 +32,4 @@ pub(crate) fn known<S: Sequence>(
         back *= 2;
     }
     Ok(known)
-}
-
-/// The hashes, and behind them that of the last of the changes, where there is one.
-pub(crate) fn with_last(known: Vec<Hash>, changes: &[Change]) -> Result<Vec<Hash>, AllocError>
-    ensures { IfOk result (λ v. v.items ≡ known.items ++ before_end changes.now 1) }
-{
-    let mut hashes = known;
-    if let Some(last) = changes.last() {
-        hashes.push(last.hash())?;
-    }
-    Ok(hashes)
 }

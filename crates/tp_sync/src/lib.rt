@@ -2,8 +2,8 @@
 //!
 //! It is after Automerge's sync protocol, without its filters: each message declares the sender's heads and a few of the
 //! changes that it has, asks for the changes that it heard of and lacks, and carries changes that are due to the other,
-//! dependencies before dependents. What is due follows from what the other declared, sent and wants, and from nothing that
-//! was sent to it, so messages may be lost, come twice or late.
+//! dependencies before dependents. What is due follows from what the other declared and wants, and from nothing that was
+//! sent, so messages may be lost, come twice or late.
 #![tactic(auto)]
 
 mod due;

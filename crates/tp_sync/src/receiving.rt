@@ -8,7 +8,6 @@ ghost use Rattle.tp_sync.specs.State.{heard};
 ghost use Rattle.tp_sync.specs.SyncError.{receiving};
 
 use crate::error::SyncError;
-use crate::known::with_last;
 use crate::message::Message;
 use crate::state::SyncState;
 use tp_document::{Applied, Document, Keeper, NoKeeper};
@@ -30,7 +29,6 @@ pub fn receive_with<S: Sequence, K: Keeper>(
         (kept_by keeper.old document.old) message.changes (kept_by keeper.new document.new)) }
     ensures state { state.new ≡ (if is_ok result then heard state.old message else state.old) }
 {
-    let _changes = document.changes();
     let Message {
         version: _,
         heads,
@@ -38,7 +36,6 @@ pub fn receive_with<S: Sequence, K: Keeper>(
         known,
         changes,
     } = message;
-    let known = with_last(known, &changes)?;
     let sent_changes = !changes.is_empty();
     let alloc = *changes.allocator();
     match tp_receive::receive(alloc, document, keeper, changes) {
@@ -53,7 +50,7 @@ pub fn receive_with<S: Sequence, K: Keeper>(
 /// Receives a message of another peer, as Automerge's call `receive_sync_message`: its changes, as [`Document::apply`]
 /// receives them, and then the heads that it declares, the hashes that it wants and those of changes that it knows, which
 /// are none in a message of version 1. Where it carried changes, the other counts as told nothing, so that the next message
-/// answers it, and the last of them counts as known to it, so that they aren't sent back.
+/// answers it.
 ///
 /// A message may come twice or late: what it carries is then refused as `Known`, and reported.
 ///

@@ -12,10 +12,9 @@ use tp_list::Items;
 use tp_opid::Hash;
 
 /// What a peer knows of another one to which it sends changes, as Automerge's `sync::State`: the heads that the other
-/// declared last, the hashes that it wanted and those of changes that it knew then, with that of the last one that it sent,
-/// and what it was told.
+/// declared last, the hashes that it wanted and those of changes that it knew then, and what it was told.
 ///
-/// Nothing that was sent to it counts as received: what is due follows from what it declared, sent and wants alone.
+/// Nothing that was sent counts as received: what is due to the other follows from what it declared and wants alone.
 pub struct SyncState {
     pub(crate) theirs: Option<Items<Hash>>,
     pub(crate) wants: Items<Hash>,
