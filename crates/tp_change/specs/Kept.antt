@@ -7,6 +7,11 @@ use Rattle.tp_change.specs.declared.body.Few.TheVariants.{One, More}
 use Rattle.tp_change.specs.declared.body.Kept.{Kept}
 use Rattle.tp_change.specs.declared.body.Kept.TheVariants.{Small, Large}
 
+-- the elements of a list of few
+abbrev pub items_of : {T : Type 0} → Few T → List T
+items_of (One item) = item ∷ []
+items_of (More items) = items.items
+
 -- the sequence number
 abbrev pub seq_of : Kept → ℕ
 seq_of (Small seq dep entry) = seq
@@ -20,7 +25,7 @@ message_of (Large seq message deps records) = message
 -- the dependencies
 abbrev pub deps_of : Kept → List Hash
 deps_of (Small seq dep entry) = dep ∷ []
-deps_of (Large seq message deps records) = deps.items
+deps_of (Large seq message deps records) = items_of deps
 
 -- the records
 abbrev pub records_of : Kept → List Record
@@ -33,8 +38,3 @@ pub record Has (number : ℕ) (text : List ℕ) (hashes : List Hash) (entries : 
   pub message : message_of kept ≡ text
   pub deps : deps_of kept ≡ hashes
   pub records : records_of kept ≡ entries
-
--- the elements of a list as it is read
-abbrev pub items_of : {T : Type 0} → Few T → List T
-items_of (One item) = item ∷ []
-items_of (More items) = items.items

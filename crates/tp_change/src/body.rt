@@ -21,19 +21,19 @@ pub(crate) enum Kept {
         dep: Hash,
         entry: Record,
     },
-    /// Any others: the lists are in memory of their own.
+    /// Any others: the records are in memory of their own, and so are dependencies, but for one alone.
     Large {
         seq: u64,
         message: Text,
-        deps: Vec<Hash>,
+        deps: Few<Hash>,
         records: Vec<Record>,
     },
 }
 
-/// A list as it is read.
+/// A list of which one element alone takes no memory.
 #[derive(Drop)]
 pub(crate) enum Few<T> {
-    /// One element, which takes no memory.
+    /// One element.
     One(T),
     /// Any number.
     More(Vec<T>),
@@ -72,6 +72,16 @@ fn is_plain(seq: u64, message: &Text) -> bool
     seq <= u32::MAX as u64 && message.is_empty()
 }
 
+// The hashes. It takes no memory; that of a list of one is given back.
+fn few_of(hashes: Vec<Hash>) -> Few<Hash>
+    ensures { items_of result ≡ hashes.items }
+{
+    if hashes.len() == 1 {
+        return Few::One(hashes[0]);
+    }
+    Few::More(hashes)
+}
+
 // These parts. It takes no memory; that of the lists of a small change is given back.
 fn kept_of(seq: u64, message: Text, deps: Vec<Hash>, mut records: Vec<Record>) -> Kept
     ensures { Has seq message deps.items records.items result }
@@ -88,7 +98,7 @@ fn kept_of(seq: u64, message: Text, deps: Vec<Hash>, mut records: Vec<Record>) -
     Kept::Large {
         seq,
         message,
-        deps,
+        deps: few_of(deps),
         records,
     }
 }
@@ -100,6 +110,18 @@ fn list_of_one<T: Drop>(alloc: Global, item: T) -> Result<Vec<T>, AllocError>
     let mut items = Vec::with_capacity(alloc, 1)?;
     items.push(item)?;
     Ok(items)
+}
+
+impl Few<Hash> {
+    // The hashes.
+    fn as_slice(&self) -> &[Hash]
+        ensures { result.now ≡ items_of self.now }
+    {
+        match self {
+            Few::One(hash) => from_ref(hash),
+            Few::More(hashes) => hashes.as_slice(),
+        }
+    }
 }
 
 impl<T: Drop> Few<T> {
@@ -114,7 +136,7 @@ impl<T: Drop> Few<T> {
     }
 }
 
-// These parts, with the lists in memory of their own.
+// These parts, with the records in memory of their own.
 fn large(
     alloc: Global,
     seq: u64,
@@ -127,7 +149,7 @@ fn large(
     Ok(Kept::Large {
         seq,
         message,
-        deps: deps.into_vec(alloc)?,
+        deps,
         records: records.into_vec(alloc)?,
     })
 }

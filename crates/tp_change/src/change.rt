@@ -7,6 +7,7 @@ use crate::body::Body;
 use crate::record::Record;
 use std::alloc::Global;
 use std::marker::Model;
+use std::mem::size_of;
 use tp_opid::{Actor, Hash};
 
 /// A change: parts that are within the limits and the grammar, with their hash.
@@ -102,3 +103,6 @@ impl Change {
         self.body.records()
     }
 }
+
+// Memory for a text goes by the number of its changes: a form that takes more is to be chosen knowingly.
+const _: () = prove!(size_of::<Change>() == 176);
