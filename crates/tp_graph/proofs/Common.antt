@@ -1,5 +1,5 @@
 -- The names that several proofs cite, passed on from one place. Declares nothing.
-pub use Rattle.std.proofs.Common.{Bool, Err, Global, IfOk, IfSome, IsTrue, List, MatchOption, None, Ok, OnErr, Option, Result, Some, Vec, [], add-one, add-zero, ap, append-nil, append_assoc, arith, cond, drop, drop-cons, ext_get_or, false, filter, get_or, if◌then◌else◌, inl, inr, is_ok, is_some, length, length-append, map, nat_le, nat_lt, not, refl, replicate, set, subst, suc, sym, take, true, zero, ℕ, ◌&&◌, ◌++◌, ◌+◌, ◌-◌, ◌/◌, ◌<◌, ◌==◌, ◌||◌, ◌↔◌, ◌∙◌, ◌∷◌, ◌≡◌, ◌≢◌, ◌≤◌, ◌⊎◌}
+pub use Rattle.std.proofs.Common.{Bool, Err, Global, IfOk, IfSome, IsTrue, List, MatchOption, None, Ok, OnErr, OnOk, Option, Result, Some, Vec, [], add-one, add-zero, ap, append-nil, append_assoc, arith, cond, drop, drop-cons, ext_get_or, false, filter, get_or, if◌then◌else◌, inl, inr, is_ok, is_some, length, length-append, map, nat_le, nat_lt, not, refl, replicate, set, subst, suc, sym, take, true, zero, ℕ, ◌&&◌, ◌++◌, ◌+◌, ◌-◌, ◌/◌, ◌<◌, ◌==◌, ◌||◌, ◌↔◌, ◌∙◌, ◌∷◌, ◌≡◌, ◌≢◌, ◌≤◌, ◌⊎◌}
 pub use Rattle.std.proofs.Math.ListN.{get_or-append}
 pub use Rattle.std.proofs.Math.Seq.{get_or-append_seam, take-append_seam}
 pub use Rattle.std.proofs.lemmas.Bool.{cases_lt, eq-eqb, eqb-true}
@@ -43,7 +43,7 @@ pub use Rattle.tp_graph.specs.Named.{HashesApart, among, has, has_all, is_needed
 pub use Rattle.tp_graph.specs.Parts.{IsPartOf, bits, holds, picked, prefix_of}
 pub use Rattle.tp_graph.specs.Past.{past, with_reached}
 pub use Rattle.tp_graph.specs.Pasts.{AreApart, ArePasts, IsApart, IsSpan}
-pub use Rattle.tp_graph.specs.Notes.{AreNoted, IsFree, IsLike, IsNotedAt, IsReached, IsSlotFor, Notes, Stands, first_slot, first_word, noted, place_in}
+pub use Rattle.tp_graph.specs.Notes.{AreCarried, AreNoted, AreNotedWith, HasPlace, IsFree, IsLike, IsNotedAt, IsNotedBeside, IsReached, IsSlotFor, Notes, StandStill, Stands, first_slot, first_word, noted, place_in}
 pub use Rattle.tp_graph.specs.Places.{HasAt, ends_of, noted_word, place_from}
 pub use Rattle.tp_graph.specs.Reach.{Chain, InPast}
 pub use Rattle.tp_graph.specs.Since.{IsMissing, gather, gather_all, is_wanted, past_places, since, skip}

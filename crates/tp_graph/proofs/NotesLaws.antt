@@ -1,6 +1,6 @@
 -- Laws of the notes of places.
-use Rattle.tp_graph.proofs.Common.{◌≡◌, ◌≢◌, ℕ, suc, zero, ◌+◌, ◌-◌, ◌<◌, ◌≤◌, inl, inr, List, [], ◌∷◌, ◌++◌, length, take, ◌||◌, true, false, cond, Option, Some, None, IfSome, refl, sym, ap, ◌∙◌, subst, arith, add-zero, slice_get, slice_get_within, get_or_from_slice_get, length-take-le, take_more, set, never, not_true, In-slice_get, Hash, same_hash, same_hash-same, same_hash-itself, ChangeParts, hash_of, HashesOnce, has, place_from, noted, first_word, first_slot, place_in, NOWHERE, WINDOW, Notes, IsLike, IsSlotFor, IsReached, IsFree, Stands, IsNotedAt, AreNoted, HasAt}
-use Rattle.std.proofs.lemmas.Bool.{cases_eq}
+use Rattle.tp_graph.proofs.Common.{◌≡◌, ◌≢◌, ◌⊎◌, ℕ, suc, zero, ◌+◌, ◌-◌, ◌<◌, ◌≤◌, inl, inr, List, [], ◌∷◌, ◌++◌, length, true, false, cond, Option, Some, None, IfSome, refl, sym, ap, ◌∙◌, subst, arith, add-zero, slice_get, slice_get_within, set, never, not_true, truth, In-slice_get, Hash, same_hash, same_hash-same, same_hash-itself, ChangeParts, hash_of, HashesOnce, has, place_from, noted, first_word, first_slot, place_in, NOWHERE, WINDOW, OnOk, Ok, Err, Result, Notes, IsLike, IsSlotFor, IsReached, IsFree, Stands, IsNotedAt, AreNoted, HasAt, StandStill, HasPlace, AreNotedWith, AreCarried, IsNotedBeside}
+use Rattle.std.proofs.lemmas.Bool.{cases_eq, cases_lt}
 use Rattle.std.proofs.lemmas.List.{length-set}
 use Rattle.std.proofs.lemmas.Nat.{and_le_r}
 use Rattle.tp_graph.proofs.NamedLaws.{In-has}
@@ -94,33 +94,6 @@ reached_still slots word k number slot is_taken r =
         | inr apart ↦ r.taken i low high s (sym (beside_set slots number i slot apart) ∙ is) none
       ]
 
--- a place that is put into a free slot stands there
-stands_there : (slots : List ℕ) (word place number slot : ℕ) → number < length slots → IsFree slots word place number → IsSlotFor (length slots) word place slot → Stands (set slots number slot) word place
-stands_there slots word place number slot inside f w = record {
-  number = number;
-  reached = reached_still slots word number number slot w.taken f.reached;
-  slot = slot;
-  here = at_set slots number slot inside;
-  is = subst (λ n. IsSlotFor n word place slot) (sym (length-set slots number slot)) w;
-}
-
--- and what stood for an earlier place stays
-stands_still : (slots : List ℕ) (w place number slot word p : ℕ) → slot ≢ NOWHERE → IsFree slots w place number → p < place → Stands slots word p → Stands (set slots number slot) word p
-stands_still slots w place number slot word p is_taken f less r = record {
-  number = r.number;
-  reached = reached_still slots word r.number number slot is_taken r.reached;
-  slot = r.slot;
-  here = beside_set slots number r.number slot apart ∙ r.here;
-  is = subst (λ n. IsSlotFor n word p r.slot) (sym (length-set slots number slot)) r.is;
-} where
-  apart : r.number ≡ number → ⊥
-  apart e = elim (f.free r.slot (ap (slice_get slots) (sym e) ∙ r.here)) [
-    | inl none ↦ r.is.taken none
-    | inr free ↦
-        let notes = r.is.notes in
-        absurd (omega arith)
-  ]
-
 -- a free slot is within the table
 free_within : (slots : List ℕ) (word place number : ℕ) → IsFree slots word place number → number < length slots
 free_within slots word place number f =
@@ -128,22 +101,51 @@ free_within slots word place number f =
     let high = f.reached.high in
     omega (arith, and_le_r word (length slots - WINDOW))
 
--- so a note in a free slot for the place behind those of all changes leaves the others
-pub AreNoted-slot : (C : List ChangeParts) (old new : Notes) (word p number slot : ℕ) → p ≡ length C → IsFree old.slots word p number → IsSlotFor (length old.slots) word p slot
-    → new.slots ≡ set old.slots number slot → new.hashes ≡ old.hashes → AreNoted C old → AreNoted C new
-AreNoted-slot C old new word p number slot end f is slots hashes w i c at = elim (w i c at) [
+-- a place that is put into a free slot stands there
+pub stands_there : (slots : List ℕ) (word place bound number slot : ℕ) → IsFree slots word bound number → IsSlotFor (length slots) word place slot → Stands (set slots number slot) word place
+stands_there slots word place bound number slot f w = record {
+  number = number;
+  reached = reached_still slots word number number slot w.taken f.reached;
+  slot = slot;
+  here = at_set slots number slot (free_within slots word bound number f);
+  is = subst (λ n. IsSlotFor n word place slot) (sym (length-set slots number slot)) w;
+}
+
+-- and what stood for a place before the bound stays
+pub stands_still : (slots : List ℕ) (w bound number slot : ℕ) → slot ≢ NOWHERE → IsFree slots w bound number → StandStill slots (set slots number slot) bound
+stands_still slots w bound number slot is_taken f = λ word p less r. record {
+  number = r.number;
+  reached = reached_still slots word r.number number slot is_taken r.reached;
+  slot = r.slot;
+  here = beside_set slots number r.number slot (apart word p less r) ∙ r.here;
+  is = subst (λ n. IsSlotFor n word p r.slot) (sym (length-set slots number slot)) r.is;
+} where
+  apart : (word p : ℕ) → p < bound → (r : Stands slots word p) → r.number ≡ number → ⊥
+  apart word p less r e = elim (f.free r.slot (ap (slice_get slots) (sym e) ∙ r.here)) [
+    | inl none ↦ r.is.taken none
+    | inr free ↦
+        let notes = r.is.notes in
+        absurd (omega arith)
+  ]
+
+-- so a note in slots for the place after those of all changes leaves the others
+pub AreNoted-slot : (C : List ChangeParts) (old new : Notes) (p : ℕ) → p ≡ length C → StandStill old.slots new.slots p → new.hashes ≡ old.hashes → AreNoted C old → AreNoted C new
+AreNoted-slot C old new p end still hashes w i c at = elim (w i c at) [
   | inl e ↦
       let within : i < length C = slice_get_within C i c at in
       let less : i < p = omega arith in
-      inl (subst (λ l. Stands l (first_word (hash_of c)) i) (sym slots) (stands_still old.slots word p number slot (first_word (hash_of c)) i is.taken f less e))
+      inl (still (first_word (hash_of c)) i less e)
   | inr e ↦ inr (ap (λ l. noted l (hash_of c)) hashes ∙ e)
 ]
 
--- and notes it
-pub noted_slot : (old new : Notes) (h : Hash) (word p number slot : ℕ) → word ≡ first_word h → IsFree old.slots word p number → IsSlotFor (length old.slots) word p slot
-    → new.slots ≡ set old.slots number slot → IsNotedAt new h p
-noted_slot old new h word p number slot is f w slots =
-    inl (subst (λ l. Stands l (first_word h) p) (sym slots) (subst (λ x. Stands (set old.slots number slot) x p) is (stands_there old.slots word p number slot (free_within old.slots word p number f) f w)))
+-- where there is no table, all are noted by whole hashes, and a first one changes nothing
+pub AreNoted-first : (C : List ChangeParts) (old new : Notes) → length old.slots < WINDOW → new.hashes ≡ old.hashes → AreNoted C old → AreNoted C new
+AreNoted-first C old new none hashes w i c at = elim (w i c at) [
+  | inl e ↦
+      let room = e.reached.room in
+      absurd (omega arith)
+  | inr e ↦ inr (ap (λ l. noted l (hash_of c)) hashes ∙ e)
+]
 
 -- ---- all changes
 
@@ -154,18 +156,146 @@ AreNoted-push C x n w last i c at = elim (at_push C x i c at) [
   | inr z ↦ subst (λ (j : ℕ). IsNotedAt n (hash_of c) j) (sym z.0) (subst (λ (d : ChangeParts). IsNotedAt n (hash_of d) (length C)) (sym z.1) last)
 ]
 
--- no change before one of a list has its hash
-pub new_behind : (C : List ChangeParts) (i : ℕ) (c : ChangeParts) → HashesOnce C → slice_get C i ≡ Some c → has (take i C) (hash_of c) ≡ false
-new_behind [] i c once at = cc
-new_behind (x ∷ C) zero c once at = refl
-new_behind (x ∷ C) (suc i) c once at =
-    ap (λ b. b || has (take i C) (hash_of c)) (not_true (same_hash (hash_of x) (hash_of c)) (λ t. never (In-has C c (hash_of x) (In-slice_get C i c at) (sym (same_hash-same (hash_of x) (hash_of c) t))) once.0))
-    ∙ new_behind C i c once.1 at
+-- ---- a larger table
 
--- the changes up to one are noted where those before it are, and it is
-pub AreNoted-next : (C : List ChangeParts) (n : Notes) (i : ℕ) (x : ChangeParts) → slice_get C i ≡ Some x → AreNoted (take i C) n → IsNotedAt n (hash_of x) i → AreNoted (take (i + 1) C) n
-AreNoted-next C n i x at w last =
-    let within : i < length C = slice_get_within C i x at in
-    let count : length (take i C) ≡ i = length-take-le i C (omega arith) in
-    let more : take (i + 1) C ≡ take i C ++ x ∷ [] = take_more C i x within ∙ ap (λ y. take i C ++ y ∷ []) (get_or_from_slice_get C i x x at) in
-    subst (λ D. AreNoted D n) (sym more) (AreNoted-push (take i C) x n w (subst (λ (k : ℕ). IsNotedAt n (hash_of x) k) (sym count) last))
+-- places that are noted are those of the changes, and the last one
+pub AreNotedWith-both : (C : List ChangeParts) (last : Hash) (n : Notes) → AreNoted C n → IsNotedAt n last (length C) → AreNotedWith C last n
+AreNotedWith-both C last n w end i h (inl at) = subst (λ g. IsNotedAt n g i) at.2 (w i at.0 at.1)
+AreNotedWith-both C last n w end i h (inr at) = subst (λ (j : ℕ). IsNotedAt n h j) (sym at.0) (subst (λ g. IsNotedAt n g (length C)) (sym at.1) end)
+
+pub AreNotedWith-changes : (C : List ChangeParts) (last : Hash) (n : Notes) → AreNotedWith C last n → AreNoted C n
+AreNotedWith-changes C last n w i c at = w i (hash_of c) (inl (c, at, refl))
+
+pub AreNotedWith-last : (C : List ChangeParts) (last : Hash) (n : Notes) → AreNotedWith C last n → IsNotedAt n last (length C)
+AreNotedWith-last C last n w = w (length C) last (inr (refl, refl))
+
+pub place_within : (C : List ChangeParts) (last : Hash) (i : ℕ) (h : Hash) → HasPlace C last i h → i ≤ length C
+place_within C last i h (inl at) = let within : i < length C = slice_get_within C i at.0 at.1 in omega arith
+place_within C last i h (inr at) = let end = at.0 in omega arith
+
+-- a place has one hash
+one_hash : (C : List ChangeParts) (last : Hash) (i : ℕ) (g h : Hash) → HasPlace C last i g → HasPlace C last i h → g ≡ h
+one_hash C last i g h (inl a) (inl b) =
+    let same : Some a.0 ≡ Some b.0 = sym a.1 ∙ b.1 in
+    let one : a.0 ≡ b.0 = cc in
+    sym a.2 ∙ ap hash_of one ∙ b.2
+one_hash C last i g h (inl a) (inr b) =
+    let within : i < length C = slice_get_within C i a.0 a.1 in
+    let end = b.0 in
+    absurd (omega arith)
+one_hash C last i g h (inr a) (inl b) =
+    let within : i < length C = slice_get_within C i b.0 b.1 in
+    let end = a.0 in
+    absurd (omega arith)
+one_hash C last i g h (inr a) (inr b) = a.1 ∙ sym b.1
+
+-- and a hash one place, where each stands once and no change has the last one
+one_place : (C : List ChangeParts) (last h : Hash) (i j : ℕ) → HashesOnce C → has C last ≡ false → HasPlace C last i h → HasPlace C last j h → i ≡ j
+one_place C last h i j once lacks (inl a) (inl b) =
+    let same : Some i ≡ Some j = place_is C h i once a ∙ sym (place_is C h j once b) in
+    cc
+one_place C last h i j once lacks (inl a) (inr b) = absurd (never (HasAt-has C i h a) (ap (has C) b.1 ∙ lacks))
+one_place C last h i j once lacks (inr a) (inl b) = absurd (never (HasAt-has C j h b) (ap (has C) a.1 ∙ lacks))
+one_place C last h i j once lacks (inr a) (inr b) = a.0 ∙ sym b.0
+
+-- an entry of the map for one hash leaves those of the others
+pub noted_beside : (old new : List (Hash × ℕ)) (h : Hash) (p : ℕ) → ((other : Hash) → noted new other ≡ cond (same_hash h other) (Some p) (noted old other)) → IsNotedBeside old new h p
+noted_beside old new h p notes other = elim (truth (same_hash h other)) [
+  | inl t ↦ inr (t, notes other ∙ ap (λ b. cond b (Some p) (noted old other)) t)
+  | inr f ↦ inl (notes other ∙ ap (λ b. cond b (Some p) (noted old other)) f)
+]
+
+-- so no entry that is right is lost by another that is
+pub hashes_stay : (C : List ChangeParts) (last : Hash) (old new : List (Hash × ℕ)) (h : Hash) (p : ℕ) → HashesOnce C → has C last ≡ false → HasPlace C last p h → IsNotedBeside old new h p
+    → (i : ℕ) (g : Hash) → HasPlace C last i g → noted old g ≡ Some i → noted new g ≡ Some i
+hashes_stay C last old new h p once lacks here beside i g at e = elim (beside g) [
+  | inl same ↦ same ∙ e
+  | inr t ↦
+      let is : h ≡ g = same_hash-same h g t.0 in
+      let one : p ≡ i = one_place C last g p i once lacks (subst (λ x. HasPlace C last p x) is here) at in
+      t.1 ∙ ap Some one
+]
+
+-- all stay noted where the slots are the same and no entry is lost
+pub AreNotedWith-stays : (C : List ChangeParts) (last : Hash) (old new : Notes) → new.slots ≡ old.slots
+    → ((i : ℕ) (g : Hash) → HasPlace C last i g → noted old.hashes g ≡ Some i → noted new.hashes g ≡ Some i) → AreNotedWith C last old → AreNotedWith C last new
+AreNotedWith-stays C last old new slots stay w i h at = elim (w i h at) [
+  | inl s ↦ inl (subst (λ l. Stands l (first_word h) i) (sym slots) s)
+  | inr e ↦ inr (stay i h at e)
+]
+
+-- one slot more is carried, where what stood in the larger table stays, no entry is lost, and what the slot notes is noted
+carried_more : (C : List ChangeParts) (last : Hash) (slots : List ℕ) (number : ℕ) (larger more : List ℕ) (old new : List (Hash × ℕ)) → length C < NOWHERE → StandStill larger more NOWHERE
+    → ((i : ℕ) (g : Hash) → HasPlace C last i g → noted old g ≡ Some i → noted new g ≡ Some i)
+    → ((i : ℕ) (h : Hash) → HasPlace C last i h → (s : Stands slots (first_word h) i) → s.number ≡ number → Stands more (first_word h) i ⊎ (noted new h ≡ Some i))
+    → AreCarried C last slots number larger old → AreCarried C last slots (number + 1) more new
+carried_more C last slots number larger more old new few still stay here w i h at s less = elim (cases_lt s.number number) [
+  | inl before ↦ elim (w i h at s before) [
+    | inl r ↦
+        let within : i ≤ length C = place_within C last i h at in
+        inl (still (first_word h) i (omega arith) r)
+    | inr e ↦ inr (stay i h at e)
+  ]
+  | inr past ↦
+      let is : s.number ≡ number = omega arith in
+      here i h at s is
+]
+
+-- what a look-up finds in the slot with a number is the slot there
+slot_is : (slots : List ℕ) (word place number slot : ℕ) (s : Stands slots word place) → slice_get slots number ≡ Some slot → s.number ≡ number → s.slot ≡ slot
+slot_is slots word place number slot s at e =
+    let same : Some s.slot ≡ Some slot = sym s.here ∙ ap (slice_get slots) e ∙ at in
+    cc
+
+-- a slot that was never taken notes nothing
+pub carried_nowhere : (C : List ChangeParts) (last : Hash) (slots : List ℕ) (number slot : ℕ) (larger : List ℕ) (hashes : List (Hash × ℕ)) → length C < NOWHERE → slice_get slots number ≡ Some slot
+    → slot ≡ NOWHERE → AreCarried C last slots number larger hashes → AreCarried C last slots (number + 1) larger hashes
+carried_nowhere C last slots number slot larger hashes few at none =
+    carried_more C last slots number larger larger hashes hashes few (λ w p less s. s) (λ i g place e. e)
+    (λ i h place s e. absurd (s.is.taken (slot_is slots (first_word h) i number slot s at e ∙ none)))
+
+-- nor does one that notes a place past the last
+pub carried_past : (C : List ChangeParts) (last : Hash) (slots : List ℕ) (number slot : ℕ) (larger : List ℕ) (hashes : List (Hash × ℕ)) → length C < NOWHERE → slice_get slots number ≡ Some slot
+    → length C < place_in (length slots) slot → AreCarried C last slots number larger hashes → AreCarried C last slots (number + 1) larger hashes
+carried_past C last slots number slot larger hashes few at past =
+    carried_more C last slots number larger larger hashes hashes few (λ w p less s. s) (λ i g place e. e)
+    (λ i h place s e.
+    let one : s.slot ≡ slot = slot_is slots (first_word h) i number slot s at e in
+    let is : place_in (length slots) slot ≡ i = ap (place_in (length slots)) (sym one) ∙ s.is.notes in
+    let within : i ≤ length C = place_within C last i h place in
+    absurd (omega arith))
+
+-- and of one that notes another, this is the place that it is carried with
+pub carried_there : (C : List ChangeParts) (last : Hash) (slots : List ℕ) (number slot p : ℕ) (g : Hash) (larger more : List ℕ) (old new : List (Hash × ℕ)) → length C < NOWHERE
+    → slice_get slots number ≡ Some slot → p ≡ place_in (length slots) slot → HasPlace C last p g → StandStill larger more NOWHERE
+    → ((i : ℕ) (x : Hash) → HasPlace C last i x → noted old x ≡ Some i → noted new x ≡ Some i)
+    → Stands more (first_word g) p ⊎ (noted new g ≡ Some p) → AreCarried C last slots number larger old → AreCarried C last slots (number + 1) more new
+carried_there C last slots number slot p g larger more old new few at is here still stay there =
+    carried_more C last slots number larger more old new few still stay
+    (λ i h place s e.
+    let one : s.slot ≡ slot = slot_is slots (first_word h) i number slot s at e in
+    let same : p ≡ i = is ∙ ap (place_in (length slots)) (sym one) ∙ s.is.notes in
+    let hash : g ≡ h = one_hash C last i g h (subst (λ (j : ℕ). HasPlace C last j g) same here) place in
+    subst (λ (j : ℕ). Stands more (first_word h) j ⊎ (noted new h ≡ Some j)) same (subst (λ x. Stands more (first_word x) p ⊎ (noted new x ≡ Some p)) hash there))
+
+-- nothing is carried before the first slot
+pub carried_none : (C : List ChangeParts) (last : Hash) (slots larger : List ℕ) (hashes : List (Hash × ℕ)) → AreCarried C last slots 0 larger hashes
+carried_none C last slots larger hashes i h at s less = absurd (omega arith)
+
+-- once all slots are carried, all is noted in the larger table
+pub carried_all : (C : List ChangeParts) (last : Hash) (old new : Notes) (number : ℕ) → length old.slots ≤ number → new.hashes ≡ old.hashes → AreCarried C last old.slots number new.slots old.hashes
+    → AreNotedWith C last old → AreNotedWith C last new
+carried_all C last old new number all hashes carried w i h at = elim (w i h at) [
+  | inl s ↦
+      let within : s.number < length old.slots = slice_get_within old.slots s.number s.slot s.here in
+      elim (carried i h at s (omega arith)) [
+        | inl r ↦ inl r
+        | inr e ↦ inr (ap (λ l. noted l h) hashes ∙ e)
+      ]
+  | inr e ↦ inr (ap (λ l. noted l h) hashes ∙ e)
+]
+
+-- what follows from an outcome that only a refusal leaves open
+pub carried_if : {X E : Type 0} {P Q : Type 0} (r : Result X E) → (P → Q) → OnOk r P → OnOk r Q
+carried_if (Ok x) f p = f p
+carried_if (Err e) f p = tt

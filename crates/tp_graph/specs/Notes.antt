@@ -1,6 +1,7 @@
 -- The table from hashes to places: what is noted by the first 4 bytes of hashes, and what by whole hashes.
-use Rattle.std.specs.Prelude.{◌≡◌, ◌≢◌, ◌⊎◌, ℕ, ◌+◌, ◌-◌, ◌<◌, ◌≤◌, List, [], ◌∷◌, length, slice_index, bit_and, bit_or, Option, Some}
+use Rattle.std.specs.Prelude.{◌≡◌, ◌≢◌, ◌⊎◌, ℕ, ◌+◌, ◌-◌, ◌<◌, ◌≤◌, List, [], ◌∷◌, length, slice_index, bit_and, bit_or, Option, Some, true}
 use Rattle.tp_graph.specs.Common.{w32, from_be_bytes, slice_get, lookup, Hash, same_hash, ChangeParts, hash_of}
+use Rattle.tp_graph.specs.Places.{HasAt}
 use Rattle.tp_graph.specs.declared.index.TheConstants.{WINDOW, NOWHERE}
 
 -- what a map with these entries has at the hash
@@ -61,3 +62,24 @@ IsNotedAt n h i = Stands n.slots (first_word h) i ⊎ (noted n.hashes h ≡ Some
 -- The place of each change is noted. There may be more notes.
 abbrev pub AreNoted : List ChangeParts → Notes → Type 0
 AreNoted C n = (i : ℕ) → (c : ChangeParts) → slice_get C i ≡ Some c → IsNotedAt n (hash_of c) i
+
+-- What stands in some slots, for places before the bound, stands in others.
+abbrev pub StandStill : List ℕ → List ℕ → ℕ → Type 0
+StandStill old new bound = (word place : ℕ) → place < bound → Stands old word place → Stands new word place
+
+-- The place is that of a change with the hash, or the one after all changes, and the hash is the last one.
+abbrev pub HasPlace : List ChangeParts → Hash → ℕ → Hash → Type 0
+HasPlace C last i h = HasAt C i h ⊎ ((i ≡ length C) × (h ≡ last))
+
+-- The place of each change is noted, and for the last hash the place after them.
+abbrev pub AreNotedWith : List ChangeParts → Hash → Notes → Type 0
+AreNotedWith C last n = (i : ℕ) (h : Hash) → HasPlace C last i h → IsNotedAt n h i
+
+-- Of these places, those that stand in slots before a number are noted in a larger table, or for whole hashes.
+abbrev pub AreCarried : List ChangeParts → Hash → List ℕ → ℕ → List ℕ → List (Hash × ℕ) → Type 0
+AreCarried C last slots number larger hashes = (i : ℕ) (h : Hash) → HasPlace C last i h → (s : Stands slots (first_word h) i) → s.number < number
+    → Stands larger (first_word h) i ⊎ (noted hashes h ≡ Some i)
+
+-- What is noted for whole hashes stays, but that the hash may have the place.
+abbrev pub IsNotedBeside : List (Hash × ℕ) → List (Hash × ℕ) → Hash → ℕ → Type 0
+IsNotedBeside old new h p = (other : Hash) → (noted new other ≡ noted old other) ⊎ ((same_hash h other ≡ true) × (noted new other ≡ Some p))

@@ -1,10 +1,10 @@
 //! A table from hashes to places.
 
-ghost use Rattle.std.specs.Prelude.{◌≡◌, ◌↔◌, ℕ, ◌+◌, ◌<◌, ◌≤◌, ◌^◌, List, [], false, None, Some, length, IsTrue, IfOk, IfSome, OnOk, OnErr};
+ghost use Rattle.std.specs.Prelude.{◌≡◌, ◌↔◌, ◌⊎◌, ℕ, ◌+◌, ◌*◌, ◌<◌, ◌≤◌, ◌^◌, List, [], false, true, None, Some, length, IsTrue, IfSome, OnOk, OnErr};
 ghost use Rattle.tp_change.specs.declared.parts.ChangeParts.{ChangeParts};
 ghost use Rattle.tp_graph.specs.Fit.{most_changes};
 ghost use Rattle.tp_graph.specs.Named.{has};
-ghost use Rattle.tp_graph.specs.Notes.{noted, first_word, first_slot, place_in, IsLike, IsSlotFor, IsFree, IsNotedAt, AreNoted, Stands};
+ghost use Rattle.tp_graph.specs.Notes.{noted, first_word, first_slot, place_in, IsLike, IsSlotFor, IsFree, IsNotedAt, AreNoted, Stands, StandStill, HasPlace, AreNotedWith, AreCarried, IsNotedBeside};
 ghost use Rattle.tp_graph.specs.Places.{place_from, HasAt};
 ghost use Rattle.tp_graph.specs.Sound.{Sound};
 
@@ -26,12 +26,19 @@ const FEWEST: usize = 16;
 /// From the hash of a change to its place in applied order: an open-addressing table with linear probing over a bounded
 /// window, by the first 4 bytes of the hash, and an ordered map by whole hashes for what finds no room in its window.
 ///
-/// The table has two to four slots of 4 bytes for each change, at least 16, and one less than a window behind the last.
-/// A slot notes a place in its last bits. The bits before these are those of the word that it was taken for, whose last
-/// bits say where its window begins: so of the changes that a look-up comes by, it looks hardly at any but the right one.
-/// Of a million hashes that are what chance gives, a few find no room. Whatever hashes strangers choose, a look-up
-/// compares the first bytes of a window at most, and then makes a number of comparisons that grows with the logarithm
-/// of the number of changes.
+/// Windows begin at two to four slots for each change, 16 at least, and after these come slots for the rest of the last
+/// window, one less than it has. A slot has 4 bytes, so a change takes 8 to 16. Where a larger table is refused there are
+/// fewer, until memory is granted.
+///
+/// A slot notes a place in its last bits, as many as tell where windows begin. The bits before these are those of the
+/// word that it was taken for, so that of the changes that a look-up comes by, it looks hardly at any but the right one.
+/// They are 10 at 1,048,577 changes, one fewer at each doubling, and none past 2^30 changes: from there on a look-up looks
+/// at each change that it comes by. Past 2^31 changes half of a new table's slots serve nothing, since there are 2^32
+/// words: its windows get fuller, and more goes to the map.
+///
+/// Of a million hashes that are what chance gives, a few find no room. Whatever hashes strangers choose, a look-up comes
+/// by the slots of one window at most, and then makes a number of comparisons that grows with the logarithm of the number
+/// of changes.
 #[derive(Drop)]
 pub(crate) struct Index {
     slots: Vec<u32>,
@@ -80,8 +87,10 @@ fn first_of(word: u32, slots: usize) -> usize
 // at a power of two.
 fn slots_for(count: usize) -> usize
     requires { count < 2 ^ 32 }
+    ensures least { 4 * count + WINDOW ≤ result + 1 }
+    ensures most { result < 8 * count + FEWEST + WINDOW }
 {
-    (4 * count).max(FEWEST).next_power_of_two() + WINDOW - 1
+    (4 * count).next_power_of_two().max(FEWEST) + WINDOW - 1
 }
 
 // The place that a slot notes, in a table of so many slots.
@@ -103,7 +112,8 @@ fn is_like(slot: u32, word: u32, slots: usize) -> bool
 }
 
 // The slot that notes the place for the word, in a table of so many slots. There is one where the bits of a place
-// suffice for it, but for the one that stands where no slot was taken.
+// suffice for it, as they do but in a table that was long refused its growth, and where that isn't what stands in a slot
+// that was never taken.
 fn slot_for(word: u32, place: u32, slots: usize) -> Option<u32>
     requires { WINDOW ≤ slots }
     ensures { IfSome result (IsSlotFor slots word place) }
@@ -112,6 +122,54 @@ fn slot_for(word: u32, place: u32, slots: usize) -> Option<u32>
     let is_right = place_in(slot, slots) == place as usize && is_like(slot, word, slots);
     if is_right && slot != NOWHERE {
         Some(slot)
+    } else {
+        None
+    }
+}
+
+// The first slot of the window of the word that was never taken, or notes no place before the bound.
+fn free(slots: &[u32], word: u32, bound: u32) -> Option<usize>
+    ensures { IfSome result (IsFree slots.now word bound) }
+{
+    if slots.len() < WINDOW {
+        return None;
+    }
+    let first = first_of(word, slots.len());
+    for number in first..first + WINDOW {
+        let slot = slots[number];
+        if slot == NOWHERE || bound as usize <= place_in(slot, slots.len()) {
+            return Some(number);
+        }
+    }
+    None
+}
+
+// Notes the place for the word in the first slot of its window that was never taken, or notes no place before the
+// bound. Whether there is such a slot.
+fn take_slot(slots: &mut [u32], word: u32, place: u32, bound: u32) -> bool
+    ensures there { result ≡ true → Stands slots.new word place }
+    ensures still { StandStill slots.old slots.new bound }
+    ensures full { result ≡ false → slots.new ≡ slots.old }
+{
+    if let Some(number) = free(slots, word, bound) {
+        if let Some(slot) = slot_for(word, place, slots.len()) {
+            slots[number] = slot;
+            return true;
+        }
+    }
+    false
+}
+
+// The hash that a place is noted for: that of the change there, or after all changes the last one.
+fn hash_at(changes: &[Change], last: &Hash, place: usize) -> Option<Hash>
+    ensures there { IfSome result (HasPlace changes.now last.now place) }
+    ensures within { IfSome result (λ _. place ≤ length changes.now) }
+    ensures none { result ≡ None → length changes.now < place }
+{
+    if place < changes.len() {
+        Some(changes[place].hash())
+    } else if place == changes.len() {
+        Some(*last)
     } else {
         None
     }
@@ -165,59 +223,116 @@ impl Index {
         self.clashing.get(hash).copied()
     }
 
-    // The first slot of the window of the word that notes no place before the given one.
-    fn free(&self, word: u32, place: u32) -> Option<usize>
-        ensures { IfSome result (IsFree self.now.slots word place) }
-    {
-        if self.slots.len() < WINDOW {
-            return None;
-        }
-        let first = first_of(word, self.slots.len());
-        for number in first..first + WINDOW {
-            let slot = self.slots[number];
-            if slot == NOWHERE || place as usize <= place_in(slot, self.slots.len()) {
-                return Some(number);
-            }
-        }
-        None
-    }
-
-    // Notes the place behind those of all changes for a hash that none of them has.
+    // Notes the place after those of all changes for a hash that none of them has.
     fn put(&mut self, hash: &Hash, place: u32) -> Result<(), AllocError>
         ensures notes { OnOk result ((C : List ChangeParts) → place ≡ length C → has C hash.now ≡ false
             → AreNoted C self.old → AreNoted C self.new) }
         ensures at { OnOk result (IsNotedAt self.new hash.now place) }
         ensures err { OnErr result (self.new ≡ self.old) }
+        ensures len { length self.new.slots ≡ length self.old.slots }
     {
-        let word = word_of(hash);
-        if let Some(number) = self.free(word, place) {
-            if let Some(slot) = slot_for(word, place, self.slots.len()) {
-                self.slots[number] = slot;
-                return Ok(());
-            }
+        if take_slot(self.slots.as_mut_slice(), word_of(hash), place, place) {
+            return Ok(());
         }
         self.clashing.insert(*hash, place)?;
         Ok(())
     }
 
-    // The places of all these changes, with room for as many more.
-    fn of(alloc: Global, changes: &[Change]) -> Result<Index, AllocError>
-        requires sound { Sound changes.now }
-        requires few { length changes.now ≤ most_changes }
-        ensures { IfOk result (AreNoted changes.now) }
+    // Notes it in a first table, or where that is refused in the map.
+    fn begin(&mut self, alloc: Global, count: usize, hash: &Hash) -> Result<(), AllocError>
+        requires few { count < most_changes }
+        requires none { length self.old.slots < WINDOW }
+        ensures notes { OnOk result ((C : List ChangeParts) → count ≡ length C → has C hash.now ≡ false
+            → AreNoted C self.old → AreNoted C self.new) }
+        ensures at { OnOk result (IsNotedAt self.new hash.now count) }
+        ensures err { OnErr result (self.new ≡ self.old) }
     {
-        let mut index = Index {
-            slots: vec![in alloc; NOWHERE; slots_for(changes.len())]?,
-            clashing: BTreeMap::new(alloc),
-        };
-        for place in 0..changes.len() {
-            index.put(&changes[place].hash(), place as u32)?;
+        let place = count as u32;
+        if let Ok(mut slots) = vec![in alloc; NOWHERE; slots_for(count)] {
+            if take_slot(slots.as_mut_slice(), word_of(hash), place, place) {
+                self.slots = slots;
+                return Ok(());
+            }
         }
-        Ok(index)
+        self.put(hash, place)
     }
 
-    /// Notes the place behind those of all changes for a hash that none of them has. Where more than half of the slots
-    /// would be taken, the table is made anew, twice as large.
+    // Notes the place for the hash in the slots of a larger table, or else in the map, which that will have.
+    fn carry_to(&mut self, larger: &mut [u32], hash: Hash, place: u32) -> Result<(), AllocError>
+        ensures slots { self.new.slots ≡ self.old.slots }
+        ensures hashes { IsNotedBeside self.old.hashes self.new.hashes hash place }
+        ensures still { StandStill larger.old larger.new NOWHERE }
+        ensures there { OnOk result (Stands larger.new (first_word hash) place
+            ⊎ (noted self.new.hashes hash ≡ Some place)) }
+    {
+        if take_slot(larger, word_of(&hash), place, NOWHERE) {
+            return Ok(());
+        }
+        self.clashing.insert(hash, place)?;
+        Ok(())
+    }
+
+    // Carries what the slot with the number notes over to the slots of a larger table: the place of a change, or the one
+    // after all changes, for the last hash. A note of any other place was for a change that never entered, and is left.
+    fn carry(
+        &mut self,
+        larger: &mut [u32],
+        changes: &[Change],
+        last: &Hash,
+        number: usize,
+    ) -> Result<(), AllocError>
+        requires sound { Sound changes.now }
+        requires few { length changes.now < most_changes }
+        requires lacks { has changes.now last.now ≡ false }
+        requires room { WINDOW ≤ length self.old.slots }
+        requires within { number < length self.old.slots }
+        ensures slots { self.new.slots ≡ self.old.slots }
+        ensures noted { AreNotedWith changes.now last.now self.old
+            → AreNotedWith changes.now last.now self.new }
+        ensures carried { OnOk result (
+            AreCarried changes.now last.now self.old.slots number larger.old self.old.hashes
+            → AreCarried changes.now last.now self.old.slots (number + 1) larger.new self.new.hashes) }
+    {
+        let slot = self.slots[number];
+        if slot == NOWHERE {
+            return Ok(());
+        }
+        let place = place_in(slot, self.slots.len());
+        match hash_at(changes, last, place) {
+            Some(hash) => self.carry_to(larger, hash, place as u32),
+            None => Ok(()),
+        }
+    }
+
+    // Makes the table larger, for as many changes more as there are: its slots from the old ones, in their order, while the
+    // map stays as it is. A refusal leaves the old slots.
+    //
+    // In the larger table a further bit of a word says where its window begins. Of the places for whose words it is the
+    // same, each finds room no further into its window than before, since only those from slots before its own have gone
+    // over. So only what comes from the last slots, where no window began, may find its window full, as others begin
+    // there now: these 31 at most are the inserts into the map.
+    fn grow(&mut self, alloc: Global, changes: &[Change], last: &Hash) -> Result<(), AllocError>
+        requires sound { Sound changes.now }
+        requires few { length changes.now < most_changes }
+        requires lacks { has changes.now last.now ≡ false }
+        requires room { WINDOW ≤ length self.old.slots }
+        requires noted { AreNotedWith changes.now last.now self.old }
+        ensures noted { AreNotedWith changes.now last.now self.new }
+    {
+        let mut larger = vec![in alloc; NOWHERE; slots_for(changes.len())]?;
+        for number in 0..self.slots.len() {
+            self.carry(larger.as_mut_slice(), changes, last, number)?;
+        }
+        self.slots = larger;
+        Ok(())
+    }
+
+    /// Notes the place after those of all changes for a hash that none of them has. The only refusal is that of a node of
+    /// the map, and leaves all as it was.
+    ///
+    /// Where the places are more than half of the slots then, the table is made larger. Where that is refused it serves as
+    /// it is, and each call asks again. This is the longest call, whatever hashes strangers choose: one pass over the old
+    /// slots, with a look at the change of each place that is noted there.
     pub(crate) fn note(
         &mut self,
         alloc: Global,
@@ -232,14 +347,14 @@ impl Index {
         ensures at { OnOk result (IsNotedAt self.new hash.now (length changes.now)) }
         ensures err { OnErr result (self.new ≡ self.old) }
     {
-        let place = changes.len() as u32;
-        if self.slots.len() < 2 * changes.len() + WINDOW {
-            let mut larger = Index::of(alloc, changes)?;
-            larger.put(hash, place)?;
-            *self = larger;
-            return Ok(());
+        if self.slots.len() < WINDOW {
+            return self.begin(alloc, changes.len(), hash);
         }
-        self.put(hash, place)
+        self.put(hash, changes.len() as u32)?;
+        if self.slots.len() < 2 * changes.len() + WINDOW {
+            let _ = self.grow(alloc, changes, hash);
+        }
+        Ok(())
     }
 }
 
