@@ -43,7 +43,7 @@ pub use Rattle.tp_graph.specs.Named.{HashesApart, among, has, has_all, is_needed
 pub use Rattle.tp_graph.specs.Parts.{IsPartOf, bits, holds, picked, prefix_of}
 pub use Rattle.tp_graph.specs.Past.{past, with_reached}
 pub use Rattle.tp_graph.specs.Pasts.{AreApart, ArePasts, IsApart, IsSpan}
-pub use Rattle.tp_graph.specs.Notes.{AreCarried, AreNoted, AreNotedWith, HasPlace, IsFree, IsLike, IsNotedAt, IsNotedBeside, IsReached, IsSlotFor, Notes, StandStill, Stands, first_slot, first_word, noted, place_in}
+pub use Rattle.tp_graph.specs.Notes.{AreCarried, AreInSlots, AreNoted, AreNotedWith, HasPlace, IsFree, IsLike, IsNotedAt, IsNotedBeside, IsReached, IsSlotFor, Notes, StandStill, Stands, first_slot, first_word, noted, place_in}
 pub use Rattle.tp_graph.specs.Places.{HasAt, ends_of, noted_word, place_from}
 pub use Rattle.tp_graph.specs.Reach.{Chain, InPast}
 pub use Rattle.tp_graph.specs.Since.{IsMissing, gather, gather_all, is_wanted, past_places, since, skip}

@@ -1,5 +1,5 @@
 -- Laws of the notes of places.
-use Rattle.tp_graph.proofs.Common.{◌≡◌, ◌≢◌, ◌⊎◌, ℕ, suc, zero, ◌+◌, ◌-◌, ◌<◌, ◌≤◌, inl, inr, List, [], ◌∷◌, ◌++◌, length, true, false, cond, Option, Some, None, IfSome, refl, sym, ap, ◌∙◌, subst, arith, add-zero, slice_get, slice_get_within, set, never, not_true, truth, In-slice_get, Hash, same_hash, same_hash-same, same_hash-itself, ChangeParts, hash_of, HashesOnce, has, place_from, noted, first_word, first_slot, place_in, NOWHERE, WINDOW, OnOk, Ok, Err, Result, Notes, IsLike, IsSlotFor, IsReached, IsFree, Stands, IsNotedAt, AreNoted, HasAt, StandStill, HasPlace, AreNotedWith, AreCarried, IsNotedBeside}
+use Rattle.tp_graph.proofs.Common.{◌≡◌, ◌≢◌, ◌⊎◌, ℕ, suc, zero, ◌+◌, ◌-◌, ◌<◌, ◌≤◌, inl, inr, List, [], ◌∷◌, ◌++◌, length, Bool, true, false, cond, Option, Some, None, IfSome, refl, sym, ap, ◌∙◌, subst, arith, add-zero, slice_get, slice_get_within, set, never, not_true, truth, In-slice_get, Hash, same_hash, same_hash-same, same_hash-itself, ChangeParts, hash_of, HashesOnce, has, place_from, noted, first_word, first_slot, place_in, NOWHERE, WINDOW, OnOk, Ok, Err, Result, Notes, IsLike, IsSlotFor, IsReached, IsFree, Stands, IsNotedAt, AreNoted, HasAt, StandStill, HasPlace, AreNotedWith, AreInSlots, AreCarried, IsNotedBeside}
 use Rattle.std.proofs.lemmas.Bool.{cases_eq, cases_lt}
 use Rattle.std.proofs.lemmas.List.{length-set}
 use Rattle.std.proofs.lemmas.Nat.{and_le_r}
@@ -224,12 +224,12 @@ AreNotedWith-stays C last old new slots stay w i h at = elim (w i h at) [
   | inr e ↦ inr (stay i h at e)
 ]
 
--- one slot more is carried, where what stood in the larger table stays, no entry is lost, and what the slot notes is noted
-carried_more : (C : List ChangeParts) (last : Hash) (slots : List ℕ) (number : ℕ) (larger more : List ℕ) (old new : List (Hash × ℕ)) → length C < NOWHERE → StandStill larger more NOWHERE
+-- one place more is carried, where what stood in the larger table stays, no entry is lost, and the place is noted if it stood in slots
+carried_more : (C : List ChangeParts) (last : Hash) (slots : List ℕ) (p : ℕ) (larger more : List ℕ) (old new : List (Hash × ℕ)) → length C < NOWHERE → StandStill larger more NOWHERE
     → ((i : ℕ) (g : Hash) → HasPlace C last i g → noted old g ≡ Some i → noted new g ≡ Some i)
-    → ((i : ℕ) (h : Hash) → HasPlace C last i h → (s : Stands slots (first_word h) i) → s.number ≡ number → Stands more (first_word h) i ⊎ (noted new h ≡ Some i))
-    → AreCarried C last slots number larger old → AreCarried C last slots (number + 1) more new
-carried_more C last slots number larger more old new few still stay here w i h at s less = elim (cases_lt s.number number) [
+    → ((i : ℕ) (h : Hash) → HasPlace C last i h → Stands slots (first_word h) i → i ≡ p → Stands more (first_word h) i ⊎ (noted new h ≡ Some i))
+    → AreCarried C last slots p larger old → AreCarried C last slots (p + 1) more new
+carried_more C last slots p larger more old new few still stay here w i h at s less = elim (cases_lt i p) [
   | inl before ↦ elim (w i h at s before) [
     | inl r ↦
         let within : i ≤ length C = place_within C last i h at in
@@ -237,63 +237,63 @@ carried_more C last slots number larger more old new few still stay here w i h a
     | inr e ↦ inr (stay i h at e)
   ]
   | inr past ↦
-      let is : s.number ≡ number = omega arith in
+      let is : i ≡ p = omega arith in
       here i h at s is
 ]
 
--- what a look-up finds in the slot with a number is the slot there
-slot_is : (slots : List ℕ) (word place number slot : ℕ) (s : Stands slots word place) → slice_get slots number ≡ Some slot → s.number ≡ number → s.slot ≡ slot
-slot_is slots word place number slot s at e =
-    let same : Some s.slot ≡ Some slot = sym s.here ∙ ap (slice_get slots) e ∙ at in
-    cc
-
--- a slot that was never taken notes nothing
-pub carried_nowhere : (C : List ChangeParts) (last : Hash) (slots : List ℕ) (number slot : ℕ) (larger : List ℕ) (hashes : List (Hash × ℕ)) → length C < NOWHERE → slice_get slots number ≡ Some slot
-    → slot ≡ NOWHERE → AreCarried C last slots number larger hashes → AreCarried C last slots (number + 1) larger hashes
-carried_nowhere C last slots number slot larger hashes few at none =
-    carried_more C last slots number larger larger hashes hashes few (λ w p less s. s) (λ i g place e. e)
-    (λ i h place s e. absurd (s.is.taken (slot_is slots (first_word h) i number slot s at e ∙ none)))
-
--- nor does one that notes a place past the last
-pub carried_past : (C : List ChangeParts) (last : Hash) (slots : List ℕ) (number slot : ℕ) (larger : List ℕ) (hashes : List (Hash × ℕ)) → length C < NOWHERE → slice_get slots number ≡ Some slot
-    → length C < place_in (length slots) slot → AreCarried C last slots number larger hashes → AreCarried C last slots (number + 1) larger hashes
-carried_past C last slots number slot larger hashes few at past =
-    carried_more C last slots number larger larger hashes hashes few (λ w p less s. s) (λ i g place e. e)
+-- a place that isn't marked stands in no slot
+pub carried_unmarked : (C : List ChangeParts) (last : Hash) (slots : List ℕ) (p : ℕ) (marks : List Bool) (larger : List ℕ) (hashes : List (Hash × ℕ)) → length C < NOWHERE
+    → AreInSlots slots (length slots) marks → slice_get marks p ≢ Some true → AreCarried C last slots p larger hashes → AreCarried C last slots (p + 1) larger hashes
+carried_unmarked C last slots p marks larger hashes few all none =
+    carried_more C last slots p larger larger hashes hashes few (λ w q less s. s) (λ i g place e. e)
     (λ i h place s e.
-    let one : s.slot ≡ slot = slot_is slots (first_word h) i number slot s at e in
-    let is : place_in (length slots) slot ≡ i = ap (place_in (length slots)) (sym one) ∙ s.is.notes in
-    let within : i ≤ length C = place_within C last i h place in
-    absurd (omega arith))
+    let within : s.number < length slots = slice_get_within slots s.number s.slot s.here in
+    absurd (none (ap (slice_get marks) (sym e) ∙ ap (slice_get marks) (sym s.is.notes) ∙ all s.number s.slot within s.here)))
 
--- and of one that notes another, this is the place that it is carried with
-pub carried_there : (C : List ChangeParts) (last : Hash) (slots : List ℕ) (number slot p : ℕ) (g : Hash) (larger more : List ℕ) (old new : List (Hash × ℕ)) → length C < NOWHERE
-    → slice_get slots number ≡ Some slot → p ≡ place_in (length slots) slot → HasPlace C last p g → StandStill larger more NOWHERE
-    → ((i : ℕ) (x : Hash) → HasPlace C last i x → noted old x ≡ Some i → noted new x ≡ Some i)
-    → Stands more (first_word g) p ⊎ (noted new g ≡ Some p) → AreCarried C last slots number larger old → AreCarried C last slots (number + 1) more new
-carried_there C last slots number slot p g larger more old new few at is here still stay there =
-    carried_more C last slots number larger more old new few still stay
+-- and any other is carried with its hash
+pub carried_there : (C : List ChangeParts) (last : Hash) (slots : List ℕ) (p : ℕ) (g : Hash) (larger more : List ℕ) (old new : List (Hash × ℕ)) → length C < NOWHERE
+    → HasPlace C last p g → StandStill larger more NOWHERE → ((i : ℕ) (x : Hash) → HasPlace C last i x → noted old x ≡ Some i → noted new x ≡ Some i)
+    → Stands more (first_word g) p ⊎ (noted new g ≡ Some p) → AreCarried C last slots p larger old → AreCarried C last slots (p + 1) more new
+carried_there C last slots p g larger more old new few here still stay there =
+    carried_more C last slots p larger more old new few still stay
     (λ i h place s e.
-    let one : s.slot ≡ slot = slot_is slots (first_word h) i number slot s at e in
-    let same : p ≡ i = is ∙ ap (place_in (length slots)) (sym one) ∙ s.is.notes in
-    let hash : g ≡ h = one_hash C last i g h (subst (λ (j : ℕ). HasPlace C last j g) same here) place in
-    subst (λ (j : ℕ). Stands more (first_word h) j ⊎ (noted new h ≡ Some j)) same (subst (λ x. Stands more (first_word x) p ⊎ (noted new x ≡ Some p)) hash there))
+    let hash : g ≡ h = one_hash C last i g h (subst (λ (j : ℕ). HasPlace C last j g) (sym e) here) place in
+    subst (λ (j : ℕ). Stands more (first_word h) j ⊎ (noted new h ≡ Some j)) (sym e) (subst (λ x. Stands more (first_word x) p ⊎ (noted new x ≡ Some p)) hash there))
 
--- nothing is carried before the first slot
+-- there is no place before the first
 pub carried_none : (C : List ChangeParts) (last : Hash) (slots larger : List ℕ) (hashes : List (Hash × ℕ)) → AreCarried C last slots 0 larger hashes
 carried_none C last slots larger hashes i h at s less = absurd (omega arith)
 
--- once all slots are carried, all is noted in the larger table
-pub carried_all : (C : List ChangeParts) (last : Hash) (old new : Notes) (number : ℕ) → length old.slots ≤ number → new.hashes ≡ old.hashes → AreCarried C last old.slots number new.slots old.hashes
+-- once all places are carried, all are noted in the larger table
+pub carried_all : (C : List ChangeParts) (last : Hash) (old new : Notes) (place : ℕ) → length C < place → new.hashes ≡ old.hashes → AreCarried C last old.slots place new.slots old.hashes
     → AreNotedWith C last old → AreNotedWith C last new
-carried_all C last old new number all hashes carried w i h at = elim (w i h at) [
+carried_all C last old new place all hashes carried w i h at = elim (w i h at) [
   | inl s ↦
-      let within : s.number < length old.slots = slice_get_within old.slots s.number s.slot s.here in
+      let within : i ≤ length C = place_within C last i h at in
       elim (carried i h at s (omega arith)) [
         | inl r ↦ inl r
         | inr e ↦ inr (ap (λ l. noted l h) hashes ∙ e)
       ]
   | inr e ↦ inr (ap (λ l. noted l h) hashes ∙ e)
 ]
+
+-- one slot more has its place marked
+pub marked_more : (slots : List ℕ) (count s : ℕ) (marks : List Bool) → slice_get slots count ≡ Some s → place_in (length slots) s < length marks → AreInSlots slots count marks
+    → AreInSlots slots (count + 1) (set marks (place_in (length slots) s) true)
+marked_more slots count s marks at within w k t less here = elim (cases_eq (place_in (length slots) t) (place_in (length slots) s)) [
+  | inl same ↦ ap (slice_get (set marks (place_in (length slots) s) true)) same ∙ at_set marks (place_in (length slots) s) true within
+  | inr apart ↦
+      beside_set marks (place_in (length slots) s) (place_in (length slots) t) true apart ∙ w k t (before apart) here
+] where
+  before : (place_in (length slots) t ≡ place_in (length slots) s → ⊥) → k < count
+  before apart = elim (cases_lt k count) [
+    | inl less ↦ less
+    | inr past ↦
+        let is : k ≡ count = omega arith in
+        let one : Some t ≡ Some s = sym here ∙ ap (slice_get slots) is ∙ at in
+        let same : t ≡ s = cc in
+        absurd (apart (ap (place_in (length slots)) same))
+  ]
 
 -- what follows from an outcome that only a refusal leaves open
 pub carried_if : {X E : Type 0} {P Q : Type 0} (r : Result X E) → (P → Q) → OnOk r P → OnOk r Q

@@ -1,5 +1,5 @@
 -- The table from hashes to places: what is noted by the first 4 bytes of hashes, and what by whole hashes.
-use Rattle.std.specs.Prelude.{◌≡◌, ◌≢◌, ◌⊎◌, ℕ, ◌+◌, ◌-◌, ◌<◌, ◌≤◌, List, [], ◌∷◌, length, slice_index, bit_and, bit_or, Option, Some, true}
+use Rattle.std.specs.Prelude.{◌≡◌, ◌≢◌, ◌⊎◌, ℕ, ◌+◌, ◌-◌, ◌<◌, ◌≤◌, List, [], ◌∷◌, length, slice_index, bit_and, bit_or, Option, Some, Bool, true}
 use Rattle.tp_graph.specs.Common.{w32, from_be_bytes, slice_get, lookup, Hash, same_hash, ChangeParts, hash_of}
 use Rattle.tp_graph.specs.Places.{HasAt}
 use Rattle.tp_graph.specs.declared.index.TheConstants.{WINDOW, NOWHERE}
@@ -75,9 +75,13 @@ HasPlace C last i h = HasAt C i h ⊎ ((i ≡ length C) × (h ≡ last))
 abbrev pub AreNotedWith : List ChangeParts → Hash → Notes → Type 0
 AreNotedWith C last n = (i : ℕ) (h : Hash) → HasPlace C last i h → IsNotedAt n h i
 
--- Of these places, those that stand in slots before a number are noted in a larger table, or for whole hashes.
+-- The places that the first slots note are marked.
+abbrev pub AreInSlots : List ℕ → ℕ → List Bool → Type 0
+AreInSlots slots count marks = (k s : ℕ) → k < count → slice_get slots k ≡ Some s → slice_get marks (place_in (length slots) s) ≡ Some true
+
+-- Of the places that are to be noted, those before one that stand in slots are noted in a larger table, or for whole hashes.
 abbrev pub AreCarried : List ChangeParts → Hash → List ℕ → ℕ → List ℕ → List (Hash × ℕ) → Type 0
-AreCarried C last slots number larger hashes = (i : ℕ) (h : Hash) → HasPlace C last i h → (s : Stands slots (first_word h) i) → s.number < number
+AreCarried C last slots place larger hashes = (i : ℕ) (h : Hash) → HasPlace C last i h → Stands slots (first_word h) i → i < place
     → Stands larger (first_word h) i ⊎ (noted hashes h ≡ Some i)
 
 -- What is noted for whole hashes stays, but that the hash may have the place.

@@ -35,9 +35,10 @@ use tp_opid::{Actor, Hash};
 
 /// Changes by hash: those that are applied, in the order in which they entered, and those that wait for others.
 ///
-/// Contracts see the two lists, and for which change room was made. Heads, counters, and places by hash and by actor are
-/// kept beside them. A look-up of a hash comes by one or two slots of a table, mostly, and by 32 at most; where strangers
-/// choose the hashes, it then takes as many comparisons as the logarithm of the number of changes, as one of an actor does.
+/// Contracts see the two lists, and for which change room was made. Heads, counters, and places by hash and by actor
+/// are kept beside them. A look-up of a hash comes by one or two slots of a table, mostly, and by 32 at most; where
+/// strangers choose the hashes, it then takes as many comparisons as the logarithm of the number of changes, as one of
+/// an actor does.
 pub struct Graph {
     applied: Applied,
     waiting: Vec<Change>,
@@ -84,12 +85,12 @@ impl Graph {
         }
     }
 
-    /// A graph with copies of the applied changes, in their order; nothing waits in it, and it is made ready for no change.
-    /// The only refusal is that memory is short.
+    /// A graph with copies of the applied changes, in their order; nothing waits in it, and it is made ready for no
+    /// change. The only refusal is that memory is short.
     ///
-    /// The changes are copied one by one, and what is kept beside them as it is: nothing is judged and no past is joined. It
-    /// takes as much memory as what the graph holds, without what waits: the lists with an entry for each change have room
-    /// for an eighth more, and up to four, and the others for none.
+    /// The changes are copied one by one, and what is kept beside them as it is: nothing is judged and no past is
+    /// joined. It takes as much memory as what the graph holds, without what waits: the lists with an entry for each
+    /// change have room for an eighth more, and up to four, and the others for none.
     pub fn copied(&self) -> Result<Graph, AllocError>
         ensures applied { IfOk result (λ g. g.applied ≡ self.now.applied) }
         ensures waiting { IfOk result (λ g. g.waiting ≡ []) }

@@ -1,10 +1,11 @@
 //! A table from hashes to places.
 
-ghost use Rattle.std.specs.Prelude.{◌≡◌, ◌↔◌, ◌⊎◌, ℕ, ◌+◌, ◌*◌, ◌<◌, ◌≤◌, ◌^◌, List, [], false, true, None, Some, length, IsTrue, IfSome, OnOk, OnErr};
+ghost use Rattle.std.specs.Prelude.{◌≡◌, ◌≢◌, ◌↔◌, ◌⊎◌, ℕ, ◌+◌, ◌*◌, ◌<◌, ◌≤◌, ◌^◌, List, [], false, true, None, Some, length, IsTrue, IfOk, IfSome, OnOk, OnErr};
+ghost use Rattle.std.specs.List.{slice_get};
 ghost use Rattle.tp_change.specs.declared.parts.ChangeParts.{ChangeParts};
 ghost use Rattle.tp_graph.specs.Fit.{most_changes};
 ghost use Rattle.tp_graph.specs.Named.{has};
-ghost use Rattle.tp_graph.specs.Notes.{noted, first_word, first_slot, place_in, IsLike, IsSlotFor, IsFree, IsNotedAt, AreNoted, Stands, StandStill, HasPlace, AreNotedWith, AreCarried, IsNotedBeside};
+ghost use Rattle.tp_graph.specs.Notes.{noted, first_word, first_slot, place_in, IsLike, IsSlotFor, IsFree, IsNotedAt, AreNoted, Stands, StandStill, HasPlace, AreNotedWith, AreInSlots, AreCarried, IsNotedBeside};
 ghost use Rattle.tp_graph.specs.Places.{place_from, HasAt};
 ghost use Rattle.tp_graph.specs.Sound.{Sound};
 
@@ -27,18 +28,18 @@ const FEWEST: usize = 16;
 /// window, by the first 4 bytes of the hash, and an ordered map by whole hashes for what finds no room in its window.
 ///
 /// Windows begin at two to four slots for each change, 16 at least, and after these come slots for the rest of the last
-/// window, one less than it has. A slot has 4 bytes, so a change takes 8 to 16. Where a larger table is refused there are
-/// fewer, until memory is granted.
+/// window, one less than it has. A slot has 4 bytes, so a change takes 8 to 16. Where a larger table is refused there
+/// are fewer, until memory is granted.
 ///
 /// A slot notes a place in its last bits, as many as tell where windows begin. The bits before these are those of the
-/// word that it was taken for, so that of the changes that a look-up comes by, it looks hardly at any but the right one.
-/// They are 10 at 1,048,577 changes, one fewer at each doubling, and none past 2^30 changes: from there on a look-up looks
-/// at each change that it comes by. Past 2^31 changes half of a new table's slots serve nothing, since there are 2^32
-/// words: its windows get fuller, and more goes to the map.
+/// word that it was taken for, so that of the changes that a look-up comes by, it looks hardly at any but the right
+/// one. They are 10 at 1,048,577 changes, one fewer at each doubling, and none past 2^30 changes: from there on a
+/// look-up looks at each change that it comes by. Past 2^31 changes half of a new table's slots serve nothing, since
+/// there are 2^32 words: its windows get fuller, and more goes to the map.
 ///
-/// Of a million hashes that are what chance gives, a few find no room. Whatever hashes strangers choose, a look-up comes
-/// by the slots of one window at most, and then makes a number of comparisons that grows with the logarithm of the number
-/// of changes.
+/// Of a million hashes that are what chance gives, a few find no room. Whatever hashes strangers choose, a look-up
+/// comes by the slots of one window at most, and then makes a number of comparisons that grows with the logarithm of
+/// the number of changes.
 #[derive(Drop)]
 pub(crate) struct Index {
     slots: Vec<u32>,
@@ -112,8 +113,8 @@ fn is_like(slot: u32, word: u32, slots: usize) -> bool
 }
 
 // The slot that notes the place for the word, in a table of so many slots. There is one where the bits of a place
-// suffice for it, as they do but in a table that was long refused its growth, and where that isn't what stands in a slot
-// that was never taken.
+// suffice for it, as they do but in a table that was long refused its growth, and where that isn't what stands in a
+// slot that was never taken.
 fn slot_for(word: u32, place: u32, slots: usize) -> Option<u32>
     requires { WINDOW ≤ slots }
     ensures { IfSome result (IsSlotFor slots word place) }
@@ -161,17 +162,25 @@ fn take_slot(slots: &mut [u32], word: u32, place: u32, bound: u32) -> bool
 }
 
 // The hash that a place is noted for: that of the change there, or after all changes the last one.
-fn hash_at(changes: &[Change], last: &Hash, place: usize) -> Option<Hash>
-    ensures there { IfSome result (HasPlace changes.now last.now place) }
-    ensures within { IfSome result (λ _. place ≤ length changes.now) }
-    ensures none { result ≡ None → length changes.now < place }
+fn hash_at(changes: &[Change], last: &Hash, place: usize) -> Hash
+    requires { place ≤ length changes.now }
+    ensures { HasPlace changes.now last.now place result }
 {
     if place < changes.len() {
-        Some(changes[place].hash())
-    } else if place == changes.len() {
-        Some(*last)
+        changes[place].hash()
     } else {
-        None
+        *last
+    }
+}
+
+// Whether the place is marked.
+fn is_marked(marks: &[bool], place: usize) -> bool
+    ensures { result ≡ false → slice_get marks.now place ≢ Some true }
+{
+    if place < marks.len() {
+        marks[place]
+    } else {
+        false
     }
 }
 
@@ -272,45 +281,55 @@ impl Index {
         Ok(())
     }
 
-    // Carries what the slot with the number notes over to the slots of a larger table: the place of a change, or the one
-    // after all changes, for the last hash. A note of any other place was for a change that never entered, and is left.
+    // Marks the places that slots note, in order, up to the last one that a slot can note.
+    fn in_slots(&self, alloc: Global) -> Result<Vec<bool>, AllocError>
+        requires { WINDOW ≤ length self.now.slots }
+        ensures { IfOk result (λ marks. AreInSlots self.now.slots (length self.now.slots) marks.items) }
+    {
+        let slots = self.slots.as_slice();
+        let mut marks = vec![in alloc; false; slots.len() - WINDOW + 1]?;
+        for slot in slots {
+            marks[place_in(*slot, slots.len())] = true;
+        }
+        Ok(marks)
+    }
+
+    // Carries a place over to the slots of a larger table, where it is marked, as those are that stand in slots: that
+    // of a change, or the one after all changes, for the last hash.
     fn carry(
         &mut self,
         larger: &mut [u32],
+        marks: &[bool],
         changes: &[Change],
         last: &Hash,
-        number: usize,
+        place: usize,
     ) -> Result<(), AllocError>
         requires sound { Sound changes.now }
         requires few { length changes.now < most_changes }
         requires lacks { has changes.now last.now ≡ false }
-        requires room { WINDOW ≤ length self.old.slots }
-        requires within { number < length self.old.slots }
+        requires marks { AreInSlots self.old.slots (length self.old.slots) marks.now }
+        requires within { place ≤ length changes.now }
         ensures slots { self.new.slots ≡ self.old.slots }
         ensures noted { AreNotedWith changes.now last.now self.old
             → AreNotedWith changes.now last.now self.new }
         ensures carried { OnOk result (
-            AreCarried changes.now last.now self.old.slots number larger.old self.old.hashes
-            → AreCarried changes.now last.now self.old.slots (number + 1) larger.new self.new.hashes) }
+            AreCarried changes.now last.now self.old.slots place larger.old self.old.hashes
+            → AreCarried changes.now last.now self.old.slots (place + 1) larger.new self.new.hashes) }
     {
-        let slot = self.slots[number];
-        if slot == NOWHERE {
+        if !is_marked(marks, place) {
             return Ok(());
         }
-        let place = place_in(slot, self.slots.len());
-        match hash_at(changes, last, place) {
-            Some(hash) => self.carry_to(larger, hash, place as u32),
-            None => Ok(()),
-        }
+        self.carry_to(larger, hash_at(changes, last, place), place as u32)
     }
 
-    // Makes the table larger, for as many changes more as there are: its slots from the old ones, in their order, while the
-    // map stays as it is. A refusal leaves the old slots.
+    // Makes the table larger, for as many changes more as there are: its slots from the places that the old ones note,
+    // in their order, while the map stays as it is. A refusal leaves the old slots. What may be much is asked for
+    // first.
     //
     // In the larger table a further bit of a word says where its window begins. Of the places for whose words it is the
-    // same, each finds room no further into its window than before, since only those from slots before its own have gone
-    // over. So only what comes from the last slots, where no window began, may find its window full, as others begin
-    // there now: these 31 at most are the inserts into the map.
+    // same, each finds room no further into its window than before, since only places that came before it have gone
+    // over. So only where the last slots were taken, in which no window began, may a window be full, as others begin
+    // there now: as many places at most go to the map, 31.
     fn grow(&mut self, alloc: Global, changes: &[Change], last: &Hash) -> Result<(), AllocError>
         requires sound { Sound changes.now }
         requires few { length changes.now < most_changes }
@@ -319,20 +338,24 @@ impl Index {
         requires noted { AreNotedWith changes.now last.now self.old }
         ensures noted { AreNotedWith changes.now last.now self.new }
     {
-        let mut larger = vec![in alloc; NOWHERE; slots_for(changes.len())]?;
-        for number in 0..self.slots.len() {
-            self.carry(larger.as_mut_slice(), changes, last, number)?;
+        let count = slots_for(changes.len());
+        let mut larger = Vec::with_capacity(alloc, count)?;
+        let marks = self.in_slots(alloc)?;
+        larger.resize(count, NOWHERE)?;
+        for place in 0..changes.len() + 1 {
+            let slots = larger.as_mut_slice();
+            self.carry(slots, marks.as_slice(), changes, last, place)?;
         }
         self.slots = larger;
         Ok(())
     }
 
-    /// Notes the place after those of all changes for a hash that none of them has. The only refusal is that of a node of
-    /// the map, and leaves all as it was.
+    /// Notes the place after those of all changes for a hash that none of them has. The only refusal is that of a node
+    /// of the map, and leaves all as it was.
     ///
-    /// Where the places are more than half of the slots then, the table is made larger. Where that is refused it serves as
-    /// it is, and each call asks again. This is the longest call, whatever hashes strangers choose: one pass over the old
-    /// slots, with a look at the change of each place that is noted there.
+    /// Where the places are more than half of the slots then, the table is made larger. Where that is refused it serves
+    /// as it is, and each call asks again. This is the longest call, whatever hashes strangers choose: a pass over the
+    /// old slots, and one over the hashes of the changes that are noted there.
     pub(crate) fn note(
         &mut self,
         alloc: Global,
