@@ -94,20 +94,20 @@ reached_still slots word k number slot is_taken r =
         | inr apart ↦ r.taken i low high s (sym (beside_set slots number i slot apart) ∙ is) none
       ]
 
--- a free slot is within the table
-free_within : (slots : List ℕ) (word place number : ℕ) → IsFree slots word place number → number < length slots
-free_within slots word place number f =
-    let room = f.reached.room in
-    let high = f.reached.high in
+-- a slot that is reached is within the table
+pub reached_within : (slots : List ℕ) (word number : ℕ) → IsReached slots word number → number < length slots
+reached_within slots word number r =
+    let room = r.room in
+    let high = r.high in
     omega (arith, and_le_r word (length slots - WINDOW))
 
--- a place that is put into a free slot stands there
-pub stands_there : (slots : List ℕ) (word place bound number slot : ℕ) → IsFree slots word bound number → IsSlotFor (length slots) word place slot → Stands (set slots number slot) word place
-stands_there slots word place bound number slot f w = record {
+-- a place that is put into one stands there
+pub stands_there : (slots : List ℕ) (word place number slot : ℕ) → IsReached slots word number → IsSlotFor (length slots) word place slot → Stands (set slots number slot) word place
+stands_there slots word place number slot r w = record {
   number = number;
-  reached = reached_still slots word number number slot w.taken f.reached;
+  reached = reached_still slots word number number slot w.taken r;
   slot = slot;
-  here = at_set slots number slot (free_within slots word bound number f);
+  here = at_set slots number slot (reached_within slots word number r);
   is = subst (λ n. IsSlotFor n word place slot) (sym (length-set slots number slot)) w;
 }
 

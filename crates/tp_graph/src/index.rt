@@ -5,7 +5,7 @@ ghost use Rattle.std.specs.List.{slice_get};
 ghost use Rattle.tp_change.specs.declared.parts.ChangeParts.{ChangeParts};
 ghost use Rattle.tp_graph.specs.Fit.{most_changes};
 ghost use Rattle.tp_graph.specs.Named.{has};
-ghost use Rattle.tp_graph.specs.Notes.{noted, first_word, first_slot, place_in, IsLike, IsSlotFor, IsFree, IsNotedAt, AreNoted, Stands, StandStill, HasPlace, AreNotedWith, AreInSlots, AreCarried, IsNotedBeside};
+ghost use Rattle.tp_graph.specs.Notes.{noted, first_word, first_slot, place_in, IsLike, IsSlotFor, IsReached, IsFree, IsNotedAt, AreNoted, Stands, StandStill, HasPlace, AreNotedWith, AreInSlots, AreCarried, IsNotedBeside};
 ghost use Rattle.tp_graph.specs.Places.{place_from, HasAt};
 ghost use Rattle.tp_graph.specs.Sound.{Sound};
 
@@ -128,9 +128,9 @@ fn slot_for(word: u32, place: u32, slots: usize) -> Option<u32>
     }
 }
 
-// The first slot of the window of the word that was never taken, or notes no place before the bound.
-fn free(slots: &[u32], word: u32, bound: u32) -> Option<usize>
-    ensures { IfSome result (IsFree slots.now word bound) }
+// The first slot of the window of the word that was never taken, or notes no place before the given one.
+fn free(slots: &[u32], word: u32, place: u32) -> Option<usize>
+    ensures { IfSome result (IsFree slots.now word place) }
 {
     if slots.len() < WINDOW {
         return None;
@@ -138,27 +138,67 @@ fn free(slots: &[u32], word: u32, bound: u32) -> Option<usize>
     let first = first_of(word, slots.len());
     for number in first..first + WINDOW {
         let slot = slots[number];
-        if slot == NOWHERE || bound as usize <= place_in(slot, slots.len()) {
+        if slot == NOWHERE || place as usize <= place_in(slot, slots.len()) {
             return Some(number);
         }
     }
     None
 }
 
-// Notes the place for the word in the first slot of its window that was never taken, or notes no place before the
-// bound. Whether there is such a slot.
-fn take_slot(slots: &mut [u32], word: u32, place: u32, bound: u32) -> bool
-    ensures there { result ≡ true → Stands slots.new word place }
-    ensures still { StandStill slots.old slots.new bound }
-    ensures full { result ≡ false → slots.new ≡ slots.old }
+// The first slot of the window of the word that was never taken.
+fn untaken(slots: &[u32], word: u32) -> Option<usize>
+    ensures { IfSome result (IsFree slots.now word NOWHERE) }
 {
-    if let Some(number) = free(slots, word, bound) {
-        if let Some(slot) = slot_for(word, place, slots.len()) {
-            slots[number] = slot;
-            return true;
+    if slots.len() < WINDOW {
+        return None;
+    }
+    let first = first_of(word, slots.len());
+    for number in first..first + WINDOW {
+        if slots[number] == NOWHERE {
+            return Some(number);
         }
     }
-    false
+    None
+}
+
+// Notes the place for the word in the slot with the number, which a look-up of the word gets to. Whether the slot can
+// note it.
+fn fill(slots: &mut [u32], number: usize, word: u32, place: u32) -> bool
+    requires { IsReached slots.old word number }
+    ensures there { result ≡ true → Stands slots.new word place }
+    ensures still { (bound : ℕ) → IsFree slots.old word bound number → StandStill slots.old slots.new bound }
+    ensures full { result ≡ false → slots.new ≡ slots.old }
+{
+    match slot_for(word, place, slots.len()) {
+        Some(slot) => {
+            slots[number] = slot;
+            true
+        }
+        None => false,
+    }
+}
+
+// Notes the place for the word in the first slot of its window that notes no earlier one. Whether there is such a slot.
+fn take_free(slots: &mut [u32], word: u32, place: u32) -> bool
+    ensures there { result ≡ true → Stands slots.new word place }
+    ensures still { StandStill slots.old slots.new place }
+    ensures full { result ≡ false → slots.new ≡ slots.old }
+{
+    match free(slots, word, place) {
+        Some(number) => fill(slots, number, word, place),
+        None => false,
+    }
+}
+
+// Notes the place for the word in the first slot of its window that was never taken. Whether there is such a slot.
+fn take_untaken(slots: &mut [u32], word: u32, place: u32) -> bool
+    ensures there { result ≡ true → Stands slots.new word place }
+    ensures still { StandStill slots.old slots.new NOWHERE }
+{
+    match untaken(slots, word) {
+        Some(number) => fill(slots, number, word, place),
+        None => false,
+    }
 }
 
 // The hash that a place is noted for: that of the change there, or after all changes the last one.
@@ -240,7 +280,7 @@ impl Index {
         ensures err { OnErr result (self.new ≡ self.old) }
         ensures len { length self.new.slots ≡ length self.old.slots }
     {
-        if take_slot(self.slots.as_mut_slice(), word_of(hash), place, place) {
+        if take_free(self.slots.as_mut_slice(), word_of(hash), place) {
             return Ok(());
         }
         self.clashing.insert(*hash, place)?;
@@ -258,7 +298,7 @@ impl Index {
     {
         let place = count as u32;
         if let Ok(mut slots) = vec![in alloc; NOWHERE; slots_for(count)] {
-            if take_slot(slots.as_mut_slice(), word_of(hash), place, place) {
+            if take_free(slots.as_mut_slice(), word_of(hash), place) {
                 self.slots = slots;
                 return Ok(());
             }
@@ -274,7 +314,7 @@ impl Index {
         ensures there { OnOk result (Stands larger.new (first_word hash) place
             ⊎ (noted self.new.hashes hash ≡ Some place)) }
     {
-        if take_slot(larger, word_of(&hash), place, NOWHERE) {
+        if take_untaken(larger, word_of(&hash), place) {
             return Ok(());
         }
         self.clashing.insert(hash, place)?;
