@@ -1,11 +1,7 @@
 -- What is kept beside changes is theirs in a copy too.
-use Rattle.tp_graph.proofs.Common.{◌≡◌, ◌∙◌, ℕ, List, Option, Some, None, MatchOption, ap, refl, sym, subst, slice_get, Hash, ChangeParts, Extent, IsExtent, IsApart, ArePasts, AreMarked, IsMarkedAt, ByActor, IsByActor}
-use Rattle.std.specs.List.{AllZip}
-use Rattle.std.specs.Option.{IsSomeAnd}
+use Rattle.tp_graph.proofs.Common.{◌≡◌, ◌∙◌, ℕ, List, Option, Some, None, MatchOption, ap, refl, sym, subst, slice_get, Hash, ChangeParts, Extent, IsExtent, IsApart, ArePasts, AreMarked, IsMarkedAt, ByActor, IsByActor, AllZip, IsSomeAnd, Marked, Apart}
 use Rattle.std.proofs.lemmas.Slice.Zip.{AllZip-right}
 use Rattle.tp_graph.specs.Copies.{IsSameExtent, IsSameApart, AreSamePasts, IsSameMarked, AreSamePlaces}
-use Rattle.tp_graph.specs.declared.marked.Marked.{Marked}
-use Rattle.tp_graph.specs.declared.pasts.Apart.{Apart}
 use Rattle.tp_graph.specs.declared.pasts.Pasts.{Pasts}
 
 -- what holds of each item holds of each of another list, where it goes over to the item at the same place

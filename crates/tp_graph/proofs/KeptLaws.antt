@@ -1,8 +1,7 @@
 -- What a graph keeps stays true where a change is made ready for, and where it enters.
-use Rattle.tp_graph.proofs.Common.{◌≡◌, ◌⊎◌, inl, inr, ℕ, ◌+◌, ◌<◌, ◌≤◌, ◌==◌, List, [], ◌∷◌, ◌++◌, length, take, Bool, true, false, Option, Some, None, refl, sym, ap, ◌∙◌, subst, arith, length-append, nat_tests, take-append-le, Hash, ChangeParts, ByActor, GraphError, listed_places, IsOwn, IsByActor, IsClear, IsKnown, room_hash, IsReady, IsReadyIf, defect, or_full, most_changes, IsNotedAt, Fits}
+use Rattle.tp_graph.proofs.Common.{◌≡◌, ◌⊎◌, inl, inr, ℕ, ◌+◌, ◌<◌, ◌≤◌, ◌==◌, List, [], ◌∷◌, ◌++◌, length, take, Bool, true, false, Option, Some, None, refl, sym, ap, ◌∙◌, subst, arith, length-append, nat_tests, take-append-le, Hash, ChangeParts, ByActor, GraphError, listed_places, IsOwn, IsByActor, IsClear, IsKnown, room_hash, IsReady, IsReadyIf, defect, or_full, most_changes, IsNotedAt, Fits, made_for}
 use Rattle.tp_graph.specs.declared.applied.Applied.TheInside.{Inside}
 use Rattle.tp_graph.specs.declared.extent.Room.{Room}
-use Rattle.tp_graph.specs.Kept.{made_for}
 use Rattle.tp_graph.specs.Lists.{HasRoom, HasSameItems}
 use Rattle.tp_graph.specs.Fit.{cause}
 use Rattle.tp_graph.proofs.SoundLaws.{Fits-from_defect, defect-from_Fits}

@@ -1,5 +1,7 @@
 -- Laws of the places that are listed by actor.
-use Rattle.tp_graph.proofs.Common.{◌≡◌, ◌⊎◌, inl, inr, ℕ, suc, zero, ◌+◌, ◌<◌, ◌≤◌, List, [], ◌∷◌, ◌++◌, length, take, drop, map, get_or, subst, Bool, true, false, cond, Option, Some, None, refl, sym, ap, ◌∙◌, arith, append-nil, is_eq, nat_cmp, nat_cmp_is, slice_get, keys_of, lookup, values_of, take-append-drop, Equal, exact_unsigned, tells_apart, AllIn, In, In-append, In-get_or, In-last, In-left, In-slice_get, Actor, same_actor, same_actor-itself, same_actor-same, ChangeParts, ByActor, actor_word, listed_places, place_by, place_if_by, places_of, list_or_none, AreBelow, HasActorAt, IsByActor, noted_word, Sound}
+use Rattle.tp_graph.proofs.Common.{◌≡◌, ◌⊎◌, inl, inr, ℕ, suc, zero, ◌+◌, ◌<◌, ◌≤◌, List, [], ◌∷◌, ◌++◌, length, take, drop, map, get_or, subst, Bool, true, false, cond, Option, Some, None, refl, sym, ap, ◌∙◌, arith, append-nil, is_eq, nat_cmp, nat_cmp_is, slice_get, keys_of, lookup, values_of, take-append-drop, Equal, AllIn, In, In-append, In-get_or, In-last, In-left, In-slice_get, Actor, same_actor, same_actor-itself, same_actor-same, ChangeParts, ByActor, actor_word, listed_places, place_by, place_if_by, places_of, list_or_none, AreBelow, HasActorAt, IsByActor, noted_word, Sound}
+use Rattle.std.proofs.lemmas.Map.Lookups.{exact_unsigned}
+use Rattle.std.proofs.lemmas.Map.Views.{tells_apart}
 use Rattle.std.proofs.lemmas.Map.Entries.{place_from_lookup}
 use Rattle.tp_graph.proofs.OwnLaws.{own_there}
 use Rattle.tp_graph.proofs.PlacesLaws.{at_left}

@@ -1,7 +1,6 @@
 -- Laws of the marks that are kept of applied changes.
-use Rattle.tp_graph.proofs.Common.{◌≡◌, ◌⊎◌, ℕ, ◌+◌, ◌<◌, ◌≤◌, inl, inr, List, [], ◌∷◌, ◌++◌, length, Bool, Some, sym, subst, arith, length-append, slice_get, slice_get_within, ChangeParts, count_of, Marks, IsMarked, IsMarkedAt, AreMarked}
+use Rattle.tp_graph.proofs.Common.{◌≡◌, ◌⊎◌, ℕ, ◌+◌, ◌<◌, ◌≤◌, inl, inr, List, [], ◌∷◌, ◌++◌, length, Bool, Some, sym, subst, arith, length-append, slice_get, slice_get_within, ChangeParts, count_of, Marks, IsMarked, IsMarkedAt, AreMarked, Marked}
 use Rattle.tp_change.specs.Operations.{op_count}
-use Rattle.tp_graph.specs.declared.marked.Marked.{Marked}
 use Rattle.tp_graph.proofs.PlacesLaws.{at_push}
 
 one_more : (C : List ChangeParts) (x : ChangeParts) → length (C ++ x ∷ []) ≡ length C + 1

@@ -1,8 +1,5 @@
 -- Laws of the notes of places.
-use Rattle.tp_graph.proofs.Common.{◌≡◌, ◌≢◌, ◌⊎◌, ℕ, suc, zero, ◌+◌, ◌-◌, ◌<◌, ◌≤◌, inl, inr, List, [], ◌∷◌, ◌++◌, length, Bool, true, false, cond, Option, Some, None, IfSome, refl, sym, ap, ◌∙◌, subst, arith, add-zero, slice_get, slice_get_within, set, never, not_true, truth, In-slice_get, Hash, same_hash, same_hash-same, same_hash-itself, ChangeParts, hash_of, HashesOnce, has, place_from, noted, first_word, first_slot, place_in, NOWHERE, WINDOW, OnOk, Ok, Err, Result, Notes, IsLike, IsSlotFor, IsReached, IsFree, Stands, IsNotedAt, AreNoted, HasAt, StandStill, HasPlace, AreNotedWith, AreInSlots, AreCarried, IsNotedBeside}
-use Rattle.std.proofs.lemmas.Bool.{cases_eq, cases_lt}
-use Rattle.std.proofs.lemmas.List.{length-set}
-use Rattle.std.proofs.lemmas.Nat.{and_le_r}
+use Rattle.tp_graph.proofs.Common.{◌≡◌, ◌≢◌, ◌⊎◌, ℕ, suc, zero, ◌+◌, ◌-◌, ◌<◌, ◌≤◌, inl, inr, List, [], ◌∷◌, ◌++◌, length, Bool, true, false, cond, Option, Some, None, IfSome, refl, sym, ap, ◌∙◌, subst, arith, add-zero, slice_get, slice_get_within, set, never, not_true, truth, In-slice_get, Hash, same_hash, same_hash-same, same_hash-itself, ChangeParts, hash_of, HashesOnce, has, place_from, noted, first_word, first_slot, place_in, NOWHERE, WINDOW, OnOk, Ok, Err, Result, Notes, IsLike, IsSlotFor, IsReached, IsFree, Stands, IsNotedAt, AreNoted, HasAt, StandStill, HasPlace, AreNotedWith, AreInSlots, AreCarried, IsNotedBeside, cases_eq, cases_lt, length-set, and_le_r}
 use Rattle.tp_graph.proofs.NamedLaws.{In-has}
 use Rattle.tp_graph.proofs.PlacesLaws.{at_push, place_from-none, place_from-there, HasAt-has}
 
@@ -95,7 +92,7 @@ reached_still slots word k number slot is_taken r =
       ]
 
 -- a slot that is reached is within the table
-pub reached_within : (slots : List ℕ) (word number : ℕ) → IsReached slots word number → number < length slots
+reached_within : (slots : List ℕ) (word number : ℕ) → IsReached slots word number → number < length slots
 reached_within slots word number r =
     let room = r.room in
     let high = r.high in
@@ -158,18 +155,8 @@ AreNoted-push C x n w last i c at = elim (at_push C x i c at) [
 
 -- ---- a larger table
 
--- places that are noted are those of the changes, and the last one
-pub AreNotedWith-both : (C : List ChangeParts) (last : Hash) (n : Notes) → AreNoted C n → IsNotedAt n last (length C) → AreNotedWith C last n
-AreNotedWith-both C last n w end i h (inl at) = subst (λ g. IsNotedAt n g i) at.2 (w i at.0 at.1)
-AreNotedWith-both C last n w end i h (inr at) = subst (λ (j : ℕ). IsNotedAt n h j) (sym at.0) (subst (λ g. IsNotedAt n g (length C)) (sym at.1) end)
-
-pub AreNotedWith-changes : (C : List ChangeParts) (last : Hash) (n : Notes) → AreNotedWith C last n → AreNoted C n
-AreNotedWith-changes C last n w i c at = w i (hash_of c) (inl (c, at, refl))
-
-pub AreNotedWith-last : (C : List ChangeParts) (last : Hash) (n : Notes) → AreNotedWith C last n → IsNotedAt n last (length C)
-AreNotedWith-last C last n w = w (length C) last (inr (refl, refl))
-
-pub place_within : (C : List ChangeParts) (last : Hash) (i : ℕ) (h : Hash) → HasPlace C last i h → i ≤ length C
+-- a place that is to be noted is at most the one after all changes
+place_within : (C : List ChangeParts) (last : Hash) (i : ℕ) (h : Hash) → HasPlace C last i h → i ≤ length C
 place_within C last i h (inl at) = let within : i < length C = slice_get_within C i at.0 at.1 in omega arith
 place_within C last i h (inr at) = let end = at.0 in omega arith
 
@@ -259,10 +246,6 @@ carried_there C last slots p g larger more old new few here still stay there =
     (λ i h place s e.
     let hash : g ≡ h = one_hash C last i g h (subst (λ (j : ℕ). HasPlace C last j g) (sym e) here) place in
     subst (λ (j : ℕ). Stands more (first_word h) j ⊎ (noted new h ≡ Some j)) (sym e) (subst (λ x. Stands more (first_word x) p ⊎ (noted new x ≡ Some p)) hash there))
-
--- there is no place before the first
-pub carried_none : (C : List ChangeParts) (last : Hash) (slots larger : List ℕ) (hashes : List (Hash × ℕ)) → AreCarried C last slots 0 larger hashes
-carried_none C last slots larger hashes i h at s less = absurd (omega arith)
 
 -- once all places are carried, all are noted in the larger table
 pub carried_all : (C : List ChangeParts) (last : Hash) (old new : Notes) (place : ℕ) → length C < place → new.hashes ≡ old.hashes → AreCarried C last old.slots place new.slots old.hashes

@@ -1,12 +1,6 @@
 -- Laws of what is told to be outside a past.
-use Rattle.std.proofs.lemmas.List.{get_or_past}
-use Rattle.tp_graph.proofs.Common.{◌≡◌, ◌∙◌, ℕ, ◌<◌, List, [], ◌∷◌, length, true, false, map, not, get_or, refl, sym, ap, inl, inr, arith, get_or-map, length-map, In, never, not_true, or_left, or_right, Hash, ChangeParts, hash_of, names, has, marks, bits}
-use Rattle.std.proofs.lemmas.Bool.{cases_lt}
-use Rattle.std.specs.List.{list_any}
-use Rattle.tp_graph.specs.declared.outside.Told.{Told}
+use Rattle.tp_graph.proofs.Common.{get_or_past, ◌≡◌, ◌∙◌, ℕ, ◌<◌, List, [], ◌∷◌, length, true, false, map, not, get_or, refl, sym, ap, inl, inr, arith, get_or-map, length-map, In, never, not_true, or_left, or_right, Hash, ChangeParts, hash_of, names, has, marks, bits, cases_lt, list_any, Told, told_of, first_of, IsTold, marks_since}
 use Rattle.tp_graph.specs.declared.outside.Told.TheVariants.{Beyond, Named}
-use Rattle.tp_graph.specs.Outside.{told_of, first_of, IsTold}
-use Rattle.tp_graph.specs.Since.{marks_since}
 use Rattle.tp_graph.proofs.ExtentLaws.{length-bits, prefix-marked}
 use Rattle.tp_graph.proofs.HeadsLaws.{among-In}
 use Rattle.tp_graph.proofs.MarksLaws.{length-marks, length-marked_more, marked_more-none}

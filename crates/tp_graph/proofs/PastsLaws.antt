@@ -1,6 +1,5 @@
 -- Laws of how far the pasts of changes reach, as it is kept.
-use Rattle.tp_graph.proofs.Common.{◌≡◌, ◌⊎◌, ℕ, ◌+◌, ◌<◌, inl, inr, List, [], ◌∷◌, ◌++◌, length, Some, Result, Ok, Err, IfOk, sym, ◌∙◌, subst, arith, length-append, slice_get, slice_get_within, In-slice_get, ChangeParts, Extent, IsExtent, IsSpan, IsApart, AreApart, ArePasts, Sound, Fits}
-use Rattle.tp_graph.specs.declared.pasts.Apart.{Apart}
+use Rattle.tp_graph.proofs.Common.{◌≡◌, ◌⊎◌, ℕ, ◌+◌, ◌<◌, inl, inr, List, [], ◌∷◌, ◌++◌, length, Some, Result, Ok, Err, IfOk, sym, ◌∙◌, subst, arith, length-append, slice_get, slice_get_within, In-slice_get, ChangeParts, Extent, IsExtent, IsSpan, IsApart, AreApart, ArePasts, Sound, Fits, Apart}
 use Rattle.tp_graph.specs.declared.pasts.TheConstants.{APART}
 use Rattle.tp_graph.proofs.ExtentLaws.{IsExtent-push}
 use Rattle.tp_graph.proofs.PlacesLaws.{at_push}

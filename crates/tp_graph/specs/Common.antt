@@ -1,6 +1,6 @@
 -- The words of the crates below that several contracts cite, passed on from one place. Declares nothing.
 pub use Rattle.std.specs.Int.{from_be_bytes, w32}
-pub use Rattle.std.specs.List.{list_any, slice_get}
+pub use Rattle.std.specs.List.{AllZip, list_any, slice_get}
 pub use Rattle.std.specs.Map.{lookup}
 pub use Rattle.tp_change.specs.ChangeHash.{hash_of}
 pub use Rattle.tp_change.specs.Elements.{inserts, inserts_in, is_inserted, is_reference, later, next_counter, refers}

@@ -1,6 +1,6 @@
 -- Copies of what is kept beside applied changes: what they have alike.
 use Rattle.std.specs.Prelude.{◌≡◌}
-use Rattle.std.specs.List.{AllZip}
+use Rattle.tp_graph.specs.Common.{AllZip}
 use Rattle.tp_graph.specs.declared.by_actor.ByActor.{ByActor}
 use Rattle.tp_graph.specs.declared.extent.Extent.{Extent}
 use Rattle.tp_graph.specs.declared.lists.Lists.{Lists}

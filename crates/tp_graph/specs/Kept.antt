@@ -1,7 +1,7 @@
 -- What is kept beside applied changes.
 use Rattle.std.specs.Prelude.{◌≡◌, ◌≤◌, List, length, Option, Some, None, Vec}
-use Rattle.std.specs.Global.{Global}
 use Rattle.tp_graph.specs.Common.{Hash, ChangeParts, hash_of}
+use Rattle.std.specs.Global.{Global}
 use Rattle.tp_change.specs.Elements as made
 use Rattle.tp_graph.specs.declared.applied.Applied.TheInside.{Inside}
 use Rattle.tp_graph.specs.declared.extent.Room.{Room}

@@ -1,5 +1,4 @@
-use Rattle.tp_graph.proofs.Common.{◌≡◌, ◌<◌, ◌≤◌, ◌+◌, ◌∙◌, ◌++◌, ◌∷◌, [], ap, sym, subst, Some, None, length, arith, length-append, hash_of, next_counter-push, cause, most_changes, IsKnown, room_hash, AppliedState}
-use Rattle.tp_graph.specs.Kept.{made_for}
+use Rattle.tp_graph.proofs.Common.{◌≡◌, ◌<◌, ◌≤◌, ◌+◌, ◌∙◌, ◌++◌, ◌∷◌, [], ap, sym, subst, Some, None, length, arith, length-append, hash_of, next_counter-push, cause, most_changes, IsKnown, room_hash, AppliedState, made_for}
 use Rattle.tp_graph.proofs.HeadsLaws.{heads-push}
 use Rattle.tp_graph.proofs.KeptLaws.{IsByActor-push, Fits-from_cause, room_for_one, ready_for, ready_past}
 use Rattle.tp_graph.proofs.EndLaws.{AreEnds-push}

@@ -1,5 +1,4 @@
-use Rattle.tp_graph.proofs.Common.{◌≡◌, ◌∙◌, refl, inl, inr, ap, sym, subst, None, AppliedState, IsKnown, cause, IsRoomFor, has}
-use Rattle.tp_graph.specs.Kept.{made_for}
+use Rattle.tp_graph.proofs.Common.{◌≡◌, ◌∙◌, refl, inl, inr, ap, sym, subst, None, AppliedState, IsKnown, cause, IsRoomFor, has, made_for}
 use Rattle.tp_graph.proofs.KeptLaws.{Fits-from_cause, room_for_one, ready_stays}
 use Rattle.tp_graph.proofs.applied.Applied.reserve_behind.Goals as goal
 

@@ -1,7 +1,6 @@
-use Rattle.tp_graph.proofs.Common.{inr, Some, cond, ◌∙◌, ap, Notes, noted}
+use Rattle.tp_graph.proofs.Common.{inr, Some, cond, ◌∙◌, ap, Notes, noted, same_hash-itself}
 use Rattle.tp_opid.specs.Same.{same_hash}
 use Rattle.tp_opid.specs.Order.{hash_cmp}
-use Rattle.tp_opid.proofs.Orders.{same_hash-itself}
 use Rattle.tp_graph.proofs.NotesLaws.{noted_beside}
 use Rattle.tp_graph.proofs.index.Index.carry_to.Goals as goal
 

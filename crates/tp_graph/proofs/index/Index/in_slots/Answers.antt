@@ -1,7 +1,4 @@
-use Rattle.tp_graph.proofs.Common.{◌≡◌, ℕ, ◌+◌, ◌-◌, ◌<◌, length, get_or, set, Some, true, arith, sym, subst, ◌∙◌, slice_get, place_in, AreInSlots, WINDOW}
-use Rattle.std.proofs.lemmas.List.{length-set}
-use Rattle.std.proofs.lemmas.Nat.{and_le_r}
-use Rattle.std.proofs.lemmas.Option.{slice_get-get_or}
+use Rattle.tp_graph.proofs.Common.{◌≡◌, ℕ, ◌+◌, ◌-◌, ◌<◌, length, get_or, set, Some, true, arith, sym, subst, ◌∙◌, slice_get, place_in, AreInSlots, WINDOW, length-set, and_le_r, slice_get-get_or}
 use Rattle.tp_graph.proofs.NotesLaws.{marked_more}
 use Rattle.tp_graph.proofs.index.Index.in_slots.Goals as goal
 

@@ -1,6 +1,4 @@
-use Rattle.tp_graph.proofs.Common.{◌≡◌, ◌∙◌, length, not, sym, ap, subst, arith, get_or, get_or-map, bits, false}
-use Rattle.tp_graph.specs.declared.outside.Told.{Told}
-use Rattle.tp_graph.specs.Outside.{told_of, IsTold}
+use Rattle.tp_graph.proofs.Common.{◌≡◌, ◌∙◌, length, not, sym, ap, subst, arith, get_or, get_or-map, bits, false, Told, told_of, IsTold}
 use Rattle.tp_graph.proofs.ExtentLaws.{length-bits}
 use Rattle.tp_graph.proofs.outside.Told.has.Goals as goal
 
