@@ -1,5 +1,5 @@
 -- What the calls of a reader make of its state.
-use Rattle.tp_sync.proofs.Common.{◌≡◌, inl, ℕ, ◌+◌, ◌-◌, ◌<◌, ◌≤◌, List, [], ◌∷◌, ◌++◌, length, take, drop, true, Result, Ok, Err, refl, sym, ap, subst, ◌∙◌, append_assoc, append-nil, arith, length-append, take-append-drop, nil_from_length, AreBytes, MAX_BYTES, SyncError, OutOfMemory, Stage, Version, Whole, Failed, MessageParts, IsMessage, is_whole, need, Steps, ReaderState, FailsWith, length-take-le, Moves, Stands, Refuses, Takes, drop-drop, take_all, AreBytes-append, AreBytes-take, Answers, IsLed, IsReader}
+use Rattle.tp_sync.proofs.Common.{◌≡◌, inl, ℕ, ◌+◌, ◌-◌, ◌<◌, ◌≤◌, List, [], ◌∷◌, ◌++◌, length, take, drop, true, Result, Ok, Err, refl, sym, ap, subst, ◌∙◌, append_assoc, append-nil, arith, length-append, take-append-drop, nil_from_length, AreBytes, MAX_BYTES, SyncError, OutOfMemory, Stage, Version, Body, Whole, Failed, MessageParts, IsMessage, is_whole, need, Steps, ReaderState, FailsWith, length-take-le, Moves, Stands, Refuses, Takes, drop-drop, take_all, AreBytes-append, AreBytes-take, Answers, IsLed, IsReader}
 use Rattle.std.proofs.lemmas.List.{length-drop}
 use Rattle.tp_codec.specs.Reading.{fail, give}
 use Rattle.tp_sync.specs.Reading.{ended, message_at, parts_at}
@@ -157,6 +157,34 @@ field_failed s t piece last count e after is fits (w, f) size few end less faile
     let every : (rest : List ℕ) → length rest ≡ t.left → ended (rest_at s.stage s.parts ((s.held ++ take count piece) ++ rest)) ≡ Err e = subst (λ (l : List ℕ). (rest : List ℕ) → length rest ≡ t.left → ended (rest_at s.stage s.parts ((s.held ++ l) ++ rest)) ≡ Err e) end (moves_fault s.stage s.parts (s.held ++ last) t.left e after apart moves) in
     let refused = field_refused s t piece count e few (omega (arith, o.0, o.1, size, less)) failed every in
     (refused, reader_refused s t piece e is fits refused (omega (arith, short, is.few)))
+
+-- ---- a change of which no byte is held, and with which the piece begins
+
+body_open : (stage : Stage) (len more : ℕ) → stage ≡ Body len more → (stage ≡ Whole → ⊥) × ((e : SyncError) → stage ≡ Failed e → ⊥)
+body_open stage len more at = (λ w. absurd cc, λ e f. absurd cc)
+
+body_moves : (s : ReaderState) (len more left : ℕ) (piece : List ℕ) (result : Result Stage SyncError) (after : MessageParts) → s.stage ≡ Body len more → s.held ≡ [] → len ≤ length piece
+    → Moves (Body (length (take len piece)) more) s.parts (take len piece) left result after → Moves s.stage s.parts (s.held ++ take len piece) left result after
+body_moves s len more left piece result after at none few moves =
+    let body : s.stage ≡ Body (length (take len piece)) more = at ∙ ap (λ (n : ℕ). Body n more) (sym (length-take-le len piece few)) in
+    subst (λ (h : List ℕ). Moves s.stage s.parts (h ++ take len piece) left result after) (sym none)
+    (subst (λ (x : Stage). Moves x s.parts (take len piece) left result after) (sym body) moves)
+
+body_size : (s : ReaderState) (len more : ℕ) → s.stage ≡ Body len more → s.held ≡ [] → len ≡ need s.stage - length s.held
+body_size s len more at none = let size : need s.stage ≡ len = ap need at in let held : length s.held ≡ 0 = ap length none in omega (arith, size, held)
+
+pub change_read : (s t : ReaderState) (len more : ℕ) (piece : List ℕ) → IsReader s → AreBytes piece → s.stage ≡ Body len more → s.held ≡ [] → len ≤ length piece → t.left ≡ s.left - len → t.held ≡ []
+    → Moves (Body (length (take len piece)) more) s.parts (take len piece) t.left (Ok t.stage) t.parts → Takes s piece len t × IsReader t
+change_read s t len more piece is fits at none few less empty moves =
+    field_read s t piece (take len piece) len is fits (body_open s.stage len more at) (body_size s len more at none) few refl less empty
+    (body_moves s len more t.left piece (Ok t.stage) t.parts at none few moves)
+
+pub change_failed : (s t : ReaderState) (len more : ℕ) (piece : List ℕ) (e : SyncError) (after : MessageParts) → IsReader s → AreBytes piece → s.stage ≡ Body len more → s.held ≡ [] → len ≤ length piece → t.left ≡ s.left - len
+    → t.stage ≡ Failed e → t.held ≡ [] → (e ≡ OutOfMemory → ⊥) → Moves (Body (length (take len piece)) more) s.parts (take len piece) t.left (Err e) after → Refuses s piece e t × IsReader t
+change_failed s t len more piece e after is fits at none few less failed empty apart moves =
+    let short : length t.held ≡ 0 = ap length empty in
+    field_failed s t piece (take len piece) len e after is fits (body_open s.stage len more at) (body_size s len more at none) few refl less failed (omega (arith, short)) apart
+    (body_moves s len more t.left piece (Err e) after at none few moves)
 
 -- ---- all of the bytes
 

@@ -4,6 +4,7 @@
 ghost use Rattle.std.specs.Prelude.{◌≡◌, ◌↔◌, ◌⊎◌, ℕ, ◌<◌, ◌≤◌, List, [], ◌++◌, length, true, Ok, Err, Some, IfOk, IfErr, IsSome, IsTrue, IsOkUnless};
 ghost use Rattle.tp_sync.specs.declared.error.SyncError.{SyncError as Refusal};
 ghost use Rattle.tp_sync.specs.declared.error.SyncError.TheVariants.{BadMessage};
+ghost use Rattle.tp_sync.specs.declared.stages.Stage.TheVariants.{Body};
 ghost use Rattle.tp_sync.specs.Message.{MessageParts, IsMessage};
 ghost use Rattle.tp_sync.specs.Spelling.{message_spelling};
 ghost use Rattle.tp_sync.specs.Gives.{Gives};
@@ -13,7 +14,7 @@ ghost use Rattle.tp_sync.specs.ReaderState.{reads, Answers};
 
 use crate::error::SyncError;
 use crate::message::Message;
-use crate::stages::{Lists, Stage, expected, field_len, next_stage};
+use crate::stages::{Lists, Stage, changes_in, field_len, next_change, next_stage};
 use std::alloc::Global;
 use std::marker::Model;
 use tp_change::MAX_BYTES;
@@ -106,24 +107,6 @@ impl MessageReader {
         ensures again { (e : Refusal) → fault_of self.old.stage ≡ Some e
             → (result ≡ Err e) × (self.new ≡ self.old) }
     {
-        self.take_ahead(piece, &mut Ahead::none())
-    }
-
-    /// The next four changes, which are among the bytes that come next, as those whose digests are expected. `None` where a
-    /// change isn't what comes next, or fewer than four are whole. It looks at their lengths alone.
-    pub fn expected<'a>(&self, bytes: &'a [u8]) -> Option<Ahead<'a>> {
-        if !self.held.is_empty() {
-            return None;
-        }
-        expected(self.stage, bytes)
-    }
-
-    /// As [`take`](MessageReader::take), with the digests of changes from `ahead`, where they are those that it expects.
-    pub fn take_ahead(&mut self, piece: &[u8], ahead: &mut Ahead<'_>) -> Result<usize, SyncError>
-        ensures answers { Answers self.old piece.now result self.new }
-        ensures again { (e : Refusal) → fault_of self.old.stage ≡ Some e
-            → (result ≡ Err e) × (self.new ≡ self.old) }
-    {
         match self.stage {
             Stage::Whole => return Ok(0),
             Stage::Failed(error) => return Err(error),
@@ -137,18 +120,78 @@ impl MessageReader {
         }
         let left = self.left - missing;
         let last = &piece[..missing];
-        match next_stage(
-            self.stage,
-            &mut self.lists,
-            &mut self.held,
-            last,
-            left,
-            ahead,
-        ) {
+        match next_stage(self.stage, &mut self.lists, &mut self.held, last, left) {
             Ok(next) => {
                 self.stage = next;
                 self.left = left;
                 Ok(missing)
+            }
+            Err(error) => match error {
+                SyncError::OutOfMemory => Err(SyncError::OutOfMemory),
+                _ => {
+                    self.stage = Stage::Failed(error);
+                    self.left = left;
+                    Err(error)
+                }
+            },
+        }
+    }
+
+    /// The next four changes, which are among the bytes that come next, as those whose digests are expected. `None` where
+    /// the length of a change isn't what comes next, or no change was read yet, or fewer than four are whole. It looks at
+    /// their lengths alone.
+    #[inline]
+    pub fn expected<'a>(&self, bytes: &'a [u8]) -> Option<Ahead<'a>> {
+        match self.stage {
+            Stage::Length { more } if more >= 3 => self.expected_changes(bytes),
+            _ => None,
+        }
+    }
+
+    // The same where the length of a change comes next, of four changes or more. The first of all is hashed alone: where
+    // the second is none, nothing was hashed in vain.
+    fn expected_changes<'a>(&self, bytes: &'a [u8]) -> Option<Ahead<'a>> {
+        if !self.held.is_empty() || self.lists.changes.is_empty() {
+            return None;
+        }
+        changes_in(bytes)
+    }
+
+    /// As [`take`](MessageReader::take), with the digests of changes from `ahead`, where they are those that it expects.
+    #[inline]
+    pub fn take_ahead(&mut self, piece: &[u8], ahead: &mut Ahead<'_>) -> Result<usize, SyncError>
+        ensures answers { Answers self.old piece.now result self.new }
+        ensures again { (e : Refusal) → fault_of self.old.stage ≡ Some e
+            → (result ≡ Err e) × (self.new ≡ self.old) }
+    {
+        match self.stage {
+            Stage::Body { len, more } if self.held.is_empty() && piece.len() >= len as usize => {
+                self.take_change(len, more, piece, ahead)
+            }
+            _ => self.take(piece),
+        }
+    }
+
+    // Takes the change of so many bytes with which the piece begins, and of which no byte is held.
+    fn take_change(
+        &mut self,
+        len: u32,
+        more: u32,
+        piece: &[u8],
+        ahead: &mut Ahead<'_>,
+    ) -> Result<usize, SyncError>
+        requires stage { self.old.stage ≡ Body len more }
+        requires none { self.old.held ≡ [] }
+        requires whole { len ≤ length piece.now }
+        ensures { Answers self.old piece.now result self.new }
+    {
+        let count = len as usize;
+        let left = self.left - count;
+        match next_change(&mut self.lists, more, &piece[..count], left, ahead) {
+            Ok(next) => {
+                self.stage = next;
+                self.left = left;
+                Ok(count)
             }
             Err(error) => match error {
                 SyncError::OutOfMemory => Err(SyncError::OutOfMemory),

@@ -148,8 +148,8 @@ fn split_change(bytes: &[u8]) -> Option<(&[u8], &[u8])> {
     Some(behind.split_at(len))
 }
 
-// The next four changes, whose lengths and bytes these are, as those that are expected. `None` where fewer are whole.
-fn changes_in(bytes: &[u8]) -> Option<Ahead<'_>> {
+/// The next four changes, whose lengths and bytes these are, as those that are expected. `None` where fewer are whole.
+pub(crate) fn changes_in(bytes: &[u8]) -> Option<Ahead<'_>> {
     let mut pieces: [&[u8]; 4] = [&[]; 4];
     let mut rest = bytes;
     for i in 0..4 {
@@ -158,15 +158,6 @@ fn changes_in(bytes: &[u8]) -> Option<Ahead<'_>> {
         rest = behind;
     }
     Some(Ahead::of(pieces))
-}
-
-/// The next four changes as those that are expected, where a change's length comes next, of four changes or more, and the
-/// bytes begin with it. `None` where fewer are whole.
-pub(crate) fn expected(stage: Stage, bytes: &[u8]) -> Option<Ahead<'_>> {
-    match stage {
-        Stage::Length { more } if more >= 3 => changes_in(bytes),
-        _ => None,
-    }
 }
 
 // What comes behind the hashes that are wanted: version 2 has those of known changes.
@@ -302,12 +293,7 @@ fn on_body(
 }
 
 // What comes behind the field at a stage, which the bytes are.
-fn after(
-    stage: Stage,
-    lists: &mut Lists,
-    field: &[u8],
-    ahead: &mut Ahead<'_>,
-) -> Result<Stage, SyncError>
+fn after(stage: Stage, lists: &mut Lists, field: &[u8]) -> Result<Stage, SyncError>
     requires { length field.now ≡ need stage }
     ensures { Steps stage (parts_in lists.old) field.now result (parts_in lists.new) }
 {
@@ -320,7 +306,7 @@ fn after(
             len: number_in(field),
             more,
         }),
-        Stage::Body { more, .. } => on_body(lists, more, field, ahead),
+        Stage::Body { more, .. } => on_body(lists, more, field, &mut Ahead::none()),
         Stage::Whole | Stage::Failed(_) => Ok(stage),
     }
 }
@@ -331,7 +317,6 @@ fn after_held(
     lists: &mut Lists,
     held: &mut Vec<u8>,
     last: &[u8],
-    ahead: &mut Ahead<'_>,
 ) -> Result<Stage, SyncError>
     requires { length held.old.items + length last.now ≡ need stage }
     ensures steps { Steps stage (parts_in lists.old) (held.old.items ++ last.now) result
@@ -340,11 +325,11 @@ fn after_held(
     ensures err { OnErr result (held.new.items ≡ held.old.items) }
 {
     if held.is_empty() {
-        return after(stage, lists, last, ahead);
+        return after(stage, lists, last);
     }
     let before = held.len();
     held.extend_from_slice(last)?;
-    let next = after(stage, lists, held.as_slice(), ahead);
+    let next = after(stage, lists, held.as_slice());
     held.truncate(if next.is_ok() { 0 } else { before });
     next
 }
@@ -376,7 +361,6 @@ pub(crate) fn next_stage(
     held: &mut Vec<u8>,
     last: &[u8],
     left: usize,
-    ahead: &mut Ahead<'_>,
 ) -> Result<Stage, SyncError>
     requires { length held.old.items + length last.now ≡ need stage }
     ensures moves { Moves stage (parts_in lists.old) (held.old.items ++ last.now) left result
@@ -385,7 +369,23 @@ pub(crate) fn next_stage(
     ensures few { OnErr result (length held.new.items ≤ length held.old.items) }
     ensures memory { IfErr result (λ e. e ≡ OutOfMemory → held.new.items ≡ held.old.items) }
 {
-    let next = after_held(stage, lists, held, last, ahead)?;
+    let next = after_held(stage, lists, held, last)?;
+    judge(next, left)?;
+    Ok(next)
+}
+
+/// The same for a change of which no byte is held, with its digest from `ahead`, where it is the one that is expected.
+pub(crate) fn next_change(
+    lists: &mut Lists,
+    more: u32,
+    field: &[u8],
+    left: usize,
+    ahead: &mut Ahead<'_>,
+) -> Result<Stage, SyncError>
+    ensures { Moves (Body (length field.now) more) (parts_in lists.old) field.now left result
+        (parts_in lists.new) }
+{
+    let next = on_body(lists, more, field, ahead)?;
     judge(next, left)?;
     Ok(next)
 }

@@ -1,7 +1,7 @@
 use Rattle.tp_sync.proofs.Common.{◌-◌, ℕ, length, take, sym, ap, subst, ◌∙◌, refl, arith, AreBytes, parts_in, ReaderState, Failed, Refuses, Takes}
 use Rattle.tp_sync.proofs.JudgeLaws.{fault_is}
 use Rattle.tp_sync.proofs.ReaderLaws.{answers_again, answers_refusal, part_read, field_read, field_failed}
-use Rattle.tp_sync.proofs.reading.MessageReader.take_ahead.Goals as goal
+use Rattle.tp_sync.proofs.reading.MessageReader.take.Goals as goal
 
 pub returns-in-Failed-clause-answers : goal.returns-in-Failed-clause-answers
 returns-in-Failed-clause-answers c =
