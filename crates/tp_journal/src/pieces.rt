@@ -69,8 +69,8 @@ impl<S: Sequence> Model for Recovering<S> {
     ghost invariant = { λ r. Stands r.came.bytes r.stage r.rest.items };
 }
 
-// Enters the changes of the records at the prefix of the bytes, which come behind those that are kept. Gives the short tail
-// behind them.
+// Enters the changes of the records at the prefix of the bytes, which come after those that are kept. Gives the short tail
+// after them. The first of a journal is hashed alone: where it can't enter, none after it was hashed.
 fn enter_records<'a, S: Sequence>(
     alloc: Global,
     recovered: &mut Recovered<S>,
@@ -87,7 +87,7 @@ fn enter_records<'a, S: Sequence>(
     let mut rest = bytes;
     let mut ahead = Ahead::none();
     'records: loop {
-        if ahead.is_used_up() {
+        if ahead.is_used_up() && !recovered.document.changes().is_empty() {
             ahead = expected(rest);
         }
         match enter_next(

@@ -96,7 +96,8 @@ fn enter_piece<S: Sequence>(
     push(document, change)
 }
 
-// Enters so many changes, which the reader has next: what it has left is the end of the body.
+// Enters so many changes, which the reader has next: what it has left is the end of the body. The first is hashed alone:
+// where it can't enter, none after it was hashed.
 fn enter_pieces<S: Sequence>(
     alloc: Global,
     document: &mut Document<S>,
@@ -115,7 +116,7 @@ fn enter_pieces<S: Sequence>(
     let mut at = HEADER_LEN as u64;
     let mut ahead = Ahead::none();
     for _ in 0..count {
-        if ahead.is_used_up() {
+        if ahead.is_used_up() && !document.changes().is_empty() {
             ahead = expected(&body[body.len().saturating_sub(reader.len())..]);
         }
         let piece = piece_of(reader, at)?;
