@@ -8,8 +8,9 @@ use sha2::{Digest, Sha256};
 /// Four pieces whose digests are expected to be asked for next, in this order.
 ///
 /// What is expected is a hint: the answer to `digest` is right whatever it is asked for. The digests are taken once the
-/// first of them is asked for, and not where one of the pieces is much longer than the first. So whoever asks for a
-/// digest only behind a look at the piece, and ends at a fault, has never waited for much more than what was right.
+/// first of them is asked for, and not where one of the pieces is longer than 4,096 bytes, or than twice the first and
+/// 256. So whoever asks for a digest only after a look at the piece, and ends at a fault, has waited for three pieces in
+/// vain at most, of 12,288 bytes together at most, whatever lengths another chose.
 #[derive(Drop)]
 pub struct Ahead<'a> {
     pieces: [&'a [u8]; 4],
@@ -20,10 +21,18 @@ pub struct Ahead<'a> {
         → slice_index_or digests k [] ≡ slice_index_or (map (λ piece. sha256 piece.now) pieces) k [] },
 }
 
-// Whether none of the pieces is longer than 256 bytes and twice the first.
+// The most bytes of a piece whose digest is taken beside others. Changes of typing have some hundred; for a long piece
+// what is saved is little beside what a fault after it would cost.
+const LONGEST: usize = 4_096;
+
+// Whether none of the pieces is longer than that, or than twice the first and 256 bytes.
 fn are_alike(pieces: &[&[u8]; 4]) -> bool {
-    let most = pieces[0].len().saturating_mul(2).saturating_add(256);
-    pieces[1].len() <= most && pieces[2].len() <= most && pieces[3].len() <= most
+    let most = pieces[0]
+        .len()
+        .saturating_mul(2)
+        .saturating_add(256)
+        .min(LONGEST);
+    pieces.iter().all(|piece| piece.len() <= most)
 }
 
 impl<'a> Ahead<'a> {

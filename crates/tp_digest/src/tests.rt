@@ -34,6 +34,12 @@ const OF_512_ZEROS: [u8; 32] = [
     0x6e, 0xa8, 0x87, 0x2b, 0x3c, 0x22, 0x18, 0xf6, 0x6c, 0x92, 0xb8, 0x9b, 0x55, 0xf3, 0x65, 0x60,
 ];
 
+// By `sha256sum`.
+const OF_4097_ZEROS: [u8; 32] = [
+    0xb5, 0x87, 0xfa, 0x29, 0x72, 0x99, 0xce, 0x9c, 0x60, 0x2e, 0x58, 0x29, 0x2b, 0x51, 0x37, 0x94,
+    0x02, 0xbf, 0x7b, 0x10, 0x74, 0xf6, 0xb1, 0x86, 0x79, 0xc2, 0xfb, 0x87, 0x1c, 0x91, 0x7c, 0xa8,
+];
+
 const LONG: &[u8] = b"abcdbcdecdefdefgefghfghighijhijkijkljklmklmnlmnomnopnopq";
 
 const LONGER: &[u8] =
@@ -83,5 +89,14 @@ fn a_piece_that_is_much_longer(rt: HostRuntime) -> Result<(), Fail> {
     assert!(rt; ahead.is_used_up());
     assert_eq!(rt; ahead.digest(LONG), OF_56);
     assert_eq!(rt; ahead.digest(&[0; 512]), OF_512_ZEROS);
+    Ok(())
+}
+
+#[test]
+fn a_first_piece_past_the_longest(rt: HostRuntime) -> Result<(), Fail> {
+    let mut ahead = Ahead::of([&[0; 4097], b"abc", LONG, LONGER]);
+    assert_eq!(rt; ahead.digest(&[0; 4097]), OF_4097_ZEROS);
+    assert!(rt; ahead.is_used_up());
+    assert_eq!(rt; ahead.digest(b"abc"), OF_ABC);
     Ok(())
 }
