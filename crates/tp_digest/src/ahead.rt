@@ -9,8 +9,8 @@ use sha2::{Digest, Sha256};
 ///
 /// What is expected is a hint: the answer to `digest` is right whatever it is asked for. The digests are taken once the
 /// first of them is asked for, and not where one of the pieces is longer than 4,096 bytes, or than twice the first and
-/// 256. So whoever asks for a digest only after a look at the piece, and ends at a fault, has waited for three pieces in
-/// vain at most, of 12,288 bytes together at most, whatever lengths another chose.
+/// 256. So whoever asks for a digest only after a look at the piece, and ends at a fault, has waited for three pieces
+/// in vain at most, of 12,288 bytes together at most, whatever lengths another chose.
 #[derive(Drop)]
 pub struct Ahead<'a> {
     pieces: [&'a [u8]; 4],

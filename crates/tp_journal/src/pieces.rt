@@ -69,8 +69,8 @@ impl<S: Sequence> Model for Recovering<S> {
     ghost invariant = { λ r. Stands r.came.bytes r.stage r.rest.items };
 }
 
-// Enters the changes of the records at the prefix of the bytes, which come after those that are kept. Gives the short tail
-// after them. The first of a journal is hashed alone: where it can't enter, none after it was hashed.
+// Enters the changes of the records at the prefix of the bytes, which come after those that are kept. Gives the short
+// tail after them. The first of a journal is hashed alone: where it can't enter, none after it was hashed.
 fn enter_records<'a, S: Sequence>(
     alloc: Global,
     recovered: &mut Recovered<S>,

@@ -96,8 +96,8 @@ fn enter_piece<S: Sequence>(
     push(document, change)
 }
 
-// Enters so many changes, which the reader has next: what it has left is the end of the body. The first is hashed alone:
-// where it can't enter, none after it was hashed.
+// Enters so many changes, which the reader has next: what it has left is the end of the body. The first is hashed
+// alone: where it can't enter, none after it was hashed.
 fn enter_pieces<S: Sequence>(
     alloc: Global,
     document: &mut Document<S>,

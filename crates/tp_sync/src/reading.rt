@@ -137,9 +137,9 @@ impl MessageReader {
         }
     }
 
-    /// The next four changes, which are among the bytes that come next, as those whose digests are expected. `None` where
-    /// the length of a change isn't what comes next, or no change was read yet, or fewer than four are whole. It looks at
-    /// their lengths alone.
+    /// The next four changes, which are among the bytes that come next, as those whose digests are expected. `None`
+    /// where the length of a change isn't what comes next, or no change was read yet, or fewer than four are whole. It
+    /// looks at their lengths alone.
     #[inline]
     pub fn expected<'a>(&self, bytes: &'a [u8]) -> Option<Ahead<'a>> {
         match self.stage {
@@ -148,8 +148,8 @@ impl MessageReader {
         }
     }
 
-    // The same where the length of a change comes next, of four changes or more. The first of all is hashed alone: where
-    // the second is none, nothing was hashed in vain.
+    // The same where the length of a change comes next, of four changes or more. The first of all is hashed alone:
+    // where the second is none, nothing was hashed in vain.
     fn expected_changes<'a>(&self, bytes: &'a [u8]) -> Option<Ahead<'a>> {
         if !self.held.is_empty() || self.lists.changes.is_empty() {
             return None;
