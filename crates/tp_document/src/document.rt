@@ -7,7 +7,7 @@ ghost use Rattle.tp_opid.specs.declared.hash.Hash.{Hash as HashOf};
 ghost use Rattle.tp_opid.specs.Order.{hash_cmp};
 ghost use Rattle.tp_graph.specs.Named as named;
 ghost use Rattle.tp_graph.specs.Heads as head;
-ghost use Rattle.tp_graph.specs.Outside.{IsNext, IsOutside};
+ghost use Rattle.tp_graph.specs.Outside.{IsNext, IsNextBefore, IsOutside};
 ghost use Rattle.tp_graph.specs.Since.{marks_since, since, IsMissing};
 ghost use Rattle.tp_graph.specs.Answers.{Answers};
 ghost use Rattle.tp_graph.specs.GraphState.{most_waiting, HashesOnce};
@@ -234,6 +234,16 @@ impl<S: Sequence> Document<S> {
             → IsNext (marks_since self.now.applied H K) from result }
     {
         self.graph.next_outside(outside, from)
+    }
+
+    /// The first place, from one on and before another, of a change that is outside; where there is none, a place that
+    /// isn't before that other. Its cost is that of [`Graph::next_outside_before`](tp_graph::Graph::next_outside_before).
+    pub fn next_outside_before(&self, outside: &Outside, from: usize, to: usize) -> usize
+        requires { (H : List HashOf) × (K : List HashOf) × IsOutside self.now.applied H K outside.now }
+        ensures { (H K : List HashOf) → IsOutside self.now.applied H K outside.now
+            → IsNextBefore (marks_since self.now.applied H K) from to result }
+    {
+        self.graph.next_outside_before(outside, from, to)
     }
 
     /// Drops the changes that wait. No memory.

@@ -32,3 +32,9 @@ pub record IsNext (marks : List Bool) (from place : ℕ) : Type 0 where
   pub behind : from ≤ place
   pub none : (k : ℕ) → from ≤ k → k < place → get_or marks k false ≡ false
   pub at : place < length marks → get_or marks place false ≡ true
+
+-- The place is the first from one on that is marked, or isn't before the place `to`.
+pub record IsNextBefore (marks : List Bool) (from to place : ℕ) : Type 0 where
+  pub behind : from ≤ place
+  pub none : (k : ℕ) → from ≤ k → k < place → get_or marks k false ≡ false
+  pub at : place < to → get_or marks place false ≡ true

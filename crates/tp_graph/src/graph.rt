@@ -16,7 +16,7 @@ ghost use Rattle.tp_graph.specs.Places.{place_from};
 ghost use Rattle.tp_graph.specs.Sound.{Sound};
 ghost use Rattle.tp_graph.specs.Answers.{Answers, IsCause, TakesMemory};
 ghost use Rattle.tp_graph.specs.GraphState.{most_waiting, HashesOnce};
-ghost use Rattle.tp_graph.specs.Outside.{IsNext, IsOutside};
+ghost use Rattle.tp_graph.specs.Outside.{IsNext, IsNextBefore, IsOutside};
 ghost use Rattle.tp_graph.specs.Since.{marks_since, past_places, since, IsMissing};
 ghost use Rattle.tp_list.specs.Rising.{IsRising};
 ghost use Rattle.tp_opid.specs.Order.{hash_cmp};
@@ -390,6 +390,17 @@ impl Graph {
             → IsNext (marks_since self.now.applied H K) from result }
     {
         self.applied.next_outside(outside, from)
+    }
+
+    /// The first place, from one on and before another, of a change that is outside; where there is none, a place that
+    /// isn't before that other. Places from that other on aren't asked for; the cost is else that of
+    /// [`next_outside`](Graph::next_outside).
+    pub fn next_outside_before(&self, outside: &Outside, from: usize, to: usize) -> usize
+        requires { (H : List Hash) × (K : List Hash) × IsOutside self.now.applied H K outside.now }
+        ensures { (H K : List Hash) → IsOutside self.now.applied H K outside.now
+            → IsNextBefore (marks_since self.now.applied H K) from to result }
+    {
+        self.applied.next_outside_before(outside, from, to)
     }
 
     /// The dependencies of waiting changes that are neither applied nor waiting, rising, each once. The only

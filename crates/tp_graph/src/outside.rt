@@ -4,7 +4,7 @@ ghost use Rattle.std.specs.Prelude.{◌≡◌, ◌<◌, false, length, get_or, I
 ghost use Rattle.std.specs.List.{list_any};
 ghost use Rattle.tp_graph.specs.Named as named;
 ghost use Rattle.tp_graph.specs.Outside as outside;
-ghost use Rattle.tp_graph.specs.Outside.{told_of, IsNext, IsOutside, IsTold};
+ghost use Rattle.tp_graph.specs.Outside.{told_of, IsNext, IsNextBefore, IsOutside, IsTold};
 
 use crate::applied::Applied;
 use crate::part::Part;
@@ -74,18 +74,29 @@ impl Applied {
         })
     }
 
-    /// The first place from a given one on whose change is outside; the number of the changes, or the place itself behind
-    /// that, where there is none. A comparison for each place from the prefix of the past on that the past has.
+    /// The first place from a given one on whose change is outside; the number of the changes, or the place itself after
+    /// that, where there is none. A comparison for each place from the prefix of the past on that the past has, and one
+    /// for each of its tips there.
     pub(crate) fn next_outside(&self, outside: &Outside, from: usize) -> usize
         requires { IsTold outside.now.told self.now.changes }
         ensures { IsNext (told_of outside.now.told self.now.changes) from result }
     {
+        self.next_outside_before(outside, from, self.len())
+    }
+
+    /// The first place from a given one on, before another, whose change is outside; where there is none, a place that
+    /// isn't before that other. It costs what [`next_outside`](Applied::next_outside) does, for the places up to that.
+    pub(crate) fn next_outside_before(&self, outside: &Outside, from: usize, to: usize) -> usize
+        requires { IsTold outside.now.told self.now.changes }
+        ensures { IsNextBefore (told_of outside.now.told self.now.changes) from to result }
+    {
         let start = from.max(outside.told.first());
-        for place in start..self.len() {
+        let end = to.min(self.len());
+        for place in start..end {
             if outside.told.has(self, place) {
                 return place;
             }
         }
-        start.max(self.len())
+        start.max(to)
     }
 }

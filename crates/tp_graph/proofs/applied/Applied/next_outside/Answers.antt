@@ -1,35 +1,14 @@
-use Rattle.tp_graph.proofs.Common.{◌≡◌, ◌∙◌, List, Bool, length, get_or, sym, ap, arith, false, inl, inr, cases_lt, get_or_past, told_of}
-use Rattle.tp_graph.proofs.OutsideLaws.{none_before, length-told}
+use Rattle.tp_graph.proofs.Common.{◌≡◌, length, arith}
+use Rattle.tp_graph.specs.Outside.{told_of}
+use Rattle.tp_graph.proofs.OutsideLaws.{length-told}
 use Rattle.tp_graph.proofs.applied.Applied.next_outside.Goals as goal
-
-pub loop-place-init : goal.loop-place-init
-loop-place-init c = λ k le lt. none_before c.args.outside.now.told c.args.self.now.changes k c.requires (omega (arith, le, lt, c.max-start.ensures, c.first.ensures))
-
-pub returns-then-has : goal.returns-then-has
-returns-then-has c = record {
-  behind = omega (arith, c.loop-place.auto.place, c.max-start.ensures);
-  none = c.loop-place.invariant;
-  at = λ small. sym c.has.ensures ∙ c.if-has.true;
-}
-
-pub loop-place-preserved : goal.loop-place-preserved
-loop-place-preserved c = λ k le lt. elim (cases_lt k c.loop-place.place) [
-  | inl before ↦ c.loop-place.invariant k le before
-  | inr here ↦
-      let marks : List Bool = told_of c.args.outside.now.told c.args.self.now.changes in
-      ap (λ n. get_or marks n false) (omega (arith, here, lt)) ∙ sym c.has.ensures ∙ c.if-has.false
-]
 
 pub returns : goal.returns
 returns c =
-    let C = c.args.self.now.changes in
-    let t = c.args.outside.now.told in
-    let long : length (told_of t C) ≡ length C = length-told t C c.requires in
+    let long : length (told_of c.args.outside.now.told c.args.self.now.changes) ≡ length c.args.self.now.changes = length-told c.args.outside.now.told c.args.self.now.changes c.requires in
+    let next = c.next_outside_before.ensures in
     record {
-      behind = omega (arith, c.max.ensures, c.max-start.ensures);
-      none = λ k le lt. elim (cases_lt k c.loop-place.place) [
-        | inl before ↦ c.loop-place.invariant k le before
-        | inr past ↦ get_or_past (told_of t C) k false (omega (arith, past, lt, long, c.max.ensures, c.len.ensures.len, c.len-place-end.ensures.len, c.loop-place.auto.place, c.loop-place-test.false))
-      ];
-      at = λ small. absurd (omega (arith, small, long, c.max.ensures, c.len.ensures.len));
+      behind = next.behind;
+      none = next.none;
+      at = λ small. next.at (omega (arith, small, long, c.len.ensures.len));
     }
