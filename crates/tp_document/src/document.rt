@@ -237,7 +237,8 @@ impl<S: Sequence> Document<S> {
     }
 
     /// The first place, from one on and before another, of a change that is outside; where there is none, a place that
-    /// isn't before that other. Its cost is that of [`Graph::next_outside_before`](tp_graph::Graph::next_outside_before).
+    /// isn't before that other. Its cost is that of
+    /// [`Graph::next_outside_before`](tp_graph::Graph::next_outside_before).
     pub fn next_outside_before(&self, outside: &Outside, from: usize, to: usize) -> usize
         requires { (H : List HashOf) × (K : List HashOf) × IsOutside self.now.applied H K outside.now }
         ensures { (H K : List HashOf) → IsOutside self.now.applied H K outside.now

@@ -74,9 +74,9 @@ impl Applied {
         })
     }
 
-    /// The first place from a given one on whose change is outside; the number of the changes, or the place itself after
-    /// that, where there is none. A comparison for each place from the prefix of the past on that the past has, and one
-    /// for each of its tips there.
+    /// The first place from a given one on whose change is outside; the number of the changes, or the place itself
+    /// after that, where there is none. A comparison for each place from the prefix of the past on that the past has,
+    /// and one for each of its tips there.
     pub(crate) fn next_outside(&self, outside: &Outside, from: usize) -> usize
         requires { IsTold outside.now.told self.now.changes }
         ensures { IsNext (told_of outside.now.told self.now.changes) from result }

@@ -1,7 +1,7 @@
 -- What a message carries, by marks of the changes that are due.
-use Rattle.tp_sync.proofs.Common.{◌≡◌, ◌<◌, ◌↔◌, inl, inr, ℕ, List, [], ◌∷◌, ◌++◌, length, Bool, true, false, ◌||◌, ◌&&◌, not, cond, Some, drop, map, filter, refl, sym, ap, ◌∙◌, subst, nat_lt, arith, list_any, nat_tests, In, filter-In, In-left, truth, never, not_true, or_left, Hash, ChangeParts, hash_of, names, has, heads, past, pick, marks_since, Sound, In-has, SyncParts, declared, begins_at, carried, due, due_from, due_of, is_any, is_due, leaves_out, take_due, option_map, has-In, length-map, neither, names-In, In-names, deps_first, past-heads, past-more, begins_again}
-use Rattle.tp_sync.proofs.MarkLaws.{marks_are_due, any-drop, pick-drop, length-marked}
-use Rattle.tp_sync.proofs.TakeLaws.{piece}
+use Rattle.tp_sync.proofs.Common.{◌≡◌, ◌<◌, ◌≤◌, ◌↔◌, inl, inr, ℕ, List, [], ◌∷◌, ◌++◌, length, length-append, Bool, true, false, ◌||◌, ◌&&◌, not, cond, Some, drop, take, map, filter, refl, sym, ap, ◌∙◌, subst, nat_lt, arith, list_any, nat_tests, In, filter-In, In-left, truth, never, not_true, or_left, or_right, Hash, ChangeParts, hash_of, names, has, heads, past, pick, marks_since, Sound, In-has, SyncParts, declared, begins_at, carried, due, due_from, due_of, is_any, is_due, leaves_out, take_due, option_map, has-In, length-map, neither, names-In, In-names, deps_first, past-heads, past-more, begins_again}
+use Rattle.tp_sync.proofs.MarkLaws.{marks_are_due, any-drop, any-take, pick-drop}
+use Rattle.tp_sync.proofs.TakeLaws.{carried_within, due_parts, piece}
 
 -- ---- by marks
 
@@ -10,7 +10,7 @@ pub record AreMarks (C : List ChangeParts) (s : SyncParts) (marks : List Bool) :
   pub long : length marks ≡ length C
   pub any : (n : ℕ) → list_any (λ (b : Bool). b) (drop n marks) ≡ is_any (due_from C s n)
   pub picks : (n : ℕ) → pick (drop n marks) (drop n C) ≡ due_from C s n
-  pub count : length (filter (λ (b : Bool). b) marks) ≡ length (due C s)
+  pub front : (n : ℕ) → list_any (λ (b : Bool). b) (take n marks) ≡ is_any (due_of C (declared s) s.wants (take n C))
 
 pub are_marks : (C : List ChangeParts) (theirs : List Hash) (s : SyncParts) (marks : List Bool) → Sound C → declared s ≡ Some theirs → marks ≡ marks_since C theirs s.wants → AreMarks C s marks
 are_marks C theirs s marks sound e m =
@@ -21,7 +21,7 @@ are_marks C theirs s marks sound e m =
       long = ap length are ∙ length-map C f;
       any = λ n. ap (λ l. list_any (λ (b : Bool). b) (drop n l)) are ∙ any-drop f C n ∙ ap is_any (by (drop n C));
       picks = λ n. ap (λ l. pick (drop n l) (drop n C)) are ∙ pick-drop f C n ∙ by (drop n C);
-      count = ap (λ l. length (filter (λ (b : Bool). b) l)) are ∙ length-marked f C ∙ ap length (by C);
+      front = λ n. ap (λ l. list_any (λ (b : Bool). b) (take n l)) are ∙ any-take f C n ∙ ap is_any (by (take n C));
     }
 
 pub begins_by : (C : List ChangeParts) (s : SyncParts) (marks : List Bool) (goes_on : Bool) (from : ℕ) → AreMarks C s marks → goes_on ≡ list_any (λ (b : Bool). b) (drop s.next marks) → from ≡ cond goes_on s.next 0 → from ≡ begins_at C s
@@ -48,6 +48,30 @@ carries_some C s false e =
       first : (D : List ChangeParts) → is_any (take_due 0 0 D) ≡ is_any D
       first [] = refl
       first (c ∷ D) = refl
+
+-- a front that is there too counts
+counted : (F D : List ChangeParts) (n : ℕ) → n ≤ length D → nat_lt n (length (F ++ D)) ≡ (nat_lt n (length D) || is_any F)
+counted [] D n le = sym (or_none (nat_lt n (length D))) where
+  or_none : (b : Bool) → (b || false) ≡ b
+  or_none true = refl
+  or_none false = refl
+counted (c ∷ F) D n le =
+    let more : n < length ((c ∷ F) ++ D) = let sizes = length-append (c ∷ F) D in omega (arith, sizes, le) in
+    let yes : nat_lt n (length ((c ∷ F) ++ D)) ≡ true = grind (arith, nat_tests) in
+    yes ∙ sym (or_right (nat_lt n (length D)) true refl)
+
+-- Due changes are left out where one is from where the message began, or one before.
+pub left_out_by : (C : List ChangeParts) (s : SyncParts) (marks : List Bool) (from count : ℕ) (left : Bool) → AreMarks C s marks → from ≡ begins_at C s → count ≡ length (carried C s)
+    → left ≡ nat_lt count (length (pick (drop from marks) (drop from C))) → leaves_out C s ≡ (left || list_any (λ (b : Bool). b) (take from marks))
+left_out_by C s marks from count left w f n l =
+    let F : List ChangeParts = due_of C (declared s) s.wants (take from C) in
+    let D : List ChangeParts = due_from C s from in
+    let few : length (carried C s) ≤ length D = subst (λ (m : ℕ). length (carried C s) ≤ length (due_from C s m)) (sym f) (carried_within C s) in
+    let is : left ≡ nat_lt (length (carried C s)) (length D) = l ∙ ap (λ m. nat_lt m (length (pick (drop from marks) (drop from C)))) n ∙ ap (λ E. nat_lt (length (carried C s)) (length E)) (w.picks from) in
+    ap (λ E. nat_lt (length (carried C s)) (length E)) (due_parts C s from)
+    ∙ counted F D (length (carried C s)) few
+    ∙ ap (λ b. b || is_any F) (sym is)
+    ∙ ap (λ b. left || b) (sym (w.front from))
 
 pub again_by : (C : List ChangeParts) (s : SyncParts) (marks : List Bool) (goes_on : Bool) (count : ℕ) → AreMarks C s marks → goes_on ≡ list_any (λ (b : Bool). b) (drop s.next marks)
     → count ≡ length (carried C s) → (nat_lt 0 count && not goes_on) ≡ begins_again C s

@@ -1,5 +1,6 @@
 -- Marks of the changes that are due.
-use Rattle.tp_sync.proofs.Common.{◌≡◌, ℕ, suc, List, [], ◌∷◌, length, Bool, true, false, ◌||◌, not, cond, map, filter, drop, refl, sym, ap, ◌∙◌, inl, inr, list_any, In, never, not_true, Hash, ChangeParts, hash_of, names, has, past, pick, marks_since, Sound, In-has, is_due, is_any, drop-map, same_hash-same, same_hash-itself, is_needed, marks, marked_more, lacks-fewer, past-In}
+use Rattle.tp_sync.proofs.Common.{◌≡◌, ℕ, List, [], ◌∷◌, Bool, true, false, ◌||◌, not, cond, map, filter, drop, take, refl, sym, ap, ◌∙◌, inl, inr, list_any, In, never, not_true, Hash, ChangeParts, hash_of, names, has, past, pick, marks_since, Sound, In-has, is_due, is_any, drop-map, same_hash-same, same_hash-itself, is_needed, marks, marked_more, lacks-fewer, past-In}
+use Rattle.std.proofs.lemmas.List.{take-map}
 use Rattle.tp_opid.specs.Same.{same_hash}
 use Rattle.tp_graph.specs.GraphState.{HashesOnce}
 use Rattle.tp_graph.proofs.MarksLaws.{hashes_once}
@@ -46,14 +47,6 @@ pub pick-map : (f : ChangeParts → Bool) (C : List ChangeParts) → pick (map f
 pick-map f [] = refl
 pick-map f (c ∷ C) = ap (λ l. cond (f c) (c ∷ l) l) (pick-map f C)
 
-pub length-marked : (f : ChangeParts → Bool) (C : List ChangeParts) → length (filter (λ (b : Bool). b) (map f C)) ≡ length (filter f C)
-length-marked f [] = refl
-length-marked f (c ∷ C) =
-    elim (f c) as (λ b. length (cond b (b ∷ filter (λ (b : Bool). b) (map f C)) (filter (λ (b : Bool). b) (map f C))) ≡ length (cond b (c ∷ filter f C) (filter f C))) [
-      | true ↦ ap suc (length-marked f C)
-      | false ↦ length-marked f C
-    ]
-
 pub any-marked : (f : ChangeParts → Bool) (C : List ChangeParts) → list_any (λ (b : Bool). b) (map f C) ≡ is_any (filter f C)
 any-marked f [] = refl
 any-marked f (c ∷ C) =
@@ -68,3 +61,6 @@ pick-drop f C n = ap (λ l. pick l (drop n C)) (drop-map f n C) ∙ pick-map f (
 
 pub any-drop : (f : ChangeParts → Bool) (C : List ChangeParts) (n : ℕ) → list_any (λ (b : Bool). b) (drop n (map f C)) ≡ is_any (filter f (drop n C))
 any-drop f C n = ap (list_any (λ (b : Bool). b)) (drop-map f n C) ∙ any-marked f (drop n C)
+
+pub any-take : (f : ChangeParts → Bool) (C : List ChangeParts) (n : ℕ) → list_any (λ (b : Bool). b) (take n (map f C)) ≡ is_any (filter f (take n C))
+any-take f C n = ap (list_any (λ (b : Bool). b)) (take-map f n C) ∙ any-marked f (take n C)

@@ -1,10 +1,10 @@
 -- Laws of marks of which the next is looked for.
-use Rattle.tp_sync.proofs.Common.{◌≡◌, ◌<◌, ◌≤◌, ℕ, suc, zero, ◌+◌, ◌-◌, inl, inr, List, [], ◌∷◌, length, Bool, true, false, ◌||◌, cond, drop, get_or, refl, sym, ap, ◌∙◌, arith, add-one, filter, list_any, nat_lt, nat_tests, or_left, or_right, neither, ◌++◌, append-nil, ChangeParts, pick, take_due}
-use Rattle.std.proofs.lemmas.List.{drop_all}
-use Rattle.tp_sync.proofs.TakeLaws.{TakesOn}
+use Rattle.tp_sync.proofs.Common.{◌≡◌, ◌<◌, ◌≤◌, ℕ, suc, zero, inl, inr, List, [], ◌∷◌, length, length-append, Bool, true, false, cond, drop, take, get_or, min, refl, sym, ap, ◌∙◌, arith, list_any, nat_lt, nat_tests, or_left, or_right, neither, ◌++◌, append-nil, ChangeParts, is_any, pick, take_due}
+use Rattle.std.proofs.lemmas.List.{get_or_past}
 use Rattle.std.proofs.lemmas.Bool.{cases_lt}
-use Rattle.tp_graph.specs.Outside.{IsNext}
-use Rattle.tp_sync.specs.Due.{is_cut}
+use Rattle.tp_graph.specs.Outside.{IsNext, IsNextBefore}
+use Rattle.tp_sync.proofs.TakeLaws.{TakesOn, some_picked}
+use Rattle.tp_sync.specs.Due.{IsStretch}
 
 none_picked : (bs : List Bool) (C : List ChangeParts) (n : ℕ) → length bs ≡ length C → ((k : ℕ) → k < n → get_or bs k false ≡ false) → pick (drop n bs) (drop n C) ≡ pick bs C
 none_picked bs C zero l f = refl
@@ -43,97 +43,126 @@ none_there [] (suc from) f = refl
 none_there (b ∷ bs) zero f = neither b (list_any (λ (b : Bool). b) bs) (f zero (omega arith) (omega arith)) (none_there bs zero (λ k at near. f (suc k) (omega arith) (omega arith)))
 none_there (b ∷ bs) (suc from) f = none_there bs from (λ k at near. f (suc k) (omega arith) (omega arith))
 
--- one is marked from a place on where the next isn't behind all
-pub next_tells : (bs : List Bool) (from place : ℕ) → IsNext bs from place → nat_lt place (length bs) ≡ list_any (λ (b : Bool). b) (drop from bs)
-next_tells bs from place next = elim (cases_lt place (length bs)) [
+-- one is marked from a place on where the next isn't after all
+pub next_is_there : (bs : List Bool) (from place : ℕ) → place < length bs → IsNext bs from place → true ≡ list_any (λ (b : Bool). b) (drop from bs)
+next_is_there bs from place small next = sym (any_there bs from place next.behind small (next.at small))
+
+-- and none where it is
+pub next_is_none : (bs : List Bool) (from place : ℕ) → length bs ≤ place → IsNext bs from place → false ≡ list_any (λ (b : Bool). b) (drop from bs)
+next_is_none bs from place past next = sym (none_there bs from (λ k at near. next.none k at (omega (arith, near, past))))
+
+-- ---- whether one is marked before a place
+
+any_before : (bs : List Bool) (place to : ℕ) → place < to → get_or bs place false ≡ true → list_any (λ (b : Bool). b) (take to bs) ≡ true
+any_before bs place zero lt e = absurd (omega (arith, lt))
+any_before [] place (suc to) lt e = cc
+any_before (b ∷ bs) zero (suc to) lt e = or_left b (list_any (λ (b : Bool). b) (take to bs)) e
+any_before (b ∷ bs) (suc place) (suc to) lt e = or_right b (list_any (λ (b : Bool). b) (take to bs)) (any_before bs place to (omega (arith, lt)) e)
+
+none_before : (bs : List Bool) (to : ℕ) → ((k : ℕ) → k < to → get_or bs k false ≡ false) → list_any (λ (b : Bool). b) (take to bs) ≡ false
+none_before bs zero f = refl
+none_before [] (suc to) f = refl
+none_before (b ∷ bs) (suc to) f = neither b (list_any (λ (b : Bool). b) (take to bs)) (f zero (omega arith)) (none_before bs to (λ k near. f (suc k) (omega (arith, near))))
+
+pub next_tells_before : (bs : List Bool) (to place : ℕ) → IsNextBefore bs 0 to place → nat_lt place to ≡ list_any (λ (b : Bool). b) (take to bs)
+next_tells_before bs to place next = elim (cases_lt place to) [
   | inl small ↦
-      let less : nat_lt place (length bs) ≡ true = grind (arith, nat_tests) in
-      less ∙ sym (any_there bs from place next.behind small (next.at small))
+      let less : nat_lt place to ≡ true = grind (arith, nat_tests) in
+      less ∙ sym (any_before bs place to small (next.at small))
   | inr past ↦
-      let no : nat_lt place (length bs) ≡ false = grind (arith, nat_tests) in
-      no ∙ sym (none_there bs from (λ k at near. next.none k at (omega (arith, near, past))))
+      let no : nat_lt place to ≡ false = grind (arith, nat_tests) in
+      no ∙ sym (none_before bs to (λ k near. next.none k (omega arith) (omega (arith, near, past))))
 ]
 
--- ---- how many are marked
+-- ---- where a message looks
 
-none_counted : (bs : List Bool) (n : ℕ) → ((k : ℕ) → k < n → get_or bs k false ≡ false) → length (filter (λ (b : Bool). b) (drop n bs)) ≡ length (filter (λ (b : Bool). b) bs)
-none_counted bs zero f = refl
-none_counted [] (suc n) f = refl
-none_counted (b ∷ bs) (suc n) f =
-    none_counted bs n (λ k near. f (suc k) (omega arith))
-    ∙ sym (ap (λ t. length (cond t (t ∷ filter (λ (b : Bool). b) bs) (filter (λ (b : Bool). b) bs))) (f zero (omega arith)))
+pub goes_on : (bs : List Bool) (next first len : ℕ) → len ≡ length bs → first < len → IsNext bs next first → IsStretch bs next (record { from = next; first = first; end = len; goes_on = true })
+goes_on bs next first len l small n = record {
+  on = next_is_there bs next first (omega (arith, l, small)) n;
+  from = refl;
+  first = record { behind = n.behind; none = n.none; at = λ near. n.at (omega (arith, l, near)) };
+  end = omega (arith, l);
+  none = λ k past. get_or_past bs k false (omega (arith, l, past));
+}
 
-counted_over : (bs : List Bool) (from place : ℕ) → from ≤ place → ((k : ℕ) → from ≤ k → k < place → get_or bs k false ≡ false)
-    → length (filter (λ (b : Bool). b) (drop place bs)) ≡ length (filter (λ (b : Bool). b) (drop from bs))
-counted_over bs zero place le f = none_counted bs place (λ k near. f k (omega arith) near)
-counted_over bs (suc from) zero le f = absurd (omega (arith, le))
-counted_over [] (suc from) (suc place) le f = refl
-counted_over (b ∷ bs) (suc from) (suc place) le f = counted_over bs from place (omega arith) (λ k at near. f (suc k) (omega arith) (omega arith))
-
-pub next_counts : (bs : List Bool) (from place : ℕ) → IsNext bs from place → length (filter (λ (b : Bool). b) (drop place bs)) ≡ length (filter (λ (b : Bool). b) (drop from bs))
-next_counts bs from place next = counted_over bs from place next.behind next.none
-
--- one that is marked counts
-pub one_counts : (bs : List Bool) (place : ℕ) → place < length bs → get_or bs place false ≡ true
-    → length (filter (λ (b : Bool). b) (drop place bs)) ≡ suc (length (filter (λ (b : Bool). b) (drop (suc place) bs)))
-one_counts [] place lt e = absurd (omega (arith, lt))
-one_counts (b ∷ bs) zero lt e = ap (λ t. length (cond t (t ∷ filter (λ (b : Bool). b) bs) (filter (λ (b : Bool). b) bs))) e
-one_counts (b ∷ bs) (suc place) lt e = one_counts bs place (omega arith) e
+pub begins_anew : (bs : List Bool) (next place first end len : ℕ) → len ≡ length bs → len ≤ place → IsNext bs next place → end ≡ min next len → IsNextBefore bs 0 end first
+    → IsStretch bs next (record { from = 0; first = first; end = end; goes_on = false })
+begins_anew bs next place first end len l past n e before = record {
+  on = next_is_none bs next place (omega (arith, l, past)) n;
+  from = refl;
+  first = before;
+  end = omega (arith, l, e);
+  none = λ k at. elim (cases_lt k len) [
+    | inl small ↦ n.none k (omega (arith, at, e, small)) (omega (arith, small, past))
+    | inr behind ↦ get_or_past bs k false (omega (arith, l, behind))
+  ];
+}
 
 -- ---- the loop that takes, from one that is due to the next
 
--- It goes on at a change that is due, or behind all changes.
-pub record Goes (C : List ChangeParts) (marks : List Bool) (from old place : ℕ) (changes : List ChangeParts) (bytes next : ℕ) : Type 0 where
-  pub takes : TakesOn C marks from old place changes bytes next
-  pub at : place < length C → get_or marks place false ≡ true
+none_marked : (bs : List Bool) (C : List ChangeParts) → length bs ≡ length C → ((k : ℕ) → get_or bs k false ≡ false) → pick bs C ≡ []
+none_marked [] C l f = refl
+none_marked (b ∷ bs) [] l f = refl
+none_marked (b ∷ bs) (c ∷ C) l f =
+    let less : length bs ≡ length C = omega arith in
+    ap (λ t. cond t (c ∷ pick bs C) (pick bs C)) (f zero) ∙ none_marked bs C less (λ k. f (suc k))
 
-pub over : (C : List ChangeParts) (marks : List Bool) (from old before place : ℕ) (changes : List ChangeParts) (bytes next : ℕ) → length marks ≡ length C → IsNext marks before place
-    → TakesOn C marks from old before changes bytes next → Goes C marks from old place changes bytes next
-over C marks from old before place changes bytes next l n w = record {
-  takes = record {
-    on = ap (λ d. changes ++ take_due (length changes) bytes d) (picked_over marks C before place l n.behind n.none) ∙ w.on;
-    moved = w.moved;
-  };
-  at = λ small. n.at (omega (arith, small, l));
-}
+-- where no place is marked from one on nothing is picked from there on
+none_left : (bs : List Bool) (C : List ChangeParts) (n : ℕ) → length bs ≡ length C → ((k : ℕ) → n ≤ k → get_or bs k false ≡ false) → pick (drop n bs) (drop n C) ≡ []
+none_left bs C zero l f = none_marked bs C l (λ k. f k (omega arith))
+none_left [] C (suc n) l f = refl
+none_left (b ∷ bs) [] (suc n) l f = absurd (omega arith)
+none_left (b ∷ bs) (c ∷ C) (suc n) l f = let less : length bs ≡ length C = omega arith in none_left bs C n less (λ k at. f (suc k) (omega (arith, at)))
+
+-- It goes on at a change that is due, or isn't before the end.
+pub record Goes (C : List ChangeParts) (marks : List Bool) (from old end place : ℕ) (changes : List ChangeParts) (bytes next : ℕ) : Type 0 where
+  pub takes : TakesOn C marks from old place changes bytes next
+  pub at : place < end → get_or marks place false ≡ true
+
+pub over : (C : List ChangeParts) (marks : List Bool) (from old end before place : ℕ) (changes : List ChangeParts) (bytes next : ℕ) → length marks ≡ length C → IsNextBefore marks before end place
+    → TakesOn C marks from old before changes bytes next → Goes C marks from old end place changes bytes next
+over C marks from old end before place changes bytes next l n w =
+    let same : pick (drop place marks) (drop place C) ≡ pick (drop before marks) (drop before C) = picked_over marks C before place l n.behind n.none in
+    record {
+      takes = record {
+        all = ap (λ d. changes ++ d) same ∙ w.all;
+        on = ap (λ d. changes ++ take_due (length changes) bytes d) same ∙ w.on;
+        moved = w.moved;
+      };
+      at = n.at;
+    }
 
 pub begins : (C : List ChangeParts) (marks : List Bool) (from old : ℕ) → TakesOn C marks from old from [] 0 old
-begins C marks from old = record { on = refl; moved = inl (refl, refl) }
+begins C marks from old = record { all = refl; on = refl; moved = inl (refl, refl) }
 
-pub ended : (C : List ChangeParts) (marks : List Bool) (from old place : ℕ) (changes : List ChangeParts) (bytes next : ℕ) → length marks ≡ length C → length C ≤ place
+pub ended : (C : List ChangeParts) (marks : List Bool) (from old end place : ℕ) (changes : List ChangeParts) (bytes next : ℕ) → length marks ≡ length C → ((k : ℕ) → end ≤ k → get_or marks k false ≡ false) → end ≤ place
     → TakesOn C marks from old place changes bytes next → changes ≡ take_due 0 0 (pick (drop from marks) (drop from C))
-ended C marks from old place changes bytes next l past w =
+ended C marks from old end place changes bytes next l none past w =
     sym (append-nil changes)
-    ∙ ap (λ d. changes ++ take_due (length changes) bytes (pick d (drop place C))) (sym (drop_all place marks (omega (arith, past, l))))
+    ∙ ap (λ d. changes ++ take_due (length changes) bytes d) (sym (none_left marks C place l (λ k at. none k (omega (arith, at, past)))))
     ∙ w.on
 
--- ---- the loop that counts
+-- ---- whether one is left
 
--- So many were found from the start up to the place, which is one that is due or behind all.
-pub record More (marks : List Bool) (count left place : ℕ) : Type 0 where
-  pub found : length (filter (λ (b : Bool). b) marks) + left ≡ count + length (filter (λ (b : Bool). b) (drop place marks))
-  pub at : place < length marks → get_or marks place false ≡ true
+-- what is behind a part tells whether that is all
+left_behind : (changes rest all : List ChangeParts) → changes ++ rest ≡ all → is_any rest ≡ nat_lt (length changes) (length all)
+left_behind changes [] all e =
+    let few : length all ≤ length changes = let same = sym (ap length e) ∙ length-append changes [] in omega (arith, same) in
+    let no : nat_lt (length changes) (length all) ≡ false = grind (arith, nat_tests) in
+    sym no
+left_behind changes (c ∷ rest) all e =
+    let more : length changes < length all = let same = sym (ap length e) ∙ length-append changes (c ∷ rest) in omega (arith, same) in
+    let yes : nat_lt (length changes) (length all) ≡ true = grind (arith, nat_tests) in
+    sym yes
 
-pub more_first : (marks : List Bool) (count place : ℕ) → IsNext marks 0 place → More marks count count place
-more_first marks count place n =
-    let all = next_counts marks 0 place n in
-    record { found = omega (arith, all); at = n.at }
+pub one_is_left : (C : List ChangeParts) (marks : List Bool) (from old end place : ℕ) (changes : List ChangeParts) (bytes next : ℕ) → length marks ≡ length C → end ≤ length marks → place < end
+    → Goes C marks from old end place changes bytes next → true ≡ nat_lt (length changes) (length (pick (drop from marks) (drop from C)))
+one_is_left C marks from old end place changes bytes next l most small w =
+    sym (some_picked marks C place l (omega (arith, small, most, l)) (w.at small))
+    ∙ left_behind changes (pick (drop place marks) (drop place C)) (pick (drop from marks) (drop from C)) w.takes.all
 
-pub more_on : (marks : List Bool) (count left place next : ℕ) → place < length marks → 0 < left → IsNext marks (place + 1) next → More marks count left place → More marks count (left - 1) next
-more_on marks count left place next small some n w =
-    let one = one_counts marks place small (w.at small) in
-    let behind = next_counts marks (place + 1) next n in
-    let rest = ap (λ m. length (filter (λ (b : Bool). b) (drop m marks))) (add-one place) in
-    record { found = omega (arith, one, behind, rest, some, w.found); at = n.at }
-
-pub more_are : (marks : List Bool) (count place : ℕ) → place < length marks → More marks count 0 place → true ≡ is_cut count marks
-more_are marks count place small w =
-    let one = one_counts marks place small (w.at small) in
-    let more : count < length (filter (λ (b : Bool). b) marks) = omega (arith, one, w.found) in
-    grind (arith, nat_tests)
-
-pub no_more : (marks : List Bool) (count left place : ℕ) → length marks ≤ place → More marks count left place → false ≡ is_cut count marks
-no_more marks count left place past w =
-    let none : length (filter (λ (b : Bool). b) (drop place marks)) ≡ 0 = ap (λ l. length (filter (λ (b : Bool). b) l)) (drop_all place marks past) in
-    let few : length (filter (λ (b : Bool). b) marks) ≤ count = omega (arith, none, w.found) in
-    grind (arith, nat_tests)
+pub none_is_left : (C : List ChangeParts) (marks : List Bool) (from old end place : ℕ) (changes : List ChangeParts) (bytes next : ℕ) → length marks ≡ length C → ((k : ℕ) → end ≤ k → get_or marks k false ≡ false) → end ≤ place
+    → TakesOn C marks from old place changes bytes next → false ≡ nat_lt (length changes) (length (pick (drop from marks) (drop from C)))
+none_is_left C marks from old end place changes bytes next l none past w =
+    sym (ap is_any (none_left marks C place l (λ k at. none k (omega (arith, at, past)))))
+    ∙ left_behind changes (pick (drop place marks) (drop place C)) (pick (drop from marks) (drop from C)) w.all

@@ -1,5 +1,5 @@
 -- Laws of what a message takes.
-use Rattle.tp_sync.proofs.Common.{◌≡◌, ◌<◌, ◌≤◌, ℕ, suc, zero, ◌+◌, inl, inr, List, [], ◌∷◌, ◌++◌, length, Bool, true, false, cond, Some, drop, get_or, refl, sym, ap, subst, ◌∙◌, arith, add-one, append_assoc, append-nil, filter, length-append, take, Option, None, nat_le, slice_get, take-append-drop, nat_tests, Hash, ChangeParts, spelling, pick, In, In-filter, In-left, In-right, neither_left, truth, MAX_CHANGES, SyncParts, declared, begins_at, carried, due, due_from, due_of, is_any, is_due, leaves_out, take_due, FULL_BYTES, is_laden, IsPiece, MovesOn}
+use Rattle.tp_sync.proofs.Common.{◌≡◌, ◌<◌, ◌≤◌, ℕ, suc, zero, ◌+◌, inl, inr, List, [], ◌∷◌, ◌++◌, length, Bool, true, false, cond, Some, drop, get_or, refl, sym, ap, subst, ◌∙◌, arith, add-one, append_assoc, append-nil, filter, length-append, take, Option, None, nat_le, slice_get, slice_get-there, take-append-drop, nat_tests, Hash, ChangeParts, spelling, pick, In, In-filter, In-left, In-right, neither_left, truth, MAX_CHANGES, SyncParts, declared, begins_at, carried, due, due_from, due_of, is_any, is_due, leaves_out, take_due, FULL_BYTES, is_laden, IsPiece, MovesOn}
 
 pick-step : (bs : List Bool) (C : List ChangeParts) (i : ℕ) (c : ChangeParts) → length bs ≡ length C → slice_get C i ≡ Some c
     → pick (drop i bs) (drop i C) ≡ cond (get_or bs i false) (c ∷ pick (drop (suc i) bs) (drop (suc i) C)) (pick (drop (suc i) bs) (drop (suc i) C))
@@ -16,14 +16,22 @@ take_due-laden count bytes (c ∷ D) e = ap (λ b. cond b [] (c ∷ take_due (co
 pub take_due-on : (count bytes : ℕ) (c : ChangeParts) (D : List ChangeParts) → is_laden count bytes ≡ false → take_due count bytes (c ∷ D) ≡ c ∷ take_due (count + 1) (bytes + length (spelling c)) D
 take_due-on count bytes c D e = ap (λ b. cond b [] (c ∷ take_due (count + 1) (bytes + length (spelling c)) D)) e
 
--- a change that is marked is the next that is taken
+-- a change that is marked is the next that is picked
+picked_next : (bs : List Bool) (C : List ChangeParts) (i : ℕ) (c : ChangeParts) → length bs ≡ length C → slice_get C i ≡ Some c → get_or bs i false ≡ true
+    → pick (drop i bs) (drop i C) ≡ c ∷ pick (drop (i + 1) bs) (drop (i + 1) C)
+picked_next bs C i c l e f =
+    let rest : ℕ → List ChangeParts = λ n. pick (drop n bs) (drop n C) in
+    pick-step bs C i c l e ∙ ap (λ b. cond b (c ∷ rest (suc i)) (rest (suc i))) f ∙ ap (λ n. c ∷ rest n) (sym (add-one i))
+
+-- and the next that is taken
 pub taken_next : (bs : List Bool) (C : List ChangeParts) (i : ℕ) (c : ChangeParts) (count bytes : ℕ) → length bs ≡ length C → slice_get C i ≡ Some c → get_or bs i false ≡ true → is_laden count bytes ≡ false
     → take_due count bytes (pick (drop i bs) (drop i C)) ≡ c ∷ take_due (count + 1) (bytes + length (spelling c)) (pick (drop (i + 1) bs) (drop (i + 1) C))
 taken_next bs C i c count bytes l e f more =
-    let rest : ℕ → List ChangeParts = λ n. pick (drop n bs) (drop n C) in
-    ap (take_due count bytes) (pick-step bs C i c l e ∙ ap (λ b. cond b (c ∷ rest (suc i)) (rest (suc i))) f)
-    ∙ take_due-on count bytes c (rest (suc i)) more
-    ∙ ap (λ n. c ∷ take_due (count + 1) (bytes + length (spelling c)) (rest n)) (sym (add-one i))
+    ap (take_due count bytes) (picked_next bs C i c l e f) ∙ take_due-on count bytes c (pick (drop (i + 1) bs) (drop (i + 1) C)) more
+
+-- one is picked from a place on that is marked
+pub some_picked : (bs : List Bool) (C : List ChangeParts) (i : ℕ) → length bs ≡ length C → i < length C → get_or bs i false ≡ true → is_any (pick (drop i bs) (drop i C)) ≡ true
+some_picked bs C i l small f = let p = slice_get-there C i small in ap is_any (picked_next bs C i p.0 l p.1 f)
 
 -- ---- what is carried is a piece of what is due
 
@@ -48,6 +56,17 @@ due_of-append : (C : List ChangeParts) (theirs : Option (List Hash)) (wants : Li
 due_of-append C None wants D E = refl
 due_of-append C (Some theirs) wants D E = filter-append (is_due C theirs wants) D E
 
+-- what is due before a place, and what from there on
+pub due_parts : (C : List ChangeParts) (s : SyncParts) (n : ℕ) → due C s ≡ due_of C (declared s) s.wants (take n C) ++ due_from C s n
+due_parts C s n = ap (due_of C (declared s) s.wants) (sym (take-append-drop n C)) ∙ due_of-append C (declared s) s.wants (take n C) (drop n C)
+
+-- no more is carried than is due from where a message begins
+pub carried_within : (C : List ChangeParts) (s : SyncParts) → length (carried C s) ≤ length (due_from C s (begins_at C s))
+carried_within C s =
+    let w = taken_prefix 0 0 (due_from C s (begins_at C s)) in
+    let sizes : length (due_from C s (begins_at C s)) ≡ length (carried C s) + length w.0 = ap length w.1 ∙ length-append (carried C s) w.0 in
+    omega arith
+
 pub piece : (C : List ChangeParts) (s : SyncParts) → IsPiece (carried C s) (due C s)
 piece C s =
     let n = begins_at C s in
@@ -55,7 +74,7 @@ piece C s =
     record {
       before = due_of C (declared s) s.wants (take n C);
       behind = w.0;
-      joined = ap (due_of C (declared s) s.wants) (sym (take-append-drop n C)) ∙ due_of-append C (declared s) s.wants (take n C) (drop n C) ∙ ap (λ l. due_of C (declared s) s.wants (take n C) ++ l) w.1;
+      joined = due_parts C s n ∙ ap (λ l. due_of C (declared s) s.wants (take n C) ++ l) w.1;
     }
 
 whole_piece : (part whole : List ChangeParts) → IsPiece part whole → length whole ≤ length part → part ≡ whole
@@ -86,8 +105,10 @@ some_carried C s e =
 
 -- ---- the loop that takes
 
--- What is taken so far, and then what is still to be taken from the place on, is all that a message takes.
+-- What is taken so far, and then what is picked from the place on, is all that is picked; what is still to be taken of
+-- that is all that a message takes.
 pub record TakesOn (C : List ChangeParts) (marks : List Bool) (from old place : ℕ) (changes : List ChangeParts) (bytes next : ℕ) : Type 0 where
+  pub all : changes ++ pick (drop place marks) (drop place C) ≡ pick (drop from marks) (drop from C)
   pub on : changes ++ take_due (length changes) bytes (pick (drop place marks) (drop place C)) ≡ take_due 0 0 (pick (drop from marks) (drop from C))
   pub moved : MovesOn C changes old next
 
@@ -100,6 +121,9 @@ pub TakesOn-on : (C : List ChangeParts) (marks : List Bool) (from old place : �
     → get_or marks place false ≡ true → is_laden (length changes) bytes ≡ false → more ≡ changes ++ c ∷ [] → bytes' ≡ bytes + length (spelling c) → next' ≡ place + 1
     → TakesOn C marks from old place changes bytes next → TakesOn C marks from old (place + 1) more bytes' next'
 TakesOn-on C marks from old place changes more bytes next bytes' next' c l e f room grown size behind w = record {
+  all =
+      let rest : List ChangeParts = pick (drop (place + 1) marks) (drop (place + 1) C) in
+      ap (λ m. m ++ rest) grown ∙ append_assoc changes (c ∷ []) rest ∙ ap (λ d. changes ++ d) (sym (picked_next marks C place c l e f)) ∙ w.all;
   on =
       let rest : List ChangeParts = pick (drop (place + 1) marks) (drop (place + 1) C) in
       let count : length more ≡ length changes + 1 = ap length grown ∙ length-append changes (c ∷ []) in

@@ -1,10 +1,13 @@
 -- Which changes are due to another peer, and which of them a message carries.
-use Rattle.std.specs.Prelude.{◌≡◌, ◌⊎◌, ℕ, ◌+◌, List, [], ◌∷◌, ◌++◌, length, drop, filter, Bool, true, false, ◌||◌, ◌&&◌, not, cond, nat_lt, nat_le, Option, Some, None}
+use Rattle.std.specs.Prelude.{◌≡◌, ◌⊎◌, ℕ, ◌+◌, ◌≤◌, List, [], ◌∷◌, ◌++◌, length, drop, take, filter, get_or, Bool, true, false, ◌||◌, ◌&&◌, not, cond, nat_lt, nat_le, Option, Some, None}
 use Rattle.tp_sync.specs.Common.{Hash, ChangeParts, hash_of, spelling, has, slice_get, names}
 use Rattle.tp_graph.specs.Past.{past}
 use Rattle.tp_graph.specs.Heads.{heads}
-use Rattle.tp_graph.specs.Outside.{IsOutside}
-use Rattle.tp_graph.specs.declared.outside.Outside.{Outside}
+use Rattle.tp_graph.specs.Outside.{IsNextBefore, IsOutside}
+use Rattle.tp_graph.specs.Since.{marks_since}
+use Rattle.std.specs.List.{list_any}
+use Rattle.tp_sync.specs.declared.due.Rest.{Rest}
+use Rattle.tp_sync.specs.declared.due.Stretch.{Stretch}
 use Rattle.tp_sync.specs.declared.limits.TheConstants.{MAX_CHANGES, FULL_BYTES}
 use Rattle.tp_sync.specs.State.{SyncParts, declared}
 
@@ -61,14 +64,21 @@ carried C s = take_due 0 0 (due_from C s (begins_at C s))
 abbrev pub leaves_out : List ChangeParts → SyncParts → Bool
 leaves_out C s = nat_lt (length (carried C s)) (length (due C s))
 
--- The changes that are due are told; none is due where nothing is told.
-abbrev pub AreDue : List ChangeParts → SyncParts → Option Outside → Type 0
-AreDue C s None = due C s ≡ []
-AreDue C s (Some o) = (theirs : List Hash) × (declared s ≡ Some theirs) × IsOutside C theirs s.wants o
+-- The stretch goes from the next place on, where a place from there on is marked, and else from the first place on. Its
+-- first marked place is known, and no place from its end on is marked.
+pub record IsStretch (marks : List Bool) (next : ℕ) (stretch : Stretch) : Type 0 where
+  pub on : stretch.goes_on ≡ list_any (λ b. b) (drop next marks)
+  pub from : stretch.from ≡ cond stretch.goes_on next 0
+  pub first : IsNextBefore marks stretch.from stretch.end stretch.first
+  pub end : stretch.end ≤ length marks
+  pub none : (k : ℕ) → stretch.end ≤ k → get_or marks k false ≡ false
 
--- so many changes are fewer than are marked
-abbrev pub is_cut : ℕ → List Bool → Bool
-is_cut count marks = nat_lt count (length (filter (λ b. b) marks))
+-- What is due is told, and whether a message leaves some of it out: one from the place on from which it looked, or one
+-- before that. Where nothing is told nothing is due.
+abbrev pub IsRest : List ChangeParts → SyncParts → Option Rest → Type 0
+IsRest C s None = due C s ≡ []
+IsRest C s (Some rest) = (theirs : List Hash) × (declared s ≡ Some theirs) × IsOutside C theirs s.wants rest.due
+    × (leaves_out C s ≡ (rest.left || list_any (λ b. b) (take rest.from (marks_since C theirs s.wants))))
 
 -- The place n in C is the one behind the last of the changes.
 pub record IsBehind (C changes : List ChangeParts) (n : ℕ) : Type 0 where

@@ -5,7 +5,7 @@ use Rattle.tp_graph.specs.Heads as head
 use Rattle.tp_sync.specs.declared.generating.Saying.{Saying}
 use Rattle.tp_sync.specs.declared.limits.TheConstants.{MAX_HASHES}
 use Rattle.tp_sync.specs.Answer.{IsQuiet}
-use Rattle.tp_sync.specs.Due.{AreDue, MovesOn, begins_again, carried}
+use Rattle.tp_sync.specs.Due.{IsRest, MovesOn, begins_again, carried}
 use Rattle.tp_sync.specs.Known.{known_hashes}
 use Rattle.tp_sync.specs.State.{SyncParts}
 use Rattle.tp_sync.specs.Wanting.{wanted}
@@ -20,4 +20,4 @@ pub record IsToSay (C W : List ChangeParts) (s : SyncParts) (y : Saying) : Type 
   pub changes : map (λ c. c.now) y.load.changes.items ≡ carried C s
   pub next : MovesOn C (carried C s) s.next y.load.next
   pub again : y.load.again ≡ begins_again C s
-  pub due : AreDue C s y.load.due
+  pub rest : IsRest C s y.load.rest

@@ -1,11 +1,11 @@
 //! Which changes are due to another peer, and which of them a message carries.
 
-ghost use Rattle.std.specs.Prelude.{◌≡◌, ◌↔◌, ◌+◌, ◌<◌, ◌^◌, ◌∷◌, ◌++◌, ◌&&◌, List, [], cond, length, nat_lt, drop, map, not, false, Some, None, IfOk, IsTrue, OnOk, IsOkUnless};
+ghost use Rattle.std.specs.Prelude.{◌≡◌, ◌↔◌, ◌+◌, ◌<◌, ◌^◌, ◌∷◌, ◌++◌, ◌&&◌, List, [], length, nat_lt, drop, take, map, not, false, Some, None, IfOk, IsTrue, OnOk, IsOkUnless};
 ghost use Rattle.std.specs.List.{list_any};
 ghost use Rattle.tp_sync.specs.Common.{spelling, has};
 ghost use Rattle.tp_graph.specs.Marks.{pick};
 ghost use Rattle.tp_sync.specs.Due as of_due;
-ghost use Rattle.tp_sync.specs.Due.{carried, leaves_out, take_due, AreDue, IsEven, MovesOn};
+ghost use Rattle.tp_sync.specs.Due.{carried, leaves_out, take_due, IsEven, IsRest, IsStretch, MovesOn};
 ghost use Rattle.tp_sync.specs.State.{SyncParts};
 ghost use Rattle.tp_graph.specs.Outside.{IsOutside};
 ghost use Rattle.tp_graph.specs.Since.{marks_since};
@@ -31,8 +31,10 @@ struct Taken<'a> {
     changes: Vec<&'a Change>,
     // How many bytes they have.
     bytes: usize,
-    // The place behind the last of them, or the place from which they were to be taken, where there is none.
+    // The place after the last of them, or the place from which they were to be taken, where there is none.
     next: usize,
+    // Whether one more was found, which it doesn't take.
+    left: bool,
 }
 
 impl<'a> Taken<'a> {
@@ -52,6 +54,7 @@ impl<'a> Taken<'a> {
         ensures bytes { OnOk result
             (self.new.bytes ≡ self.old.bytes + length (spelling change.now)) }
         ensures next { OnOk result (self.new.next ≡ place + 1) }
+        ensures left { self.new.left ≡ self.old.left }
     {
         let _hash = change.hash();
         self.changes.push(change)?;
@@ -61,73 +64,94 @@ impl<'a> Taken<'a> {
     }
 }
 
-// Takes the changes that are due, from the place on, until the message takes no further one.
+// Where a message looks for changes that are due.
+#[derive(Drop)]
+struct Stretch {
+    // The place from which it looks.
+    from: usize,
+    // The place of the first one from there on; where there is none, one that isn't before the end.
+    first: usize,
+    // The end of the stretch. No change from there on is due.
+    end: usize,
+    // Whether one is due from the next place on.
+    goes_on: bool,
+}
+
+// Where a message looks: from the next place on, where a change is due from there on, and else from the first place on,
+// up to the next. So each place is asked for at most once.
+fn find_stretch<S: Sequence>(document: &Document<S>, due: &Outside, next: usize) -> Stretch
+    requires { (H : List HashOf) × (K : List HashOf) × IsOutside document.now.applied H K due.now }
+    ensures { (H K : List HashOf) → IsOutside document.now.applied H K due.now
+        → IsStretch (marks_since document.now.applied H K) next result }
+{
+    let len = document.changes().len();
+    let first = document.next_outside(due, next);
+    if first < len {
+        return Stretch {
+            from: next,
+            first,
+            end: len,
+            goes_on: true,
+        };
+    }
+    let end = next.min(len);
+    Stretch {
+        from: 0,
+        first: document.next_outside_before(due, 0, end),
+        end,
+        goes_on: false,
+    }
+}
+
+// Takes the changes of the stretch that are due, until the message takes no further one.
 fn take_from<'a, S: Sequence>(
     alloc: Global,
     document: &'a Document<S>,
     due: &Outside,
-    from: usize,
+    stretch: &Stretch,
     next: usize,
 ) -> Result<Taken<'a>, AllocError>
-    requires { (H : List HashOf) × (K : List HashOf) × IsOutside document.now.applied H K due.now }
+    requires due { (H : List HashOf) × (K : List HashOf) × IsOutside document.now.applied H K due.now }
+    requires stretch { (H K : List HashOf) → IsOutside document.now.applied H K due.now
+        → IsStretch (marks_since document.now.applied H K) next stretch.now }
     ensures changes { (H K : List HashOf) → IsOutside document.now.applied H K due.now
         → IfOk result (λ t. map (λ c. c.now) t.changes.items
-        ≡ take_due 0 0 (pick (drop from (marks_since document.now.applied H K))
-        (drop from document.now.applied))) }
+        ≡ take_due 0 0 (pick (drop stretch.now.from (marks_since document.now.applied H K))
+        (drop stretch.now.from document.now.applied))) }
     ensures next { IfOk result
         (λ t. MovesOn document.now.applied (map (λ c. c.now) t.changes.items) next t.next) }
+    ensures left { (H K : List HashOf) → IsOutside document.now.applied H K due.now
+        → IfOk result (λ t. t.left ≡ nat_lt (length t.changes.items)
+        (length (pick (drop stretch.now.from (marks_since document.now.applied H K))
+        (drop stretch.now.from document.now.applied)))) }
 {
     let applied = document.changes();
-    let room = applied.len().saturating_sub(from).min(MAX_CHANGES);
+    let room = stretch.end.saturating_sub(stretch.first).min(MAX_CHANGES);
     let mut taken = Taken {
         changes: Vec::with_capacity(alloc, room)?,
         bytes: 0,
         next,
+        left: false,
     };
-    let mut place = document.next_outside(due, from);
-    'places: while place < applied.len() {
+    let mut place = stretch.first;
+    'places: while place < stretch.end {
         if taken.is_laden() {
+            taken.left = true;
             return Ok(taken);
         }
         taken.take(&applied[place], place)?;
-        place = document.next_outside(due, place + 1);
+        place = document.next_outside_before(due, place + 1, stretch.end);
     }
     Ok(taken)
 }
 
-// Whether a change is due that stands at the place or behind it.
-fn is_any_from<S: Sequence>(document: &Document<S>, due: &Outside, place: usize) -> bool
+// Whether a change is due that stands before the place.
+fn is_any_before<S: Sequence>(document: &Document<S>, due: &Outside, place: usize) -> bool
     requires { (H : List HashOf) × (K : List HashOf) × IsOutside document.now.applied H K due.now }
     ensures { (H K : List HashOf) → IsOutside document.now.applied H K due.now
-        → result ≡ list_any (λ b. b) (drop place (marks_since document.now.applied H K)) }
+        → result ≡ list_any (λ b. b) (take place (marks_since document.now.applied H K)) }
 {
-    document.next_outside(due, place) < document.changes().len()
-}
-
-// Whether more changes are due than so many. One more is looked for at most.
-fn are_more_due<S: Sequence>(document: &Document<S>, due: &Outside, count: usize) -> bool
-    requires { (H : List HashOf) × (K : List HashOf) × IsOutside document.now.applied H K due.now }
-    ensures { (H K : List HashOf) → IsOutside document.now.applied H K due.now
-        → result ≡ of_due.is_cut count (marks_since document.now.applied H K) }
-{
-    let len = document.changes().len();
-    let mut left = count;
-    let mut place = document.next_outside(due, 0);
-    'places: while place < len {
-        if left == 0 {
-            return true;
-        }
-        left -= 1;
-        place = document.next_outside(due, place + 1);
-    }
-    false
-}
-
-// The place from which changes are taken: the next one, where something is due from there on, and else the first.
-fn first_place(goes_on: bool, next: usize) -> usize
-    ensures { result ≡ cond goes_on next 0 }
-{
-    if goes_on { next } else { 0 }
+    document.next_outside_before(due, 0, place) < place
 }
 
 // Whether something is taken, though nothing is due from the next place on.
@@ -163,6 +187,26 @@ pub(crate) fn is_even<S: Sequence>(document: &Document<S>, state: &SyncState) ->
     are(&state.theirs, document.heads()) && !has_any(document, state.wants.as_slice())
 }
 
+// What a message that looked for changes leaves.
+#[derive(Drop)]
+struct Rest {
+    // Which changes are due.
+    due: Outside,
+    // The place from which it looked.
+    from: usize,
+    // Whether one is due from there on that it doesn't carry.
+    left: bool,
+}
+
+// Whether changes that are due are left out.
+fn leaves<S: Sequence>(document: &Document<S>, rest: &Rest) -> bool
+    requires { (s : SyncParts) × IsRest document.now.applied s (Some rest.now) }
+    ensures { (s : SyncParts) → IsRest document.now.applied s (Some rest.now)
+        → result ≡ leaves_out document.now.applied s }
+{
+    rest.left || is_any_before(document, &rest.due, rest.from)
+}
+
 /// What a message carries of the changes that are due, and how far it gets.
 #[derive(Drop)]
 pub(crate) struct Load<'a> {
@@ -174,8 +218,8 @@ pub(crate) struct Load<'a> {
     pub(crate) next: usize,
     /// Whether it begins again with the first that is due.
     pub(crate) again: bool,
-    // The changes that are due, where any may be.
-    due: Option<Outside>,
+    // What it leaves, where changes were looked for.
+    rest: Option<Rest>,
 }
 
 impl<'a> Load<'a> {
@@ -184,27 +228,26 @@ impl<'a> Load<'a> {
         ensures changes { result.changes.items ≡ [] }
         ensures next { result.next ≡ next }
         ensures again { result.again ≡ false }
-        ensures due { result.due ≡ None }
+        ensures rest { result.rest ≡ None }
     {
         Load {
             changes: Vec::new(alloc),
             bytes: 0,
             next,
             again: false,
-            due: None,
+            rest: None,
         }
     }
 
-    /// Whether it leaves out changes that are due. Those that it carries are looked for once more, and one behind them.
+    /// Whether it leaves out changes that are due. Only the places before that from which it looked for them are asked
+    /// for, and none where it found one that it doesn't carry.
     pub(crate) fn is_cut<S: Sequence>(&self, document: &Document<S>) -> bool
-        requires { (s : SyncParts) × AreDue document.now.applied s self.now.due }
-        ensures { (s : SyncParts) → AreDue document.now.applied s self.now.due
-            → map (λ c. c.now) self.now.changes.items ≡ carried document.now.applied s
+        requires { (s : SyncParts) × IsRest document.now.applied s self.now.rest }
+        ensures { (s : SyncParts) → IsRest document.now.applied s self.now.rest
             → result ≡ leaves_out document.now.applied s }
     {
-        let _changes = document.changes();
-        match &self.due {
-            Some(due) => are_more_due(document, due, self.changes.len()),
+        match &self.rest {
+            Some(rest) => leaves(document, rest),
             None => false,
         }
     }
@@ -234,7 +277,7 @@ fn load_declared<'a, S: Sequence>(
         (carried document.now.applied state.now) state.now.next l.next) }
     ensures again { IfOk result
         (λ l. l.again ≡ of_due.begins_again document.now.applied state.now) }
-    ensures due { IfOk result (λ l. AreDue document.now.applied state.now l.due) }
+    ensures rest { IfOk result (λ l. IsRest document.now.applied state.now l.rest) }
     ensures err { IsOkUnless result OutOfMemory }
 {
     let _changes = document.changes();
@@ -242,24 +285,27 @@ fn load_declared<'a, S: Sequence>(
         Ok(due) => due,
         Err(_) => return Err(SyncError::OutOfMemory),
     };
-    let next = state.next;
-    let goes_on = is_any_from(document, &due, next);
-    let from = first_place(goes_on, next);
-    let taken = take_from(alloc, document, &due, from, next)?;
-    let again = begins_again(taken.changes.len(), goes_on);
+    let stretch = find_stretch(document, &due, state.next);
+    let taken = take_from(alloc, document, &due, &stretch, state.next)?;
+    let again = begins_again(taken.changes.len(), stretch.goes_on);
+    let rest = Rest {
+        due,
+        from: stretch.from,
+        left: taken.left,
+    };
     Ok(Load {
         changes: taken.changes,
         bytes: taken.bytes,
         next: taken.next,
         again,
-        due: Some(due),
+        rest: Some(rest),
     })
 }
 
 /// What the next message to the other carries: nothing where the other declared no heads yet, or where they are the
-/// heads that are there and nothing is wanted. Else the changes from the first that is carried up to the last are looked
-/// at, and those that the other has from the prefix of its past on. Only where a change that is there is wanted all
-/// changes are passed over. No change is copied.
+/// heads that are there and nothing is wanted. Else each place from the prefix of the other's past on is asked for at
+/// most once: those from the next place on, until the message is full, and those before it only where nothing is due
+/// from there on. Only where a change that is there is wanted are all changes passed over first. No change is copied.
 pub(crate) fn load_for<'a, S: Sequence>(
     alloc: Global,
     document: &'a Document<S>,
@@ -271,7 +317,7 @@ pub(crate) fn load_for<'a, S: Sequence>(
         (carried document.now.applied state.now) state.now.next l.next) }
     ensures again { IfOk result
         (λ l. l.again ≡ of_due.begins_again document.now.applied state.now) }
-    ensures due { IfOk result (λ l. AreDue document.now.applied state.now l.due) }
+    ensures rest { IfOk result (λ l. IsRest document.now.applied state.now l.rest) }
     ensures err { IsOkUnless result OutOfMemory }
 {
     let _changes = document.changes();

@@ -3,7 +3,7 @@
 ghost use Rattle.std.specs.Prelude.{◌≡◌, ◌↔◌, ◌<◌, ◌≤◌, ◌⊎◌, length, map, Err, IfOk, IfErr, IfSome, IsOkUnless, IsTrue, MatchOption};
 ghost use Rattle.tp_sync.specs.Common.{option_map};
 ghost use Rattle.tp_graph.specs.Heads as head;
-ghost use Rattle.tp_sync.specs.Answer.{Answer, AnswerBytes, IsQuiet};
+ghost use Rattle.tp_sync.specs.Answer.{Answer, AnswerBytes, IsQuiet, Says};
 ghost use Rattle.tp_sync.specs.Due.{leaves_out};
 ghost use Rattle.tp_sync.specs.Saying.{IsToSay};
 ghost use Rattle.tp_sync.specs.declared.error.SyncError.TheVariants.{OutOfMemory, TooManyHeads};
@@ -89,6 +89,32 @@ fn copies_of(alloc: Global, changes: &[&Change]) -> Result<Vec<Change>, SyncErro
     Ok(copies)
 }
 
+// The message that says it, with copies of the changes that it carries. The state is told of it.
+fn made<S: Sequence>(
+    alloc: Global,
+    document: &Document<S>,
+    state: &mut SyncState,
+    saying: Saying<'_>,
+) -> Result<Message, SyncError>
+    requires { IsToSay document.now.applied document.now.waiting state.old saying }
+    ensures says { IfOk result
+        (λ m. Says document.now.applied document.now.waiting state.old m state.new) }
+    ensures err { IfErr result (λ e. (e ≡ OutOfMemory) × (state.new ≡ state.old)) }
+{
+    let _changes = document.changes();
+    let Saying {
+        heads,
+        wants,
+        known,
+        load,
+    } = saying;
+    let changes = copies_of(alloc, &load.changes)?;
+    let told = Vec::from_slice(alloc, &heads)?;
+    let message = Message::new(heads, wants, known, changes);
+    state.tell(told, load.next, load.again);
+    Ok(message)
+}
+
 /// A message for another peer.
 #[derive(Drop)]
 pub(crate) struct Sent {
@@ -113,21 +139,10 @@ pub(crate) fn send<S: Sequence>(
     ensures err { IfErr result
         (λ e. ((e ≡ TooManyHeads) ⊎ (e ≡ OutOfMemory)) × (state.new ≡ state.old)) }
 {
-    let _changes = document.changes();
     match to_say(alloc, document, state)? {
-        Some(
-            Saying {
-                heads,
-                wants,
-                known,
-                load,
-            },
-        ) => {
-            let cut = load.is_cut(document);
-            let changes = copies_of(alloc, &load.changes)?;
-            let told = Vec::from_slice(alloc, &heads)?;
-            let message = Message::new(heads, wants, known, changes);
-            state.tell(told, load.next, load.again);
+        Some(saying) => {
+            let cut = saying.load.is_cut(document);
+            let message = made(alloc, document, state, saying)?;
             Ok(Some(Sent { message, cut }))
         }
         None => Ok(None),
@@ -135,24 +150,27 @@ pub(crate) fn send<S: Sequence>(
 }
 
 /// The next message to another peer, as Automerge's call `generate_sync_message`: the document's heads; the hashes that
-/// it wants, which are those of the other's heads and of the dependencies of waiting changes that are neither applied nor
-/// waiting, the least 65,535 of them; those of the applied changes that are 1, 2, 4, 8 and so on places before the end of the
-/// list; and changes that are due. It is of version 2. `None` where the heads were told, the other declared the same, and
-/// nothing is due; the state stays then.
+/// it wants, which are those of the other's heads and of the dependencies of waiting changes that are neither applied
+/// nor waiting, the least 65,535 of them; those of the applied changes that are 1, 2, 4, 8 and so on places before the
+/// end of the list; and changes that are due. It is of version 2. `None` where the heads were told, the other declared
+/// the same, and nothing is due; the state stays then.
 ///
 /// Nothing is due before the other declared heads. Then those of the applied changes are that the other wants, or that
-/// aren't in the past of those of its heads and of the changes that it knew that are applied here. Whether they were sent
-/// before makes no difference: nothing that was sent counts as received, so a lost message is made up for. The message takes
-/// them in applied order,
-/// from behind the place up to which the one before took them, or from the first where nothing is due from there on,
-/// until it has 1,024 of them or 1,048,576 bytes of them.
+/// aren't in the past of those of its heads and of the changes that it knew that are applied here. Whether they were
+/// sent before makes no difference: nothing that was sent counts as received, so a lost message is made up for. The
+/// message takes them in applied order, from the place on up to which the one before took them, or from the first where
+/// nothing is due from there on, until it has 1,024 of them or 1,048,576 bytes of them.
 ///
 /// `TooManyHeads` exactly where the document has more than 65,535 heads; the only other refusal is `OutOfMemory`. A
 /// refusal leaves the state as it was.
 ///
-/// Cost: where the other's heads are the document's, a comparison of them and a look-up for each hash that it wants. Else
-/// one pass over the applied changes, with a byte for each, and a copy of the other's heads; only the changes that are sent
-/// are copied.
+/// Cost: where the other's heads are the document's, a comparison of them and a look-up for each hash that it wants.
+/// Else the pasts of what it declared are joined, with a look-up for each of those hashes. Then each applied change
+/// after the prefix of that past is asked for at most once, with at most a comparison for each author of changes there:
+/// those from the place on up to which the message before took them, until this one is full, and those before that
+/// place only where nothing is due from it on. Where the other wants an applied change, or that past has changes of
+/// more than 4,096 authors after its prefix, one pass over all changes is made first, with a byte for each. Only the
+/// changes that are sent are copied.
 pub fn generate<S: Sequence>(
     alloc: Global,
     document: &Document<S>,
@@ -165,10 +183,9 @@ pub fn generate<S: Sequence>(
     ensures err { IfErr result
         (λ e. ((e ≡ TooManyHeads) ⊎ (e ≡ OutOfMemory)) × (state.new ≡ state.old)) }
 {
-    match send(alloc, document, state) {
-        Ok(Some(sent)) => Ok(Some(sent.message)),
-        Ok(None) => Ok(None),
-        Err(error) => Err(error),
+    match to_say(alloc, document, state)? {
+        Some(saying) => Ok(Some(made(alloc, document, state, saying)?)),
+        None => Ok(None),
     }
 }
 

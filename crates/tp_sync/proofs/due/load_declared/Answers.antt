@@ -1,7 +1,17 @@
 use Rattle.std.proofs.Common.{rules}
-use Rattle.tp_sync.proofs.Common.{◌≡◌, ◌∙◌, ℕ, subst, carried, MovesOn, List, Bool, length, length-map, map, cond, drop, ap, sym, list_any, ChangeParts, marks_since, SyncParts, begins_at}
-use Rattle.tp_sync.proofs.LoadLaws.{AreMarks, are_marks, again_by, begins_by, carried_by}
+use Rattle.tp_sync.proofs.Common.{◌≡◌, ◌∙◌, ℕ, refl, subst, carried, MovesOn, List, Bool, length, length-map, map, cond, drop, ap, sym, list_any, ChangeParts, Hash, marks_since, SyncParts, begins_at}
+use Rattle.tp_graph.specs.Outside.{IsOutside}
+use Rattle.tp_sync.specs.Due.{IsStretch}
+use Rattle.tp_sync.specs.declared.due.Stretch.{Stretch}
+use Rattle.tp_sync.proofs.LoadLaws.{AreMarks, are_marks, again_by, begins_by, carried_by, left_out_by}
 use Rattle.tp_sync.proofs.due.load_declared.Goals as goal
+
+-- the stretch goes on, and begins, as the state has it
+goes_on_by : (C : List ChangeParts) (s : SyncParts) (marks : List Bool) (next : ℕ) (st : Stretch) → next ≡ s.next → IsStretch marks next st → st.goes_on ≡ list_any (λ (b : Bool). b) (drop s.next marks)
+goes_on_by C s marks next st e is = is.on ∙ ap (λ n. list_any (λ (b : Bool). b) (drop n marks)) e
+
+from_by : (C : List ChangeParts) (s : SyncParts) (marks : List Bool) (next : ℕ) (st : Stretch) → AreMarks C s marks → next ≡ s.next → IsStretch marks next st → st.from ≡ begins_at C s
+from_by C s marks next st are e is = begins_by C s marks st.goes_on st.from are (goes_on_by C s marks next st e is) (is.from ∙ ap (λ n. cond st.goes_on n 0) e)
 
 pub returns-clause-changes : goal.returns-clause-changes
 returns-clause-changes g c =
@@ -11,11 +21,9 @@ returns-clause-changes g c =
     let are : AreMarks C s marks = are_marks C c.args.theirs.now s marks c.changes-changes.ensures.sound c.requires
     (ap (marks_since C c.args.theirs.now) (c.as_slice.ensures ∙ ap (λ (t : SyncParts). t.wants) c.state.view_is)) in
     let next : c.state.inside.next ≡ s.next = ap (λ (t : SyncParts). t.next) c.state.view_is in
-    let on : c.is_any_from-goes_on.result ≡ list_any (λ (b : Bool). b) (drop s.next marks) =
-    c.is_any_from-goes_on.ensures _ _ c.in-Ok.ensures.outside ∙ ap (λ n. list_any (λ (b : Bool). b) (drop n marks)) next in
-    let from : c.first_place-from.result ≡ begins_at C s =
-    begins_by C s marks c.is_any_from-goes_on.result c.first_place-from.result are on (c.first_place-from.ensures ∙ ap (λ n. cond c.is_any_from-goes_on.result n 0) next) in
-    carried_by C s marks c.first_place-from.result (map (λ c. c.now) c.in_ok-taken.taken.changes.items) are from
+    let st : Stretch = c.find_stretch-stretch.result in
+    carried_by C s marks st.from (map (λ c. c.now) c.in_ok-taken.taken.changes.items) are
+    (from_by C s marks c.state.inside.next st are next (c.find_stretch-stretch.ensures _ _ c.in-Ok.ensures.outside))
     (c.in_ok-taken.ensures.changes _ _ c.in-Ok.ensures.outside)
 
 pub returns-clause-next : goal.returns-clause-next
@@ -34,9 +42,27 @@ returns-clause-again g c =
     let are : AreMarks C s marks = are_marks C c.args.theirs.now s marks c.changes-changes.ensures.sound c.requires
     (ap (marks_since C c.args.theirs.now) (c.as_slice.ensures ∙ ap (λ (t : SyncParts). t.wants) c.state.view_is)) in
     let next : c.state.inside.next ≡ s.next = ap (λ (t : SyncParts). t.next) c.state.view_is in
-    let on : c.is_any_from-goes_on.result ≡ list_any (λ (b : Bool). b) (drop s.next marks) =
-    c.is_any_from-goes_on.ensures _ _ c.in-Ok.ensures.outside ∙ ap (λ n. list_any (λ (b : Bool). b) (drop n marks)) next in
+    let st : Stretch = c.find_stretch-stretch.result in
     let many : c.len.result ≡ length c.in_ok-taken.taken.changes.items = search rules in
     c.begins_again-again.ensures
-    ∙ again_by C s marks c.is_any_from-goes_on.result c.len.result are on
+    ∙ again_by C s marks st.goes_on c.len.result are (goes_on_by C s marks c.state.inside.next st next (c.find_stretch-stretch.ensures _ _ c.in-Ok.ensures.outside))
     (many ∙ sym (length-map c.in_ok-taken.taken.changes.items (λ c. c.now)) ∙ ap length (returns-clause-changes g c))
+
+pub returns-clause-rest : goal.returns-clause-rest
+returns-clause-rest g c =
+    let C : List ChangeParts = c.args.document.now.applied in
+    let s : SyncParts = c.args.state.now in
+    let marks : List Bool = marks_since C c.args.theirs.now s.wants in
+    let are : AreMarks C s marks = are_marks C c.args.theirs.now s marks c.changes-changes.ensures.sound c.requires refl in
+    let next : c.state.inside.next ≡ s.next = ap (λ (t : SyncParts). t.next) c.state.view_is in
+    let outside = subst (λ (K : List Hash). IsOutside C c.args.theirs.now K c.in-Ok.due) (c.as_slice.ensures ∙ ap (λ (t : SyncParts). t.wants) c.state.view_is) c.in-Ok.ensures.outside in
+    let st : Stretch = c.find_stretch-stretch.result in
+    let t = c.in_ok-taken.taken in (
+      c.args.theirs.now,
+      c.requires,
+      outside,
+      left_out_by C s marks st.from (length t.changes.items) t.left are
+          (from_by C s marks c.state.inside.next st are next (c.find_stretch-stretch.ensures _ _ outside))
+          (sym (length-map t.changes.items (λ c. c.now)) ∙ ap length (returns-clause-changes g c))
+          (c.in_ok-taken.ensures.left _ _ outside),
+    )

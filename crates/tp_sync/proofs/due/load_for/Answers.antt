@@ -1,4 +1,4 @@
-use Rattle.tp_sync.proofs.Common.{◌∙◌, ap, map, inl, sym, subst, List, ChangeParts, SyncParts, Option}
+use Rattle.tp_sync.proofs.Common.{◌∙◌, ap, map, inl, sym, SyncParts}
 use Rattle.tp_sync.proofs.LoadLaws.{CarriesNone, carries_none}
 use Rattle.tp_sync.proofs.due.load_for.Goals as goal
 
