@@ -4,6 +4,7 @@
 mod codec;
 mod copying;
 mod graphs;
+mod lacking;
 mod merging;
 mod messages;
 mod received;
@@ -36,7 +37,21 @@ where
     R::File: Lockable,
 {
     let words: Vec<String> = env::args(rt)?.collect(rt.alloc())?;
-    run_named(rt, words.get(1).map(|word| word.as_str()).unwrap_or(""))
+    let name = word_at(&words, 1).unwrap_or("");
+    if name == "lacks-little" {
+        return lacking::run(
+            rt,
+            word_at(&words, 2),
+            word_at(&words, 3),
+            word_at(&words, 4),
+        );
+    }
+    run_named(rt, name)
+}
+
+// The word with the number, if there is one.
+fn word_at(words: &[String], number: usize) -> Option<&str> {
+    words.get(number).map(|word| word.as_str())
 }
 
 // Runs the benchmark of the name, or says which there are. Each of these functions hands on the names that it doesn't

@@ -15,7 +15,8 @@ use tp_store::save;
 /// How many messages carry the changes, of 1,024 each at most.
 const MESSAGES: usize = 98;
 
-const LINK: Link = Link(0);
+/// The link between the two peers.
+pub const LINK: Link = Link(0);
 
 // The bytes of each change.
 fn bytes_of(alloc: Global, changes: &[Change]) -> anyhow::Result<Vec<Vec<u8>>> {
@@ -56,8 +57,8 @@ fn newcomer(alloc: Global) -> anyhow::Result<Peer<MemJournal>> {
     }
 }
 
-// A peer on the journal.
-fn author(alloc: Global, journal: &[u8]) -> anyhow::Result<Peer<MemJournal>> {
+/// A peer on the journal.
+pub fn author(alloc: Global, journal: &[u8]) -> anyhow::Result<Peer<MemJournal>> {
     let journal = MemJournal::new(Vec::from_slice(alloc, journal)?);
     match Peer::reopen(alloc, journal, Actor([2; 16])) {
         Ok(peer) => Ok(peer),
@@ -65,8 +66,8 @@ fn author(alloc: Global, journal: &[u8]) -> anyhow::Result<Peer<MemJournal>> {
     }
 }
 
-// The bytes of the next message of a peer.
-fn next_message(peer: &mut Peer<MemJournal>) -> anyhow::Result<Vec<u8>> {
+/// The bytes of the next message of a peer.
+pub fn next_message(peer: &mut Peer<MemJournal>) -> anyhow::Result<Vec<u8>> {
     match peer.generate_bytes(LINK)? {
         Some(outgoing) => Ok(outgoing.bytes),
         None => Err(anyhow!("there is nothing to say")),

@@ -42,6 +42,13 @@ Makes changes of one character, and passes messages as bytes until nobody has an
   catch-up  a peer without changes, and one with 25,000; and one with 100,000
   idle      a message where there is nothing to say, with 1,000 to 100,000 changes
 
+Makes messages to a peer that lacks one change of what several authors wrote at the same time: where that one begins
+anew each time, and where each message is lost. Besides the name, words may say the case (200x40, 20x400, 5x1600 or
+2x4000: authors and changes of each, by turns; hub: 50 authors with 100 changes each, one after another) and how many
+messages of each of the two kinds are made:
+
+  lacks-little  20 messages of each kind in each case
+
 Sends a session a message of 16 megabytes in pieces of 7 bytes:
 
   message-whole  which takes the frame once it is whole
