@@ -100,6 +100,12 @@ impl<S: Sequence> Document<S> {
     /// is `OutOfMemory`. The changes are copied one by one, and what is kept beside them as it stands. Where the sequence
     /// can't be copied so, each change is entered anew without judging it, which joins the pasts of its dependencies where
     /// they aren't all heads.
+    ///
+    /// The vectors of a copy with an entry for each change, element or delete have room for an eighth more, and up to
+    /// four: a change within that room moves none of them. The first change of a copy moves three lists that are copied
+    /// without room: the heads, the pasts of changes that don't have all before a place as their past, and the marks of
+    /// changes of many operations. A list of the actors of elements is moved where a change has more operations than that
+    /// list has room for.
     pub fn fork(&self) -> Result<Document<S>, DocError>
         ensures ok { IfOk result (λ d. HasJust self.now.id self.now.applied d) }
         ensures err { IsOkUnless result OutOfMemory }

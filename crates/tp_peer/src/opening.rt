@@ -382,7 +382,7 @@ impl<J: Journal> Peer<J> {
     /// is then as it was, or empty but for a beginning of what was appended. The only other refusal is `OutOfMemory`,
     /// which leaves it as it was or empty. Each refusal gives the journal back.
     ///
-    /// It enters each change anew, and makes the whole journal in memory.
+    /// The document is copied as [`fork`](tp_document::Document::fork) does, and the whole journal is made in memory.
     pub fn fork<K: Journal>(&self, mut journal: K, actor: Actor) -> Result<Peer<K>, Unopened<K>>
         ensures ok { IfOk result
             (λ p. Forks self.now actor (journal_state (K.content journal) (K.device journal)) p) }
