@@ -4,10 +4,10 @@ ghost use Rattle.std.specs.Prelude.{◌≡◌, ◌↔◌, ◌⊎◌, ◌&&◌, �
 ghost use Rattle.tp_document.specs.Common.{slice_get, chars, IsTextOf, option_map, string_bytes, past, shown_before, chars_of};
 ghost use Rattle.tp_graph.specs.Named as named;
 ghost use Rattle.tp_graph.specs.Clocks.{has_op, IsClockOf};
-ghost use Rattle.tp_document.specs.History.{covers, shown_by, deletes_by, inserts_by, AreTargets, IsAuthorOf};
+ghost use Rattle.tp_document.specs.History.{covers, shown_by, deletes_by, inserts_by, AreTargets, AreAuthorsOf};
 ghost use Rattle.tp_document.specs.Showing.{HasElementAt, HasLength, HasPosition};
 
-use crate::author::Author;
+use crate::author::Authors;
 use crate::cursor::Cursor;
 use crate::document::Document;
 use crate::error::DocError;
@@ -24,34 +24,17 @@ struct Snapshot {
     targets: Targets,
 }
 
-// What is kept from one element of a walk to the next, so that most take no look-up: who inserted it, and the place of
-// the targets' stretch that has it, where it is one.
-#[derive(Clone, Copy)]
-struct Trail {
-    author: Author,
-    place: usize,
-}
-
 impl Snapshot {
-    // Where no element was asked for.
-    fn trail(&self) -> Trail
-        ensures { IsAuthorOf self.now.clock result.author }
-    {
-        Trail {
-            author: Author::of(&self.clock),
-            place: 0,
-        }
-    }
-
     // Whether the past shows an element. One that isn't deleted now wasn't in any past: only others are looked up.
-    fn shows(&self, element: &Seen, trail: &mut Trail) -> bool
-        requires { IsAuthorOf self.now.clock trail.old.author }
-        ensures trail { IsAuthorOf self.now.clock trail.new.author }
+    fn shows(&self, element: &Seen, authors: &mut Authors) -> bool
+        requires { AreAuthorsOf self.now.clock authors.old }
+        ensures authors { AreAuthorsOf self.now.clock authors.new }
         ensures shown { result ≡ (has_op self.now.clock element.now.id
             && not (element.now.deleted && covers self.now.targets element.now.id)) }
     {
-        trail.author.has(&self.clock, &element.id)
-            && !(element.deleted && self.targets.contains(&element.id, &mut trail.place))
+        let there = authors.has(&self.clock, &element.id);
+        let place = &mut authors.last.place;
+        there && !(element.deleted && self.targets.contains(&element.id, place))
     }
 }
 
@@ -102,9 +85,9 @@ fn text_of<S: Sequence>(
 {
     let mut text = String::new(alloc);
     let mut walk = Walk::start();
-    let mut trail = snapshot.trail();
+    let mut authors = Authors::of(&snapshot.clock);
     while let Some(element) = sequence.next_element(&mut walk) {
-        if snapshot.shows(&element, &mut trail) {
+        if snapshot.shows(&element, &mut authors) {
             text.push(element.ch)?;
         }
     }
@@ -119,9 +102,9 @@ fn element_at<S: Sequence>(sequence: &S, snapshot: &Snapshot, at: usize) -> Opti
 {
     let mut left = at;
     let mut walk = Walk::start();
-    let mut trail = snapshot.trail();
+    let mut authors = Authors::of(&snapshot.clock);
     while let Some(element) = sequence.next_element(&mut walk) {
-        if snapshot.shows(&element, &mut trail) {
+        if snapshot.shows(&element, &mut authors) {
             if left == 0 {
                 return Some(element.id);
             }
@@ -140,9 +123,9 @@ fn length_of<S: Sequence>(sequence: &S, snapshot: &Snapshot) -> usize
     let all = sequence.all();
     let mut count = 0usize;
     let mut walk = Walk::start();
-    let mut trail = snapshot.trail();
+    let mut authors = Authors::of(&snapshot.clock);
     while let Some(element) = sequence.next_element(&mut walk) {
-        if snapshot.shows(&element, &mut trail) {
+        if snapshot.shows(&element, &mut authors) {
             prove!(count < all);
             count += 1;
         }
@@ -162,12 +145,12 @@ fn position_of<S: Sequence>(sequence: &S, snapshot: &Snapshot, id: &OpId) -> Opt
     let all = sequence.all();
     let mut before = 0usize;
     let mut walk = Walk::start();
-    let mut trail = snapshot.trail();
+    let mut authors = Authors::of(&snapshot.clock);
     while let Some(element) = sequence.next_element(&mut walk) {
         if element.id.is(id) {
             return Some(before);
         }
-        if snapshot.shows(&element, &mut trail) {
+        if snapshot.shows(&element, &mut authors) {
             prove!(before < all);
             before += 1;
         }

@@ -6,7 +6,7 @@ ghost use Rattle.tp_opid.specs.Same.{id_eq};
 ghost use Rattle.tp_opid.specs.declared.op_id.OpId.{OpId as Id};
 ghost use Rattle.tp_document.specs.History.{is_within, covers, side, StartsBefore, Precedes, AreTargets};
 
-use crate::author::Author;
+use crate::author::Authors;
 use std::alloc::{AllocError, Global};
 use std::cmp::Ordering;
 use std::marker::Model;
@@ -141,11 +141,27 @@ impl Targets {
 
     /// Whether the element is one of them. The stretch at a place is asked first, which is then that of the last element
     /// that was found: an element of the same stretch takes no look-up.
+    #[inline]
     pub(crate) fn contains(&self, id: &OpId, place: &mut usize) -> bool
         ensures { result ≡ covers self.now id.now }
     {
         if let Some(stretch) = self.stretches.get(*place) {
             if stretch.has(id) {
+                return true;
+            }
+        }
+        self.find(id, place)
+    }
+
+    // Whether the element is one of them. The stretch after the place is asked before the search among all.
+    #[inline(never)]
+    fn find(&self, id: &OpId, place: &mut usize) -> bool
+        ensures { result ≡ covers self.now id.now }
+    {
+        let next = place.saturating_add(1);
+        if let Some(following) = self.stretches.get(next) {
+            if following.has(id) {
+                *place = next;
                 return true;
             }
         }
@@ -163,6 +179,7 @@ impl Targets {
 const NOTES: usize = 512;
 
 // Takes an element in, where the stretch at the place has it or is next to it.
+#[inline]
 fn take_in(stretches: &mut Vec<Stretch>, place: usize, id: &OpId) -> bool
     ensures { (x : Id) → covers stretches.new.items x
         ≡ (covers stretches.old.items x || (result && id_eq id.now x)) }
@@ -181,7 +198,7 @@ fn take_in(stretches: &mut Vec<Stretch>, place: usize, id: &OpId) -> bool
 // deletes come in, and no note is trusted: the stretch is asked.
 #[derive(Drop)]
 struct Lately {
-    places: [usize; NOTES],
+    places: [u32; NOTES],
 }
 
 impl Lately {
@@ -204,21 +221,23 @@ impl Lately {
 
     // Takes an element in, where the stretch that its note names has it or is next to it. Else its note is to name the
     // stretch that is put at the end.
+    #[inline(never)]
     fn take_in(&mut self, stretches: &mut Vec<Stretch>, id: &OpId) -> bool
         ensures { (x : Id) → covers stretches.new.items x
             ≡ (covers stretches.old.items x || (result && id_eq id.now x)) }
     {
         let note = Lately::note_of(id);
-        if take_in(stretches, self.places[note], id) {
+        if take_in(stretches, self.places[note] as usize, id) {
             return true;
         }
-        self.places[note] = stretches.len();
+        self.places[note] = stretches.len().min(u32::MAX as usize) as u32;
         false
     }
 }
 
 // Adds an element: to the last stretch or the one that took it lately, where these have it or are next to it, else as a
 // stretch of its own.
+#[inline]
 fn add(stretches: &mut Vec<Stretch>, lately: &mut Lately, id: &OpId) -> Result<(), AllocError>
     ensures { IfOk result
         (λ _. (x : Id) → covers stretches.new.items x ≡ (covers stretches.old.items x || id_eq id.now x)) }
@@ -240,11 +259,11 @@ pub(crate) fn targets_of(
 ) -> Result<Targets, AllocError>
     ensures { IfOk result (λ targets. AreTargets targets clock.now deletes.now) }
 {
-    let mut author = Author::of(clock);
+    let mut authors = Authors::of(clock);
     let mut stretches = Vec::new(alloc);
     let mut lately = Lately::new();
     for delete in deletes {
-        if author.has(clock, &delete.1) {
+        if authors.has(clock, &delete.1) {
             add(&mut stretches, &mut lately, &delete.0)?;
         }
     }

@@ -4,7 +4,7 @@ use Rattle.std.specs.List.{AllAdjacentBelow}
 use Rattle.std.proofs.lemmas.Fn.{always_returns_same}
 use Rattle.tp_document.specs.declared.targets.Stretch.{Stretch}
 use Rattle.tp_document.proofs.TargetLaws.{one_found, none_found}
-use Rattle.tp_document.proofs.targets.Targets.contains.Goals as goal
+use Rattle.tp_document.proofs.targets.Targets.find.Goals as goal
 
 pub returns-in-Ok : goal.returns-in-Ok
 returns-in-Ok c =
