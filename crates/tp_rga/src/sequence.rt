@@ -120,7 +120,9 @@ pub trait Sequence: Drop {
         ensures spot { IfSome walk.new.spot (λ spot. stands_at self.now spot walk.new.index) }
         ensures next { OnSome result (walk.new.index ≡ walk.old.index + 1) }
     {
-        if walk.index >= self.all() {
+        if walk.index == usize::MAX {
+            // No element has this index: `all` counts them, and a count is at most this.
+            let _all = self.all();
             return None;
         }
         let element = self.element(walk.index)?;
