@@ -32,9 +32,8 @@ impl Snapshot {
         ensures shown { result ≡ (has_op self.now.clock element.now.id
             && not (element.now.deleted && covers self.now.targets element.now.id)) }
     {
-        let there = authors.has(&self.clock, &element.id);
-        let place = &mut authors.last.place;
-        there && !(element.deleted && self.targets.contains(&element.id, place))
+        authors.has(&self.clock, &element.id)
+            && !(element.deleted && self.targets.contains(&element.id, &mut authors.last.place))
     }
 }
 
