@@ -1,5 +1,4 @@
-use Rattle.tp_graph.proofs.Common.{◌≡◌, length, arith}
-use Rattle.tp_graph.specs.Outside.{told_of}
+use Rattle.tp_graph.proofs.Common.{◌≡◌, length, arith, told_of}
 use Rattle.tp_graph.proofs.OutsideLaws.{length-told}
 use Rattle.tp_graph.proofs.applied.Applied.next_outside.Goals as goal
 

@@ -1,7 +1,4 @@
-use Rattle.tp_graph.proofs.Common.{◌≡◌, ◌∙◌, List, Bool, length, get_or, sym, ap, arith, false, inl, inr}
-use Rattle.std.proofs.lemmas.Bool.{cases_lt}
-use Rattle.std.proofs.lemmas.List.{get_or_past}
-use Rattle.tp_graph.specs.Outside.{told_of}
+use Rattle.tp_graph.proofs.Common.{◌≡◌, ◌∙◌, List, Bool, length, get_or, sym, ap, arith, false, inl, inr, cases_lt, get_or_past, told_of}
 use Rattle.tp_graph.proofs.OutsideLaws.{none_before, length-told}
 use Rattle.tp_graph.proofs.applied.Applied.next_outside_before.Goals as goal
 

@@ -1,5 +1,4 @@
-use Rattle.tp_graph.proofs.Common.{◌≡◌, ℕ, ◌<◌, ◌≤◌, get_or, false}
-use Rattle.tp_graph.specs.Outside.{told_of}
+use Rattle.tp_graph.proofs.Common.{◌≡◌, ℕ, ◌<◌, ◌≤◌, get_or, false, told_of}
 use Rattle.tp_graph.proofs.applied.Applied.next_outside_before.Given as goal
 
 -- none was found from the first place on
