@@ -12,7 +12,7 @@ use std::slice::from_ref;
 use tp_list::Text;
 use tp_opid::{Actor, Hash};
 
-/// The parts of a change that are kept in one of two ways.
+/// The parts of a change that are kept in one of three ways.
 #[derive(Drop)]
 pub(crate) enum Kept {
     /// One dependency, one record and no message, behind fewer than 2^32 changes of the actor: in the value itself.
@@ -21,19 +21,26 @@ pub(crate) enum Kept {
         dep: Hash,
         entry: Record,
     },
-    /// Any others: the records are in memory of their own, and so are dependencies, but for one alone.
+    /// One dependency, and any message and records: the records are in memory of their own.
+    Single {
+        seq: u64,
+        dep: Hash,
+        message: Text,
+        records: Vec<Record>,
+    },
+    /// Any others: the lists are in memory of their own.
     Large {
         seq: u64,
         message: Text,
-        deps: Few<Hash>,
+        deps: Vec<Hash>,
         records: Vec<Record>,
     },
 }
 
-/// A list of which one element alone takes no memory.
+/// A list as it is read.
 #[derive(Drop)]
 pub(crate) enum Few<T> {
-    /// One element.
+    /// One element, which takes no memory.
     One(T),
     /// Any number.
     More(Vec<T>),
@@ -72,17 +79,7 @@ fn is_plain(seq: u64, message: &Text) -> bool
     seq <= u32::MAX as u64 && message.is_empty()
 }
 
-// The hashes. It takes no memory; that of a list of one is given back.
-fn few_of(hashes: Vec<Hash>) -> Few<Hash>
-    ensures { items_of result ≡ hashes.items }
-{
-    if hashes.len() == 1 {
-        return Few::One(hashes[0]);
-    }
-    Few::More(hashes)
-}
-
-// These parts. It takes no memory; that of the lists of a small change is given back.
+// These parts. It takes no memory; that of a list that isn't kept is given back.
 fn kept_of(seq: u64, message: Text, deps: Vec<Hash>, mut records: Vec<Record>) -> Kept
     ensures { Has seq message deps.items records.items result }
 {
@@ -95,10 +92,18 @@ fn kept_of(seq: u64, message: Text, deps: Vec<Hash>, mut records: Vec<Record>) -
             };
         }
     }
+    if deps.len() == 1 {
+        return Kept::Single {
+            seq,
+            dep: deps[0],
+            message,
+            records,
+        };
+    }
     Kept::Large {
         seq,
         message,
-        deps: few_of(deps),
+        deps,
         records,
     }
 }
@@ -110,18 +115,6 @@ fn list_of_one<T: Drop>(alloc: Global, item: T) -> Result<Vec<T>, AllocError>
     let mut items = Vec::with_capacity(alloc, 1)?;
     items.push(item)?;
     Ok(items)
-}
-
-impl Few<Hash> {
-    // The hashes.
-    fn as_slice(&self) -> &[Hash]
-        ensures { result.now ≡ items_of self.now }
-    {
-        match self {
-            Few::One(hash) => from_ref(hash),
-            Few::More(hashes) => hashes.as_slice(),
-        }
-    }
 }
 
 impl<T: Drop> Few<T> {
@@ -137,7 +130,7 @@ impl<T: Drop> Few<T> {
 }
 
 // These parts, with the records in memory of their own.
-fn large(
+fn listed(
     alloc: Global,
     seq: u64,
     message: Text,
@@ -146,11 +139,20 @@ fn large(
 ) -> Result<Kept, AllocError>
     ensures { IfOk result (Has seq message (items_of deps) (items_of records)) }
 {
-    Ok(Kept::Large {
-        seq,
-        message,
-        deps,
-        records: records.into_vec(alloc)?,
+    let records = records.into_vec(alloc)?;
+    Ok(match deps {
+        Few::One(dep) => Kept::Single {
+            seq,
+            dep,
+            message,
+            records,
+        },
+        Few::More(deps) => Kept::Large {
+            seq,
+            message,
+            deps,
+            records,
+        },
     })
 }
 
@@ -166,7 +168,7 @@ impl Kept {
         ensures { IfOk result (Has seq message (items_of deps) (items_of records)) }
     {
         if !is_plain(seq, &message) {
-            return large(alloc, seq, message, deps, records);
+            return listed(alloc, seq, message, deps, records);
         }
         match (deps, records) {
             (Few::One(dep), Few::One(entry)) => Ok(Kept::Small {
@@ -174,7 +176,7 @@ impl Kept {
                 dep,
                 entry,
             }),
-            (deps, records) => large(alloc, seq, message, deps, records),
+            (deps, records) => listed(alloc, seq, message, deps, records),
         }
     }
 
@@ -188,6 +190,12 @@ impl Kept {
                 dep: _,
                 entry: _,
             } => *seq as u64,
+            Kept::Single {
+                seq,
+                dep: _,
+                message: _,
+                records: _,
+            } => *seq,
             Kept::Large {
                 seq,
                 message: _,
@@ -209,6 +217,12 @@ impl Kept {
                 dep: _,
                 entry: _,
             } => "",
+            Kept::Single {
+                seq: _,
+                dep: _,
+                message,
+                records: _,
+            } => message.as_str(),
             Kept::Large {
                 seq: _,
                 message,
@@ -227,6 +241,12 @@ impl Kept {
                 seq: _,
                 dep,
                 entry: _,
+            } => from_ref(dep),
+            Kept::Single {
+                seq: _,
+                dep,
+                message: _,
+                records: _,
             } => from_ref(dep),
             Kept::Large {
                 seq: _,
@@ -247,6 +267,12 @@ impl Kept {
                 dep: _,
                 entry,
             } => from_ref(entry),
+            Kept::Single {
+                seq: _,
+                dep: _,
+                message: _,
+                records,
+            } => records.as_slice(),
             Kept::Large {
                 seq: _,
                 message: _,

@@ -1,16 +1,15 @@
 //! Copies of changes.
 
 ghost use Rattle.std.specs.Prelude.{◌≡◌, IfOk, IsOkUnless};
-ghost use Rattle.tp_change.specs.Kept.{items_of, seq_of, message_of, deps_of, records_of, Has};
+ghost use Rattle.tp_change.specs.Kept.{seq_of, message_of, deps_of, records_of, Has};
 ghost use Rattle.tp_change.specs.declared.error.ChangeError.TheVariants.{OutOfMemory};
 
-use crate::body::{Body, Few, Kept};
+use crate::body::{Body, Kept};
 use crate::change::Change;
 use crate::error::ChangeError;
 use crate::record::Record;
 use std::alloc::Global;
 use tp_list::Text;
-use tp_opid::Hash;
 
 /// An equal text.
 fn copy_text(alloc: Global, text: &Text) -> Result<Text, ChangeError>
@@ -50,17 +49,6 @@ fn copy_records(alloc: Global, records: &[Record]) -> Result<Vec<Record>, Change
     Ok(copied)
 }
 
-/// The same hashes.
-fn copy_hashes(alloc: Global, hashes: &Few<Hash>) -> Result<Few<Hash>, ChangeError>
-    ensures copied { IfOk result (λ copied. items_of copied ≡ items_of hashes.now) }
-    ensures err { IsOkUnless result OutOfMemory }
-{
-    Ok(match hashes {
-        Few::One(hash) => Few::One(*hash),
-        Few::More(hashes) => Few::More(Vec::from_slice(alloc, hashes.as_slice())?),
-    })
-}
-
 /// The same parts.
 fn copy_kept(alloc: Global, kept: &Kept) -> Result<Kept, ChangeError>
     ensures copied { IfOk result (Has (seq_of kept.now) (message_of kept.now) (deps_of kept.now) (records_of kept.now)) }
@@ -72,6 +60,17 @@ fn copy_kept(alloc: Global, kept: &Kept) -> Result<Kept, ChangeError>
             dep: *dep,
             entry: copy_record(alloc, entry)?,
         },
+        Kept::Single {
+            seq,
+            dep: hash,
+            message: text,
+            records,
+        } => Kept::Single {
+            seq: *seq,
+            dep: *hash,
+            message: copy_text(alloc, text)?,
+            records: copy_records(alloc, records.as_slice())?,
+        },
         Kept::Large {
             seq,
             message,
@@ -80,7 +79,7 @@ fn copy_kept(alloc: Global, kept: &Kept) -> Result<Kept, ChangeError>
         } => Kept::Large {
             seq: *seq,
             message: copy_text(alloc, message)?,
-            deps: copy_hashes(alloc, deps)?,
+            deps: Vec::from_slice(alloc, deps.as_slice())?,
             records: copy_records(alloc, records.as_slice())?,
         },
     })
