@@ -1,5 +1,5 @@
 -- Changes at places.
-use Rattle.tp_document.proofs.Common.{◌≡◌, ℕ, suc, ◌+◌, ◌<◌, ◌≤◌, inl, inr, List, [], ◌∷◌, ◌++◌, length, take, get_or, true, false, ◌||◌, cond, Option, Some, None, refl, sym, ap, ◌∙◌, arith, append_assoc, slice_get, take_more, length-append, In, Hash, ChangeParts, past, past_places, changes_at, with_change, slice_get-get_or, In-slice_get, names, is_needed}
+use Rattle.tp_document.proofs.Common.{◌≡◌, ℕ, suc, ◌+◌, ◌<◌, inl, inr, List, [], ◌∷◌, ◌++◌, length, take, get_or, true, false, ◌||◌, cond, Option, Some, None, refl, sym, ap, ◌∙◌, arith, append_assoc, slice_get, take_more, length-append, In, Hash, ChangeParts, past, past_places, changes_at, with_change, slice_get-get_or, In-slice_get, names, is_needed}
 use Rattle.tp_graph.specs.Marks.{marks, places_from}
 
 -- ---- the changes at the places of a past are the past

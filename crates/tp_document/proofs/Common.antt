@@ -26,7 +26,7 @@ pub use Rattle.tp_document.specs.Applying.{HasMergeOutcome, kept_by}
 pub use Rattle.tp_document.specs.DocError.{receiving}
 pub use Rattle.tp_document.specs.DocState.{AllChanges, DocState, HasJust, Holds}
 pub use Rattle.tp_document.specs.Editing.{AreInRange, Asked, AsksNothing, AsksSome, Edited, HasCounters, IsEdit, IsRefused, asking}
-pub use Rattle.tp_document.specs.History.{AreTargets, AreAuthorsOf, Precedes, StartsBefore, changes_at, covers, deletes_by, inserts_by, is_within, shown_by, side, with_change}
+pub use Rattle.tp_document.specs.History.{AreTargets, IsAuthorOf, Precedes, StartsBefore, changes_at, covers, deletes_by, inserts_by, is_within, shown_by, side, with_change}
 pub use Rattle.tp_document.specs.Making.{IsAllowed, IsBad, IsTypedAsk, IsWithinSize, parts_made}
 pub use Rattle.tp_document.specs.Merging.{absent}
 pub use Rattle.tp_document.specs.Showing.{HasCharAt, HasElementAt, HasLength, HasPosition}

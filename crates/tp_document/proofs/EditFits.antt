@@ -1,5 +1,5 @@
 -- The change of an edit fits behind the changes that it is made of, and does the splices.
-use Rattle.tp_document.proofs.Common.{take, drop, get_or, add-one, drop-cons, ◌≡◌, ℕ, ◌+◌, ◌<◌, ◌≤◌, ◌==◌, List, [], ◌∷◌, ◌++◌, length, false, ◌&&◌, cond, Some, None, refl, sym, ap, ◌∙◌, subst, arith, nat_tests, length-map, Actor, Hash, Insert, ChangeParts, hash_of, inserts_in, inserts, deletes_in, deletes, next_counter, IsInOrder, shown, chars_of, IsTextOf, has_all, past, defect, or_full, most_changes, count_by, Sound, Fits-at, deps_first, AllInRange, total_count, records_of, visible_ids, Asked, AreInRange, IsEdit, Edited, inserts_tree, take-append-drop, same_actor-same, Record, ops_from, order_exists, one_order, inserts-push, deletes-push, has, Fits, defect-from_Fits, Sound-push, past-heads, Splice, all_spliced, Fits-from_cause, length-take-le, refers, clashes, not_true, has_all-heads, seqs_run, inserted, spliced}
+use Rattle.tp_document.proofs.Common.{take, drop, get_or, add-one, drop-cons, ◌≡◌, ℕ, ◌+◌, ◌<◌, ◌≤◌, ◌==◌, List, [], ◌∷◌, ◌++◌, length, false, cond, Some, None, refl, sym, ap, ◌∙◌, subst, arith, nat_tests, length-map, Actor, Hash, Insert, ChangeParts, hash_of, inserts_in, inserts, deletes_in, deletes, next_counter, IsInOrder, shown, chars_of, IsTextOf, has_all, past, defect, or_full, most_changes, count_by, Sound, Fits-at, deps_first, AllInRange, total_count, records_of, visible_ids, Asked, AreInRange, IsEdit, Edited, inserts_tree, take-append-drop, same_actor-same, Record, ops_from, order_exists, one_order, inserts-push, deletes-push, has, Fits, defect-from_Fits, Sound-push, past-heads, Splice, all_spliced, Fits-from_cause, length-take-le, refers, clashes, not_true, has_all-heads, seqs_run, inserted, spliced}
 use Rattle.tp_change.specs.Operations.{ops_of}
 use Rattle.tp_graph.specs.declared.error.GraphError.TheVariants.{Full}
 use Rattle.tp_graph.specs.Fit.{cause}

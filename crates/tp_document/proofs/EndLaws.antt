@@ -1,5 +1,5 @@
 -- An actor's changes in a past are those below one counter.
-use Rattle.tp_document.proofs.Common.{◌≡◌, ◌+◌, ◌<◌, ◌≤◌, ◌⊎◌, inl, inr, List, [], ◌∷◌, ◌++◌, true, refl, sym, ap, ◌∙◌, subst, arith, append_assoc, In, Hash, OpId, same_actor, ChangeParts, op_count, In-append, past, Sound, past-In, deps_first, Fits-at, end_of, AllIn, IsOwnId, In-right, Sound-before, own_past, next_counter-above, same_actor-flip, In-split, past-closed, Sound-prefix}
+use Rattle.tp_document.proofs.Common.{◌≡◌, ◌+◌, ◌<◌, ◌≤◌, ◌⊎◌, inl, inr, List, ◌∷◌, ◌++◌, true, refl, sym, ap, ◌∙◌, subst, arith, append_assoc, In, Hash, OpId, same_actor, ChangeParts, op_count, In-append, past, Sound, past-In, deps_first, Fits-at, end_of, AllIn, IsOwnId, In-right, Sound-before, own_past, next_counter-above, same_actor-flip, In-split, past-closed, Sound-prefix}
 use Rattle.tp_graph.proofs.ReachLaws.{InPast-from_past, chain_stays}
 use Rattle.tp_graph.proofs.ClockLaws.{end_of-above, end_of-found}
 

@@ -1,5 +1,5 @@
 -- A document made of the changes at the places of a past: each enters behind those before it.
-use Rattle.tp_document.proofs.Common.{take, drop, get_or, add-one, drop-cons, ◌≡◌, ℕ, suc, ◌+◌, ◌<◌, ◌≤◌, ◌==◌, List, [], ◌∷◌, ◌++◌, length, false, ◌||◌, cond, Option, Some, None, sym, ap, ◌∙◌, subst, arith, nat_tests, length-append, slice_get, Hash, ChangeParts, past, past_places, defect, or_full, most_changes, Sound, Fits-at, changes_at, take-append-drop, length-past, defect-from_Fits, with_change}
+use Rattle.tp_document.proofs.Common.{take, drop, get_or, add-one, drop-cons, ◌≡◌, ℕ, suc, ◌+◌, ◌<◌, ◌≤◌, ◌==◌, List, ◌∷◌, ◌++◌, length, false, cond, Option, Some, None, sym, ap, ◌∙◌, subst, arith, nat_tests, length-append, slice_get, Hash, ChangeParts, past, past_places, defect, or_full, most_changes, Sound, Fits-at, changes_at, take-append-drop, length-past, defect-from_Fits, with_change}
 use Rattle.tp_graph.specs.declared.error.GraphError.TheVariants.{Full}
 use Rattle.tp_graph.specs.Fit.{cause}
 use Rattle.tp_document.proofs.ChangePlaces.{changes_at-append, changes_at-past}

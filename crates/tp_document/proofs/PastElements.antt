@@ -1,5 +1,5 @@
 -- The elements and the deletes of a past, among those of the whole.
-use Rattle.tp_document.proofs.Common.{◌≡◌, ℕ, suc, ◌+◌, ◌<◌, ◌≤◌, ◌||◌, inl, inr, List, [], ◌∷◌, length, take, true, None, Some, nat_lt, map, position, refl, ap, ◌∙◌, subst, arith, slice_get, option_map, chars, nat_tests, In, Actor, Hash, OpId, Insert, id_eq, Op, ChangeParts, id_of, ops_of, inserts_in, inserts, deletes_in, deletes, IsInOrder, shown, shown_before, In-append, Numbered-ops_of, Numbered, length-ops_of, past, most_changes, Sound, past-In, sound_pasts, inserts-In, chars_of, IsTextOf, Holds, HasElementAt, HasLength, HasPosition, end_at, end_of, IsClockOf, shown_by, inserts_tree, SameMembers, IsOwnId, In-left, In-right, In-filter, order_of_set, shown_of_set, length-past, In-inserts, has_op, inserts_by, deletes_by, op_id, SameMembers-sym, filter-In, order_of_part, Option, encode_utf8_all, IsTree, IsTree-same}
+use Rattle.tp_document.proofs.Common.{◌≡◌, ℕ, suc, ◌+◌, ◌<◌, ◌≤◌, inl, inr, List, [], ◌∷◌, length, take, true, None, Some, nat_lt, map, position, refl, ap, ◌∙◌, subst, arith, slice_get, option_map, chars, nat_tests, In, Actor, Hash, OpId, Insert, id_eq, Op, ChangeParts, id_of, ops_of, inserts_in, inserts, deletes_in, deletes, IsInOrder, shown, shown_before, In-append, Numbered-ops_of, Numbered, length-ops_of, past, most_changes, Sound, past-In, sound_pasts, inserts-In, chars_of, IsTextOf, Holds, HasElementAt, HasLength, HasPosition, end_at, end_of, IsClockOf, shown_by, inserts_tree, SameMembers, IsOwnId, In-left, In-right, In-filter, order_of_set, shown_of_set, length-past, In-inserts, has_op, inserts_by, deletes_by, op_id, SameMembers-sym, filter-In, order_of_part, Option, encode_utf8_all, IsTree, IsTree-same}
 use Rattle.tp_change.specs.declared.op.Op.TheVariants as op_of
 use Rattle.tp_document.proofs.ShowingLaws.{Holds-bytes, Holds-element, Holds-length}
 use Rattle.tp_document.proofs.EndLaws.{below_end, in_past}

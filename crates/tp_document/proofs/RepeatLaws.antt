@@ -1,5 +1,5 @@
 -- A list in which equal neighbours are one: its elements, and how each stands to the next.
-use Rattle.std.proofs.Common.{◌≡◌, ◌∙◌, ◌||◌, ℕ, ◌+◌, ◌<◌, zero, suc, Bool, true, false, cond, refl, ap, sym, subst, List, [], ◌∷◌, length, get_or, arith, add-one}
+use Rattle.std.proofs.Common.{◌≡◌, ◌∙◌, ◌||◌, ℕ, ◌+◌, zero, suc, Bool, true, false, cond, refl, ap, sym, subst, List, [], ◌∷◌, length, get_or, arith, add-one}
 use Rattle.std.specs.List.{AllAdjacentBelow, list_any, dedup, dedup_from}
 
 further : (n : ℕ) → suc n + 1 ≡ suc (n + 1)

@@ -74,7 +74,7 @@ next_covers s t id x one near_low near_high is =
 
 -- ---- on which side of an element a stretch stands
 
-not_below : (a b : ℕ) → b ≤ a → nat_lt a b ≡ false
+pub not_below : (a b : ℕ) → b ≤ a → nat_lt a b ≡ false
 not_below a b le = not_true (nat_lt a b) (λ h. let lt = ltb-true a b h in absurd (omega (arith, lt, le)))
 
 side_within : (s : Stretch) (x : OpId) → is_within s x ≡ true → side s x ≡ Equal
@@ -215,6 +215,10 @@ one_stretch s t h =
 pub apart_order : (s t : Stretch) → same_actor s.actor t.actor ≡ false → StartsBefore s t → Precedes s t
 apart_order s t apart (inl below) = inl below
 apart_order s t apart (inr p) = absurd (same_actor-apart s.actor t.actor apart p.0)
+
+pub ends_order : (s t : Stretch) → s.high ≤ t.high → StartsBefore s t → Precedes s t
+ends_order s t le (inl below) = inl below
+ends_order s t le (inr p) = inr (p.0, p.1, le)
 
 -- the stretch before covers what is added
 pub raised_covers : (s t u : Stretch) (x : OpId) → s.actor ≡ t.actor → StartsBefore s t → u ≡ record { actor = t.actor; low = t.low; high = max t.high s.high }

@@ -1,5 +1,5 @@
 -- The change that an edit makes, and when an edit is refused.
-use Rattle.std.specs.Prelude.{◌≡◌, ℕ, ◌+◌, ◌<◌, ◌≤◌, ◌^◌, ◌⊎◌, List, [], ◌∷◌, ◌++◌, length, true, None, Some, Option, encode_utf8_all, Result, Ok, Err}
+use Rattle.std.specs.Prelude.{◌≡◌, ℕ, ◌+◌, ◌<◌, ◌≤◌, ◌⊎◌, List, [], ◌∷◌, ◌++◌, length, true, None, Some, Option, encode_utf8_all, Result, Ok, Err}
 use Rattle.tp_document.specs.Common.{Actor, Hash, Insert, MAX_BYTES, ChangeParts, hash_of, inserts, deletes, IsChange, spelling, IsInOrder, IsTextOf, has, cause, most_changes, AllInRange, total_count, records_of, visible_ids, MAX_OPS, MAX_MESSAGE_BYTES, next_counter, count_by, Splice, MAX_DEPS, COUNTERS_END, all_spliced}
 use Rattle.tp_graph.specs.Heads as head
 use Rattle.tp_document.specs.declared.error.DocError.{DocError}

@@ -1,6 +1,5 @@
 -- The operations of a part of the changes, given by counters: of each actor the part has those below one number.
 use Rattle.std.specs.Prelude.{◌≡◌, ◌⊎◌, ◌≤◌, ◌&&◌, ℕ, List, [], ◌∷◌, Bool, cond, nat_le, nat_lt, filter, Option, Some, None}
-use Rattle.std.specs.List.{All}
 use Rattle.std.specs.Ordering.{ordering_then}
 use Rattle.std.specs.declared.cmp.Ordering.{Ordering}
 use Rattle.std.specs.declared.cmp.Ordering.TheVariants.{Less, Equal, Greater}
@@ -9,7 +8,6 @@ use Rattle.tp_opid.specs.Order.{actor_cmp}
 use Rattle.tp_opid.specs.Same.{same_actor}
 use Rattle.tp_graph.specs.Clocks.{end_at, has_op}
 use Rattle.tp_document.specs.declared.author.Author.{Author}
-use Rattle.tp_document.specs.declared.author.Authors.{Authors}
 use Rattle.tp_document.specs.declared.targets.Stretch.{Stretch}
 
 -- the change before the others, where there is one
@@ -61,7 +59,3 @@ AreTargets stretches entries R = (x : OpId) → covers stretches x ≡ is_remove
 -- The actor's operations end there.
 abbrev pub IsAuthorOf : List (Actor × ℕ) → Author → Type 0
 IsAuthorOf entries author = author.end ≡ end_at entries author.actor
-
--- The operations of each of the actors end there.
-abbrev pub AreAuthorsOf : List (Actor × ℕ) → Authors → Type 0
-AreAuthorsOf entries authors = IsAuthorOf entries authors.last × All (IsAuthorOf entries) authors.others

@@ -4,10 +4,10 @@ ghost use Rattle.std.specs.Prelude.{◌≡◌, ◌↔◌, ◌⊎◌, ◌&&◌, �
 ghost use Rattle.tp_document.specs.Common.{slice_get, chars, IsTextOf, option_map, string_bytes, past, shown_before, chars_of};
 ghost use Rattle.tp_graph.specs.Named as named;
 ghost use Rattle.tp_graph.specs.Clocks.{has_op, IsClockOf};
-ghost use Rattle.tp_document.specs.History.{covers, shown_by, deletes_by, inserts_by, AreTargets, AreAuthorsOf};
+ghost use Rattle.tp_document.specs.History.{covers, shown_by, deletes_by, inserts_by, AreTargets, IsAuthorOf};
 ghost use Rattle.tp_document.specs.Showing.{HasElementAt, HasLength, HasPosition};
 
-use crate::author::Authors;
+use crate::author::Author;
 use crate::cursor::Cursor;
 use crate::document::Document;
 use crate::error::DocError;
@@ -24,16 +24,43 @@ struct Snapshot {
     targets: Targets,
 }
 
+// What is kept from one element of a walk to the next, so that most take no look-up: who inserted it, and the place of
+// the targets' stretch that has it, where it is one.
+#[derive(Clone, Copy)]
+struct Trail {
+    author: Author,
+    place: usize,
+}
+
 impl Snapshot {
-    // Whether the past shows an element. One that isn't deleted now wasn't in any past: only others are looked up.
-    fn shows(&self, element: &Seen, authors: &mut Authors) -> bool
-        requires { AreAuthorsOf self.now.clock authors.old }
-        ensures authors { AreAuthorsOf self.now.clock authors.new }
+    // Where no element was asked for.
+    fn trail(&self) -> Trail
+        ensures { IsAuthorOf self.now.clock result.author }
+    {
+        Trail {
+            author: Author::of(&self.clock),
+            place: 0,
+        }
+    }
+
+    // Whether the past shows an element. One that isn't deleted now wasn't in any past: only others are looked for among
+    // what the past deletes. One that is found there needs no look-up of its author.
+    fn shows(&self, element: &Seen, trail: &mut Trail) -> bool
+        requires { IsAuthorOf self.now.clock trail.old.author }
+        ensures trail { IsAuthorOf self.now.clock trail.new.author }
         ensures shown { result ≡ (has_op self.now.clock element.now.id
             && not (element.now.deleted && covers self.now.targets element.now.id)) }
     {
-        authors.has(&self.clock, &element.id)
-            && !(element.deleted && self.targets.contains(&element.id, &mut authors.last.place))
+        if !element.deleted {
+            return trail.author.has(&self.clock, &element.id);
+        }
+        if trail.author.lacks(&self.clock, &element.id) {
+            return false;
+        }
+        if self.targets.contains(&element.id, &mut trail.place) {
+            return false;
+        }
+        trail.author.has(&self.clock, &element.id)
     }
 }
 
@@ -84,9 +111,9 @@ fn text_of<S: Sequence>(
 {
     let mut text = String::new(alloc);
     let mut walk = Walk::start();
-    let mut authors = Authors::of(&snapshot.clock);
+    let mut trail = snapshot.trail();
     while let Some(element) = sequence.next_element(&mut walk) {
-        if snapshot.shows(&element, &mut authors) {
+        if snapshot.shows(&element, &mut trail) {
             text.push(element.ch)?;
         }
     }
@@ -101,9 +128,9 @@ fn element_at<S: Sequence>(sequence: &S, snapshot: &Snapshot, at: usize) -> Opti
 {
     let mut left = at;
     let mut walk = Walk::start();
-    let mut authors = Authors::of(&snapshot.clock);
+    let mut trail = snapshot.trail();
     while let Some(element) = sequence.next_element(&mut walk) {
-        if snapshot.shows(&element, &mut authors) {
+        if snapshot.shows(&element, &mut trail) {
             if left == 0 {
                 return Some(element.id);
             }
@@ -122,9 +149,9 @@ fn length_of<S: Sequence>(sequence: &S, snapshot: &Snapshot) -> usize
     let all = sequence.all();
     let mut count = 0usize;
     let mut walk = Walk::start();
-    let mut authors = Authors::of(&snapshot.clock);
+    let mut trail = snapshot.trail();
     while let Some(element) = sequence.next_element(&mut walk) {
-        if snapshot.shows(&element, &mut authors) {
+        if snapshot.shows(&element, &mut trail) {
             prove!(count < all);
             count += 1;
         }
@@ -144,12 +171,12 @@ fn position_of<S: Sequence>(sequence: &S, snapshot: &Snapshot, id: &OpId) -> Opt
     let all = sequence.all();
     let mut before = 0usize;
     let mut walk = Walk::start();
-    let mut authors = Authors::of(&snapshot.clock);
+    let mut trail = snapshot.trail();
     while let Some(element) = sequence.next_element(&mut walk) {
         if element.id.is(id) {
             return Some(before);
         }
-        if snapshot.shows(&element, &mut authors) {
+        if snapshot.shows(&element, &mut trail) {
             prove!(before < all);
             before += 1;
         }

@@ -1,12 +1,12 @@
 //! What a past deletes.
 
-ghost use Rattle.std.specs.Prelude.{◌≡◌, ◌<◌, ◌||◌, ◌&&◌, List, length, IfOk, IfSome};
+ghost use Rattle.std.specs.Prelude.{◌≡◌, ◌||◌, List, length, IfOk, IfSome};
 ghost use Rattle.std.specs.List.{AllAdjacentBelow};
 ghost use Rattle.tp_opid.specs.Same.{id_eq};
 ghost use Rattle.tp_opid.specs.declared.op_id.OpId.{OpId as Id};
 ghost use Rattle.tp_document.specs.History.{is_within, covers, side, StartsBefore, Precedes, AreTargets};
 
-use crate::author::Authors;
+use crate::author::Author;
 use std::alloc::{AllocError, Global};
 use std::cmp::Ordering;
 use std::marker::Model;
@@ -84,11 +84,14 @@ impl Stretch {
         ensures covers { (x : Id) → (is_within before.now x || is_within result x)
             ≡ (is_within before.now x || is_within self.now x) }
     {
+        if before.high <= self.high {
+            return *self;
+        }
         if before.actor.is(&self.actor) {
             Stretch {
                 actor: self.actor,
                 low: self.low,
-                high: self.high.max(before.high),
+                high: before.high,
             }
         } else {
             *self
@@ -175,76 +178,16 @@ impl Targets {
     }
 }
 
-// Of how many elements that came lately it is noted which stretch took them.
-const NOTES: usize = 512;
-
-// Takes an element in, where the stretch at the place has it or is next to it.
-#[inline]
-fn take_in(stretches: &mut Vec<Stretch>, place: usize, id: &OpId) -> bool
-    ensures { (x : Id) → covers stretches.new.items x
-        ≡ (covers stretches.old.items x || (result && id_eq id.now x)) }
-{
-    if let Some(stretch) = stretches.get_mut(place) {
-        if let Some(longer) = stretch.with(id) {
-            *stretch = longer;
-            return true;
-        }
-    }
-    false
-}
-
-// The stretches that took elements lately, as places in the list of all: one for each note, which an element has by its
-// identifier. A later element takes the note over. So what many authors delete is kept once, whatever order their
-// deletes come in, and no note is trusted: the stretch is asked.
-#[derive(Drop)]
-struct Lately {
-    places: [u32; NOTES],
-}
-
-impl Lately {
-    fn new() -> Lately {
-        Lately { places: [0; NOTES] }
-    }
-
-    // Which note an element has. Neighbours of one actor have different ones.
-    fn note_of(id: &OpId) -> usize
-        ensures { result < NOTES }
-    {
-        let bytes = id.actor.0;
-        let actor = u32::from_be_bytes([bytes[0], bytes[1], bytes[2], bytes[3]]);
-        let mixed = id
-            .counter
-            .wrapping_add(u64::from(actor))
-            .wrapping_mul(0x9e37_79b9_7f4a_7c15);
-        (mixed >> 32) as usize % NOTES
-    }
-
-    // Takes an element in, where the stretch that its note names has it or is next to it. Else its note is to name the
-    // stretch that is put at the end.
-    #[inline(never)]
-    fn take_in(&mut self, stretches: &mut Vec<Stretch>, id: &OpId) -> bool
-        ensures { (x : Id) → covers stretches.new.items x
-            ≡ (covers stretches.old.items x || (result && id_eq id.now x)) }
-    {
-        let note = Lately::note_of(id);
-        if take_in(stretches, self.places[note] as usize, id) {
-            return true;
-        }
-        self.places[note] = stretches.len().min(u32::MAX as usize) as u32;
-        false
-    }
-}
-
-// Adds an element: to the last stretch or the one that took it lately, where these have it or are next to it, else as a
-// stretch of its own.
-#[inline]
-fn add(stretches: &mut Vec<Stretch>, lately: &mut Lately, id: &OpId) -> Result<(), AllocError>
+// Adds an element: to the last stretch where it is next to that, else as a stretch of its own.
+fn add(stretches: &mut Vec<Stretch>, id: &OpId) -> Result<(), AllocError>
     ensures { IfOk result
         (λ _. (x : Id) → covers stretches.new.items x ≡ (covers stretches.old.items x || id_eq id.now x)) }
 {
-    let last = stretches.len().saturating_sub(1);
-    if take_in(stretches, last, id) || lately.take_in(stretches, id) {
-        return Ok(());
+    if let Some(last) = stretches.last_mut() {
+        if let Some(longer) = last.with(id) {
+            *last = longer;
+            return Ok(());
+        }
     }
     stretches.push(Stretch::of(id))?;
     Ok(())
@@ -259,12 +202,11 @@ pub(crate) fn targets_of(
 ) -> Result<Targets, AllocError>
     ensures { IfOk result (λ targets. AreTargets targets clock.now deletes.now) }
 {
-    let mut authors = Authors::of(clock);
+    let mut author = Author::of(clock);
     let mut stretches = Vec::new(alloc);
-    let mut lately = Lately::new();
     for delete in deletes {
-        if authors.has(clock, &delete.1) {
-            add(&mut stretches, &mut lately, &delete.0)?;
+        if author.has(clock, &delete.1) {
+            add(&mut stretches, &delete.0)?;
         }
     }
     Ok(Targets::new(stretches))

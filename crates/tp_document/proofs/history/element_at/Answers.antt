@@ -30,7 +30,7 @@ loop-element-preserved-then-shows g c =
     let left = c.loop-element.left in
     record {
       noted = c.in-Some.ensures.spot;
-      authors = c.shows.ensures.authors;
+      author = c.shows.ensures.trail;
       left = ap (λ n. slice_get (shown_by K R (drop n L)) (left - 1)) c.in-Some.ensures.next
           ∙ found_later K R T L k left c.in-Some.element c.requires c.in-Some.ensures.seen (sym c.shows.ensures.shown ∙ c.if-shows.true) c.if-left-eq0.false
           ∙ c.loop-element.invariant.left;
@@ -53,7 +53,7 @@ loop-element-preserved g c =
     let left = c.loop-element.left in
     record {
       noted = c.in-Some.ensures.spot;
-      authors = c.shows.ensures.authors;
+      author = c.shows.ensures.trail;
       left = ap (λ n. slice_get (shown_by K R (drop n L)) left) c.in-Some.ensures.next
           ∙ found_after K R T L k left c.in-Some.element c.requires c.in-Some.ensures.seen (sym c.shows.ensures.shown ∙ c.if-shows.false)
           ∙ c.loop-element.invariant.left;

@@ -1,4 +1,4 @@
-use Rattle.tp_document.proofs.Common.{IfSome, ◌≡◌, ◌-◌, length, drop, slice_get, shown_by, AreAuthorsOf}
+use Rattle.tp_document.proofs.Common.{IfSome, ◌≡◌, ◌-◌, length, drop, slice_get, shown_by, IsAuthorOf}
 use Rattle.tp_document.proofs.history.element_at.Given as goal
 
 -- the element is that at the index that is left among the elements that are left
@@ -10,7 +10,7 @@ invariant-loop-element g l =
     let L = s.placed l.sequence in
     record {
       noted : IfSome l.walk.spot (λ spot. s.stands_at l.sequence spot l.walk.index);
-      authors : AreAuthorsOf K l.authors;
+      author : IsAuthorOf K l.trail.author;
       left : slice_get (shown_by K R (drop l.walk.index L)) l.left ≡ slice_get (shown_by K R L) l.at;
     }
 

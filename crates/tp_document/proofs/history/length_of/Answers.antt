@@ -18,7 +18,7 @@ loop-element-preserved-then-shows g c =
     let k = c.loop-element.walk.index in
     record {
       noted = c.in-Some.ensures.spot;
-      authors = c.shows.ensures.authors;
+      author = c.shows.ensures.trail;
       few = omega (arith, c.in-Some.ensures.next, c.loop-element.invariant.few);
       counted = ap (λ n. n + 1) c.loop-element.invariant.counted
           ∙ sym (length_by-shown K R T L k c.in-Some.element c.requires c.in-Some.ensures.seen (sym c.shows.ensures.shown ∙ c.if-shows.true))
@@ -41,7 +41,7 @@ loop-element-preserved g c =
     let k = c.loop-element.walk.index in
     record {
       noted = c.in-Some.ensures.spot;
-      authors = c.shows.ensures.authors;
+      author = c.shows.ensures.trail;
       few = omega (arith, c.in-Some.ensures.next, c.loop-element.invariant.few);
       counted = c.loop-element.invariant.counted
           ∙ sym (ap length (hidden_by K R T L k c.in-Some.element c.requires c.in-Some.ensures.seen (sym c.shows.ensures.shown ∙ c.if-shows.false)))

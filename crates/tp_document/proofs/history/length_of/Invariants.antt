@@ -1,4 +1,4 @@
-use Rattle.tp_document.proofs.Common.{IfSome, ◌≡◌, ◌-◌, ◌≤◌, length, take, shown_by, AreAuthorsOf}
+use Rattle.tp_document.proofs.Common.{IfSome, ◌≡◌, ◌-◌, ◌≤◌, length, take, shown_by, IsAuthorOf}
 use Rattle.tp_document.proofs.history.length_of.Given as goal
 
 -- as many as are shown of the elements that the walk has passed
@@ -10,7 +10,7 @@ invariant-loop-element g l =
     let L = s.placed l.sequence in
     record {
       noted : IfSome l.walk.spot (λ spot. s.stands_at l.sequence spot l.walk.index);
-      authors : AreAuthorsOf K l.authors;
+      author : IsAuthorOf K l.trail.author;
       few : l.count ≤ l.walk.index;
       counted : l.count ≡ length (shown_by K R (take l.walk.index L));
     }

@@ -35,7 +35,7 @@ loop-element-preserved-then-shows g c =
     let id = c.args.id.now in
     record {
       noted = c.in-Some.ensures.spot;
-      authors = c.shows.ensures.authors;
+      author = c.shows.ensures.trail;
       few = omega (arith, c.in-Some.ensures.next, c.loop-element.invariant.few);
       counted = ap (λ i. option_map (λ m. n + 1 + m) (before_by K R (drop i L) id)) c.in-Some.ensures.next
           ∙ before_shown K R T L k n c.in-Some.element id c.requires c.in-Some.ensures.seen (sym c.is.ensures ∙ c.if-is.false) (sym c.shows.ensures.shown ∙ c.if-shows.true) c.loop-element.invariant.counted;
@@ -59,7 +59,7 @@ loop-element-preserved g c =
     let id = c.args.id.now in
     record {
       noted = c.in-Some.ensures.spot;
-      authors = c.shows.ensures.authors;
+      author = c.shows.ensures.trail;
       few = omega (arith, c.in-Some.ensures.next, c.loop-element.invariant.few);
       counted = ap (λ i. option_map (λ m. n + m) (before_by K R (drop i L) id)) c.in-Some.ensures.next
           ∙ before_hidden K R T L k n c.in-Some.element id c.requires c.in-Some.ensures.seen (sym c.is.ensures ∙ c.if-is.false) (sym c.shows.ensures.shown ∙ c.if-shows.false) c.loop-element.invariant.counted;

@@ -1,4 +1,4 @@
-use Rattle.tp_document.proofs.Common.{IfSome, ◌≡◌, ◌-◌, ◌≤◌, ◌+◌, length, drop, option_map, AreAuthorsOf}
+use Rattle.tp_document.proofs.Common.{IfSome, ◌≡◌, ◌-◌, ◌≤◌, ◌+◌, length, drop, option_map, IsAuthorOf}
 use Rattle.tp_document.proofs.SnapshotLaws.{before_by}
 use Rattle.tp_document.proofs.history.position_of.Given as goal
 
@@ -11,7 +11,7 @@ invariant-loop-element g l =
     let L = s.placed l.sequence in
     record {
       noted : IfSome l.walk.spot (λ spot. s.stands_at l.sequence spot l.walk.index);
-      authors : AreAuthorsOf K l.authors;
+      author : IsAuthorOf K l.trail.author;
       few : l.before ≤ l.walk.index;
       counted : option_map (λ n. l.before + n) (before_by K R (drop l.walk.index L) l.id) ≡ before_by K R L l.id;
     }

@@ -12,7 +12,7 @@ loop-element-preserved-in-Continue-1 g c =
     let k = c.loop-element.walk.index in
     record {
       noted = c.in-Some.ensures.spot;
-      authors = c.shows.ensures.authors;
+      author = c.shows.ensures.trail;
       read = c.in_ok-push.ensures.bytes ∙ ap (λ bytes. bytes ++ encode_utf8 c.in-Some.element.ch) c.loop-element.invariant.read
           ∙ sym (bytes_by-shown K R T L k c.in-Some.element c.requires c.in-Some.ensures.seen (sym c.shows.ensures.shown ∙ c.if-shows.true))
           ∙ ap (λ n. bytes_by K R (take n L)) (sym c.in-Some.ensures.next);
@@ -34,7 +34,7 @@ loop-element-preserved g c =
     let k = c.loop-element.walk.index in
     record {
       noted = c.in-Some.ensures.spot;
-      authors = c.shows.ensures.authors;
+      author = c.shows.ensures.trail;
       read = c.loop-element.invariant.read
           ∙ sym (ap (λ l. encode_utf8_all (chars_of l)) (hidden_by K R T L k c.in-Some.element c.requires c.in-Some.ensures.seen (sym c.shows.ensures.shown ∙ c.if-shows.false)))
           ∙ ap (λ n. bytes_by K R (take n L)) (sym c.in-Some.ensures.next);

@@ -1,4 +1,4 @@
-use Rattle.tp_document.proofs.Common.{IfSome, ◌≡◌, ◌-◌, length, take, string_bytes, chars_of, shown_by, encode_utf8_all, AreAuthorsOf}
+use Rattle.tp_document.proofs.Common.{IfSome, ◌≡◌, ◌-◌, length, take, string_bytes, chars_of, shown_by, encode_utf8_all, IsAuthorOf}
 use Rattle.tp_document.proofs.history.text_of.Given as goal
 
 -- the text so far is that of the elements that the walk has passed
@@ -10,7 +10,7 @@ invariant-loop-element g l =
     let L = s.placed l.sequence in
     record {
       noted : IfSome l.walk.spot (λ spot. s.stands_at l.sequence spot l.walk.index);
-      authors : AreAuthorsOf K l.authors;
+      author : IsAuthorOf K l.trail.author;
       read : string_bytes l.text ≡ encode_utf8_all (chars_of (shown_by K R (take l.walk.index L)));
     }
 

@@ -1,4 +1,4 @@
-use Rattle.tp_document.proofs.Common.{◌≡◌, ℕ, ◌+◌, ◌<◌, ◌≤◌, List, [], ◌∷◌, length, arith, Actor, ChangeParts, count_by, most_changes, count_by-length}
+use Rattle.tp_document.proofs.Common.{◌≡◌, ℕ, ◌+◌, ◌<◌, ◌≤◌, List, length, arith, Actor, ChangeParts, count_by, most_changes, count_by-length}
 use Rattle.tp_document.proofs.making.next_seq.Goals as goal
 
 small : (n : ℕ) (a : Actor) (C : List ChangeParts) → n ≡ count_by a C → length C ≤ most_changes → n + 1 < 18446744073709551616

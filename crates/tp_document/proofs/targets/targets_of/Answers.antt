@@ -11,7 +11,7 @@ loop-delete-preserved c =
     let stretches = c.loop-delete.stretches.items in
     let now = c.if-has.stretches.items in
     record {
-      authors = c.has.ensures.authors;
+      author = c.has.ensures.author;
       targets = elim c.if-has.branch [
         | then-has+in_ok-add w ↦ targets_more K R i _ stretches now c.loop-delete-test.true (sym c.has.ensures.has ∙ w.if-has.true) (λ x. ap (λ v. covers v.items x) w.stretches-is ∙ w.in_ok-add.ensures x) c.loop-delete.invariant.targets
         | else-has w ↦ targets_still K R i _ stretches now c.loop-delete-test.true (sym c.has.ensures.has ∙ w.if-has.false) (ap (λ v. v.items) w.stretches-is) c.loop-delete.invariant.targets
