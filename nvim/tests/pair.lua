@@ -1,34 +1,18 @@
 -- Two Neovims and a server between them: both type at once, the server is killed and started anew, both type meanwhile, and
 -- all end with one text and equal heads. It needs the engine's library and the program `textpeer` ($TEXTPEER_PROGRAM), and
 -- exits 1 at a difference.
-local api, uv = vim.api, vim.loop
+local uv = vim.loop
 local here = debug.getinfo(1, 'S').source:sub(2):match('(.*)/')
-local plugin = vim.fn.fnamemodify(here .. '/..', ':p')
+package.path = here .. '/?.lua;' .. package.path
+local Editor = require('editor')
+local checks = require('checks')
+
+local check, run, wait = checks.check, checks.run, checks.wait
 local program = vim.env.TEXTPEER_PROGRAM
 local folder = vim.fn.tempname()
 vim.fn.mkdir(folder, 'p')
 local seed = tonumber(vim.env.TEXTPEER_SEED or '1')
 math.randomseed(seed)
-
-local failed = 0
-local function check(right, what)
-  if not right then
-    failed = failed + 1
-    io.stdout:write('differs: ' .. what .. '\n')
-  end
-  return right
-end
-
-local function run(...)
-  local out = vim.fn.systemlist({ program, ... })
-  check(vim.v.shell_error == 0, table.concat({ ... }, ' ') .. ': ' .. table.concat(out, ' '))
-  return out
-end
-
--- Waits until it is so; false where that takes too long.
-local function wait(what, call, seconds)
-  return check(vim.wait((seconds or 20) * 1000, call, 20), 'waited for nothing: ' .. what)
-end
 
 -- The server.
 local server = {}
@@ -52,63 +36,12 @@ function server.kill()
   vim.fn.jobwait({ server.job })
 end
 
--- An editor: Neovim in a process of its own, without a screen.
-local Editor = {}
-Editor.__index = Editor
-
-function Editor.start(name)
-  local self = setmetatable({ name = name, path = folder .. '/' .. name .. '.journal' }, Editor)
-  self.channel = vim.fn.jobstart({ vim.v.progpath, '--embed', '--headless', '-n', '-u', 'NONE', '-i', 'NONE', '--cmd', 'set rtp^=' .. plugin,
-    '--cmd', 'runtime plugin/textpeer.lua' }, { rpc = true })
-  self:lua([[
-    _G.told = {}
-    vim.notify = function(text, level) table.insert(_G.told, { text, level }) end
-    vim.o.shortmess = 'filnxtToOFIWac'
-  ]])
-  self:command('TextpeerOpen ' .. self.path)
-  return self
-end
-
-function Editor:request(...)
-  return vim.fn.rpcrequest(self.channel, ...)
-end
-
-function Editor:lua(code, ...)
-  return self:request('nvim_exec_lua', code, { ... })
-end
-
-function Editor:command(text)
-  self:request('nvim_command', text)
-end
-
-function Editor:type(keys)
-  self:request('nvim_input', keys)
-end
-
-function Editor:text()
-  return table.concat(self:request('nvim_buf_get_lines', 0, 0, -1, true), '\n')
-end
-
-function Editor:state()
-  return self:lua("local one = require('textpeer').of() return one.link and one.link.state or 'none'")
-end
-
--- What the engine has: its text, and its heads in hexadecimal.
-function Editor:engine()
-  return unpack(self:lua([[
-    local document = require('textpeer').of().document
-    document:flush()
-    local heads = {}
-    for i, head in ipairs(document.engine:heads()) do
-      heads[i] = head:gsub('.', function(c) return ('%02x'):format(c:byte()) end)
-    end
-    return { document.engine:text(), table.concat(heads, '\n') }
-  ]]))
-end
-
-function Editor:quit()
-  vim.fn.rpcnotify(self.channel, 'nvim_command', 'qall!')
-  vim.fn.jobwait({ self.channel }, 5000)
+-- An editor with the journal of that name.
+local function editor_of(name)
+  local editor = Editor.start()
+  editor.name = name
+  editor:command('TextpeerOpen ' .. folder .. '/' .. name .. '.journal')
+  return editor
 end
 
 local ann, ben
@@ -213,7 +146,7 @@ local function main()
     uv.fs_copyfile(first, folder .. '/' .. name .. '.journal')
   end
   server.start(0)
-  ann, ben = Editor.start('ann'), Editor.start('ben')
+  ann, ben = editor_of('ann'), editor_of('ben')
   check(ann:text() == 'Shopping\n\nbread\nmilk\n', 'what is opened')
   for _, editor in ipairs({ ann, ben }) do
     editor:command('TextpeerConnect 127.0.0.1:' .. server.port)
@@ -301,7 +234,7 @@ local function main()
   vim.wait(50)
   ann:quit()
   ben:type('ggOmeanwhile<Esc>')
-  ann = Editor.start('ann')
+  ann = editor_of('ann')
   check(ann:text():find('last words', 1, true), 'what was typed before the end')
   ann:command('TextpeerConnect 127.0.0.1:' .. server.port)
   text = meet('left and came back')
@@ -346,14 +279,13 @@ end
 
 local ok, problem = pcall(main)
 check(ok, tostring(problem))
-if failed > 0 then
+if checks.failed > 0 then
   for _, editor in ipairs({ ann, ben }) do
     pcall(function()
-      io.stdout:write(editor.name .. ': ' .. vim.inspect(editor:lua('return _G.told')) .. '\n')
+      io.stdout:write(editor.name .. ': ' .. editor:told() .. '\n')
     end)
   end
 end
 pcall(server.kill)
 vim.fn.delete(folder, 'rf')
-io.stdout:write(failed == 0 and 'ok\n' or failed .. ' differences\n')
-vim.cmd(failed == 0 and 'qa!' or 'cq 1')
+checks.finish()

@@ -5,6 +5,7 @@ package.path = here .. '/?.lua;' .. package.path
 local Fake = require('fake')
 local Lines = require('textpeer.lines')
 local Spans = require('textpeer.spans')
+local checks = require('checks')
 local pieces_of = require('textpeer.pieces')
 local utf8 = require('textpeer.utf8')
 local Document = require('textpeer.document')
@@ -14,14 +15,7 @@ local seed = tonumber(vim.env.TEXTPEER_SEED or '1')
 math.randomseed(seed)
 local random = math.random
 
-local failed = 0
-local function check(right, what)
-  if not right then
-    failed = failed + 1
-    io.stdout:write('differs: ' .. what .. '\n')
-  end
-  return right
-end
+local check = checks.check
 
 local told = {}
 vim.notify = function(text)
@@ -376,5 +370,4 @@ if vim.env.TEXTPEER_MISLED then
     io.stdout:write('  ' .. row .. '\n')
   end
 end
-io.stdout:write(failed == 0 and 'ok\n' or failed .. ' differences\n')
-vim.cmd(failed == 0 and 'qa!' or 'cq 1')
+checks.finish()
