@@ -129,6 +129,26 @@ local function map_undo(buffer)
   end
 end
 
+-- Makes the last moment's edits of all buffers, since Neovim asks next whether one is modified.
+local function flush()
+  for _, one in pairs(shared) do
+    one.document:flush()
+  end
+end
+
+vim.api.nvim_create_autocmd('QuitPre', { group = group, callback = flush })
+
+-- Once a command line waits for a key: it is typed by hand, and neither a mapping's nor a macro's, which may have thousands.
+vim.api.nvim_create_autocmd('CmdlineEnter', {
+  group = group,
+  pattern = ':',
+  callback = vim.schedule_wrap(function()
+    if vim.fn.getcmdtype() == ':' then
+      flush()
+    end
+  end),
+})
+
 vim.api.nvim_create_autocmd('VimLeavePre', {
   group = group,
   callback = function()
