@@ -15,10 +15,15 @@ command('TextpeerConnect', 'connect', { nargs = 1 })
 command('TextpeerDisconnect', 'disconnect', { nargs = 0 })
 command('TextpeerStatus', 'status', { nargs = 0 })
 
-vim.api.nvim_create_autocmd('BufReadCmd', {
-  group = vim.api.nvim_create_augroup('TextpeerRead', {}),
-  pattern = 'textpeer://*',
-  callback = function(given)
-    require('textpeer').read(given.buf, given.match)
-  end,
-})
+local group = vim.api.nvim_create_augroup('TextpeerFiles', {})
+
+-- What Neovim reads and writes under a name `textpeer://FILE` the plugin does.
+for event, call in pairs({ BufReadCmd = 'read', BufWriteCmd = 'write' }) do
+  vim.api.nvim_create_autocmd(event, {
+    group = group,
+    pattern = 'textpeer://*',
+    callback = function(given)
+      require('textpeer')[call](given.buf, given.match)
+    end,
+  })
+end

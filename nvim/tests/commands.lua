@@ -12,6 +12,22 @@ local folder, folders = nil, 0
 -- What each journal has at first.
 local TEXT = 'one\ntwo\nthree'
 
+local function put(name, bytes)
+  local file = assert(io.open(folder .. '/' .. name, 'wb'))
+  file:write(bytes)
+  file:close()
+end
+
+-- The bytes of the file; nil where there is none.
+local function got(name)
+  local file = io.open(folder .. '/' .. name, 'rb')
+  local bytes = file and file:read('*a')
+  if file then
+    file:close()
+  end
+  return bytes
+end
+
 local function journal_text()
   return table.concat(run('text', folder .. '/a.journal'), '\n')
 end
@@ -34,6 +50,159 @@ local function editor_of()
   local editor = editor_beside()
   editor:command('TextpeerOpen a.journal')
   return editor
+end
+
+-- Runs the command: what it says, or why it is refused.
+local function says(editor, command)
+  return editor:lua([[
+    local _, said = pcall(vim.fn.execute, ...)
+    return said
+  ]], command)
+end
+
+-- That the command says this.
+local function said(editor, command, wanted)
+  local text = says(editor, command)
+  check(text:find(wanted, 1, true), (':%s says %s, not %s'):format(command, vim.inspect(text), vim.inspect(wanted)))
+end
+
+-- That the plugin told this since the last time; '' where it told nothing.
+local function told(editor, what, wanted)
+  local text = editor:told()
+  check(wanted == '' and text == '' or wanted ~= '' and text:find(wanted, 1, true),
+    ('%s: told is %s, not %s'):format(what, vim.inspect(text), vim.inspect(wanted)))
+end
+
+-- That the file has these bytes, or isn't there.
+local function has(name, wanted)
+  local bytes = got(name)
+  check(bytes == wanted, ('%s has %s, not %s'):format(name, vim.inspect(bytes), vim.inspect(wanted)))
+end
+
+-- That the buffer is "modified" or not, has the name, and the state line this word.
+local function is(editor, what, modified, name, word)
+  local now = editor:lua("return { vim.bo.modified, vim.fn.bufname(), require('textpeer').statusline() }")
+  check(vim.deep_equal(now, { modified, name, word }), what .. ': ' .. vim.inspect(now))
+end
+
+-- Types the keys, and waits until they are taken.
+local function type_at_once(editor, keys)
+  editor:type(keys)
+  editor:request('nvim_eval', '1')
+end
+
+-- The name of the buffer that shows the journal.
+local function shared_name()
+  return 'textpeer://' .. folder .. '/a.journal'
+end
+
+-- Other files are written as from a plain buffer, which stays shared.
+local function write_elsewhere()
+  local editor = editor_of()
+  said(editor, 'w other.txt', '"other.txt" [New] 3L, 14B written')
+  has('other.txt', 'one\ntwo\nthree\n')
+  put('other.txt', 'kept')
+  said(editor, 'w other.txt', 'E13:')
+  has('other.txt', 'kept')
+  said(editor, 'w! other.txt', '"other.txt" 3L, 14B written')
+  has('other.txt', 'one\ntwo\nthree\n')
+  said(editor, '%w all.txt', '"all.txt" [New] 3L, 14B written')
+  has('all.txt', 'one\ntwo\nthree\n')
+  said(editor, '2,3w some.txt', '"some.txt" [New] 2L, 10B written')
+  has('some.txt', 'two\nthree\n')
+  said(editor, 'w >> absent.txt', 'E212:')
+  has('absent.txt', nil)
+  said(editor, 'w! >> absent.txt', '"absent.txt" [New] 3L, 14B appended')
+  said(editor, '2w >> absent.txt', '"absent.txt" 1L, 4B appended')
+  has('absent.txt', 'one\ntwo\nthree\ntwo\n')
+  editor:command('setlocal fileformat=dos nofixendofline noendofline')
+  said(editor, 'w dos.txt', '"dos.txt" [New][noeol][dos] 3L, 15B written')
+  has('dos.txt', 'one\r\ntwo\r\nthree')
+  editor:command('setlocal fileformat=unix fixendofline endofline')
+  said(editor, 'w absent/other.txt', 'E212:')
+  said(editor, 'w! /dev/full', 'E514:')
+  is(editor, 'after other files', false, shared_name(), 'alone')
+  told(editor, 'after other files', '')
+  says(editor, 'w textpeer://' .. folder .. '/b.journal')
+  told(editor, 'another journal', 'b.journal is not written')
+  editor:lua("vim.api.nvim_buf_set_lines(0, 0, 1, true, { 'typed' })")
+  says(editor, 'w')
+  is(editor, 'after its own name', false, shared_name(), 'alone')
+  editor:lua("vim.api.nvim_buf_set_lines(0, -1, -1, true, { '' })")
+  editor:command('setlocal nofixendofline noendofline')
+  said(editor, 'w exact.txt', '"exact.txt" [New][noeol] 4L, 16B written')
+  editor:quit()
+  check(journal_text() == 'typed\ntwo\nthree\n', 'the journal after other files: ' .. journal_text())
+  has('exact.txt', 'typed\ntwo\nthree\n')
+end
+
+-- `:saveas` goes on with a plain file; the journal has what was typed until then, and is free.
+local function save_as()
+  local editor = editor_of()
+  put('kept.txt', 'kept')
+  said(editor, 'saveas kept.txt', 'E13:')
+  has('kept.txt', 'kept')
+  editor:command('file ' .. shared_name())
+  is(editor, 'saved as no other file', false, shared_name(), 'alone')
+  editor:command('TextpeerConnect 127.0.0.1:1')
+  wait('no server', function()
+    return editor:state() == 'offline'
+  end)
+  told(editor, 'no server', 'no server at 127.0.0.1:1')
+  editor:lua("_G.link = require('textpeer').of().link")
+  editor:lua("vim.api.nvim_buf_set_lines(0, 0, 1, true, { 'typed' })")
+  said(editor, 'saveas other.txt', '"other.txt" [New] 3L, 16B written')
+  has('other.txt', 'typed\ntwo\nthree\n')
+  is(editor, 'saved as another file', false, 'other.txt', '')
+  check(editor:lua('return _G.link.closed'), 'the link of a buffer that was saved as another file')
+  check(journal_text() == 'typed\ntwo\nthree', 'the journal as its buffer was saved as another file: ' .. journal_text())
+  run('edit', folder .. '/a.journal', '--at', '0', '--del', '0', '--text', 'later ')
+  type_at_once(editor, 'ggAx<Esc>')
+  said(editor, 'w', '"other.txt" 3L, 17B written')
+  has('other.txt', 'typedx\ntwo\nthree\n')
+  type_at_once(editor, 'u')
+  check(editor:text() == 'typed\ntwo\nthree', 'an undo of a plain file: ' .. editor:text())
+  check(editor:lua('return vim.bo.swapfile'), 'a plain file has a swap file')
+  editor:command('write')
+  editor:command('buffer #')
+  check(editor:text() == 'later typed\ntwo\nthree', 'the journal again: ' .. editor:text())
+  is(editor, 'the journal again', false, shared_name(), 'alone')
+  said(editor, 'saveas other.txt', 'E139:')
+  is(editor, 'a file that another buffer has', false, shared_name(), 'alone')
+  said(editor, 'saveas absent/other.txt', 'E212:')
+  is(editor, 'a file that can not be written', true, 'absent/other.txt', '')
+  editor:command('buffer ' .. shared_name())
+  editor:command('file renamed.txt')
+  is(editor, 'another name', true, 'renamed.txt', '')
+  said(editor, 'w', '"renamed.txt" [New] 3L, 22B written')
+  editor:command('file again.txt')
+  is(editor, 'another name of a plain file', false, 'again.txt', '')
+  told(editor, 'after :saveas', '')
+  editor:quit()
+end
+
+-- A journal that can't be written: what was typed can be, elsewhere, as it is told.
+local function full_disk()
+  local editor = editor_of()
+  editor:lua("require('textpeer').of().document.engine.edit = function() error('JournalFailed', 0) end")
+  type_at_once(editor, 'Atyped<Esc>:q<CR>')
+  told(editor, 'a full disk', 'save it by :saveas FILE')
+  is(editor, 'a full disk', true, shared_name(), 'stopped')
+  said(editor, 'q', 'E37:')
+  says(editor, 'w')
+  told(editor, 'its own name on a full disk', 'save it by :saveas FILE')
+  says(editor, 'wq')
+  told(editor, ':wq on a full disk', 'save it by :saveas FILE')
+  said(editor, 'w other.txt', '"other.txt" [New] 3L, 19B written')
+  has('other.txt', 'onetyped\ntwo\nthree\n')
+  is(editor, 'a copy', true, shared_name(), 'stopped')
+  said(editor, 'saveas! /dev/full', 'E514:')
+  is(editor, 'a full disk, too', true, '/dev/full', '')
+  said(editor, 'saveas saved.txt', '"saved.txt" [New] 3L, 19B written')
+  has('saved.txt', 'onetyped\ntwo\nthree\n')
+  editor:type(':q<CR>')
+  check(editor:ends(), 'the end after :saveas')
+  check(journal_text() == TEXT, 'the journal on a full disk: ' .. journal_text())
 end
 
 -- The end within the moment in which keys aren't in the journal yet.
@@ -70,7 +239,7 @@ local function leave_at_once()
   end
 end
 
-for _, part in ipairs({ quit_at_once, leave_at_once }) do
+for _, part in ipairs({ write_elsewhere, save_as, full_disk, quit_at_once, leave_at_once }) do
   local ok, problem = pcall(part)
   check(ok, tostring(problem))
 end

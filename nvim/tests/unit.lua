@@ -93,7 +93,6 @@ end
 local function buffer_of(text)
   vim.cmd('silent! enew!')
   local buffer = api.nvim_get_current_buf()
-  vim.bo[buffer].buftype = 'acwrite'
   local fake = Fake.new(text)
   return Document.new(buffer, fake, 'a stand-in', {}), fake, buffer
 end

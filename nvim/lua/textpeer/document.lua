@@ -492,7 +492,7 @@ function Document:stop(reason)
   if api.nvim_buf_is_loaded(self.buffer) then
     vim.bo[self.buffer].modified = true
   end
-  say.error(('%s is no longer shared (%s). What you type is kept nowhere: save it as another file, or open the journal again'):format(
+  say.error(('%s is no longer shared (%s). What you type is kept nowhere: save it by :saveas FILE, or open the journal again'):format(
     self.path, reason))
   if self.calls.closed then
     self.calls.closed()

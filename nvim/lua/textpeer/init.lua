@@ -20,16 +20,24 @@ function M.of(buffer)
   return shared[buffer == nil and vim.api.nvim_get_current_buf() or buffer]
 end
 
--- Ends the buffer's document.
-local function forget(buffer)
+-- Ends the buffer's document, and its link.
+local function release(buffer)
   local one = shared[buffer]
   if one then
-    unloaded[buffer] = { path = one.document.path, address = one.link and one.link.address }
     one.document:close()
     if one.link then
       one.link:close()
     end
     shared[buffer] = nil
+  end
+end
+
+-- The buffer is unloaded: its document ends.
+local function unload(buffer)
+  local one = shared[buffer]
+  if one then
+    unloaded[buffer] = { path = one.document.path, address = one.link and one.link.address }
+    release(buffer)
   end
 end
 
@@ -80,34 +88,20 @@ local function show(buffer, path, anew)
   shared[buffer] = one
 end
 
--- `:write`: what was typed is in the journal already, but for the last moment's.
-local function write(buffer)
-  local one = shared[buffer]
-  if not one or one.document.stopped then
-    return say.error('the buffer is not shared any more; save it as another file')
-  end
-  one.document:check()
-end
-
+local PREFIX = 'textpeer://'
 local group = vim.api.nvim_create_augroup('Textpeer', {})
 
-local function watch(buffer)
-  local function on(events, call)
-    vim.api.nvim_create_autocmd(events, {
-      group = group,
-      buffer = buffer,
-      callback = function()
-        call(buffer)
-      end,
-    })
+-- Neovim writes the buffer under a name `textpeer://FILE`. What was typed is in the journal already, but for the last
+-- moment's. Files of other names Neovim writes itself.
+function M.write(buffer, name)
+  if name ~= vim.api.nvim_buf_get_name(buffer) then
+    return say.error(name .. ' is not written; :TextpeerOpen! begins a journal')
   end
-  on('BufWriteCmd', write)
-  on('InsertLeave', function()
-    if shared[buffer] then
-      shared[buffer].document:leave_insert()
-    end
-  end)
-  on({ 'BufUnload', 'BufWipeout' }, forget)
+  local one = shared[buffer]
+  if not one or one.document.stopped then
+    return say.error('the buffer is not shared any more; save it by :saveas FILE')
+  end
+  one.document:check()
 end
 
 -- Undoes, or redoes, as often as the count says.
@@ -120,13 +114,68 @@ local function turn_back(again)
   end
 end
 
--- `u` and CTRL-R of one's own edits.
+-- The keys of one's own edits, and whether they make them again.
+local UNDO_KEYS = { u = false, ['<C-r>'] = true }
+
+-- Maps them, and keeps that they are.
 local function map_undo(buffer)
-  for key, again in pairs({ u = false, ['<C-r>'] = true }) do
+  vim.b[buffer].textpeer_undo_keys = true
+  for key, again in pairs(UNDO_KEYS) do
     vim.keymap.set('n', key, function()
       turn_back(again)
     end, { buffer = buffer, desc = again and 'Redo of your own edits' or 'Undo of your own edits' })
   end
+end
+
+-- Makes them Neovim's own again, if they were mapped.
+local function unmap_undo(buffer)
+  if vim.b[buffer].textpeer_undo_keys then
+    vim.b[buffer].textpeer_undo_keys = nil
+    for key in pairs(UNDO_KEYS) do
+      vim.keymap.del('n', key, { buffer = buffer })
+    end
+  end
+end
+
+-- Sets options of the buffer, by their names.
+local function set_options(buffer, options)
+  for option, value in pairs(options) do
+    vim.bo[buffer][option] = value
+  end
+end
+
+-- The buffer is a plain one from now on, of which nothing is written yet. The journal has what was typed before.
+local function become_plain(buffer)
+  release(buffer)
+  unmap_undo(buffer)
+  vim.api.nvim_clear_autocmds({ group = group, buffer = buffer })
+  set_options(buffer, { swapfile = vim.go.swapfile, modified = true })
+end
+
+-- Follows what Neovim does with the buffer.
+local function watch(buffer)
+  local name = vim.api.nvim_buf_get_name(buffer)
+  local function on(events, call)
+    vim.api.nvim_create_autocmd(events, {
+      group = group,
+      buffer = buffer,
+      callback = function()
+        call(buffer)
+      end,
+    })
+  end
+  -- Another name, as by `:saveas`, which writes next.
+  on('BufFilePost', function()
+    if vim.api.nvim_buf_get_name(buffer) ~= name then
+      become_plain(buffer)
+    end
+  end)
+  on('InsertLeave', function()
+    if shared[buffer] then
+      shared[buffer].document:leave_insert()
+    end
+  end)
+  on({ 'BufUnload', 'BufWipeout' }, unload)
 end
 
 -- Makes the last moment's edits of all buffers, since Neovim asks next whether one is modified.
@@ -153,16 +202,15 @@ vim.api.nvim_create_autocmd('VimLeavePre', {
   group = group,
   callback = function()
     for _, buffer in ipairs(vim.tbl_keys(shared)) do
-      forget(buffer)
+      release(buffer)
     end
   end,
 })
 
--- Shows the journal in the buffer, which becomes one for it.
+-- Shows the journal in the buffer, which becomes one for it. Its 'buftype' stays empty: from an "acwrite" buffer Neovim 0.7
+-- overwrites other files without being told to.
 local function begin(buffer, path, anew)
-  for option, value in pairs({ buftype = 'acwrite', swapfile = false, buflisted = true, fileformat = 'unix' }) do
-    vim.bo[buffer][option] = value
-  end
+  set_options(buffer, { swapfile = false, buflisted = true, fileformat = 'unix' })
   show(buffer, path, anew)
   vim.api.nvim_clear_autocmds({ group = group, buffer = buffer })
   watch(buffer)
@@ -171,7 +219,6 @@ local function begin(buffer, path, anew)
   end
 end
 
-local PREFIX = 'textpeer://'
 local opening = false
 
 -- Opens the journal in a file in a buffer of its own. With `anew` it begins a new document there.
