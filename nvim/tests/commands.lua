@@ -239,7 +239,33 @@ local function leave_at_once()
   end
 end
 
-for _, part in ipairs({ write_elsewhere, save_as, full_disk, quit_at_once, leave_at_once }) do
+-- Files that are no journals: how one is begun is told, and they stay.
+local function no_journals()
+  local editor = editor_beside()
+  for _, bytes in ipairs({ 'short\n', ('a line of a note\n'):rep(9) }) do
+    put('note.txt', bytes)
+    for _, command in ipairs({ 'TextpeerOpen! note.txt', 'TextpeerOpen note.txt' }) do
+      says(editor, command)
+      local text = editor:told()
+      check(text:find('note.txt: %a+, it is no journal; :TextpeerOpen! begins one in a file that is not there or is empty$'),
+        command .. ' of a note: ' .. text)
+      has('note.txt', bytes)
+    end
+  end
+  local bytes = got('a.journal')
+  says(editor, 'TextpeerOpen! a.journal')
+  told(editor, 'a journal that is there', 'it has a document; :TextpeerOpen without ! opens it')
+  has('a.journal', bytes)
+  put('empty.txt', '')
+  says(editor, 'TextpeerOpen! empty.txt')
+  told(editor, 'an empty file', '')
+  check(editor:lua("return require('textpeer').statusline()") == 'alone', 'an empty file becomes a journal')
+  editor:command('0read note.txt')
+  check(editor:engine() == got('note.txt'), 'a note in a new document: ' .. editor:engine())
+  editor:quit()
+end
+
+for _, part in ipairs({ write_elsewhere, save_as, full_disk, quit_at_once, leave_at_once, no_journals }) do
   local ok, problem = pcall(part)
   check(ok, tostring(problem))
 end

@@ -2,6 +2,7 @@
 local Document = require('textpeer.document')
 local Link = require('textpeer.link')
 local engine = require('textpeer.engine')
+local journal = require('textpeer.journal')
 local say = require('textpeer.say')
 
 local M = {}
@@ -41,13 +42,21 @@ local function unload(buffer)
   end
 end
 
+local NO_JOURNAL = 'it is no journal; :TextpeerOpen! begins one in a file that is not there or is empty'
+
 -- Why a file isn't opened, for people.
 local REASONS = {
   Busy = 'another has it open',
-  NoHeader = 'it is no journal; :TextpeerOpen! begins one there',
-  BadMagic = 'it is no journal',
+  NoHeader = NO_JOURNAL,
+  BadMagic = NO_JOURNAL,
   JournalNotEmpty = 'it has a document; :TextpeerOpen without ! opens it',
 }
+
+-- The name of the refusal of a file. Where a new document is begun the engine doesn't tell other files from journals.
+local function refused(refusal, path)
+  local name = tostring(refusal)
+  return name == 'JournalNotEmpty' and not journal.is_at(path) and 'BadMagic' or name
+end
 
 -- The engine over the file.
 local function opened(path, anew)
@@ -56,8 +65,8 @@ local function opened(path, anew)
   end
   local ok, handle = pcall(engine.open, path, anew)
   if not ok then
-    local reason = REASONS[tostring(handle)]
-    error(('%s: %s'):format(path, tostring(handle)) .. (reason and ', ' .. reason or ''), 0)
+    local name = refused(handle, path)
+    error(('%s: %s'):format(path, name) .. (REASONS[name] and ', ' .. REASONS[name] or ''), 0)
   end
   return handle
 end
