@@ -27,3 +27,11 @@ for event, call in pairs({ BufReadCmd = 'read', BufWriteCmd = 'write' }) do
     end,
   })
 end
+
+-- A journal that is read as a plain file.
+vim.api.nvim_create_autocmd('BufReadPost', {
+  group = group,
+  callback = function(given)
+    require('textpeer.journal').hint(given.buf)
+  end,
+})

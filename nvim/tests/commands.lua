@@ -265,7 +265,31 @@ local function no_journals()
   editor:quit()
 end
 
-for _, part in ipairs({ write_elsewhere, save_as, full_disk, quit_at_once, leave_at_once, no_journals }) do
+-- A journal as a plain file: how it is opened is told once, and works.
+local function hint()
+  local editor = editor_beside()
+  local bytes = got('a.journal')
+  put('b.journal', bytes)
+  editor:command('vimgrep /one/j *.journal')
+  check(#editor:request('nvim_eval', 'getqflist()') == 2, 'a search of journals')
+  told(editor, 'a search of journals', '')
+  editor:command('edit a.journal')
+  told(editor, 'a journal as a plain file', 'this is a journal; :TextpeerOpen % shows its text')
+  editor:command('edit')
+  told(editor, 'read again', '')
+  has('a.journal', bytes)
+  check(not editor:lua('return vim.bo.modified'), 'a journal as a plain file is not modified')
+  put('other.txt', 'RGAJRNL2 is none\n')
+  editor:command('edit other.txt')
+  told(editor, 'another file', '')
+  editor:command('buffer a.journal')
+  editor:command('TextpeerOpen %')
+  check(editor:text() == TEXT, 'what the hint opens: ' .. editor:text())
+  told(editor, 'the journal itself', '')
+  editor:quit()
+end
+
+for _, part in ipairs({ write_elsewhere, save_as, full_disk, quit_at_once, leave_at_once, no_journals, hint }) do
   local ok, problem = pcall(part)
   check(ok, tostring(problem))
 end
