@@ -141,6 +141,33 @@ static void print_refusals(const char *path, const char *absent, tp_shared *shar
     printf("no frame %u, going %u, a refusal of %u bytes\n", (unsigned)status, (unsigned)going, (unsigned)len);
 }
 
+/* All bytes of a file; their number goes to *len. */
+static uint8_t *bytes_of(const char *path, size_t *len)
+{
+    FILE *file = some(fopen(path, "rb"));
+    uint8_t *bytes = some(malloc(1 << 20));
+    *len = fread(bytes, 1, 1 << 20, file);
+    fclose(file);
+    return bytes;
+}
+
+/* A journal with another byte isn't opened, and stays as it is. */
+static void print_damage(const char *path, const char *copy, size_t place)
+{
+    size_t len, then;
+    uint8_t *bytes = bytes_of(path, &len), *after;
+    tp_shared other;
+    FILE *file = some(fopen(copy, "wb"));
+    bytes[place] ^= 2;
+    fwrite(bytes, 1, len, file);
+    fclose(file);
+    printf("damaged at %u: %u", (unsigned)place, (unsigned)tp_shared_open(copy, strlen(copy), LATER, &other.at));
+    after = bytes_of(copy, &then);
+    printf(", %s\n", then == len && memcmp(bytes, after, len) == 0 ? "the same" : "changed");
+    free(bytes);
+    free(after);
+}
+
 int main(int count, char **arguments)
 {
     const char *folder = count > 1 ? arguments[1] : ".";
@@ -159,6 +186,8 @@ int main(int count, char **arguments)
     print_refusals(first, absent, &ann);
     tp_shared_close(ben);
     tp_shared_close(ann);
+    print_damage(first, absent, 60);
+    print_damage(first, absent, 26);
     printf("in use %u, there %u\n", (unsigned)tp_shared_open(first, strlen(first), ANN, &ann.at),
            (unsigned)tp_shared_create(first, strlen(first), TEXT, LATER, &ann.at));
     must(tp_shared_open(first, strlen(first), LATER, &ann.at), "open");

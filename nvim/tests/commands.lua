@@ -239,6 +239,21 @@ local function leave_at_once()
   end
 end
 
+-- Damaged journals: what helps is told, and they stay. In one a byte of the text is another, in one the length of a record.
+local function damaged_journals()
+  local editor = editor_beside()
+  local whole = got('a.journal')
+  for _, place in ipairs({ #whole - 40, 26 }) do
+    local bytes = whole:sub(1, place) .. string.char((whole:byte(place + 1) + 1) % 256) .. whole:sub(place + 2) .. whole:sub(25)
+    put('b.journal', bytes)
+    says(editor, 'TextpeerOpen b.journal')
+    local text = editor:told()
+    check(text:find('Damaged, `textpeer check` says what is damaged', 1, true), 'a journal damaged at ' .. place .. ': ' .. text)
+    check(got('b.journal') == bytes, 'the journal damaged at ' .. place .. ' has changed')
+  end
+  editor:quit()
+end
+
 -- Files that are no journals: how one is begun is told, and they stay.
 local function no_journals()
   local editor = editor_beside()
@@ -289,7 +304,7 @@ local function hint()
   editor:quit()
 end
 
-for _, part in ipairs({ write_elsewhere, save_as, full_disk, quit_at_once, leave_at_once, no_journals, hint }) do
+for _, part in ipairs({ write_elsewhere, save_as, full_disk, quit_at_once, leave_at_once, damaged_journals, no_journals, hint }) do
   local ok, problem = pcall(part)
   check(ok, tostring(problem))
 end

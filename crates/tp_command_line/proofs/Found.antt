@@ -111,11 +111,11 @@ not_found name (s ∷ shapes) none = go (bytes_eq s.name name) refl (not_found n
 
 -- these names are all
 pub no_other_name : (name : Text) (rows : List Row) → IsUse name rows → (name ≡ codes "new" → ⊥) → (name ≡ codes "edit" → ⊥) → (name ≡ codes "text" → ⊥)
-    → (name ≡ codes "heads" → ⊥) → (name ≡ codes "log" → ⊥) → (name ≡ codes "graph" → ⊥) → (name ≡ codes "cursor" → ⊥) → (name ≡ codes "merge" → ⊥) → (name ≡ codes "save" → ⊥)
-    → (name ≡ codes "load" → ⊥) → (name ≡ codes "show" → ⊥) → (name ≡ codes "simulate" → ⊥)
+    → (name ≡ codes "heads" → ⊥) → (name ≡ codes "log" → ⊥) → (name ≡ codes "graph" → ⊥) → (name ≡ codes "cursor" → ⊥) → (name ≡ codes "check" → ⊥) → (name ≡ codes "merge" → ⊥) → (name ≡ codes "save" → ⊥)
+    → (name ≡ codes "load" → ⊥) → (name ≡ codes "recover" → ⊥) → (name ≡ codes "show" → ⊥) → (name ≡ codes "simulate" → ⊥)
     → (name ≡ codes "serve" → ⊥) → (name ≡ codes "sync" → ⊥) → (name ≡ codes "session" → ⊥) → ⊥
-no_other_name name rows found a b c d e f g h i j k l m n o =
-    let none = not_found name (built textpeer_app).subs (a, (b, (c, (d, (e, (f, (g, (h, (i, (j, (k, (l, (m, (n, (o, tt))))))))))))))) in
+no_other_name name rows found a b c d e f g h i j k l m n o p q =
+    let none = not_found name (built textpeer_app).subs (a, (b, (c, (d, (e, (f, (g, (h, (i, (j, (k, (l, (m, (n, (o, (p, (q, tt))))))))))))))))) in
     let bad : None ≡ Some found.shape = sym none ∙ found.named in
     absurd (cc)
 

@@ -16,7 +16,7 @@ use Rattle.tp_command_line.specs.CommandOf.{AskToShow, IsCommandOf, IsFoundAs, I
 use Rattle.tp_command_line.specs.LineError.{parser_fault}
 use Rattle.tp_command_line.proofs.Found.{some_is}
 use Rattle.tp_command_line.specs.declared.command.Command.{Command}
-use Rattle.tp_command_line.specs.declared.command.Command.TheVariants.{New, Edit, Text as ReadText, Heads, Log, Graph, Cursor, Merge, Save, Load, Show, Simulate, Serve, Session, Sync}
+use Rattle.tp_command_line.specs.declared.command.Command.TheVariants.{New, Edit, Text as ReadText, Heads, Log, Graph, Cursor, Check, Merge, Save, Load, Recover, Show, Simulate, Serve, Session, Sync}
 use Rattle.tp_command_line.specs.declared.error.LineError.{LineError}
 
 -- the name of a subcommand, and the value of its `LOG`
@@ -76,9 +76,11 @@ show_of_name path name rows (Heads file) is log of = other_name (codes "heads") 
 show_of_name path name rows (Log file) is log of = other_name (codes "log") refl (sym of.0 ∙ is)
 show_of_name path name rows (Graph file) is log of = other_name (codes "graph") refl (sym of.0 ∙ is)
 show_of_name path name rows (Cursor file at heads) is log of = other_name (codes "cursor") refl (sym of.0 ∙ is)
+show_of_name path name rows (Check file) is log of = other_name (codes "check") refl (sym of.0 ∙ is)
 show_of_name path name rows (Merge file other key) is log of = other_name (codes "merge") refl (sym of.0 ∙ is)
 show_of_name path name rows (Save file out) is log of = other_name (codes "save") refl (sym of.0 ∙ is)
 show_of_name path name rows (Load saved file) is log of = other_name (codes "load") refl (sym of.0 ∙ is)
+show_of_name path name rows (Recover file out) is log of = other_name (codes "recover") refl (sym of.0 ∙ is)
 show_of_name path name rows (Show shown) is log of = let same : Some shown.now ≡ Some path = sym of.1 ∙ log in (shown, refl, cc)
 show_of_name path name rows (Simulate script) is log of = other_name (codes "simulate") refl (sym of.0 ∙ is)
 show_of_name path name rows (Serve file addr sessions workers key) is log of = other_name (codes "serve") refl (sym of.0 ∙ is)

@@ -163,18 +163,27 @@ all_sound = (
             (
               (file_sound, (position_sound, (heads_sound 3 true, (help_sound, tt)))),
               (
-                (file_sound, (other_sound, (key_sound, (help_sound, tt)))),
+                (file_sound, (help_sound, tt)),
                 (
-                  (file_sound, (out_sound, (help_sound, tt))),
+                  (file_sound, (other_sound, (key_sound, (help_sound, tt)))),
                   (
-                    (saved_sound, (second_file_sound, (help_sound, tt))),
+                    (file_sound, (out_sound, (help_sound, tt))),
                     (
-                      (log_sound, (help_sound, tt)),
+                      (saved_sound, (second_file_sound, (help_sound, tt))),
                       (
-                        (script_sound, (help_sound, tt)),
+                        (file_sound, (out_sound, (help_sound, tt))),
                         (
-                          (file_sound, (addr_sound, (sessions_sound, (workers_sound, (key_sound, (help_sound, tt)))))),
-                          ((file_sound, (addr_sound, (key_sound, (help_sound, tt)))), ((file_sound, (client_sound, (key_sound, (help_sound, tt)))), tt)),
+                          (log_sound, (help_sound, tt)),
+                          (
+                            (script_sound, (help_sound, tt)),
+                            (
+                              (file_sound, (addr_sound, (sessions_sound, (workers_sound, (key_sound, (help_sound, tt)))))),
+                              (
+                                (file_sound, (addr_sound, (key_sound, (help_sound, tt)))),
+                                ((file_sound, (client_sound, (key_sound, (help_sound, tt)))), tt),
+                              ),
+                            ),
+                          ),
                         ),
                       ),
                     ),
@@ -195,7 +204,7 @@ AllNamed [] = Unit {0}
 AllNamed (s ∷ shapes) = (shape_named s.name ≡ Some s) × AllNamed shapes
 
 all_named : AllNamed (built textpeer_app).subs
-all_named = (refl, (refl, (refl, (refl, (refl, (refl, (refl, (refl, (refl, (refl, (refl, (refl, (refl, (refl, (refl, tt)))))))))))))))
+all_named = (refl, (refl, (refl, (refl, (refl, (refl, (refl, (refl, (refl, (refl, (refl, (refl, (refl, (refl, (refl, (refl, (refl, tt)))))))))))))))))
 
 found_named : (test : Shape → Bool) (shapes : List Shape) → AllNamed shapes → (s : Shape) → find test shapes ≡ Some s → shape_named s.name ≡ Some s
 found_named test [] named s e = absurd (cc)

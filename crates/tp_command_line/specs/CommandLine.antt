@@ -110,6 +110,10 @@ abbrev pub cursor_shape : Shape
 cursor_shape = with_rules (codes "cursor")
     (file_rule ∷ numeric (required_rule (codes "AT")) ∷ mandatory (several (codes "HASH")) ∷ [])
 
+-- `check FILE`
+abbrev pub check_shape : Shape
+check_shape = with_rules (codes "check") (file_rule ∷ [])
+
 -- `merge FILE OTHER [--key HEX]`
 abbrev pub merge_shape : Shape
 merge_shape = with_rules (codes "merge") (file_rule ∷ required_rule (codes "OTHER") ∷ key_rule ∷ [])
@@ -121,6 +125,10 @@ save_shape = with_rules (codes "save") (file_rule ∷ required_rule (codes "OUT"
 -- `load SAVED FILE`
 abbrev pub load_shape : Shape
 load_shape = with_rules (codes "load") (required_rule (codes "SAVED") ∷ file_rule ∷ [])
+
+-- `recover FILE OUT`
+abbrev pub recover_shape : Shape
+recover_shape = with_rules (codes "recover") (file_rule ∷ required_rule (codes "OUT") ∷ [])
 
 -- `show LOG`
 abbrev pub show_shape : Shape
@@ -166,13 +174,13 @@ bare_app = record {
 abbrev pub journals_app : App
 journals_app = record {
   top = record bare_app.top { is_leaf = false };
-  subs = new_shape ∷ edit_shape ∷ text_shape ∷ heads_shape ∷ log_shape ∷ graph_shape ∷ cursor_shape ∷ [];
+  subs = new_shape ∷ edit_shape ∷ text_shape ∷ heads_shape ∷ log_shape ∷ graph_shape ∷ cursor_shape ∷ check_shape ∷ [];
 }
 
 -- `textpeer` with the subcommands that need no network
 abbrev pub files_app : App
 files_app = record journals_app {
-  subs = journals_app.subs ++ merge_shape ∷ save_shape ∷ load_shape ∷ show_shape ∷ simulate_shape ∷ [];
+  subs = journals_app.subs ++ merge_shape ∷ save_shape ∷ load_shape ∷ recover_shape ∷ show_shape ∷ simulate_shape ∷ [];
 }
 
 -- `textpeer` with all its subcommands

@@ -3,7 +3,7 @@ use Rattle.std.specs.Prelude.{◌≡◌, ◌≢◌, List, [], ◌∷◌, Option,
 use Rattle.std.specs.Borrow.{Bor}
 use Rattle.clap.specs.Words.{Row, Text, all_of, first_of}
 use Rattle.tp_command_line.specs.declared.command.Command.{Command}
-use Rattle.tp_command_line.specs.declared.command.Command.TheVariants.{New, Edit, Text as ReadText, Heads, Log, Graph, Cursor, Merge, Save, Load, Show, Simulate, Serve, Session, Sync}
+use Rattle.tp_command_line.specs.declared.command.Command.TheVariants.{New, Edit, Text as ReadText, Heads, Log, Graph, Cursor, Check, Merge, Save, Load, Recover, Show, Simulate, Serve, Session, Sync}
 use Rattle.tp_command_line.specs.Values.{HasFlag, HasNumber}
 
 -- the first value of an argument is the text
@@ -32,12 +32,15 @@ IsCommandOf name rows (Log file) = (name ≡ codes "log") × HasText (codes "FIL
 IsCommandOf name rows (Graph file) = (name ≡ codes "graph") × HasText (codes "FILE") rows file
 IsCommandOf name rows (Cursor file at heads) = (name ≡ codes "cursor")
     × HasText (codes "FILE") rows file × HasNumber (codes "AT") rows at × HasHeads rows heads.items
+IsCommandOf name rows (Check file) = (name ≡ codes "check") × HasText (codes "FILE") rows file
 IsCommandOf name rows (Merge file other key) = (name ≡ codes "merge")
     × HasText (codes "FILE") rows file × HasText (codes "OTHER") rows other × HasKey rows key
 IsCommandOf name rows (Save file out) = (name ≡ codes "save") × HasText (codes "FILE") rows file
     × HasText (codes "OUT") rows out
 IsCommandOf name rows (Load saved file) = (name ≡ codes "load") × HasText (codes "SAVED") rows saved
     × HasText (codes "FILE") rows file
+IsCommandOf name rows (Recover file out) = (name ≡ codes "recover") × HasText (codes "FILE") rows file
+    × HasText (codes "OUT") rows out
 IsCommandOf name rows (Show log) = (name ≡ codes "show") × HasText (codes "LOG") rows log
 IsCommandOf name rows (Simulate script) = (name ≡ codes "simulate") × HasText (codes "SCRIPT") rows script
 IsCommandOf name rows (Serve file addr sessions workers key) = (name ≡ codes "serve") × HasText (codes "FILE") rows file

@@ -59,6 +59,11 @@ pub enum Command<'a> {
         /// The heads of the earlier text.
         heads: Vec<&'a str>,
     },
+    /// Says what stands in a journal, whatever is damaged in it.
+    Check {
+        /// The path of the journal.
+        file: &'a str,
+    },
     /// Takes the changes of another journal.
     Merge {
         /// The path of the journal that takes them.
@@ -81,6 +86,13 @@ pub enum Command<'a> {
         saved: &'a str,
         /// The path of the journal.
         file: &'a str,
+    },
+    /// Makes a journal of all that can be had of a damaged one.
+    Recover {
+        /// The path of the damaged journal.
+        file: &'a str,
+        /// The path of the journal that is made.
+        out: &'a str,
     },
     /// Prints the text that a log of changes makes.
     Show {

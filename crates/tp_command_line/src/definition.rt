@@ -4,7 +4,7 @@ ghost use Rattle.std.specs.Prelude.{◌≡◌, IfOk, [], false, codes};
 ghost use Rattle.clap.specs.Words.{App, Shape, app_of, rule_of, with_subcommand};
 ghost use Rattle.tp_command_line.specs.CommandLine.{flag_rule, mandatory, message_rule, numeric, option_rule, required_rule, several, sessions_rule, time_rule, workers_rule};
 ghost use Rattle.tp_command_line.specs.CommandLine.{IsLeaf, bare_app, files_app, journals_app, textpeer_app, with_rules};
-ghost use Rattle.tp_command_line.specs.CommandLine.{cursor_shape, edit_at_shape, edit_shape, graph_shape, heads_shape, load_shape, log_shape, merge_shape, new_shape, save_shape, serve_at_shape, serve_shape, session_shape, show_shape, simulate_shape, sync_shape, text_shape};
+ghost use Rattle.tp_command_line.specs.CommandLine.{check_shape, cursor_shape, edit_at_shape, edit_shape, graph_shape, heads_shape, load_shape, log_shape, merge_shape, new_shape, recover_shape, save_shape, serve_at_shape, serve_shape, session_shape, show_shape, simulate_shape, sync_shape, text_shape};
 
 use clap::builder::ValueParser;
 use clap::{Arg, ArgAction, Command, value_parser};
@@ -28,7 +28,8 @@ fn file_commands<'a>(alloc: Global) -> Result<Command<'a>, AllocError>
     let merged = with(journals, merge_command(alloc));
     let saved = with(merged, save_command(alloc));
     let loaded = with(saved, load_command(alloc));
-    let shown = with(loaded, show_command(alloc));
+    let recovered = with(loaded, recover_command(alloc));
+    let shown = with(recovered, show_command(alloc));
     with(shown, simulate_command(alloc))
 }
 
@@ -42,7 +43,8 @@ fn journal_commands<'a>(alloc: Global) -> Result<Command<'a>, AllocError>
     let headed = with(read, heads_command(alloc));
     let logged = with(headed, log_command(alloc));
     let drawn = with(logged, graph_command(alloc));
-    with(drawn, cursor_command(alloc))
+    let found = with(drawn, cursor_command(alloc));
+    with(found, check_command(alloc))
 }
 
 // The program with one more command, where both could be made.
@@ -167,7 +169,8 @@ fn text<'a>(alloc: Global) -> Arg<'a>
     ensures rule { rule_of result ≡ mandatory (option_rule (codes "text")) }
     ensures local { result.global ≡ false }
 {
-    option(alloc, "text", "T", "the text that is inserted there").required(true)
+    let help = "the text that is inserted there; one that begins with - as in --text=-x";
+    option(alloc, "text", "T", help).required(true)
 }
 
 fn time<'a>(alloc: Global) -> Arg<'a>
@@ -351,6 +354,18 @@ fn cursor_command<'a>(alloc: Global) -> Result<Command<'a>, AllocError>
     .arg(earlier_heads(alloc))
 }
 
+fn check_command<'a>(alloc: Global) -> Result<Command<'a>, AllocError>
+    ensures { IfOk result (IsLeaf check_shape) }
+{
+    named(
+        alloc,
+        "check",
+        "Says how much of a journal is kept, and what stands behind that: a fault with its place, and whole changes",
+        "Example:\n  textpeer check notes.journal",
+    )
+    .arg(journal(alloc))
+}
+
 fn merge_command<'a>(alloc: Global) -> Result<Command<'a>, AllocError>
     ensures { IfOk result (IsLeaf merge_shape) }
 {
@@ -382,7 +397,7 @@ fn save_command<'a>(alloc: Global) -> Result<Command<'a>, AllocError>
     .arg(required(
         alloc,
         "OUT",
-        "the saved file, which is replaced if it is there",
+        "the saved file; another file there is replaced, and a journal refused",
     ))
 }
 
@@ -397,6 +412,23 @@ fn load_command<'a>(alloc: Global) -> Result<Command<'a>, AllocError>
     )
     .arg(required(alloc, "SAVED", "a saved file"))?
     .arg(journal(alloc))
+}
+
+fn recover_command<'a>(alloc: Global) -> Result<Command<'a>, AllocError>
+    ensures { IfOk result (IsLeaf recover_shape) }
+{
+    named(
+        alloc,
+        "recover",
+        "Makes a journal of all that can be had of a damaged one, and says how many changes came and from which bytes none did",
+        "Example:\n  textpeer recover notes.journal whole.journal",
+    )
+    .arg(journal(alloc))?
+    .arg(required(
+        alloc,
+        "OUT",
+        "the journal that is made; where anything is there it stays",
+    ))
 }
 
 fn show_command<'a>(alloc: Global) -> Result<Command<'a>, AllocError>

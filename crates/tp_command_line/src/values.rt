@@ -127,6 +127,9 @@ pub(crate) fn command_of<'a>(
             at: number_of(found, "AT"),
             heads: heads_of(alloc, found)?,
         }),
+        "check" => Ok(Command::Check {
+            file: text_of(found, "FILE"),
+        }),
         "merge" => Ok(Command::Merge {
             file: text_of(found, "FILE"),
             other: text_of(found, "OTHER"),
@@ -139,6 +142,10 @@ pub(crate) fn command_of<'a>(
         "load" => Ok(Command::Load {
             saved: text_of(found, "SAVED"),
             file: text_of(found, "FILE"),
+        }),
+        "recover" => Ok(Command::Recover {
+            file: text_of(found, "FILE"),
+            out: text_of(found, "OUT"),
         }),
         "show" => Ok(Command::Show {
             log: text_of(found, "LOG"),

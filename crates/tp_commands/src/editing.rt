@@ -18,9 +18,9 @@ use crate::error::CommandError;
 use crate::reading::Recovery;
 use std::alloc::Global;
 use tp_edit::Splice;
-use tp_journal::{Journal, MemJournal};
+use tp_journal::{Journal, ReadJournal, Recovering};
 use tp_opid::{Actor, DocId, Hash};
-use tp_peer::Peer;
+use tp_peer::{Peer, PeerSequence};
 
 /// Begins the journal of a document. One that has a header or other bytes is refused as `JournalNotEmpty`.
 pub fn begin<J: Journal>(
@@ -95,25 +95,22 @@ pub fn reopen<J: Journal>(
     }
 }
 
-// A peer on a journal of these bytes.
-fn reopen_bytes(
+// A peer on the journal of the bytes that came.
+fn reopen_read(
     alloc: Global,
-    bytes: Vec<u8>,
+    journal: Recovering<PeerSequence>,
     actor: Actor,
-) -> Result<Peer<MemJournal>, CommandError>
-    ensures ok { IfOk result (λ p. Reopens (journal_state bytes.items no_device) actor p) }
-    ensures err { IfErr result (λ e. IsUnopened (journal_state bytes.items no_device) actor e) }
+) -> Result<Peer<ReadJournal>, CommandError>
+    ensures ok { IfOk result (λ p. Reopens (journal_state journal no_device) actor p) }
+    ensures err { IfErr result (λ e. IsUnopened (journal_state journal no_device) actor e) }
 {
-    match Peer::reopen(alloc, MemJournal::new(bytes), actor) {
-        Ok(peer) => Ok(peer),
-        Err(unopened) => Err(CommandError::from(unopened.error)),
-    }
+    reopen(alloc, journal.finish_with_journal(), actor)
 }
 
 // Merges the other peer's changes, and ends it. Answers how many entered.
 fn merge_from<J: Journal>(
     peer: &mut Peer<J>,
-    other: Peer<MemJournal>,
+    other: Peer<ReadJournal>,
 ) -> Result<usize, CommandError>
     ensures ok { IfOk result (λ count. (report : Report)
         × PeerStep peer.old (Merge other) (Merged report) peer.new
@@ -128,18 +125,18 @@ fn merge_from<J: Journal>(
     }
 }
 
-/// Merges the changes of another journal's bytes, which are opened under the actor, and ends the peer. Answers its journal
-/// and how many entered.
+/// Merges the changes of another journal, whose bytes came and which is opened under the actor, and ends the peer. Answers
+/// its journal and how many entered. Of the other journal no byte is held.
 pub fn merge<J: Journal>(
     alloc: Global,
     mut peer: Peer<J>,
-    other: Vec<u8>,
+    other: Recovering<PeerSequence>,
     actor: Actor,
 ) -> Result<(J, usize), CommandError>
-    ensures takes { IfOk result (λ r. TakesJournal peer other.items actor r.1 (J.content r.0)) }
-    ensures err { IfErr result (λ e. IsUnmerged peer (journal_state other.items no_device) actor e) }
+    ensures takes { IfOk result (λ r. TakesJournal peer other actor r.1 (J.content r.0)) }
+    ensures err { IfErr result (λ e. IsUnmerged peer (journal_state other no_device) actor e) }
 {
-    match reopen_bytes(alloc, other, actor) {
+    match reopen_read(alloc, other, actor) {
         Ok(other) => {
             let merged = merge_from(&mut peer, other);
             let journal = peer.stop();

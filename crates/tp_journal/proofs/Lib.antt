@@ -5,4 +5,5 @@ pub mod CutLaws
 pub mod BytesLaws
 pub mod RecoveredLaws
 pub mod PieceLaws
+pub mod WholeLaws
 mod Laying

@@ -10,10 +10,11 @@ use Rattle.tp_graph.specs.declared.error.GraphError.{GraphError}
 use Rattle.tp_store.specs.declared.error.StoreError.{StoreError}
 use Rattle.tp_store.specs.declared.error.StoreError.TheVariants.{OutOfMemory}
 use Rattle.tp_journal.specs.declared.pieces.Stage.{Stage}
-use Rattle.tp_journal.specs.declared.pieces.Stage.TheVariants.{Refused}
+use Rattle.tp_journal.specs.declared.pieces.Stage.TheVariants.{Records, Refused}
+use Rattle.tp_journal.specs.declared.recovering.Recovered.{Recovered}
 use Rattle.tp_journal.specs.Layout.{IsDocId, header_of, record_of, records_of, journal}
 use Rattle.tp_journal.specs.Pieces.{IsRefusedFrom, IsBehind, Stands}
-use Rattle.tp_journal.specs.Recovery.{IsHistory}
+use Rattle.tp_journal.specs.Recovery.{HasTail, IsHistory}
 use Rattle.tp_journal.specs.Refusals.{IsNoChange, IsWrong, IsDamaged, IsRefusedNext, IsFaultAt, IsRefusal}
 use Rattle.tp_journal.proofs.CutLaws.{journal-push}
 use Rattle.tp_journal.proofs.RecordLaws.{length-record_of, length-header_of}
@@ -138,3 +139,9 @@ refused_ends came e (inr refused) = inr (subst (λ l. IsRefusal l e) (append-nil
 pub refused_end : {S : Type 0} (all came held : List ℕ) (stage : Stage S) (e : StoreError) → came ≡ all → stage ≡ Refused e → Stands came stage held → (e ≡ OutOfMemory) ⊎ IsRefusal all e
 refused_end all came held stage e same is s =
     subst (λ l. (e ≡ OutOfMemory) ⊎ IsRefusal l e) same (refused_ends came e (subst (λ t. Stands came t held) is s))
+
+-- what is held at the end comes after what is kept
+pub held_end : {S : Type 0} (all came held : List ℕ) (stage : Stage S) (r : Recovered S) → came ≡ all → stage ≡ Records r → Stands came stage held → HasTail all r.keep held
+held_end all came held stage r same is s =
+    let behind = (subst (λ t. Stands came t held) is s).0 in
+    record { kept = journal r.document.id r.document.applied; split = sym same ∙ behind.spelled; size = behind.keep_is }

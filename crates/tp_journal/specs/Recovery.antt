@@ -30,6 +30,12 @@ pub record Recovers (bytes : List ℕ) (id : DocId) (C : List ChangeParts) (keep
   pub spelled : bytes ≡ journal id C ++ tail
   pub keep_is : keep ≡ length (journal id C)
 
+-- The bytes are as many as `keep`, and then the tail.
+pub record HasTail (bytes : List ℕ) (keep : ℕ) (tail : List ℕ) : Type 0 where
+  pub kept : List ℕ
+  pub split : bytes ≡ kept ++ tail
+  pub size : keep ≡ length kept
+
 -- ---- the same as a function
 
 abbrev pub is_cut_record : ℕ → List ℕ → Bool

@@ -2,7 +2,7 @@
 
 ghost use Rattle.std.specs.Prelude.{◌≡◌, ◌⊎◌, [], false, IfOk, IfErr};
 ghost use Rattle.tp_journal.specs.Journal.{failing};
-ghost use Rattle.tp_journal.specs.Recovery.{Recovers};
+ghost use Rattle.tp_journal.specs.Recovery.{HasTail, Recovers};
 ghost use Rattle.tp_journal.specs.Refusals.{IsRefusal};
 ghost use Rattle.tp_store.specs.declared.error.StoreError.TheVariants.{OutOfMemory as Lack};
 
@@ -61,6 +61,8 @@ impl<F: Read + Write + OpenFile + Lockable + Drop> DurableJournal<F> {
         ensures ok { IfOk result (λ opened. IfOk opened.1 (λ r.
             Recovers opened.0.file.content r.document.id r.document.applied r.keep
             × (r.document.waiting ≡ []))) }
+        ensures tail { IfOk result (λ opened. IfOk opened.1
+            (λ r. HasTail opened.0.file.content r.keep r.tail.items)) }
         ensures err { IfOk result (λ opened. IfErr opened.1
             (λ e. (e ≡ Lack) ⊎ IsRefusal opened.0.file.content e)) }
     {

@@ -2,7 +2,7 @@
 
 ghost use Rattle.std.specs.Prelude.{◌≡◌, ◌⊎◌, ◌+◌, [], ◌++◌, length, OnOk, OnErr, IfOk, IfErr, IfSome, IsOkUnless};
 ghost use Rattle.tp_journal.specs.Journal.{HasGrown, failing};
-ghost use Rattle.tp_journal.specs.Recovery.{Recovers};
+ghost use Rattle.tp_journal.specs.Recovery.{HasTail, Recovers};
 ghost use Rattle.tp_journal.specs.Refusals.{IsRefusal};
 ghost use Rattle.tp_journal.specs.declared.error.JournalError.TheVariants.{Io};
 ghost use Rattle.tp_store.specs.declared.error.StoreError.TheVariants.{OutOfMemory as Lack};
@@ -121,6 +121,7 @@ fn recover_from<S: Sequence, R: Read>(
         (λ held. read.0 ≡ held)) }
     ensures ok { IfOk result (λ read. IfOk read.1 (λ r.
         Recovers read.0 r.document.id r.document.applied r.keep × (r.document.waiting ≡ []))) }
+    ensures tail { IfOk result (λ read. IfOk read.1 (λ r. HasTail read.0 r.keep r.tail.items)) }
     ensures err { IfOk result (λ read. IfErr read.1 (λ e. (e ≡ Lack) ⊎ IsRefusal read.0 e)) }
 {
     let mut recovering = Recovering::new(alloc);
@@ -175,6 +176,8 @@ impl<F: Read + Write + OpenFile + Lockable + Drop> FileJournal<F> {
         ensures ok { IfOk result (λ opened. IfOk opened.1 (λ r.
             Recovers opened.0.content r.document.id r.document.applied r.keep
             × (r.document.waiting ≡ []))) }
+        ensures tail { IfOk result (λ opened. IfOk opened.1
+            (λ r. HasTail opened.0.content r.keep r.tail.items)) }
         ensures err { IfOk result (λ opened. IfErr opened.1
             (λ e. (e ≡ Lack) ⊎ IsRefusal opened.0.content e)) }
     {

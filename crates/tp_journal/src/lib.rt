@@ -18,8 +18,10 @@ mod lock;
 mod memory;
 mod opening;
 mod pieces;
+mod read;
 mod reading;
 mod recovering;
+mod rescuing;
 mod writing;
 
 pub use durable::DurableJournal;
@@ -36,5 +38,7 @@ pub use lock::Lockable;
 pub use memory::MemJournal;
 pub use opening::OpenError;
 pub use pieces::Recovering;
+pub use read::ReadJournal;
 pub use recovering::{Recovered, recover};
+pub use rescuing::{Inspection, WholeRecord, holds_record, inspect, rescue};
 pub use writing::{header, put_record, record};

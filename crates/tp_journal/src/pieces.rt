@@ -5,12 +5,13 @@ ghost use Rattle.tp_change.specs.declared.parts.ChangeParts.{ChangeParts};
 ghost use Rattle.tp_opid.specs.declared.doc_id.DocId.{DocId as Id};
 ghost use Rattle.tp_journal.specs.Layout.{IsShortTail};
 ghost use Rattle.tp_journal.specs.Pieces.{IsRefusedFrom, IsBehind, Reads, Stands};
-ghost use Rattle.tp_journal.specs.Recovery.{Recovers};
+ghost use Rattle.tp_journal.specs.Recovery.{HasTail, Recovers};
 ghost use Rattle.tp_journal.specs.Refusals.{IsRefusal};
 ghost use Rattle.tp_store.specs.declared.error.StoreError.TheVariants.{OutOfMemory};
 
 use crate::content::Content;
 use crate::layout::HEADER_BYTES;
+use crate::read::ReadJournal;
 use crate::reading::{expected, read_header};
 use crate::recovering::{Recovered, enter_next, history};
 use std::alloc::{AllocError, Global};
@@ -27,7 +28,7 @@ use tp_store::StoreError;
 pub(crate) enum Stage<S: Sequence> {
     /// The header isn't whole.
     Header,
-    /// The document has the changes of all records that are whole.
+    /// The document has the changes of all records that are whole. The tail is empty yet.
     Records(Recovered<S>),
     /// The bytes are refused, whatever comes behind them, or memory was.
     Refused(StoreError),
@@ -126,6 +127,7 @@ fn begin<'a, S: Sequence>(
             let mut recovered = Recovered {
                 document: Document::new(alloc, id),
                 keep: HEADER_BYTES as u64,
+                tail: Vec::new(alloc),
             };
             match enter_records(alloc, &mut recovered, behind, came) {
                 Ok(rest) => {
@@ -291,6 +293,7 @@ impl<S: Sequence> Recovering<S> {
         ensures ok { IfOk result
             (λ r. Recovers self r.document.id r.document.applied r.keep) }
         ensures waiting { IfOk result (λ r. r.document.waiting ≡ []) }
+        ensures tail { IfOk result (λ r. HasTail self r.keep r.tail.items) }
         ensures only { (id : Id) (C : List ChangeParts) (keep : ℕ) → Recovers self id C keep
             → IsOkUnless result OutOfMemory }
         ensures err { IfErr result (λ e. (e ≡ OutOfMemory) ⊎ IsRefusal self e) }
@@ -298,14 +301,36 @@ impl<S: Sequence> Recovering<S> {
         let Recovering {
             alloc: _,
             stage,
-            rest: _,
+            rest,
             came: _,
         } = self;
         match stage {
             Stage::Header => Err(StoreError::NoHeader),
-            Stage::Records(recovered) => Ok(recovered),
+            Stage::Records(recovered) => {
+                let Recovered {
+                    document,
+                    keep,
+                    tail: _,
+                } = recovered;
+                Ok(Recovered {
+                    document,
+                    keep,
+                    tail: rest,
+                })
+            }
             Stage::Refused(error) => Err(error),
         }
+    }
+
+    /// What [`finish`](Recovering::finish) gives, with the journal of the bytes that came, which holds none of them.
+    pub fn finish_with_journal(self) -> (ReadJournal, Result<Recovered<S>, StoreError>)
+        ensures journal { result.0 ≡ self }
+        ensures ok { IfOk result.1 (λ r. Recovers self r.document.id r.document.applied r.keep
+            × (r.document.waiting ≡ [])) }
+        ensures err { IfErr result.1 (λ e. (e ≡ OutOfMemory) ⊎ IsRefusal self e) }
+    {
+        let journal = ReadJournal::of(self.content());
+        (journal, self.finish())
     }
 }
 

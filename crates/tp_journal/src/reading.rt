@@ -25,8 +25,8 @@ fn has_magic(bytes: &[u8]) -> bool
     bytes[..count] == MAGIC[..count]
 }
 
-// 16 bytes as an identifier.
-fn id_of(bytes: &[u8]) -> DocId
+/// 16 bytes as an identifier.
+pub(crate) fn id_of(bytes: &[u8]) -> DocId
     requires { length bytes.now ≡ 16 }
     ensures id { result.0 ≡ bytes.now }
     ensures bytes { IsDocId result }

@@ -1,13 +1,13 @@
 //! What is recovered from the bytes of a journal.
 
-ghost use Rattle.std.specs.Prelude.{◌≡◌, ◌⊎◌, ◌<◌, ℕ, List, [], ◌∷◌, ◌++◌, None, length, Some, IfOk, IfErr, IfNone, IfSome, OnOk, IsOkUnless};
+ghost use Rattle.std.specs.Prelude.{◌≡◌, ◌⊎◌, ◌<◌, ℕ, List, [], ◌∷◌, ◌++◌, None, length, Some, IfOk, IfErr, IfNone, IfSome, OnOk, OnErr, IsOkUnless};
 ghost use Rattle.tp_change.specs.declared.parts.ChangeParts.{ChangeParts};
 ghost use Rattle.tp_change.specs.Limits.{IsChange};
 ghost use Rattle.tp_graph.specs.Fit.{cause};
 ghost use Rattle.tp_graph.specs.declared.error.GraphError.{GraphError as Cause};
 ghost use Rattle.tp_opid.specs.declared.doc_id.DocId.{DocId as Id};
 ghost use Rattle.tp_journal.specs.Layout.{IsDocId, header_of, record_of, IsShortTail};
-ghost use Rattle.tp_journal.specs.Recovery.{IsHistory, Recovers};
+ghost use Rattle.tp_journal.specs.Recovery.{HasTail, IsHistory, Recovers};
 ghost use Rattle.tp_journal.specs.Refusals.{IsFaultAt, IsFault, IsRefusal};
 ghost use Rattle.tp_store.specs.declared.error.StoreError.TheVariants.{Refused, OutOfMemory};
 
@@ -28,16 +28,22 @@ pub struct Recovered<S: Sequence> {
     pub document: Document<S>,
     /// How many bytes the header and the whole records have: to so many the journal is cut before more is appended.
     pub keep: u64,
+    /// The bytes behind these, which are cut off: a record that wasn't written to its end, or one whose length is damaged.
+    pub tail: Vec<u8>,
 }
 
-// Enters a change, or says why it can't.
-fn enter_change<S: Sequence>(document: &mut Document<S>, change: Change) -> Result<(), StoreError>
+/// Enters a change, or says why it can't.
+pub(crate) fn enter_change<S: Sequence>(
+    document: &mut Document<S>,
+    change: Change,
+) -> Result<(), StoreError>
     ensures ok { OnOk result ((cause document.old.applied change ≡ None)
         × (document.new.applied ≡ document.old.applied ++ change ∷ [])) }
     ensures id { document.new.id ≡ document.old.id }
     ensures waiting { document.new.waiting ≡ document.old.waiting }
     ensures err { IfErr result (λ e. (e ≡ OutOfMemory)
         ⊎ ((g : Cause) × (e ≡ Refused g) × (cause document.old.applied change ≡ Some g))) }
+    ensures stays { OnErr result (document.new.applied ≡ document.old.applied) }
 {
     match document.ready(&change) {
         Ok(()) => {
@@ -69,6 +75,7 @@ pub(crate) fn enter_next<'a, S: Sequence>(
     ensures waiting { document.new.waiting ≡ document.old.waiting }
     ensures err { IfErr result (λ e. (e ≡ OutOfMemory)
         ⊎ IsFaultAt document.old.applied at bytes.now e) }
+    ensures stays { OnErr result (document.new.applied ≡ document.old.applied) }
 {
     match split_record(bytes, at) {
         Ok(Some(laid)) => match change_of(alloc, laid.change, &laid.digest, at, ahead) {
@@ -104,6 +111,7 @@ pub(crate) fn history<S: Sequence>(document: &Document<S>)
 pub fn recover<S: Sequence>(alloc: Global, bytes: &[u8]) -> Result<Recovered<S>, StoreError>
     ensures ok { IfOk result (λ r. Recovers bytes.now r.document.id r.document.applied r.keep) }
     ensures waiting { IfOk result (λ r. r.document.waiting ≡ []) }
+    ensures tail { IfOk result (λ r. HasTail bytes.now r.keep r.tail.items) }
     ensures only { (id : Id) (C : List ChangeParts) (keep : ℕ) → Recovers bytes.now id C keep
         → IsOkUnless result OutOfMemory }
     ensures err { IfErr result (λ e. (e ≡ OutOfMemory) ⊎ IsRefusal bytes.now e) }

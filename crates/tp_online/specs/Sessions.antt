@@ -1,8 +1,11 @@
 -- What sessions on the seats of a served peer came to.
-use Rattle.std.specs.Prelude.{◌≡◌, ℕ, List, Ok, Option, false}
+use Rattle.std.specs.Prelude.{◌≡◌, ℕ, List, Bool, Ok, Option, Some, false, true}
 use Rattle.tp_peer.specs.PeerData.{PeerData}
 use Rattle.tp_session.specs.declared.session.Role.{Role}
-use Rattle.tp_shell.specs.Files.{OpensUnder}
+use Rattle.tp_session.specs.declared.session.Role.TheVariants.{Client, Server}
+use Rattle.tp_shell.specs.Files.{OfFile, OpensUnder}
+use Rattle.tp_shell.specs.declared.job.Job.{Job}
+use Rattle.tp_shell.specs.declared.job.Job.TheVariants.{Session}
 use Rattle.tp_net.specs.Sessions.{AllSit, Meets}
 use Rattle.tp_served.specs.Calls.{Closes}
 use Rattle.tp_served.specs.Seats.{SeatData, ServedData, fresh, fresh_from, seats_of, states_of}
@@ -40,3 +43,15 @@ pub record ServesJournal (key : Option (List ℕ)) (bytes : List ℕ) (count : �
   pub peer : PeerData
   pub opens : OpensUnder key bytes peer
   pub served : WasServed peer count p'
+
+-- the side that a session is held as
+abbrev pub side_of : Bool → Role
+side_of true = Client
+side_of false = Server
+
+-- What a session told was held: on the peer that was opened on the bytes of the file, under the actor that is drawn under the
+-- key, as the side that was asked for. Of other jobs nothing is said.
+abbrev pub WasHeld : (List ℕ → List ℕ → Type 0) → Job → Option ℕ → Type 0
+WasHeld takes (Session file is_client key) told = (served : ServedData) × (seat : SeatData) × (n : ℕ) × (told ≡ Some n)
+    × HasEntered (side_of is_client) served seat n × OfFile takes file.now (λ bytes. OpensUnder key bytes served.opened)
+WasHeld takes job told = Unit {0}

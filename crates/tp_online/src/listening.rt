@@ -1,7 +1,7 @@
 //! What a server and a client begin with: a peer on a journal, and an address.
 
-ghost use Rattle.std.specs.Prelude.{IfOk};
-ghost use Rattle.tp_shell.specs.Files.{OfFile, OpensJournal};
+ghost use Rattle.std.specs.Prelude.{◌≡◌, IfOk, None, OnErr, OnOk};
+ghost use Rattle.tp_shell.specs.Files.{CutsFile, MayCutFile, OfFile, OpensJournal};
 
 use std::fs::OpenFile;
 use std::io::Write;
@@ -10,7 +10,7 @@ use tp_commands::{CommandError, reopen};
 use tp_journal::DurableJournal;
 use tp_opid::Actor;
 use tp_peer::Peer;
-use tp_shell::Disk;
+use tp_shell::{Disk, Opened};
 
 /// A server that listens, and has accepted nothing yet.
 #[derive(Drop)]
@@ -23,16 +23,27 @@ pub(crate) struct Listening<L: Drop, F: Write + OpenFile + Drop> {
     pub peer: Peer<DurableJournal<F>>,
 }
 
-/// The peer on the journal in the file.
+/// The peer on the journal in the file, and from which offset on what was cut off it is kept.
 pub(crate) fn opened<R: Disk + AllocGlobal>(
     rt: &R,
     file: &str,
     actor: Actor,
+    cut: &mut Option<u64>,
 ) -> Result<Peer<DurableJournal<R::File>>, CommandError>
-    ensures { IfOk result (λ p. OfFile (R.takes rt.now) file.now
+    requires { cut.old ≡ None }
+    ensures opens { IfOk result (λ p. OfFile (R.takes rt.now) file.now
         (λ bytes. OpensJournal bytes actor p)) }
+    ensures cuts { OnOk result (CutsFile (R.takes rt.now) (R.leaves rt.now) file.now cut.new) }
+    ensures may_cut { OnErr result
+        (MayCutFile (R.takes rt.now) (R.leaves rt.now) file.now cut.new) }
 {
-    reopen(rt.alloc(), rt.durable_journal(file)?, actor)
+    let Opened {
+        journal,
+        recovered,
+        cut: kept,
+    } = rt.durable_journal(file)?;
+    *cut = kept;
+    reopen(rt.alloc(), (journal, Ok(recovered)), actor)
 }
 
 // Listens at the address; also answers the port.
@@ -48,11 +59,16 @@ pub(crate) fn listen<R: Disk + Net + AllocGlobal>(
     file: &str,
     addr: SocketAddr,
     actor: Actor,
+    cut: &mut Option<u64>,
 ) -> Result<Listening<R::Listener, R::File>, CommandError>
-    ensures { IfOk result (λ l. OfFile (R.takes rt.now) file.now
+    requires { cut.old ≡ None }
+    ensures cuts { OnOk result (CutsFile (R.takes rt.now) (R.leaves rt.now) file.now cut.new) }
+    ensures may_cut { OnErr result
+        (MayCutFile (R.takes rt.now) (R.leaves rt.now) file.now cut.new) }
+    ensures opens { IfOk result (λ l. OfFile (R.takes rt.now) file.now
         (λ bytes. OpensJournal bytes actor l.peer)) }
 {
-    let peer = opened(rt, file, actor)?;
+    let peer = opened(rt, file, actor, cut)?;
     match bound(rt, addr) {
         Ok((listener, port)) => Ok(Listening {
             listener,

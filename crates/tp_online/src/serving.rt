@@ -1,12 +1,12 @@
 //! The commands `serve` and `sync`.
 
-ghost use Rattle.std.specs.Prelude.{◌≡◌, ◌⊎◌, IfOk, IfErr, OnOk};
+ghost use Rattle.std.specs.Prelude.{◌≡◌, ◌⊎◌, ℕ, IfOk, IfErr, None, OnErr, OnOk, Option};
 ghost use Rattle.std.specs.Io.KnownBytes.{Appends, Keeps};
 ghost use Rattle.std.specs.String.{string_bytes};
 ghost use Rattle.tp_textpeer.specs.Output.{AppendsPart};
 ghost use Rattle.tp_shell.specs.Network.{IsServed, IsSynced, applied_line as line_of_applied, listening_line as line_of_port, served_line as line_of_sessions};
 ghost use Rattle.tp_shell.specs.Output.{Grows, GrowsPart, Leaves, Reports};
-ghost use Rattle.tp_shell.specs.Files.{OfFile, OpensUnder};
+ghost use Rattle.tp_shell.specs.Files.{CutsFile, MayCutFile, OfFile, OpensUnder};
 ghost use Rattle.tp_session.specs.declared.session.Role.TheVariants.{Client};
 ghost use Rattle.tp_online.specs.Sessions.{HasEntered, ServesJournal, WasServed};
 
@@ -22,7 +22,7 @@ use tp_commands::CommandError;
 use tp_journal::DurableJournal;
 use tp_peer::Peer;
 use tp_served::{Seat, Served};
-use tp_shell::{Disk, JobError, draw_actor, put};
+use tp_shell::{Disk, JobError, draw_actor, put, report};
 
 /// A peer that is served to one thread, once a session was held on its seat.
 #[derive(Drop)]
@@ -84,22 +84,6 @@ fn tell_applied<W: Write>(alloc: Global, applied: u64, out: &mut W) -> Result<()
         (λ e. Leaves IsSynced e (W.contents out.old) (W.contents out.new)) }
 {
     put(out, applied_line(alloc, applied))
-}
-
-// Prints how many changes entered, or a beginning of that.
-fn tell_part<E: Write>(alloc: Global, applied: u64, err: &mut E)
-    ensures { AppendsPart (E.contents err.old) (E.contents err.new) (line_of_applied applied) }
-{
-    let _ = put(err, applied_line(alloc, applied));
-}
-
-/// Says how many changes entered, where that is told.
-pub(crate) fn report<E: Write>(alloc: Global, told: Option<u64>, err: &mut E)
-    ensures { Reports told (E.contents err.old) (E.contents err.new) }
-{
-    if let Some(applied) = told {
-        tell_part(alloc, applied, err);
-    }
 }
 
 // Holds the sessions, and ends the serving with the seats that came back: the peer that the closing gives. One whose
@@ -187,9 +171,9 @@ where
 }
 
 /// Serves the journal at a path, with as many sessions at once as there are workers, 1 to 64. The port on which it listens
-/// is printed before the first session, and how many sessions there were behind the last. The peer that the closing gave
-/// back; one whose journal failed meanwhile is refused.
-pub(crate) fn serve_file<R: Disk + Net + Threads + Wait + AllocGlobal + Sync, W: Write>(
+/// is printed before the first session, and how many sessions there were behind the last. What was cut off the journal is said
+/// once it listens. The peer that the closing gave back; one whose journal failed meanwhile is refused.
+pub(crate) fn serve_file<R: Disk + Net + Threads + Wait + AllocGlobal + Sync, W: Write, E: Write>(
     rt: &R,
     file: &str,
     addr: SocketAddr,
@@ -197,10 +181,19 @@ pub(crate) fn serve_file<R: Disk + Net + Threads + Wait + AllocGlobal + Sync, W:
     workers: usize,
     key: Option<[u8; 32]>,
     out: &mut W,
+    err: &mut E,
+    cut: &mut Option<u64>,
 ) -> Result<Peer<DurableJournal<R::File>>, JobError>
 where
     R::File: Send,
     R::Stream: Send,
+    requires { cut.old ≡ None }
+    ensures cuts { OnOk result (cut.new ≡ None) }
+    ensures may_cut { OnErr result
+        (MayCutFile (R.takes rt.now) (R.leaves rt.now) file.now cut.new) }
+    ensures early { (kept : Option ℕ)
+        × MayCutFile (R.takes rt.now) (R.leaves rt.now) file.now kept
+        × Reports file.now kept None (E.contents err.old) (E.contents err.new) }
     ensures served { IfOk result (λ p. OfFile (R.takes rt.now) file.now
         (λ bytes. ServesJournal key bytes workers p)) }
     ensures ok { OnOk result
@@ -209,8 +202,12 @@ where
         ⊎ GrowsPart (IsServed sessions) (W.contents out.old) (W.contents out.new)) }
 {
     let actor = draw_actor(rt, key)?;
-    match listen(rt, file, addr, actor) {
-        Ok(listening) => serve_on(rt, listening, sessions, workers, out),
+    match listen(rt, file, addr, actor, cut) {
+        Ok(listening) => {
+            report(rt.alloc(), file, *cut, None, err);
+            *cut = None;
+            serve_on(rt, listening, sessions, workers, out)
+        }
         Err(error) => Err(JobError::Command(error)),
     }
 }
@@ -221,12 +218,17 @@ fn applied_by<R: Disk + Net + Wait + AllocGlobal>(
     file: &str,
     addr: SocketAddr,
     key: Option<[u8; 32]>,
+    cut: &mut Option<u64>,
 ) -> Result<Met<R::File>, JobError>
+    requires { cut.old ≡ None }
+    ensures cuts { OnOk result (CutsFile (R.takes rt.now) (R.leaves rt.now) file.now cut.new) }
+    ensures may_cut { OnErr result
+        (MayCutFile (R.takes rt.now) (R.leaves rt.now) file.now cut.new) }
     ensures entered { IfOk result (λ met. HasEntered Client met.served met.seat met.applied
         × OfFile (R.takes rt.now) file.now (λ bytes. OpensUnder key bytes met.served.opened)) }
 {
     let actor = draw_actor(rt, key)?;
-    let peer = opened(rt, file, actor)?;
+    let peer = opened(rt, file, actor, cut)?;
     let (served, mut seat) = seated_alone(rt.alloc(), peer)?;
     match meet(rt, rt.alloc(), addr, &served, &mut seat) {
         Ok(applied) => Ok(Met {
@@ -246,7 +248,12 @@ pub(crate) fn sync_file<R: Disk + Net + Wait + AllocGlobal, W: Write>(
     addr: SocketAddr,
     key: Option<[u8; 32]>,
     out: &mut W,
+    cut: &mut Option<u64>,
 ) -> Result<Met<R::File>, JobError>
+    requires { cut.old ≡ None }
+    ensures cuts { OnOk result (CutsFile (R.takes rt.now) (R.leaves rt.now) file.now cut.new) }
+    ensures may_cut { OnErr result
+        (MayCutFile (R.takes rt.now) (R.leaves rt.now) file.now cut.new) }
     ensures entered { IfOk result (λ met. HasEntered Client met.served met.seat met.applied
         × OfFile (R.takes rt.now) file.now (λ bytes. OpensUnder key bytes met.served.opened)) }
     ensures ok { IfOk result (λ met. Appends (W.contents out.old) (W.contents out.new)
@@ -254,7 +261,7 @@ pub(crate) fn sync_file<R: Disk + Net + Wait + AllocGlobal, W: Write>(
     ensures err { IfErr result
         (λ e. Leaves IsSynced e (W.contents out.old) (W.contents out.new)) }
 {
-    let met = applied_by(rt, file, addr, key)?;
+    let met = applied_by(rt, file, addr, key, cut)?;
     match tell_applied(rt.alloc(), met.applied, out) {
         Ok(()) => Ok(met),
         Err(error) => {

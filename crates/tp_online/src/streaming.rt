@@ -1,9 +1,9 @@
 //! The command `session`.
 
-ghost use Rattle.std.specs.Prelude.{◌≡◌, ◌⊎◌, IfErr, IfOk, Ok, OnOk};
+ghost use Rattle.std.specs.Prelude.{◌≡◌, ◌⊎◌, IfErr, IfOk, None, Ok, OnErr, OnOk};
 ghost use Rattle.std.specs.Io.KnownBytes.{Keeps};
 ghost use Rattle.tp_net.specs.Sessions.{Meets};
-ghost use Rattle.tp_shell.specs.Files.{OfFile, OpensUnder};
+ghost use Rattle.tp_shell.specs.Files.{CutsFile, MayCutFile, OfFile, OpensUnder};
 ghost use Rattle.tp_shell.specs.Network.{AreFrames};
 ghost use Rattle.tp_shell.specs.Output.{Grows};
 ghost use Rattle.tp_shell.specs.ShellError.{failed};
@@ -54,7 +54,12 @@ pub(crate) fn session_file<R: Disk + Wait + AllocGlobal, I: Read, O: Write>(
     key: Option<[u8; 32]>,
     input: &mut I,
     out: &mut O,
+    cut: &mut Option<u64>,
 ) -> Result<Met<R::File>, JobError>
+    requires { cut.old ≡ None }
+    ensures cuts { OnOk result (CutsFile (R.takes rt.now) (R.leaves rt.now) file.now cut.new) }
+    ensures may_cut { OnErr result
+        (MayCutFile (R.takes rt.now) (R.leaves rt.now) file.now cut.new) }
     ensures entered { IfOk result (λ met. HasEntered role met.served met.seat met.applied
         × OfFile (R.takes rt.now) file.now (λ bytes. OpensUnder key bytes met.served.opened)) }
     ensures frames { OnOk result (Grows AreFrames (O.contents out.old) (O.contents out.new)) }
@@ -62,7 +67,7 @@ pub(crate) fn session_file<R: Disk + Wait + AllocGlobal, I: Read, O: Write>(
         ⊎ ((e ≡ failed) ⊎ Grows AreFrames (O.contents out.old) (O.contents out.new))) }
 {
     let actor = draw_actor(rt, key)?;
-    let peer = opened(rt, file, actor)?;
+    let peer = opened(rt, file, actor, cut)?;
     let (served, mut seat) = seated_alone(rt.alloc(), peer)?;
     match meet_over(rt, rt.alloc(), input, out, role, &served, &mut seat) {
         Ok(applied) => Ok(Met {

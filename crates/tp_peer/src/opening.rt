@@ -181,6 +181,40 @@ fn copy_to<J: Journal>(
     }
 }
 
+// Begins the journal of a document with no changes, where what its content recovered to says that it is unused.
+fn begin_empty<J: Journal>(
+    alloc: Global,
+    journal: &mut J,
+    recovered: Result<Recovered<PeerSequence>, StoreError>,
+    id: DocId,
+) -> Result<(), PeerError>
+    requires recovers { IfOk recovered (λ r.
+        Recovers (J.content journal.old) r.document.id r.document.applied r.keep
+        × (r.document.waiting ≡ [])) }
+    requires refused { IfErr recovered
+        (λ e. (e ≡ Lack) ⊎ IsRefusal (J.content journal.old) e) }
+    ensures unused { OnOk result (IsUnused (J.content journal.old)) }
+    ensures begun { OnOk result (J.content journal.new ≡ journal_bytes id []) }
+    ensures quiet { OnOk result (J.device journal.new ≡ J.device journal.old) }
+    ensures err { IfErr result
+        (λ e. NotBegun (journal_bytes id [])
+        (journal_state (J.content journal.old) (J.device journal.old)) e
+        (journal_state (J.content journal.new) (J.device journal.new))) }
+{
+    match recovered {
+        Ok(recovered) => {
+            drop(recovered);
+            Err(PeerError::JournalNotEmpty)
+        }
+        Err(StoreError::NoHeader) => match header(alloc, id) {
+            Ok(first) => begin(journal, &first),
+            Err(_) => Err(PeerError::OutOfMemory),
+        },
+        Err(StoreError::OutOfMemory) => Err(PeerError::OutOfMemory),
+        Err(_) => Err(PeerError::JournalNotEmpty),
+    }
+}
+
 // Cuts the journal to what is kept of it, for a peer under the actor.
 fn cut_to<J: Journal>(
     journal: &mut J,
@@ -321,6 +355,38 @@ impl<J: Journal> Peer<J> {
         drop(empty);
         match copied {
             Ok(document) => Ok(Peer::new(alloc, journal, document, actor)),
+            Err(error) => Err(Unopened { journal, error }),
+        }
+    }
+
+    /// A peer as [`create`](Peer::create) gives it, by what the journal's content was recovered to already, as by
+    /// [`FileJournal::recovering`](tp_journal::FileJournal::recovering). The journal isn't read.
+    ///
+    /// It is refused as `create` refuses the journal, and as `OutOfMemory` for that refusal too.
+    pub fn create_recovered(
+        alloc: Global,
+        mut journal: J,
+        recovered: Result<Recovered<PeerSequence>, StoreError>,
+        id: DocId,
+        actor: Actor,
+    ) -> Result<Peer<J>, Unopened<J>>
+        requires recovers { IfOk recovered (λ r.
+            Recovers (J.content journal) r.document.id r.document.applied r.keep
+            × (r.document.waiting ≡ [])) }
+        requires refused { IfErr recovered
+            (λ e. (e ≡ Lack) ⊎ IsRefusal (J.content journal) e) }
+        ensures ok { IfOk result (λ p. p ≡ opened id actor [] (J.device journal)) }
+        ensures unused { OnOk result (IsUnused (J.content journal)) }
+        ensures err { IfErr result
+            (λ u. NotBegun (journal_bytes id [])
+            (journal_state (J.content journal) (J.device journal))
+            u.error (journal_state (J.content u.journal) (J.device u.journal))) }
+    {
+        match begin_empty(alloc, &mut journal, recovered, id) {
+            Ok(()) => {
+                let document = Document::new(alloc, id);
+                Ok(Peer::new(alloc, journal, document, actor))
+            }
             Err(error) => Err(Unopened { journal, error }),
         }
     }

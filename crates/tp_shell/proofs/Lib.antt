@@ -1,3 +1,4 @@
 pub mod HashLemmas
 pub mod HelpWords
-pub mod NewLines
+pub mod TellLaws
+pub mod DoneLaws

@@ -1,17 +1,21 @@
 -- What commands did to files. `reads`, `takes` and `leaves` relate a path to bytes: these were read of the file there; they
 -- were, once its lock was taken; and the file there was left with these.
-use Rattle.std.specs.Prelude.{◌≡◌, ℕ, List, Option}
+use Rattle.std.specs.Prelude.{◌≡◌, ◌⊎◌, ℕ, List, ◌++◌, Option, Some, None, codes}
+use Rattle.std.specs.Fmt.{decimal}
 use Rattle.rand_chacha.specs.ChaCha.{ChaCha}
 use Rattle.tp_opid.specs.declared.actor.Actor.{Actor}
 use Rattle.tp_opid.specs.declared.doc_id.DocId.{DocId}
 use Rattle.tp_change.specs.declared.parts.ChangeParts.{ChangeParts}
 use Rattle.tp_journal.specs.Layout.{journal}
+use Rattle.tp_journal.specs.Recovery.{HasTail, Recovers}
+use Rattle.tp_journal.specs.Whole.{HoldsRecord}
 use Rattle.tp_peer.specs.Appending.{JournalState}
 use Rattle.tp_peer.specs.Opening.{IsUnused, Reopens}
 use Rattle.tp_peer.specs.PeerData.{PeerData}
 use Rattle.tp_commands.specs.Reading.{Saves}
 use Rattle.tp_store.specs.Saved.{IsSaved}
 use Rattle.tp_shell.specs.Keys.{IsKeyed, drawn}
+use Rattle.tp_shell.specs.Rescuing.{IsRescued}
 
 -- Of bytes that were read of the file P holds.
 abbrev pub OfFile : (List ℕ → List ℕ → Type 0) → List ℕ → (List ℕ → Type 0) → Type 0
@@ -24,6 +28,38 @@ ChangesFile takes leaves file P = (before : List ℕ) × (after : List ℕ) × t
 -- The file was left with the saved file of the journal's document.
 abbrev pub SavesTo : (List ℕ → List ℕ → Type 0) → List ℕ → List ℕ → Type 0
 SavesTo leaves out journal = (bytes : List ℕ) × Saves journal bytes × leaves out bytes
+
+-- The file was left with the journal of all that can be had of the bytes, and this is printed of it.
+abbrev pub RescuesTo : (List ℕ → List ℕ → Type 0) → List ℕ → List ℕ → List ℕ → Type 0
+RescuesTo leaves out bytes printed = (journal : List ℕ) × IsRescued bytes journal printed × leaves out journal
+
+-- the path of the file that keeps what is cut off a journal from the offset on
+abbrev pub cut_path : List ℕ → ℕ → List ℕ
+cut_path file at = file ++ codes ".cut-" ++ decimal at
+
+-- What is kept of the bytes that opening a journal cuts off: all of them, in a file of their own, where a whole record is in
+-- them; and else none.
+abbrev pub KeepsTail : (List ℕ → List ℕ → Type 0) → List ℕ → ℕ → List ℕ → Option ℕ → Type 0
+KeepsTail leaves file keep tail None = HoldsRecord tail → ⊥
+KeepsTail leaves file keep tail (Some at) = (at ≡ keep) × leaves (cut_path file at) tail
+
+-- A journal of these bytes was opened, and this was kept of what was cut off it.
+pub record CutsJournal (leaves : List ℕ → List ℕ → Type 0) (file bytes : List ℕ) (cut : Option ℕ) : Type 0 where
+  pub id : DocId
+  pub changes : List ChangeParts
+  pub keep : ℕ
+  pub tail : List ℕ
+  pub recovers : Recovers bytes id changes keep
+  pub is_tail : HasTail bytes keep tail
+  pub keeps : KeepsTail leaves file keep tail cut
+
+-- The journal in the file was opened, once its lock was taken, and this was kept of what was cut off it.
+abbrev pub CutsFile : (List ℕ → List ℕ → Type 0) → (List ℕ → List ℕ → Type 0) → List ℕ → Option ℕ → Type 0
+CutsFile takes leaves file cut = (bytes : List ℕ) × takes file bytes × CutsJournal leaves file bytes cut
+
+-- It may not have been opened, and nothing was cut off it.
+abbrev pub MayCutFile : (List ℕ → List ℕ → Type 0) → (List ℕ → List ℕ → Type 0) → List ℕ → Option ℕ → Type 0
+MayCutFile takes leaves file cut = (cut ≡ None) ⊎ CutsFile takes leaves file cut
 
 -- An unused journal was begun with the changes.
 pub record BeginsJournal (id : DocId) (C : List ChangeParts) (before after : List ℕ) : Type 0 where

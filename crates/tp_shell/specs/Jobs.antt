@@ -10,7 +10,7 @@ use Rattle.tp_shell.specs.ShellError.{failed, no_memory}
 use Rattle.tp_shell.specs.declared.error.ShellError.{ShellError}
 use Rattle.tp_shell.specs.declared.error.ShellError.TheVariants.{BadHex, Job as Refused}
 use Rattle.tp_shell.specs.declared.job.FileJob.{FileJob}
-use Rattle.tp_shell.specs.declared.job.FileJob.TheVariants.{New, Edit, Text, Heads, Log, Graph, Cursor, Merge, Save, Load, Show, Simulate}
+use Rattle.tp_shell.specs.declared.job.FileJob.TheVariants.{New, Edit, Text, Heads, Log, Graph, Cursor, Check, Merge, Save, Load, Recover, Show, Simulate}
 use Rattle.tp_shell.specs.declared.job.Job.{Job}
 use Rattle.tp_shell.specs.declared.job.Job.TheVariants.{Files, Serve, Session, Sync}
 
@@ -25,9 +25,11 @@ IsJobOf (asked.Heads file) (Files (Heads file')) = file' ≡ file
 IsJobOf (asked.Log file) (Files (Log file')) = file' ≡ file
 IsJobOf (asked.Graph file) (Files (Graph file')) = file' ≡ file
 IsJobOf (asked.Cursor file at heads) (Files (Cursor file' at' hs)) = (file' ≡ file) × (at' ≡ at) × AreHashes heads.items hs.items
+IsJobOf (asked.Check file) (Files (Check file')) = file' ≡ file
 IsJobOf (asked.Merge file other key) (Files (Merge file' other' key')) = (file' ≡ file) × (other' ≡ other) × IsKeyOf key key'
 IsJobOf (asked.Save file out) (Files (Save file' out')) = (file' ≡ file) × (out' ≡ out)
 IsJobOf (asked.Load saved file) (Files (Load saved' file')) = (saved' ≡ saved) × (file' ≡ file)
+IsJobOf (asked.Recover file out) (Files (Recover file' out')) = (file' ≡ file) × (out' ≡ out)
 IsJobOf (asked.Show log) (Files (Show log')) = log' ≡ log
 IsJobOf (asked.Simulate script) (Files (Simulate script')) = script' ≡ script
 IsJobOf (asked.Serve file addr sessions workers key) (Serve file' addr' sessions' workers' key') =

@@ -2,6 +2,7 @@ pub mod ShellError
 pub mod Names
 pub mod Keys
 pub mod Jobs
+pub mod Rescuing
 pub mod Files
 pub mod Lines
 pub mod Network

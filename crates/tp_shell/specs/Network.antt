@@ -1,5 +1,5 @@
 -- What the commands over a network print.
-use Rattle.std.specs.Prelude.{◌≡◌, ℕ, List, ◌++◌, codes}
+use Rattle.std.specs.Prelude.{◌≡◌, ℕ, List, [], ◌++◌, Option, Some, None, codes}
 use Rattle.std.specs.Fmt.{decimal}
 use Rattle.std.specs.List.{flat_map}
 use Rattle.tp_frame.specs.declared.frame.Frame.{Frame}
@@ -17,6 +17,11 @@ served_line sessions = line (codes "served " ++ decimal sessions)
 -- the line of how many changes entered
 abbrev pub applied_line : ℕ → List ℕ
 applied_line applied = line (codes "applied " ++ decimal applied)
+
+-- what is told of a session: how many changes entered
+abbrev pub applied_text : Option ℕ → List ℕ
+applied_text None = []
+applied_text (Some applied) = applied_line applied
 
 -- The bytes are what a server prints that held so many sessions: first the port on which it listens.
 abbrev pub IsServed : ℕ → List ℕ → Type 0

@@ -1,5 +1,5 @@
 -- What is printed of a job, where it was done and where it was refused.
-use Rattle.std.specs.Prelude.{◌≡◌, ◌⊎◌, ℕ, List, [], Option, Some, None}
+use Rattle.std.specs.Prelude.{◌≡◌, ◌⊎◌, ℕ, List, [], ◌++◌, Option, Some, None, codes}
 use Rattle.std.specs.Io.KnownBytes.{Appends, Keeps}
 use Rattle.std.specs.Str.{chars}
 use Rattle.tp_simulate.specs.Script.{IsPrinted as IsScriptPrinted, PrintsPart, StopsAt}
@@ -9,18 +9,21 @@ use Rattle.tp_commands.specs.Graph.{IsChangeGraph}
 use Rattle.tp_commands.specs.Log.{AreChangeLines}
 use Rattle.tp_commands.specs.Reading.{AreHeadLines, IsCursorLine, IsTextLine, line}
 use Rattle.tp_shell.specs.declared.error.JobError.{JobError}
-use Rattle.tp_shell.specs.declared.error.JobError.TheVariants.{Line}
+use Rattle.tp_shell.specs.declared.error.JobError.TheVariants.{Command, Line}
+use Rattle.tp_store.specs.declared.error.StoreError.{StoreError}
+use Rattle.tp_commands.specs.CommandError.{refusal_of_bytes}
 use Rattle.tp_shell.specs.declared.error.ShellError.{ShellError}
 use Rattle.tp_shell.specs.declared.error.ShellError.TheVariants.{Job as Refused}
 use Rattle.tp_shell.specs.declared.job.FileJob.{FileJob}
-use Rattle.tp_shell.specs.declared.job.FileJob.TheVariants.{New, Edit, Text, Heads, Log, Graph, Cursor, Merge, Save, Load, Show, Simulate}
+use Rattle.tp_shell.specs.declared.job.FileJob.TheVariants.{New, Edit, Text, Heads, Log, Graph, Cursor, Check, Merge, Save, Load, Recover, Show, Simulate}
 use Rattle.tp_shell.specs.declared.job.Job.{Job}
 use Rattle.tp_shell.specs.declared.job.Job.TheVariants.{Files, Serve, Session, Sync}
-use Rattle.tp_shell.specs.Files.{ChangesFile, IsLoaded, OfFile, SavesTo}
+use Rattle.tp_shell.specs.Files.{ChangesFile, CutsFile, IsLoaded, MayCutFile, OfFile, RescuesTo, SavesTo, cut_path}
 use Rattle.tp_shell.specs.Lines.{IsEditLine, IsMergeLine, IsNewLine}
-use Rattle.tp_shell.specs.Names.{refusal_text}
-use Rattle.tp_shell.specs.Network.{AreFrames, IsServed, IsSynced, applied_line}
-use Rattle.tp_shell.specs.ShellError.{failed, no_memory}
+use Rattle.tp_shell.specs.Names.{refusal_text, refusal_lines}
+use Rattle.tp_shell.specs.Rescuing.{IsChecked}
+use Rattle.tp_shell.specs.Network.{AreFrames, IsServed, IsSynced, applied_text}
+use Rattle.tp_shell.specs.ShellError.{IsOfOutput, failed, no_memory}
 
 -- the bytes are the text of a log, and a newline
 abbrev pub IsShown : List ℕ → Type 0
@@ -29,8 +32,8 @@ IsShown printed = (log : List ℕ) × (text : List ℕ) × HasText log text × (
 -- The bytes are what is printed of the job where it was done: of `text`, `heads`, `log`, `graph` and `cursor` what the bytes
 -- say that were read of the file; of `show` the text of a log; of `new` the identifier that is drawn; of `edit` the hash of
 -- the change that was made, or `nothing`; of `merge` how many changes of the other file entered; of `save` and `load`
--- nothing; of `simulate` the replies to the lines of a script, and the one list of its world. And the file that a job
--- writes was left as it says.
+-- nothing; of `check` what is in the bytes, of `recover` what could be had of them; of `simulate` the replies to the lines of a
+-- script, and the one list of its world. And the file that a job writes was left as it says.
 abbrev pub IsFilesPrinted : (List ℕ → List ℕ → Type 0) → (List ℕ → List ℕ → Type 0) → (List ℕ → List ℕ → Type 0) → FileJob → List ℕ → Type 0
 IsFilesPrinted reads takes leaves (New file key) printed = ChangesFile takes leaves file.now (λ before after. IsNewLine key before after printed)
 IsFilesPrinted reads takes leaves (Edit file splice time message key) printed =
@@ -40,10 +43,12 @@ IsFilesPrinted reads takes leaves (Heads file) printed = OfFile reads file.now (
 IsFilesPrinted reads takes leaves (Log file) printed = OfFile reads file.now (λ journal. AreChangeLines journal printed)
 IsFilesPrinted reads takes leaves (Graph file) printed = OfFile reads file.now (λ journal. IsChangeGraph journal printed)
 IsFilesPrinted reads takes leaves (Cursor file at heads) printed = OfFile reads file.now (λ journal. IsCursorLine journal at heads.items printed)
+IsFilesPrinted reads takes leaves (Check file) printed = OfFile reads file.now (λ bytes. IsChecked bytes None printed)
 IsFilesPrinted reads takes leaves (Merge file other key) printed =
     ChangesFile takes leaves file.now (λ before after. OfFile reads other.now (λ bytes. IsMergeLine key before bytes after printed))
 IsFilesPrinted reads takes leaves (Save file out) printed = (printed ≡ []) × OfFile reads file.now (λ journal. SavesTo leaves out.now journal)
 IsFilesPrinted reads takes leaves (Load saved file) printed = (printed ≡ []) × OfFile reads saved.now (λ bytes. ChangesFile takes leaves file.now (IsLoaded bytes))
+IsFilesPrinted reads takes leaves (Recover file out) printed = OfFile reads file.now (λ bytes. RescuesTo leaves out.now bytes printed)
 IsFilesPrinted reads takes leaves (Show log) printed = IsShown printed
 IsFilesPrinted reads takes leaves (Simulate script) printed = IsScriptPrinted printed
 
@@ -54,6 +59,28 @@ IsPrinted reads takes leaves (Files job) printed = IsFilesPrinted reads takes le
 IsPrinted reads takes leaves (Serve file addr sessions workers key) printed = IsServed sessions printed
 IsPrinted reads takes leaves (Session file is_client key) printed = AreFrames printed
 IsPrinted reads takes leaves (Sync file addr key) printed = IsSynced printed
+
+-- What is told of the job beside what is printed, where bytes were cut off the journal that it opened: from which offset on.
+abbrev pub CutsFor : (List ℕ → List ℕ → Type 0) → (List ℕ → List ℕ → Type 0) → FileJob → Option ℕ → Type 0
+CutsFor takes leaves (Edit file splice time message key) cut = CutsFile takes leaves file.now cut
+CutsFor takes leaves (Merge file other key) cut = CutsFile takes leaves file.now cut
+CutsFor takes leaves job cut = cut ≡ None
+
+abbrev pub MayCutFor : (List ℕ → List ℕ → Type 0) → (List ℕ → List ℕ → Type 0) → FileJob → Option ℕ → Type 0
+MayCutFor takes leaves job cut = (cut ≡ None) ⊎ CutsFor takes leaves job cut
+
+-- the same of each job; a server has said it before it served
+abbrev pub CutsForJob : (List ℕ → List ℕ → Type 0) → (List ℕ → List ℕ → Type 0) → Job → Option ℕ → Type 0
+CutsForJob takes leaves (Files job) cut = CutsFor takes leaves job cut
+CutsForJob takes leaves (Serve file addr sessions workers key) cut = cut ≡ None
+CutsForJob takes leaves (Session file is_client key) cut = CutsFile takes leaves file.now cut
+CutsForJob takes leaves (Sync file addr key) cut = CutsFile takes leaves file.now cut
+
+abbrev pub MayCutForJob : (List ℕ → List ℕ → Type 0) → (List ℕ → List ℕ → Type 0) → Job → Option ℕ → Type 0
+MayCutForJob takes leaves (Files job) cut = MayCutFor takes leaves job cut
+MayCutForJob takes leaves (Serve file addr sessions workers key) cut = MayCutFile takes leaves file.now cut
+MayCutForJob takes leaves (Session file is_client key) cut = MayCutFile takes leaves file.now cut
+MayCutForJob takes leaves (Sync file addr key) cut = MayCutFile takes leaves file.now cut
 
 -- What is told of the job where it was done, beside what is printed: of `session` how many changes entered.
 abbrev pub Tells : Job → Option ℕ → Type 0
@@ -70,15 +97,26 @@ Grows P before after = (printed : List ℕ) × P printed × Appends before after
 abbrev pub GrowsPart : (List ℕ → Type 0) → Option (List ℕ) → Option (List ℕ) → Type 0
 GrowsPart P before after = (printed : List ℕ) × P printed × AppendsPart before after printed
 
--- What the error stream holds of what is told: nothing more, or the line of how many changes entered, or a beginning of it
--- where writing it failed.
-abbrev pub Reports : Option ℕ → Option (List ℕ) → Option (List ℕ) → Type 0
-Reports None before after = Keeps before after
-Reports (Some applied) before after = AppendsPart before after (applied_line applied)
+-- the text, and the line of where bytes are kept that were cut off the journal in the file
+abbrev pub with_cut : List ℕ → List ℕ → Option ℕ → List ℕ
+with_cut text file None = text
+with_cut text file (Some at) = text ++ codes "cut " ++ line (cut_path file at)
+
+-- What the error stream holds of what is told: nothing more, or the line of how many changes entered and that of what was cut
+-- off, or a beginning of these where writing failed.
+abbrev pub Reports : List ℕ → Option ℕ → Option ℕ → Option (List ℕ) → Option (List ℕ) → Type 0
+Reports file None None before after = Keeps before after
+Reports file cut told before after = AppendsPart before after (with_cut (applied_text told) file cut)
+
+-- What the error stream holds of what a job tells before it ends: of a server, once it listens, what was cut off.
+abbrev pub ReportsEarly : (List ℕ → List ℕ → Type 0) → (List ℕ → List ℕ → Type 0) → Job → Option (List ℕ) → Option (List ℕ) → Type 0
+ReportsEarly takes leaves (Serve file addr sessions workers key) before after =
+    (cut : Option ℕ) × MayCutFile takes leaves file.now cut × Reports file.now cut None before after
+ReportsEarly takes leaves job before after = Keeps before after
 
 -- What the output holds after a refusal: what it held, or where the output itself failed a beginning of what is printed.
 abbrev pub Leaves : (List ℕ → Type 0) → JobError → Option (List ℕ) → Option (List ℕ) → Type 0
-Leaves P e before after = Keeps before after ⊎ ((e ≡ failed) × GrowsPart P before after)
+Leaves P e before after = Keeps before after ⊎ (IsOfOutput e × GrowsPart P before after)
 
 -- What the output holds after the refusal of a script: where a line is at fault just what is printed of the lines before
 -- it, and else what it held, or a beginning of what a script prints.
@@ -86,9 +124,16 @@ abbrev pub LeavesScript : JobError → Option (List ℕ) → Option (List ℕ) �
 LeavesScript (Line number) before after = StopsAt number before after
 LeavesScript e before after = Keeps before after ⊎ PrintsPart before after
 
+-- What the output holds after the refusal of a check: as of others; or all that is printed of what stands in the bytes, and
+-- the refusal is for what is at fault there.
+abbrev pub LeavesCheck : (List ℕ → List ℕ → Type 0) → List ℕ → JobError → Option (List ℕ) → Option (List ℕ) → Type 0
+LeavesCheck reads file e before after = Keeps before after ⊎ ((IsOfOutput e × GrowsPart (λ printed. OfFile reads file (λ bytes. (fault : Option StoreError) × IsChecked bytes fault printed)) before after)
+    ⊎ ((fault : StoreError) × (e ≡ Command (refusal_of_bytes fault)) × Grows (λ printed. OfFile reads file (λ bytes. IsChecked bytes (Some fault) printed)) before after))
+
 -- What the output holds after the refusal of what is done to files. A script is printed as it goes on, all else at the end.
 abbrev pub LeavesFiles : (List ℕ → List ℕ → Type 0) → (List ℕ → List ℕ → Type 0) → (List ℕ → List ℕ → Type 0) → FileJob → JobError → Option (List ℕ) → Option (List ℕ) → Type 0
 LeavesFiles reads takes leaves (Simulate script) e before after = LeavesScript e before after
+LeavesFiles reads takes leaves (Check file) e before after = LeavesCheck reads file.now e before after
 LeavesFiles reads takes leaves job e before after = Leaves (IsFilesPrinted reads takes leaves job) e before after
 
 -- What the output holds after the refusal of a job. A server prints its port once it listens. A session has written frames,
@@ -99,6 +144,11 @@ LeavesOf reads takes leaves (Serve file addr sessions workers key) e before afte
 LeavesOf reads takes leaves (Session file is_client key) e before after = Keeps before after ⊎ ((e ≡ failed) ⊎ Grows AreFrames before after)
 LeavesOf reads takes leaves (Sync file addr key) e before after = Leaves IsSynced e before after
 
--- The bytes are the line of the refusal; or of `OutOfMemory`, where there was no memory for that line.
+-- The bytes are what is told of the refusal, and of what was cut off the journal in the file; or the line of `OutOfMemory`,
+-- where there was no memory for that.
+abbrev pub IsToldOf : List ℕ → Option ℕ → ShellError → List ℕ → Type 0
+IsToldOf file cut e printed = (printed ≡ with_cut (refusal_lines e) file cut) ⊎ (printed ≡ line (refusal_text (Refused no_memory)))
+
+-- the same where nothing was cut off
 abbrev pub IsLineOf : ShellError → List ℕ → Type 0
-IsLineOf e printed = (printed ≡ line (refusal_text e)) ⊎ (printed ≡ line (refusal_text (Refused no_memory)))
+IsLineOf e printed = IsToldOf [] None e printed

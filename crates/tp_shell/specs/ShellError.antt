@@ -1,5 +1,5 @@
 -- The refusals of the program: their numbers, and which refusal of a layer below is which.
-use Rattle.std.specs.Prelude.{◌≡◌, ℕ, ◌+◌}
+use Rattle.std.specs.Prelude.{◌≡◌, ◌⊎◌, ℕ, ◌+◌}
 use Rattle.tp_commands.specs.CommandError.{code_of as code_of_command, refusal_of_peer}
 use Rattle.tp_commands.specs.declared.error.CommandError.TheVariants as command
 use Rattle.tp_opid.specs.declared.hex_text.HexError.{HexError}
@@ -12,13 +12,27 @@ use Rattle.tp_textpeer.specs.declared.error.ShowError.{ShowError}
 use Rattle.tp_textpeer.specs.declared.error.ShowFault.{ShowFault}
 use Rattle.tp_textpeer.specs.declared.error.ShowFault.TheVariants as show
 use Rattle.tp_shell.specs.declared.error.JobError.{JobError}
-use Rattle.tp_shell.specs.declared.error.JobError.TheVariants.{Command, Show, Line, Session}
+use Rattle.tp_shell.specs.declared.error.JobError.TheVariants.{Command, Show, Line, Session, Closed, Unsaid}
+use Rattle.tp_shell.specs.declared.error.Made.{Made}
 use Rattle.tp_shell.specs.declared.error.ShellError.{ShellError}
 use Rattle.tp_shell.specs.declared.error.ShellError.TheVariants.{BadHex, Job}
 
 -- a file or the output failed
 abbrev pub failed : JobError
 failed = Command command.Io
+
+-- The output failed, or was closed by who read it.
+abbrev pub IsOutputFault : JobError → Type 0
+IsOutputFault e = (e ≡ failed) ⊎ (e ≡ Closed)
+
+-- so it was, or what was made before isn't said
+abbrev pub IsOfOutput : JobError → Type 0
+IsOfOutput e = IsOutputFault e ⊎ ((made : Made) × (e ≡ Unsaid made))
+
+-- nothing was made that isn't said
+abbrev pub IsAllSaid : JobError → Type 0
+IsAllSaid (Unsaid made) = ⊥
+IsAllSaid e = Unit {0}
 
 -- a growth was refused
 abbrev pub no_memory : JobError
@@ -31,6 +45,8 @@ code_of (Job (Command e)) = 1 + code_of_command e
 code_of (Job (Show e)) = 8
 code_of (Job (Line number)) = 9
 code_of (Job (Session e)) = 10
+code_of (Job Closed) = 2
+code_of (Job (Unsaid made)) = 2
 
 abbrev pub refusal_of_hex : HexError → ShellError
 refusal_of_hex hex.BadHex = BadHex

@@ -10,10 +10,19 @@ use std::alloc::{AllocError, AllocFailed};
 use std::fmt;
 use tp_commands::CommandError;
 use tp_names::{bytes_name, document_name, peer_name, session_name};
-use tp_opid::HexError;
+use tp_opid::{DocId, Hash, HexError};
 use tp_session::NetError;
 use tp_simulate::SimError;
 use tp_textpeer::{Refusal, ShowError, ShowFault};
+
+/// What a job made.
+#[derive(Clone, Copy, Debug, PartialEq, Eq)]
+pub enum Made {
+    /// A document.
+    Document(DocId),
+    /// A change.
+    Change(Hash),
+}
 
 /// Why a job was refused.
 #[derive(Clone, Copy, Debug, PartialEq, Eq)]
@@ -27,6 +36,10 @@ pub enum JobError {
     Line(u64),
     /// A session with another was broken off. It is never `Io`, `OutOfMemory` or `Peer`.
     Session(NetError),
+    /// Whoever read the output has closed it.
+    Closed,
+    /// The output failed or is closed, and what was to be printed there was made before: it stays made.
+    Unsaid(Made),
 }
 
 /// Why the program did nothing, or not all, of what was asked of it. Its `Display` is the line that the program prints of
@@ -41,7 +54,7 @@ pub enum ShellError {
 }
 
 impl ShellError {
-    /// The number of the refusal: 1 for `BadHex`, then of a job `Io`, `OutOfMemory`, what a peer, a document or the bytes
+    /// The number of the refusal: 1 for `BadHex`, then of a job `Io` (also where the output is closed), `OutOfMemory`, what a peer, a document or the bytes
     /// of a file were refused for, `Busy`, a log, a script, a session.
     pub fn code(&self) -> u8
         ensures { result ≡ code_of self.now }
@@ -52,6 +65,8 @@ impl ShellError {
             ShellError::Job(JobError::Show(_)) => 8,
             ShellError::Job(JobError::Line(_)) => 9,
             ShellError::Job(JobError::Session(_)) => 10,
+            ShellError::Job(JobError::Closed) => 2,
+            ShellError::Job(JobError::Unsaid(_)) => 2,
         }
     }
 }
@@ -149,6 +164,8 @@ impl fmt::Display for ShellError {
         let name = match *self {
             ShellError::BadHex => "BadHex",
             ShellError::Job(JobError::Command(error)) => command_name(error),
+            ShellError::Job(JobError::Closed) => "Io",
+            ShellError::Job(JobError::Unsaid(_)) => "Io",
             ShellError::Job(JobError::Session(error)) => session_name(error),
             ShellError::Job(JobError::Show(refusal)) => return write!(f, "{refusal}"),
             ShellError::Job(JobError::Line(number)) => return write!(f, "textpeer: line {number}"),

@@ -1,17 +1,29 @@
 //! The files that commands read and write.
 
-ghost use Rattle.std.specs.Prelude.{◌≡◌, ◌⊎◌, ℕ, List, [], IfOk, IfErr, OnOk};
+ghost use Rattle.std.specs.Prelude.{◌≡◌, ℕ, List, [], IfOk, OnOk, Ok};
 ghost use Rattle.tp_journal.specs.Recovery.{Recovers};
-ghost use Rattle.tp_journal.specs.Refusals.{IsRefusal};
-ghost use Rattle.tp_store.specs.declared.error.StoreError.TheVariants.{OutOfMemory as Lack};
+ghost use Rattle.tp_shell.specs.Files.{CutsJournal, KeepsTail};
 
+use crate::cutting::keep_cut;
+use crate::replacing::{put_new, replace};
 use std::fs::OpenFile;
 use std::io::{Read, Seek, Write};
 use std::rt::Files;
 use std::{fs, io};
 use tp_commands::{CommandError, Recovery};
-use tp_journal::{DurableJournal, FileJournal, Lockable, Recovering};
+use tp_journal::{DurableJournal, FileJournal, Journal, Lockable, Recovered, Recovering};
 use tp_peer::PeerSequence;
+
+/// A journal that was opened to write.
+#[derive(Drop)]
+pub struct Opened<J: Drop> {
+    /// The journal.
+    pub journal: J,
+    /// What its content recovers to.
+    pub recovered: Recovered<PeerSequence>,
+    /// The offset of the bytes that are cut off it, where these are kept, since a whole record is in them.
+    pub cut: Option<u64>,
+}
 
 /// Files at paths, as commands meet them.
 ///
@@ -47,85 +59,78 @@ pub trait Disk {
     fn journal(&self, path: &str, make: bool) -> Result<FileJournal<Self::File>, CommandError>
         ensures { IfOk result (λ j. takes self.now path.now j.content) };
 
-    /// The same, with what its content recovers to, of which it holds no copy. An absent file is refused.
-    fn recovered_journal(
-        &self,
-        path: &str,
-    ) -> Result<(FileJournal<Self::File>, Recovery), CommandError>
-        ensures taken { IfOk result (λ opened. takes self.now path.now opened.0.content) }
-        ensures recovers { IfOk result (λ opened. IfOk opened.1 (λ r.
-            Recovers opened.0.content r.document.id r.document.applied r.keep
-            × (r.document.waiting ≡ []))) }
-        ensures refused { IfOk result (λ opened. IfErr opened.1
-            (λ e. (e ≡ Lack) ⊎ IsRefusal opened.0.content e)) };
+    /// The same, with what its content recovers to, of which it holds no copy. An absent file is refused, and a journal that
+    /// doesn't recover. What opening it cuts off is put into a file of its own first where a whole record is in it, at the path with `.cut-` and the offset of the
+    /// first byte; one that is there already with other bytes is refused as `JournalNotEmpty`.
+    fn recovered_journal(&self, path: &str) -> Result<Opened<FileJournal<Self::File>>, CommandError>
+        ensures taken { IfOk result (λ o. takes self.now path.now o.journal.content) }
+        ensures recovers { IfOk result (λ o. Recovers o.journal.content o.recovered.document.id
+            o.recovered.document.applied o.recovered.keep
+            × (o.recovered.document.waiting ≡ [])) }
+        ensures cuts { IfOk result
+            (λ o. CutsJournal (leaves self.now) path.now o.journal.content o.cut) };
 
     /// The same, all of which is brought to the disk before what is told of it.
     fn durable_journal(
         &self,
         path: &str,
-    ) -> Result<(DurableJournal<Self::File>, Recovery), CommandError>
-        ensures taken { IfOk result (λ opened. takes self.now path.now opened.0.file.content) }
-        ensures recovers { IfOk result (λ opened. IfOk opened.1 (λ r.
-            Recovers opened.0.file.content r.document.id r.document.applied r.keep
-            × (r.document.waiting ≡ []))) }
-        ensures refused { IfOk result (λ opened. IfErr opened.1
-            (λ e. (e ≡ Lack) ⊎ IsRefusal opened.0.file.content e)) };
+    ) -> Result<Opened<DurableJournal<Self::File>>, CommandError>
+        ensures taken { IfOk result (λ o. takes self.now path.now o.journal.file.content) }
+        ensures recovers { IfOk result (λ o. Recovers o.journal.file.content o.recovered.document.id
+            o.recovered.document.applied o.recovered.keep
+            × (o.recovered.document.waiting ≡ [])) }
+        ensures cuts { IfOk result
+            (λ o. CutsJournal (leaves self.now) path.now o.journal.file.content o.cut) };
 
     /// Brings to the disk what was written to a journal that was taken from the path. Its content stays.
     fn sync(&self, path: &str, journal: &mut FileJournal<Self::File>) -> Result<(), CommandError>
         ensures left { OnOk result (leaves self.now path.now journal.new.content) }
         ensures stays { journal.new.content ≡ journal.old.content };
 
-    /// Makes the file at the path of these bytes, in place of one that is there. A crash leaves the file at the path as it
-    /// was, or whole.
-    fn replace(&self, path: &str, bytes: &[u8]) -> Result<(), CommandError>
+    /// Makes the file at the path of these bytes, in place of one that is there: a link is followed, and a regular file keeps
+    /// its mode. A new one has the mode of the file at the path `like`. A crash leaves it as it was, or whole. What is no
+    /// regular file, as a pipe, or is open already, as the standard output, is written to.
+    ///
+    /// A file that begins as a journal does is refused as `JournalNotEmpty`, and stays.
+    fn replace(&self, path: &str, like: &str, bytes: &[u8]) -> Result<(), CommandError>
+        ensures { OnOk result (leaves self.now path.now bytes.now) };
+
+    /// Makes a new file at the path of these bytes, with the mode of the file at the path `like`. A crash leaves none, or the
+    /// whole. What is there already, whatever it is, is refused as `JournalNotEmpty`, and stays.
+    fn put_new(&self, path: &str, like: &str, bytes: &[u8]) -> Result<(), CommandError>
         ensures { OnOk result (leaves self.now path.now bytes.now) };
 }
 
-// Writes a new file, and brings it to the disk.
-fn write_new<R: Files>(rt: &R, path: &str, bytes: &[u8]) -> Result<(), CommandError> {
-    let mut file = fs::create(rt, path)?;
-    file.write_all(bytes)?;
-    file.sync_all()?;
-    Ok(())
-}
-
-// A name for a file beside the one at the path, with 16 bytes that nobody can guess.
-fn name_beside<R: Files + AllocGlobal>(rt: &R, path: &str) -> Result<String, CommandError> {
-    let mut drawn = [0; 16];
-    let mut source = fs::open(rt, "/dev/urandom")?;
-    source.read_exact(&mut drawn)?;
-    let digits = hex::encode(rt.alloc(), &drawn)?;
-    Ok(format!(in rt.alloc(); "{path}.{digits}.part")?)
-}
-
-// The folder of the file at the path.
-fn folder_of(path: &str) -> &str {
-    match path.rsplit_once('/') {
-        Some(("", _)) => "/",
-        Some((folder, _)) => folder,
-        None => ".",
-    }
-}
-
-// Brings to the disk which files the folder has, where a folder can be opened.
-fn sync_folder<R: Files>(rt: &R, folder: &str) -> Result<(), CommandError> {
-    match fs::open(rt, folder) {
-        Ok(folder) => Ok(folder.sync_all()?),
-        Err(_) => Ok(()),
-    }
-}
-
-// Writes a new file at the path `part`, which then takes the name of the other.
-fn write_and_rename<R: Files>(
+// The journal at the path with what it recovers to, once what opening it cuts off is kept.
+fn opened_journal<R: Files + AllocGlobal, J: Journal>(
     rt: &R,
-    part: &str,
     path: &str,
-    bytes: &[u8],
-) -> Result<(), CommandError> {
-    write_new(rt, part, bytes)?;
-    fs::rename(rt, part, path)?;
-    sync_folder(rt, folder_of(path))
+    journal: J,
+    recovery: Recovery,
+) -> Result<Opened<J>, CommandError>
+    ensures same { IfOk result
+        (λ o. (o.journal ≡ journal) × (recovery ≡ Ok o.recovered)) }
+    ensures cut { IfOk result (λ o. KeepsTail (λ _ _. Unit {0}) path.now
+        o.recovered.keep o.recovered.tail.items o.cut) }
+{
+    match recovery {
+        Ok(recovered) => match keep_cut(rt, path, &recovered) {
+            Ok(cut) => Ok(Opened {
+                journal,
+                recovered,
+                cut,
+            }),
+            Err(error) => {
+                drop(journal);
+                drop(recovered);
+                Err(error)
+            }
+        },
+        Err(error) => {
+            drop(journal);
+            Err(CommandError::from(error))
+        }
+    }
 }
 
 /// The files of the system, of which its calls promise nothing. A file is replaced by one that is written beside it, under a
@@ -167,30 +172,25 @@ where
         Ok(FileJournal::at(self, self.alloc(), path, make)?)
     }
 
-    fn recovered_journal(
-        &self,
-        path: &str,
-    ) -> Result<(FileJournal<R::File>, Recovery), CommandError> {
-        Ok(FileJournal::recovering(self, self.alloc(), path, false)?)
+    fn recovered_journal(&self, path: &str) -> Result<Opened<FileJournal<R::File>>, CommandError> {
+        let (journal, recovery) = FileJournal::recovering(self, self.alloc(), path, false)?;
+        opened_journal(self, path, journal, recovery)
     }
 
-    fn durable_journal(
-        &self,
-        path: &str,
-    ) -> Result<(DurableJournal<R::File>, Recovery), CommandError> {
-        Ok(DurableJournal::recovering(self, self.alloc(), path, false)?)
+    fn durable_journal(&self, path: &str) -> Result<Opened<DurableJournal<R::File>>, CommandError> {
+        let (journal, recovery) = DurableJournal::recovering(self, self.alloc(), path, false)?;
+        opened_journal(self, path, journal, recovery)
     }
 
     fn sync(&self, _path: &str, journal: &mut FileJournal<R::File>) -> Result<(), CommandError> {
         Ok(journal.sync()?)
     }
 
-    fn replace(&self, path: &str, bytes: &[u8]) -> Result<(), CommandError> {
-        let part = name_beside(self, path)?;
-        let replaced = write_and_rename(self, part.as_str(), path, bytes);
-        if replaced.is_err() {
-            let _ = fs::remove_file(self, part.as_str());
-        }
-        replaced
+    fn replace(&self, path: &str, like: &str, bytes: &[u8]) -> Result<(), CommandError> {
+        replace(self, path, like, bytes)
+    }
+
+    fn put_new(&self, path: &str, like: &str, bytes: &[u8]) -> Result<(), CommandError> {
+        put_new(self, path, like, bytes)
     }
 }

@@ -1,7 +1,8 @@
 //! What a command asks for, with its hashes, its key and its address as values.
 
-ghost use Rattle.std.specs.Prelude.{IfOk, IfErr};
+ghost use Rattle.std.specs.Prelude.{◌≡◌, IfOk, IfErr};
 ghost use Rattle.tp_shell.specs.Jobs.{IsJobOf, NotRead};
+ghost use Rattle.tp_shell.specs.Words.{journal_path as path_of_journal};
 
 use crate::error::ShellError;
 use crate::keys::{address_in, hashes_in, key_in};
@@ -66,6 +67,11 @@ pub enum FileJob<'a> {
         /// The heads of the earlier text.
         heads: Vec<Hash>,
     },
+    /// Prints what stands in a journal, whatever is damaged in it.
+    Check {
+        /// The path of the journal.
+        file: &'a str,
+    },
     /// Merges the changes of another journal.
     Merge {
         /// The path of the journal that receives them.
@@ -88,6 +94,13 @@ pub enum FileJob<'a> {
         saved: &'a str,
         /// The path of the journal.
         file: &'a str,
+    },
+    /// Makes a journal of all that can be had of a damaged one.
+    Recover {
+        /// The path of the damaged journal.
+        file: &'a str,
+        /// The path of the journal that is made.
+        out: &'a str,
     },
     /// Prints the text that a log of changes makes.
     Show {
@@ -139,6 +152,20 @@ pub enum Job<'a> {
     },
 }
 
+/// The path of the journal that a command opens to write; empty where it opens none, or begins it.
+pub fn journal_path<'a>(command: &Command<'a>) -> &'a str
+    ensures { result.now ≡ path_of_journal command.now }
+{
+    match command {
+        Command::Edit { file, .. } => file,
+        Command::Merge { file, .. } => file,
+        Command::Serve { file, .. } => file,
+        Command::Session { file, .. } => file,
+        Command::Sync { file, .. } => file,
+        _ => "",
+    }
+}
+
 /// Reads the hashes, the key and the address of a command. It is refused as `BadHex` only where one of its hashes, or its
 /// key, isn't 64 hexadecimal digits, and as `Io` only where its address isn't `IP:PORT`; the only other refusal is
 /// `OutOfMemory`. Hashes and keys are judged before the address.
@@ -182,6 +209,7 @@ pub fn job_of<'a>(alloc: Global, command: Command<'a>) -> Result<Job<'a>, ShellE
             at: at as usize,
             heads: hashes_in(alloc, &heads)?,
         })),
+        Command::Check { file } => Ok(Job::Files(FileJob::Check { file })),
         Command::Merge { file, other, key } => Ok(Job::Files(FileJob::Merge {
             file,
             other,
@@ -189,6 +217,7 @@ pub fn job_of<'a>(alloc: Global, command: Command<'a>) -> Result<Job<'a>, ShellE
         })),
         Command::Save { file, out } => Ok(Job::Files(FileJob::Save { file, out })),
         Command::Load { saved, file } => Ok(Job::Files(FileJob::Load { saved, file })),
+        Command::Recover { file, out } => Ok(Job::Files(FileJob::Recover { file, out })),
         Command::Show { log } => Ok(Job::Files(FileJob::Show { log })),
         Command::Simulate { script } => Ok(Job::Files(FileJob::Simulate { script })),
         Command::Serve {

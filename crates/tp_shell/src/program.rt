@@ -5,14 +5,15 @@ ghost use Rattle.std.specs.Io.KnownBytes.{Keeps};
 ghost use Rattle.clap.specs.Words.{kind_of};
 ghost use Rattle.clap.specs.declared.error.kind.ErrorKind.TheVariants.{OutOfMemory};
 ghost use Rattle.tp_command_line.specs.LineError.{parser_fault};
+ghost use Rattle.tp_shell.specs.declared.error.JobError.{JobError as JobRefusal};
 ghost use Rattle.tp_shell.specs.declared.error.ShellError.{ShellError as Refusal};
 ghost use Rattle.tp_shell.specs.declared.error.ShellError.TheVariants.{Job as Refused};
 ghost use Rattle.tp_shell.specs.Output.{GrowsPart, IsLineOf};
-ghost use Rattle.tp_shell.specs.ShellError.{failed, no_memory};
+ghost use Rattle.tp_shell.specs.ShellError.{IsOutputFault, no_memory};
 ghost use Rattle.tp_shell.specs.Words.{IsForHelp};
 
 use crate::error::{JobError, ShellError};
-use crate::running::{DONE, REFUSED, ended};
+use crate::telling::{DONE, REFUSED, ended, output_refusal};
 use std::alloc::Global;
 use std::fmt::Display;
 use std::io;
@@ -57,7 +58,8 @@ pub fn explain<W: Write, E: Write>(alloc: Global, fault: &LineError, out: &mut W
     ensures refused { result ≡ REFUSED → (e : Refusal)
         × GrowsPart (IsLineOf e) (E.contents err.old) (E.contents err.new)
         × (((e ≡ Refused no_memory) × Keeps (W.contents out.old) (W.contents out.new))
-        ⊎ ((e ≡ Refused failed) × IsForHelp (kind_of (parser_fault fault.now)))) }
+        ⊎ ((f : JobRefusal) × (e ≡ Refused f) × IsOutputFault f
+        × IsForHelp (kind_of (parser_fault fault.now)))) }
     ensures misused { result ≡ MISUSED → (kind_of (parser_fault fault.now) ≢ OutOfMemory)
         × Keeps (W.contents out.old) (W.contents out.new) }
 {
@@ -78,12 +80,12 @@ pub fn explain<W: Write, E: Write>(alloc: Global, fault: &LineError, out: &mut W
 // Prints the parser's text.
 fn put_fault<W: Write>(alloc: Global, fault: &LineError, out: &mut W) -> Result<(), ShellError>
     ensures { IfErr result
-        (λ e. (e ≡ Refused failed)
+        (λ e. ((f : JobRefusal) × (e ≡ Refused f) × IsOutputFault f)
         ⊎ ((e ≡ Refused no_memory) × Keeps (W.contents out.old) (W.contents out.new))) }
 {
     let text = format!(in alloc; "{fault}")?;
     match write_out(out, text.as_str().as_bytes()) {
         Ok(()) => Ok(()),
-        Err(_) => Err(ShellError::Job(JobError::Command(CommandError::Io))),
+        Err(error) => Err(ShellError::Job(output_refusal(&error))),
     }
 }

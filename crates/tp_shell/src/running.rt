@@ -1,28 +1,26 @@
 //! Doing a job, and what is printed of it.
 
-ghost use Rattle.std.specs.Prelude.{◌≡◌, ◌≤◌, ◌⊎◌, ℕ, List, [], Err, IfOk, IfErr, OnOk, IsOkAnd, MatchResult};
-ghost use Rattle.std.specs.Io.KnownBytes.{Appends, Keeps};
+ghost use Rattle.std.specs.Prelude.{◌≡◌, [], IfOk, IfErr, IfSome, None, OnErr, OnOk};
 ghost use Rattle.std.specs.Str.{chars};
 ghost use Rattle.std.specs.String.{string_bytes};
 ghost use Rattle.tp_simulate.specs.Script.{Prints};
-ghost use Rattle.tp_textpeer.specs.Output.{AppendsPart};
 ghost use Rattle.tp_commands.specs.Graph.{IsChangeGraph};
 ghost use Rattle.tp_commands.specs.Log.{AreChangeLines};
 ghost use Rattle.tp_commands.specs.Reading.{AreHeadLines, IsCursorLine, IsTextLine, line};
-ghost use Rattle.tp_commands.specs.declared.error.CommandError.{CommandError as CommandFault};
-ghost use Rattle.tp_shell.specs.declared.error.JobError.TheVariants.{Command as OfCommand};
-ghost use Rattle.tp_shell.specs.Files.{BeginsJournal, ChangesFile, IsLoaded, OfFile, SavesTo};
+ghost use Rattle.tp_shell.specs.Files.{BeginsJournal, ChangesFile, CutsFile, IsLoaded, MayCutFile, OfFile, RescuesTo, SavesTo};
 ghost use Rattle.tp_shell.specs.Lines.{IsEditLine, IsMergeLine, IsNewLine, made_line as line_of_made};
-ghost use Rattle.tp_shell.specs.Names.{refusal_text};
-ghost use Rattle.tp_shell.specs.Output.{Grows, GrowsPart, IsFilesPrinted, IsLineOf, IsShown, Leaves, LeavesFiles, LeavesScript};
-ghost use Rattle.tp_shell.specs.ShellError.{failed};
+ghost use Rattle.tp_shell.specs.Names.{WasMade, digits_of};
+ghost use Rattle.tp_shell.specs.Output.{CutsFor, Grows, IsFilesPrinted, IsShown, Leaves, LeavesCheck, LeavesFiles, LeavesScript, MayCutFor};
+ghost use Rattle.tp_shell.specs.Rescuing.{IsChecked};
+ghost use Rattle.tp_shell.specs.ShellError.{IsAllSaid};
 
-use crate::error::{JobError, ShellError};
-use crate::files::Disk;
+use crate::error::{JobError, Made};
+use crate::files::{Disk, Opened};
 use crate::job::FileJob;
 use crate::keys::{draw, draw_actor, generator};
-use std::alloc::{AllocError, Global};
-use std::io;
+use crate::rescuing::{check_report, rescue_report};
+use crate::telling::{put, put_made};
+use std::alloc::Global;
 use std::io::{BufReader, Write};
 use tp_commands::{
     CommandError, begin, cursor_line, edit, graph_lines, hash_line, head_lines, id_line, log_lines,
@@ -34,99 +32,51 @@ use tp_opid::{Actor, DocId, Hash};
 use tp_peer::{PeerSequence, create_journal};
 use tp_simulate::simulate;
 use tp_store::load;
-use tp_textpeer::{show, write_out};
-
-/// The exit status of what was done.
-pub const DONE: u8 = 0;
-
-/// The exit status of what was refused.
-pub const REFUSED: u8 = 1;
-
-/// The exit status of what was done or refused, once the refusal is printed.
-pub fn ended<E: Write>(alloc: Global, done: Result<(), ShellError>, err: &mut E) -> u8
-    ensures status { MatchResult done (λ _. result ≡ DONE) (λ _. result ≡ REFUSED) }
-    ensures quiet { OnOk done (Keeps (E.contents err.old) (E.contents err.new)) }
-    ensures told { IfErr done
-        (λ e. GrowsPart (IsLineOf e) (E.contents err.old) (E.contents err.new)) }
-{
-    match done {
-        Ok(()) => DONE,
-        Err(error) => {
-            let _ = tell(alloc, error, err);
-            REFUSED
-        }
-    }
-}
-
-// Writes the line of a refusal, or of `OutOfMemory` where there is no memory for that line.
-fn tell<E: Write>(alloc: Global, error: ShellError, err: &mut E) -> io::Result<()>
-    ensures whole { OnOk result (Grows (IsLineOf error) (E.contents err.old) (E.contents err.new)) }
-    ensures part { GrowsPart (IsLineOf error) (E.contents err.old) (E.contents err.new) }
-{
-    match refusal_line(alloc, error) {
-        Ok(line) => write_out(err, line.as_str().as_bytes()),
-        Err(_) => write_out(err, b"textpeer: OutOfMemory\n"),
-    }
-}
-
-// The line of a refusal.
-fn refusal_line(alloc: Global, error: ShellError) -> Result<String, AllocError>
-    ensures { IfOk result (λ l. string_bytes l ≡ line (refusal_text error)) }
-{
-    format!(in alloc; "{error}\n")
-}
-
-/// Writes what is printed of what was done, and flushes.
-pub fn put<W: Write>(out: &mut W, printed: Result<String, CommandError>) -> Result<(), JobError>
-    ensures ok { OnOk result (IsOkAnd printed
-        (λ text. Appends (W.contents out.old) (W.contents out.new) (string_bytes text))) }
-    ensures err { IfErr result (λ e. Keeps (W.contents out.old) (W.contents out.new)
-        ⊎ ((e ≡ failed) × IsOkAnd printed
-        (λ text. AppendsPart (W.contents out.old) (W.contents out.new) (string_bytes text)))) }
-    ensures passed { IfErr result (λ e. (e ≡ failed)
-        ⊎ ((fault : CommandFault) × (printed ≡ Err fault) × (e ≡ OfCommand fault))) }
-{
-    match printed {
-        Ok(text) => match write_out(out, text.as_str().as_bytes()) {
-            Ok(()) => Ok(()),
-            Err(_) => Err(JobError::Command(CommandError::Io)),
-        },
-        Err(error) => Err(JobError::Command(error)),
-    }
-}
+use tp_textpeer::show;
 
 /// Does what is to be done to files, and writes what is printed of it to `out`, which is flushed. A refusal writes nothing
-/// to `out`; where `out` itself failed, which is refused as `Io`, it has taken a beginning of what is printed. A script is
-/// printed line by line as it goes on, and what was printed before a refusal stays.
+/// to `out`; where `out` itself failed, which is refused as `Io`, or was closed by who read it, it has taken a beginning of
+/// what is printed; the refusal has what a job made whose line that was. A script is printed line by line as it goes on, and
+/// what was printed before a refusal stays.
 pub fn carry_out<D: Disk + AllocGlobal, W: Write>(
     rt: &D,
     job: FileJob,
     out: &mut W,
+    cut: &mut Option<u64>,
 ) -> Result<(), JobError>
+    requires { cut.old ≡ None }
+    ensures cuts { OnOk result
+        (CutsFor (D.takes rt.now) (D.leaves rt.now) job.entry cut.new) }
+    ensures may_cut { OnErr result
+        (MayCutFor (D.takes rt.now) (D.leaves rt.now) job.entry cut.new) }
     ensures prints { OnOk result
         (Grows (IsFilesPrinted (D.reads rt.now) (D.takes rt.now) (D.leaves rt.now) job.entry)
         (W.contents out.old) (W.contents out.new)) }
     ensures err { IfErr result
         (λ e. LeavesFiles (D.reads rt.now) (D.takes rt.now) (D.leaves rt.now) job.entry e
         (W.contents out.old) (W.contents out.new)) }
+    ensures unsaid { IfErr result
+        (WasMade (IsFilesPrinted (D.reads rt.now) (D.takes rt.now) (D.leaves rt.now) job.entry)) }
 {
     match job {
-        FileJob::New { file, key } => put(out, new(rt, file, key)),
+        FileJob::New { file, key } => put_made(out, new(rt, file, key)),
         FileJob::Edit {
             file,
             splice,
             time,
             message,
             key,
-        } => put(out, edited(rt, file, splice, time, message, key)),
+        } => put_made(out, edited(rt, file, splice, time, message, key, cut)),
         FileJob::Text { file, heads } => put(out, text(rt, file, &heads)),
         FileJob::Heads { file } => put(out, heads(rt, file)),
         FileJob::Log { file } => put(out, log(rt, file)),
         FileJob::Graph { file } => put(out, graph(rt, file)),
         FileJob::Cursor { file, at, heads } => put(out, cursor(rt, file, at, &heads)),
-        FileJob::Merge { file, other, key } => put(out, merged(rt, file, other, key)),
+        FileJob::Check { file } => check_file(rt, file, out),
+        FileJob::Merge { file, other, key } => put(out, merged(rt, file, other, key, cut)),
         FileJob::Save { file, out: path } => put(out, save_to(rt, file, path)),
         FileJob::Load { saved, file } => put(out, load_from(rt, saved, file)),
+        FileJob::Recover { file, out: path } => put(out, recover_to(rt, file, path)),
         FileJob::Show { log } => show_file(rt, log, out),
         FileJob::Simulate { script } => simulate_file(rt, script, out),
     }
@@ -149,6 +99,7 @@ fn show_file<D: Disk + AllocGlobal, W: Write>(
 ) -> Result<(), JobError>
     ensures ok { OnOk result (Grows IsShown (W.contents out.old) (W.contents out.new)) }
     ensures err { IfErr result (λ e. Leaves IsShown e (W.contents out.old) (W.contents out.new)) }
+    ensures said { IfErr result IsAllSaid }
 {
     let mut reader = reader_of(rt, log)?;
     match show(rt.alloc(), &mut reader, out) {
@@ -166,6 +117,7 @@ fn simulate_file<D: Disk + AllocGlobal, W: Write>(
     ensures ok { OnOk result (Prints (W.contents out.old) (W.contents out.new)) }
     ensures err { IfErr result
         (λ e. LeavesScript e (W.contents out.old) (W.contents out.new)) }
+    ensures said { IfErr result IsAllSaid }
 {
     let mut reader = reader_of(rt, script)?;
     match simulate(rt.alloc(), &mut reader, out) {
@@ -219,9 +171,11 @@ fn new<D: Disk + AllocGlobal>(
     rt: &D,
     file: &str,
     key: Option<[u8; 32]>,
-) -> Result<String, CommandError>
-    ensures { IfOk result (λ l. ChangesFile (D.takes rt.now) (D.leaves rt.now) file.now
-        (λ before after. IsNewLine key before after (string_bytes l))) }
+) -> Result<(String, Option<Made>), CommandError>
+    ensures line { IfOk result (λ p. ChangesFile (D.takes rt.now) (D.leaves rt.now) file.now
+        (λ before after. IsNewLine key before after (string_bytes p.0))) }
+    ensures made { IfOk result
+        (λ p. IfSome p.1 (λ made. string_bytes p.0 ≡ line (digits_of made))) }
 {
     let mut generator = generator(rt, key)?;
     let Actor(drawn) = draw(&mut generator);
@@ -229,7 +183,7 @@ fn new<D: Disk + AllocGlobal>(
     let actor = draw(&mut generator);
     let mut journal = begin(rt.alloc(), rt.journal(file, true)?, id, actor)?;
     rt.sync(file, &mut journal)?;
-    id_line(rt.alloc(), &id)
+    Ok((id_line(rt.alloc(), &id)?, Some(Made::Document(id))))
 }
 
 fn edited<D: Disk + AllocGlobal>(
@@ -239,25 +193,40 @@ fn edited<D: Disk + AllocGlobal>(
     time: u64,
     message: &str,
     key: Option<[u8; 32]>,
-) -> Result<String, CommandError>
-    ensures { IfOk result (λ l. ChangesFile (D.takes rt.now) (D.leaves rt.now) file.now
+    cut: &mut Option<u64>,
+) -> Result<(String, Option<Made>), CommandError>
+    requires { cut.old ≡ None }
+    ensures cuts { OnOk result (CutsFile (D.takes rt.now) (D.leaves rt.now) file.now cut.new) }
+    ensures may_cut { OnErr result
+        (MayCutFile (D.takes rt.now) (D.leaves rt.now) file.now cut.new) }
+    ensures line { IfOk result (λ p. ChangesFile (D.takes rt.now) (D.leaves rt.now) file.now
         (λ before after. IsEditLine key splice.entry time (chars message.now) before after
-        (string_bytes l))) }
+        (string_bytes p.0))) }
+    ensures made { IfOk result
+        (λ p. IfSome p.1 (λ made. string_bytes p.0 ≡ line (digits_of made))) }
 {
     let actor = draw_actor(rt, key)?;
-    let opened = rt.recovered_journal(file)?;
+    let Opened {
+        journal,
+        recovered,
+        cut: kept,
+    } = rt.recovered_journal(file)?;
+    *cut = kept;
+    let opened = (journal, Ok(recovered));
     let (mut journal, made) = edit(rt.alloc(), opened, actor, splice, time, message)?;
     rt.sync(file, &mut journal)?;
     made_line(rt.alloc(), made)
 }
 
-// The line of what an edit made.
-fn made_line(alloc: Global, made: Option<Hash>) -> Result<String, CommandError>
-    ensures { IfOk result (λ l. string_bytes l ≡ line_of_made made) }
+// The line of what an edit made, and that.
+fn made_line(alloc: Global, made: Option<Hash>) -> Result<(String, Option<Made>), CommandError>
+    ensures line { IfOk result (λ p. string_bytes p.0 ≡ line_of_made made) }
+    ensures made { IfOk result
+        (λ p. IfSome p.1 (λ made. string_bytes p.0 ≡ line (digits_of made))) }
 {
     match made {
-        Some(hash) => hash_line(alloc, &hash),
-        None => Ok(String::from_str(alloc, "nothing\n")?),
+        Some(hash) => Ok((hash_line(alloc, &hash)?, Some(Made::Change(hash)))),
+        None => Ok((String::from_str(alloc, "nothing\n")?, None)),
     }
 }
 
@@ -266,19 +235,29 @@ fn merged<D: Disk + AllocGlobal>(
     file: &str,
     other: &str,
     key: Option<[u8; 32]>,
+    cut: &mut Option<u64>,
 ) -> Result<String, CommandError>
-    ensures { IfOk result (λ l. ChangesFile (D.takes rt.now) (D.leaves rt.now) file.now
+    requires { cut.old ≡ None }
+    ensures cuts { OnOk result (CutsFile (D.takes rt.now) (D.leaves rt.now) file.now cut.new) }
+    ensures may_cut { OnErr result
+        (MayCutFile (D.takes rt.now) (D.leaves rt.now) file.now cut.new) }
+    ensures line { IfOk result (λ l. ChangesFile (D.takes rt.now) (D.leaves rt.now) file.now
         (λ before after. OfFile (D.reads rt.now) other.now
         (λ bytes. IsMergeLine key before bytes after (string_bytes l)))) }
 {
     let mut generator = generator(rt, key)?;
     let actor = draw(&mut generator);
     let other_actor = draw(&mut generator);
-    let opened = rt.recovered_journal(file)?;
-    let peer = reopen(rt.alloc(), opened, actor)?;
-    match rt.read(other) {
-        Ok(bytes) => {
-            let (mut journal, count) = merge(rt.alloc(), peer, bytes, other_actor)?;
+    let Opened {
+        journal,
+        recovered,
+        cut: kept,
+    } = rt.recovered_journal(file)?;
+    *cut = kept;
+    let peer = reopen(rt.alloc(), (journal, Ok(recovered)), actor)?;
+    match rt.recover(other) {
+        Ok(read) => {
+            let (mut journal, count) = merge(rt.alloc(), peer, read, other_actor)?;
             rt.sync(file, &mut journal)?;
             Ok(format!(in rt.alloc(); "applied {count}\n")?)
         }
@@ -295,8 +274,42 @@ fn save_to<D: Disk + AllocGlobal>(rt: &D, file: &str, out: &str) -> Result<Strin
         (λ journal. SavesTo (D.leaves rt.now) out.now journal)) }
 {
     let bytes = saved(rt.alloc(), rt.recover(file)?)?;
-    rt.replace(out, &bytes)?;
+    rt.replace(out, file, &bytes)?;
     Ok(String::new(rt.alloc()))
+}
+
+// Writes what stands in the journal at a path. It is refused for what is at fault there, once that is written.
+fn check_file<D: Disk + AllocGlobal, W: Write>(
+    rt: &D,
+    file: &str,
+    out: &mut W,
+) -> Result<(), JobError>
+    ensures ok { OnOk result
+        (Grows (λ printed. OfFile (D.reads rt.now) file.now
+        (λ bytes. IsChecked bytes None printed)) (W.contents out.old) (W.contents out.new)) }
+    ensures err { IfErr result (λ e. LeavesCheck (D.reads rt.now) file.now e
+        (W.contents out.old) (W.contents out.new)) }
+    ensures said { IfErr result IsAllSaid }
+{
+    let bytes = rt.read(file)?;
+    let (text, fault) = check_report(rt.alloc(), &bytes)?;
+    match put(out, Ok(text)) {
+        Ok(()) => match fault {
+            Some(error) => Err(JobError::Command(CommandError::from(error))),
+            None => Ok(()),
+        },
+        Err(error) => Err(error),
+    }
+}
+
+// Makes the journal of all that can be had of the one at a path.
+fn recover_to<D: Disk + AllocGlobal>(rt: &D, file: &str, out: &str) -> Result<String, CommandError>
+    ensures { IfOk result (λ l. OfFile (D.reads rt.now) file.now
+        (λ bytes. RescuesTo (D.leaves rt.now) out.now bytes (string_bytes l))) }
+{
+    let (journal, text) = rescue_report(rt.alloc(), &rt.read(file)?)?;
+    rt.put_new(out, file, &journal)?;
+    Ok(text)
 }
 
 // Begins the journal at a path with the document.

@@ -10,13 +10,20 @@ use std::io::ErrorKind;
 #[derive(Drop)]
 pub struct Budget {
     left: Cell<u64>,
+    fault: ErrorKind,
 }
 
 impl Budget {
-    /// So many calls succeed.
+    /// So many calls succeed; the others find no room.
     pub fn new(left: u64) -> Budget {
+        Budget::failing(left, ErrorKind::StorageFull)
+    }
+
+    /// So many calls succeed; the others fail so.
+    pub fn failing(left: u64, fault: ErrorKind) -> Budget {
         Budget {
             left: Cell::new(left),
+            fault,
         }
     }
 
@@ -27,7 +34,7 @@ impl Budget {
                 self.left.set(left);
                 Ok(())
             }
-            None => Err(io::Error::from(ErrorKind::StorageFull)),
+            None => Err(io::Error::from(self.fault)),
         }
     }
 
@@ -37,7 +44,7 @@ impl Budget {
     {
         let left = self.left.get();
         if left == 0 {
-            return Err(io::Error::from(ErrorKind::StorageFull));
+            return Err(io::Error::from(self.fault));
         }
         self.left.set(left.saturating_sub(len as u64));
         if left < len as u64 {

@@ -1,7 +1,7 @@
 //! A file whose device fails where a row says so.
 
 use crate::budget::Budget;
-use std::fs::{Metadata, OpenFile};
+use std::fs::{Metadata, OpenFile, Permissions};
 use std::io;
 use std::io::{Read, Seek, SeekFrom, Write};
 use tp_journal::Lockable;
@@ -61,6 +61,11 @@ impl<F: OpenFile> OpenFile for Device<'_, F> {
     fn sync_data(&self) -> io::Result<()> {
         self.budget.spend()?;
         self.file.sync_data()
+    }
+
+    fn set_permissions(&self, mode: Permissions) -> io::Result<()> {
+        self.budget.spend()?;
+        self.file.set_permissions(mode)
     }
 }
 

@@ -3,8 +3,10 @@
 use crate::folder::fault;
 use crate::paths::inside;
 use std::fs;
+use std::fs::Permissions;
+use std::os::unix::fs::{PermissionsExt, symlink};
 use std::rt::Files;
-use tp_test_runner::{Fault, Words, derived, done, spelled};
+use tp_test_runner::{Fault, Words, derived, done, number, spelled};
 
 // All bytes of a file.
 fn read<R: Files + AllocGlobal>(rt: &R, name: &str) -> Result<Vec<u8>, Fault> {
@@ -64,6 +66,49 @@ fn same<R: Files + AllocGlobal>(rt: &R, name: &str, other: &str) -> Result<Strin
     }
 }
 
+// `link NAME TARGET`: a link to the file, which stands beside it or nowhere.
+fn link<R: Files + AllocGlobal>(rt: &R, name: &str, target: &str) -> Result<String, Fault> {
+    let path = inside(rt.alloc(), name)?;
+    match symlink(rt, target, path.as_str()) {
+        Ok(()) => done(rt.alloc()),
+        Err(error) => Err(fault(&error)),
+    }
+}
+
+// `leads NAME`: where a link leads.
+fn leads<R: Files + AllocGlobal>(rt: &R, name: &str) -> Result<String, Fault> {
+    let path = inside(rt.alloc(), name)?;
+    match fs::read_link(rt, path.as_str()) {
+        Ok(target) => Ok(String::from_str(rt.alloc(), target.as_str())?),
+        Err(error) => Err(fault(&error)),
+    }
+}
+
+// `mode NAME NUMBER`: gives the file the mode.
+fn set_mode<R: Files + AllocGlobal>(rt: &R, name: &str, mode: &str) -> Result<String, Fault> {
+    let path = inside(rt.alloc(), name)?;
+    let mode = u32::try_from(number(mode)?)
+        .ok()
+        .ok_or(Fault::Row("no mode"))?;
+    let mode = Permissions::from_mode(mode);
+    match fs::set_permissions(rt, path.as_str(), mode) {
+        Ok(()) => done(rt.alloc()),
+        Err(error) => Err(fault(&error)),
+    }
+}
+
+// `mode_of NAME`.
+fn mode_of<R: Files + AllocGlobal>(rt: &R, name: &str) -> Result<String, Fault> {
+    let path = inside(rt.alloc(), name)?;
+    match fs::metadata(rt, path.as_str()) {
+        Ok(found) => {
+            let mode = found.permissions().mode() % 512;
+            Ok(format!(in rt.alloc(); "mode {mode}")?)
+        }
+        Err(error) => Err(fault(&error)),
+    }
+}
+
 /// Makes a call on files; `None` where the word is none of these.
 pub fn call<R: Files + AllocGlobal>(
     rt: &R,
@@ -72,7 +117,9 @@ pub fn call<R: Files + AllocGlobal>(
 ) -> Option<Result<String, Fault>> {
     match word {
         "file" | "copy" | "cut" | "alter" | "behind" => Some(make(rt, word, words)),
-        "folder" | "len" | "same" => Some(look(rt, word, words)),
+        "folder" | "len" | "same" | "link" | "leads" | "mode" | "mode_of" => {
+            Some(look(rt, word, words))
+        }
         _ => None,
     }
 }
@@ -82,6 +129,10 @@ fn look<R: Files + AllocGlobal>(rt: &R, word: &str, words: &mut Words) -> Result
     match word {
         "folder" => folder(rt, name),
         "len" => len(rt, name),
+        "link" => link(rt, name, words.next()?),
+        "leads" => leads(rt, name),
+        "mode" => set_mode(rt, name, words.next()?),
+        "mode_of" => mode_of(rt, name),
         _ => same(rt, name, words.next()?),
     }
 }

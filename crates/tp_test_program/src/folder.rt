@@ -13,7 +13,7 @@ use tp_test_runner::Fault;
 pub struct Entry {
     /// Its name.
     pub name: String,
-    /// Its bytes; of a folder none.
+    /// Its bytes; of a folder, and of a link that leads nowhere, none.
     pub bytes: Option<Vec<u8>>,
 }
 
@@ -41,8 +41,8 @@ pub fn make<R: Files + AllocGlobal>(rt: &R) -> Result<(), Fault> {
 }
 
 // What stands in the folder under the name.
-fn entry_at<R: Files + AllocGlobal>(rt: &R, name: &str, is_dir: bool) -> io::Result<Entry> {
-    let bytes = if is_dir {
+fn entry_at<R: Files + AllocGlobal>(rt: &R, name: &str, is_empty: bool) -> io::Result<Entry> {
+    let bytes = if is_empty {
         None
     } else {
         Some(fs::read(rt, inside(rt.alloc(), name)?.as_str())?)
@@ -54,8 +54,10 @@ fn entry_at<R: Files + AllocGlobal>(rt: &R, name: &str, is_dir: bool) -> io::Res
 }
 
 fn entry_of<R: Files + AllocGlobal>(rt: &R, found: &DirEntry<R, Global>) -> io::Result<Entry> {
-    let is_dir = found.file_type()?.is_dir();
-    entry_at(rt, found.file_name(), is_dir)
+    let name = found.file_name();
+    let kind = found.file_type()?;
+    let leads_nowhere = kind.is_symlink() && !fs::exists(rt, inside(rt.alloc(), name)?.as_str())?;
+    entry_at(rt, name, kind.is_dir() || leads_nowhere)
 }
 
 fn all_of<R: Files + AllocGlobal + Clone + Drop>(rt: &R) -> io::Result<Vec<Entry>> {

@@ -8,6 +8,7 @@ use std::alloc::{AllocError, Allocator, Global};
 use std::fmt::Display;
 use std::fs::{Metadata, OpenOptions};
 use std::io;
+use std::path::PathBuf;
 use std::rt::Files;
 
 /// A runtime over another one, which has the files.
@@ -32,8 +33,8 @@ impl<'a, R: AllocGlobal> Host<'a, R> {
             rt,
             device,
             room,
-            out: Stream::new(rt.alloc(), u64::MAX)?,
-            err: Stream::new(rt.alloc(), u64::MAX)?,
+            out: Stream::new(rt.alloc(), Budget::new(u64::MAX))?,
+            err: Stream::new(rt.alloc(), Budget::new(u64::MAX))?,
         })
     }
 }
@@ -93,11 +94,21 @@ impl<'a, R: Files + AllocGlobal> Files for Host<'a, R> {
     }
 
     fn metadata(&self, path: &str) -> io::Result<Metadata> {
-        self.rt.metadata(path)
+        self.device.spend()?;
+        let path = inside(self.rt.alloc(), path)?;
+        self.rt.metadata(path.as_str())
     }
 
     fn symlink_metadata(&self, path: &str) -> io::Result<Metadata> {
-        self.rt.symlink_metadata(path)
+        self.device.spend()?;
+        let path = inside(self.rt.alloc(), path)?;
+        self.rt.symlink_metadata(path.as_str())
+    }
+
+    fn read_link<B: Allocator>(&self, alloc: B, path: &str) -> io::Result<PathBuf<B>> {
+        self.device.spend()?;
+        let path = inside(self.rt.alloc(), path)?;
+        self.rt.read_link(alloc, path.as_str())
     }
 
     fn copy(&self, from: &str, to: &str) -> io::Result<u64> {
@@ -109,6 +120,13 @@ impl<'a, R: Files + AllocGlobal> Files for Host<'a, R> {
         let from = inside(self.rt.alloc(), from)?;
         let to = inside(self.rt.alloc(), to)?;
         self.rt.rename(from.as_str(), to.as_str())
+    }
+
+    fn hard_link(&self, original: &str, link: &str) -> io::Result<()> {
+        self.device.spend()?;
+        let original = inside(self.rt.alloc(), original)?;
+        let link = inside(self.rt.alloc(), link)?;
+        self.rt.hard_link(original.as_str(), link.as_str())
     }
 
     fn remove_file(&self, path: &str) -> io::Result<()> {

@@ -1,5 +1,7 @@
 //! Calls that run a command line.
 
+ghost use Rattle.std.specs.Prelude.{◌≡◌, None};
+
 use crate::answers::Ran;
 use crate::budget::Budget;
 use crate::folder::{Entry, fault, listed, put_changes, restore};
@@ -9,12 +11,16 @@ use crate::paths::inside;
 use crate::stream::Stream;
 use crate::world::World;
 use std::fs::File;
+use std::io::ErrorKind;
 use std::rt::Files;
 use std::{fs, io};
 use tp_command_line::{Command, line};
 use tp_commands::CommandError;
 use tp_journal::Lockable;
-use tp_shell::{Errors, Job, JobError, ShellError, carry_out, ended, explain, job_of};
+use tp_shell::{
+    DONE, Errors, Job, JobError, ShellError, carry_out, ended_with, explain, job_of, journal_path,
+    report,
+};
 use tp_test_runner::{Fault, Words, number};
 
 // A command whose device fails later than this succeeds first.
@@ -24,6 +30,7 @@ const MOST_CALLS: u64 = 200;
 #[derive(Clone, Copy, Drop)]
 struct Limits {
     out: u64,
+    closed: u64,
     err: u64,
     device: u64,
 }
@@ -35,32 +42,44 @@ fn limit(words: &mut Words, key: &str) -> Result<u64, Fault> {
     }
 }
 
-// `[out=N] [err=N] [device=N]`: the standard output, the standard error or the files fail after so many calls.
+// `[out=N] [closed=N] [err=N] [device=N]`: the standard output, the standard error or the files fail after so many calls, or
+// who reads the standard output has closed it.
 fn limits_of(words: &mut Words) -> Result<Limits, Fault> {
     Ok(Limits {
         out: limit(words, "out")?,
+        closed: limit(words, "closed")?,
         err: limit(words, "err")?,
         device: limit(words, "device")?,
     })
 }
 
 // Does a job that needs no network; one that needs it is refused as `Io`.
-fn run_job<R: Files + Print + AllocGlobal>(rt: &R, job: Job) -> Result<(), JobError>
+fn run_job<R: Files + Print + AllocGlobal>(
+    rt: &R,
+    job: Job,
+    cut: &mut Option<u64>,
+) -> Result<(), JobError>
 where
     R::File: Lockable,
+    requires { cut.old ≡ None }
 {
     match job {
-        Job::Files(job) => carry_out(rt, job, &mut io::writer(rt)),
+        Job::Files(job) => carry_out(rt, job, &mut io::writer(rt), cut),
         _ => Err(JobError::Command(CommandError::Io)),
     }
 }
 
 // Does what a command asks for.
-fn run_command<R: Files + Print + AllocGlobal>(rt: &R, command: Command) -> Result<(), ShellError>
+fn run_command<R: Files + Print + AllocGlobal>(
+    rt: &R,
+    command: Command,
+    cut: &mut Option<u64>,
+) -> Result<(), ShellError>
 where
     R::File: Lockable,
+    requires { cut.old ≡ None }
 {
-    match run_job(rt, job_of(rt.alloc(), command)?) {
+    match run_job(rt, job_of(rt.alloc(), command)?, cut) {
         Ok(()) => Ok(()),
         Err(error) => Err(ShellError::Job(error)),
     }
@@ -74,8 +93,27 @@ where
     let errors = Errors { rt };
     let mut err = io::writer(&errors);
     match line(rt.alloc(), words) {
-        Ok(command) => ended(rt.alloc(), run_command(rt, command), &mut err),
+        Ok(command) => {
+            let file = journal_path(&command);
+            let mut cut = None;
+            match run_command(rt, command, &mut cut) {
+                Ok(()) => {
+                    report(rt.alloc(), file, cut, None, &mut err);
+                    DONE
+                }
+                Err(error) => ended_with(rt.alloc(), error, file, cut, &mut err),
+            }
+        }
         Err(fault) => explain(rt.alloc(), &fault, &mut io::writer(rt), &mut err),
+    }
+}
+
+// The calls that the standard output answers.
+fn output_budget(limits: Limits) -> Budget {
+    if limits.closed < limits.out {
+        Budget::failing(limits.closed, ErrorKind::BrokenPipe)
+    } else {
+        Budget::new(limits.out)
     }
 }
 
@@ -91,8 +129,8 @@ fn run_line<R: Files<File = File> + AllocGlobal>(
         rt,
         device: &device,
         room: &room,
-        out: Stream::new(rt.alloc(), limits.out)?,
-        err: Stream::new(rt.alloc(), limits.err)?,
+        out: Stream::new(rt.alloc(), output_budget(limits))?,
+        err: Stream::new(rt.alloc(), Budget::new(limits.err))?,
     };
     let status = run_program(&host, line);
     Ok(Ran {
@@ -192,6 +230,7 @@ fn run_failing<R: Files<File = File> + AllocGlobal + Clone + Drop>(
 ) -> Result<(bool, String), Fault> {
     let limits = Limits {
         out: u64::MAX,
+        closed: u64::MAX,
         err: u64::MAX,
         device: calls,
     };

@@ -18,11 +18,11 @@ pub struct Stream {
 }
 
 impl Stream {
-    /// Nothing printed yet; so many calls succeed.
-    pub fn new(alloc: Global, calls: u64) -> Result<Stream, AllocError> {
+    /// Nothing printed yet; as many calls succeed as the budget has.
+    pub fn new(alloc: Global, budget: Budget) -> Result<Stream, AllocError> {
         Ok(Stream {
             held: RefCell::new(Vec::with_capacity(alloc, ROOM)?),
-            budget: Budget::new(calls),
+            budget,
         })
     }
 

@@ -43,12 +43,15 @@ local function unload(buffer)
 end
 
 local NO_JOURNAL = 'it is no journal; :TextpeerOpen! begins one in a file that is not there or is empty'
+local DAMAGED = '`textpeer check` says what is damaged, `textpeer recover` makes a journal of all that can be had'
 
 -- Why a file isn't opened, for people.
 local REASONS = {
   Busy = 'another has it open',
   NoHeader = NO_JOURNAL,
   BadMagic = NO_JOURNAL,
+  Damaged = DAMAGED,
+  Refused = DAMAGED,
   JournalNotEmpty = 'it has a document; :TextpeerOpen without ! opens it',
 }
 

@@ -1,4 +1,4 @@
-use Rattle.tp_command_line.specs.CommandLine.{bare_app, new_shape, edit_shape, text_shape, heads_shape, log_shape, graph_shape, cursor_shape}
+use Rattle.tp_command_line.specs.CommandLine.{bare_app, new_shape, edit_shape, text_shape, heads_shape, log_shape, graph_shape, cursor_shape, check_shape}
 use Rattle.tp_command_line.proofs.definition.journal_commands.Goals as goal
 
 pub returns : goal.returns
@@ -9,4 +9,5 @@ returns c =
     let headed = c.with-headed.ensures _ heads_shape read c.heads_command.ensures in
     let logged = c.with-logged.ensures _ log_shape headed c.log_command.ensures in
     let drawn = c.with-drawn.ensures _ graph_shape logged c.graph_command.ensures in
-    c.with.ensures _ cursor_shape drawn c.cursor_command.ensures
+    let found = c.with-found.ensures _ cursor_shape drawn c.cursor_command.ensures in
+    c.with.ensures _ check_shape found c.check_command.ensures

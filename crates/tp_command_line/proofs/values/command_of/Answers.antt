@@ -23,6 +23,9 @@ text_of-requires-in-cursor c = named_value (codes "cursor") (codes "FILE") c.in-
 pub number_of-requires : goal.number_of-requires
 number_of-requires c = named_number (codes "cursor") (codes "AT") c.in-cursor.is c.requires refl refl
 
+pub text_of-requires-in-check : goal.text_of-requires-in-check
+text_of-requires-in-check c = named_value (codes "check") (codes "FILE") c.in-check.is c.requires refl
+
 pub text_of-requires-in-merge : goal.text_of-requires-in-merge
 text_of-requires-in-merge c = named_value (codes "merge") (codes "FILE") c.in-merge.is c.requires refl
 
@@ -41,6 +44,12 @@ text_of-requires-in-load c = named_value (codes "load") (codes "SAVED") c.in-loa
 pub text_of-requires-in-load-2 : goal.text_of-requires-in-load-2
 text_of-requires-in-load-2 c = named_value (codes "load") (codes "FILE") c.in-load.is c.requires refl
 
+pub text_of-requires-in-recover : goal.text_of-requires-in-recover
+text_of-requires-in-recover c = named_value (codes "recover") (codes "FILE") c.in-recover.is c.requires refl
+
+pub text_of-requires-in-recover-2 : goal.text_of-requires-in-recover-2
+text_of-requires-in-recover-2 c = named_value (codes "recover") (codes "OUT") c.in-recover.is c.requires refl
+
 pub text_of-requires-in-show : goal.text_of-requires-in-show
 text_of-requires-in-show c = named_value (codes "show") (codes "LOG") c.in-show.is c.requires refl
 
@@ -57,4 +66,4 @@ text_of-requires-in-sync-2 c = named_value (codes "sync") (codes "ADDR") c.in-sy
 pub unreachable-requires : goal.unreachable-requires
 unreachable-requires c =
     let d = c.in_default in
-    no_other_name _ _ c.requires d.not-new d.not-edit d.not-text d.not-heads d.not-log d.not-graph d.not-cursor d.not-merge d.not-save d.not-load d.not-show d.not-simulate d.not-serve d.not-sync d.not-session
+    no_other_name _ _ c.requires d.not-new d.not-edit d.not-text d.not-heads d.not-log d.not-graph d.not-cursor d.not-check d.not-merge d.not-save d.not-load d.not-recover d.not-show d.not-simulate d.not-serve d.not-sync d.not-session

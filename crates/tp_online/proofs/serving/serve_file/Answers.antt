@@ -8,7 +8,7 @@ use Rattle.tp_online.proofs.serving.serve_file.Goals as goal
 pub returns-in-Ok-clause-served : goal.returns-in-Ok-clause-served
 returns-in-Ok-clause-served g c =
     let key = c.in_ok-actor.ensures in
-    let read = c.in-Ok.ensures in
+    let read = c.in-Ok.ensures.opens in
     IfOk-each c.serve_on.result _ _ (λ p served. (
       read.0,
       read.1,

@@ -4,9 +4,9 @@ use Rattle.tp_peer.specs.Appending.{journal_state}
 use Rattle.tp_shared.specs.SharedState.{alone}
 use Rattle.tp_shared.proofs.editor.SharedEditor.create.Goals as goal
 
-pub returns-in-Ok-create-clause-ok : goal.returns-in-Ok-create-clause-ok
-returns-in-Ok-create-clause-ok c = record {
+pub returns-in-Ok-create_recovered-clause-ok : goal.returns-in-Ok-create_recovered-clause-ok
+returns-in-Ok-create_recovered-clause-ok c = record {
   journal = journal_state c.in-Ok.journal.file.content (failing c.in-Ok.journal.file.failures);
-  unused = c.in-Ok-create.ensures.unused;
-  fresh = c.of.ensures ∙ ap alone c.in-Ok-create.ensures.ok;
+  unused = c.in-Ok-create_recovered.ensures.unused;
+  fresh = c.of.ensures ∙ ap alone c.in-Ok-create_recovered.ensures.ok;
 }

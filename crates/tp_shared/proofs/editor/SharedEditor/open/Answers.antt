@@ -6,12 +6,17 @@ use Rattle.tp_peer.specs.PeerData.{PeerData}
 use Rattle.tp_shared.specs.SharedState.{SharedState, alone}
 use Rattle.tp_shared.proofs.editor.SharedEditor.open.Goals as goal
 
-pub returns-in-Ok-reopen-clause-ok : goal.returns-in-Ok-reopen-clause-ok
-returns-in-Ok-reopen-clause-ok c =
+pub returns-in-Ok-open_whole-clause-ok : goal.returns-in-Ok-open_whole-clause-ok
+returns-in-Ok-open_whole-clause-ok c =
     let k = journal_state c.in-Ok.journal.file.content (failing c.in-Ok.journal.file.failures) in
-    let same : c.in-Ok-reopen.peer ≡ c.of.result.peer = sym (ap (λ (s : SharedState). s.peer) c.of.ensures) in
+    let same : c.in-Ok-open_whole.peer ≡ c.of.result.peer = sym (ap (λ (s : SharedState). s.peer) c.of.ensures) in
     record {
       journal = k;
-      reopens = subst (λ (p : PeerData). Reopens k c.args.actor p) same c.in-Ok-reopen.ensures.ok;
+      reopens = subst (λ (p : PeerData). Reopens k c.args.actor p) same c.in-Ok-open_whole.ensures.ok;
+      whole = c.in-Ok-open_whole.ensures.whole;
       fresh = c.of.ensures ∙ ap alone same;
     }
+
+pub returns-in-Err-open_whole-clause-err : goal.returns-in-Err-open_whole-clause-err
+returns-in-Err-open_whole-clause-err c =
+    (journal_state c.in-Ok.journal.file.content (failing c.in-Ok.journal.file.failures), c.in-Err-open_whole.ensures.err)

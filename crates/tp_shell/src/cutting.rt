@@ -1,0 +1,49 @@
+//! Keeping what is cut off a journal.
+
+ghost use Rattle.std.specs.Prelude.{IfOk};
+ghost use Rattle.tp_shell.specs.Files.{KeepsTail};
+
+use crate::replacing::put_new;
+use std::fs;
+use std::rt::Files;
+use tp_commands::CommandError;
+use tp_journal::{Recovered, holds_record};
+use tp_peer::{PeerError, PeerSequence};
+
+// Puts what is cut off from the offset on into a file of its own, unless it is there already.
+fn put_cut<R: Files + AllocGlobal>(
+    rt: &R,
+    path: &str,
+    at: u64,
+    bytes: &[u8],
+) -> Result<(), CommandError> {
+    let place = format!(in rt.alloc(); "{path}.cut-{at}")?;
+    match put_new(rt, place.as_str(), path, bytes) {
+        Err(CommandError::Peer(PeerError::JournalNotEmpty)) => {
+            if fs::read(rt, place.as_str())?.as_slice() == bytes {
+                Ok(())
+            } else {
+                Err(CommandError::Peer(PeerError::JournalNotEmpty))
+            }
+        }
+        put => put,
+    }
+}
+
+/// Keeps the bytes that opening the journal at the path cuts off, as [`Disk::recovered_journal`](crate::Disk::recovered_journal)
+/// says. The offset of the first of them, where they are kept.
+pub(crate) fn keep_cut<R: Files + AllocGlobal>(
+    rt: &R,
+    path: &str,
+    recovered: &Recovered<PeerSequence>,
+) -> Result<Option<u64>, CommandError>
+    ensures { IfOk result (KeepsTail (λ _ _. Unit {0}) path.now
+        recovered.now.keep recovered.now.tail.items) }
+{
+    if holds_record(rt.alloc(), recovered.tail.as_slice())? {
+        put_cut(rt, path, recovered.keep, recovered.tail.as_slice())?;
+        Ok(Some(recovered.keep))
+    } else {
+        Ok(None)
+    }
+}
