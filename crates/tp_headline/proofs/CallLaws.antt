@@ -1,5 +1,5 @@
 -- What calls leave of a peer.
-use Rattle.tp_headline.proofs.Common.{length, ◌≤◌, arith, append-nil, ◌≡◌, ◌⊎◌, inl, inr, ℕ, List, [], ◌∷◌, ◌++◌, take, Bool, true, false, Some, None, refl, sym, ap, ◌∙◌, subst, append_assoc, ◌+◌, ◌-◌, append_cancel_left, In, AllIn, never, Hash, ChangeParts, IsChange, IsTextOf, AllChanges, absent, text_at_all_heads, has_all, past, Sound, has_all-heads, record_of, records_of, Outcome, Done, Stopped, ReceivesWith, at_end, EntersAfter, AppendsRecord, JournalState, RefusesRecord, Appends, AreFew, came, changes_in, changes_of, Keeps, known_of, PeerData, arming, Takes, receiver_of, coming, run_advances, step_cases, step_keeps, message_at, carried-In, message_again, heads_at, IsMessageOf, MayEnter, IsEditOf}
+use Rattle.tp_headline.proofs.Common.{length, ◌≤◌, arith, append-nil, ◌≡◌, ◌⊎◌, inl, inr, ℕ, List, [], ◌∷◌, ◌++◌, take, true, false, Some, None, refl, sym, ap, ◌∙◌, subst, append_assoc, append_cancel_left, In, AllIn, Hash, ChangeParts, IsChange, IsTextOf, AllChanges, absent, text_at_all_heads, has_all, past, Sound, has_all-heads, record_of, records_of, Outcome, Done, Stopped, ReceivesWith, at_end, EntersAfter, AppendsRecord, JournalState, RefusesRecord, Appends, AreFew, came, changes_in, changes_of, Keeps, known_of, PeerData, Device, DeviceFails, after_appends, infallible, disarming, Takes, receiver_of, coming, run_advances, step_cases, step_keeps, message_at, carried-In, message_again, heads_at, IsMessageOf, MayEnter, IsEditOf}
 use Rattle.tp_edit.specs.declared.splice.Splice.{Splice}
 use Rattle.tp_receive.specs.declared.error.ReceiveError.{ReceiveError}
 use Rattle.tp_receive.specs.Intake.{Intake, Receiver, Run}
@@ -122,6 +122,7 @@ pub record Enters (p : PeerData) (made : Call) (answer : Reply) (p' : PeerData) 
   pub id : p'.id ≡ p.id
   pub actor : p'.actor ≡ p.actor
   pub stopped : p'.stopped ≡ p.stopped
+  pub calm : p.device.can_fail ≡ false → p'.device.can_fail ≡ false
 
 -- The device failed while the record of one change more was appended, or the journal settled, and the peer has stopped.
 pub record Stops (p : PeerData) (made : Call) (p' : PeerData) : Type 0 where
@@ -200,6 +201,11 @@ stops p made p' h = absurd h
 pub runs_of_steps : (p : PeerData) (made : Call) (answer : Reply) (p' : PeerData) → PeerStep p made answer p' → (answer ≡ Refused error.Stopped → ⊥) → Runs p made answer p'
 runs_of_steps p made answer p' s on = elim (step_cases p made answer p' s) [ inl stopped ↦ absurd (on stopped.0) | inr runs ↦ runs.1 ]
 
+-- records that were appended leave what the device can fail in
+calm_appends : (new : List ChangeParts) (d d' : Device) → d' ≡ after_appends new d → d.can_fail ≡ false → d'.can_fail ≡ false
+calm_appends [] d d' e calm = subst (λ (x : Device). x.can_fail ≡ false) (sym e) calm
+calm_appends (c ∷ new) d d' e calm = subst (λ (x : Device). x.can_fail ≡ false) (sym e) calm
+
 appends_enter : (p : PeerData) (made : Call) (answer : Reply) (p' : PeerData) → PeerStep p made answer p' → (k : Keeps p made answer p') → Appends p k.new answer p' → Enters p made answer p'
 appends_enter p made answer p' s k a = record {
   new = k.new;
@@ -212,7 +218,11 @@ appends_enter p made answer p' s k a = record {
   id = k.id;
   actor = k.actor;
   stopped = a.goes_on;
+  calm = calm_appends k.new p.device p'.device a.device;
 }
+
+pub calm_kept : (p : PeerData) (made : Call) (answer : Reply) (p' : PeerData) → Keeps p made answer p' → p.device.can_fail ≡ false → p'.device.can_fail ≡ false
+calm_kept p made answer p' k calm = elim k.journal [ inl a ↦ calm_appends k.new p.device p'.device a.device calm | inr t ↦ t.device.1.calm calm ]
 
 -- A call that was made entered changes; or the device failed, and the peer has stopped.
 pub steps_leave : (p : PeerData) (made : Call) (answer : Reply) (p' : PeerData) → PeerStep p made answer p' → Enters p made answer p' ⊎ (Stops p made p' × (p'.stopped ≡ true) × (answer ≡ Refused error.JournalFailed))
@@ -223,41 +233,47 @@ steps_leave p made answer p' s =
       | inr t ↦ inr (stops p made p' (runs_of_steps p made (Refused error.JournalFailed) p' (subst (λ r. PeerStep p made r p') t.answered s) (λ e. cc)), t.stopped, t.answered)
     ]
 
--- a device that can't fail doesn't
-calm_enters : (p : PeerData) (made : Call) (answer : Reply) (p' : PeerData) → p.device.can_fail ≡ false → PeerStep p made answer p' → Enters p made answer p'
-calm_enters p made answer p' calm s =
-    let k = step_keeps p made answer p' s in
-    elim k.journal [ inl a ↦ appends_enter p made answer p' s k a | inr t ↦ never t.device.could calm ]
+-- a device that can't fail, and isn't set to, doesn't
+infallible_stays : (d d' : Device) → DeviceFails (infallible d) d' → ⊥
+infallible_stays d d' (true, f) = let could = f.could in cc
+infallible_stays d d' (false, f) = let could = f.could in cc
+
+calm_enters : (p : PeerData) (made : Call) (answer : Reply) (p' : PeerData) → PeerStep (disarming p) made answer p' → Enters (disarming p) made answer p'
+calm_enters p made answer p' s =
+    let q = disarming p in
+    let k = step_keeps q made answer p' s in
+    elim k.journal [ inl a ↦ appends_enter q made answer p' s k a | inr t ↦ absurd (infallible_stays p.device p'.device t.device) ]
 
 -- what a device does is nothing to what comes and what is entered
-same_came : (p : PeerData) (can_fail : Bool) (made : Call) → came (arming p can_fail) made ≡ came p made
-same_came p can_fail (Merge other) = refl
-same_came p can_fail (Receive link bytes) = refl
-same_came p can_fail made = refl
+same_came : (p : PeerData) (made : Call) → came (disarming p) made ≡ came p made
+same_came p (Merge other) = refl
+same_came p (Receive link bytes) = refl
+same_came p made = refl
 
-same_entered : (p : PeerData) (can_fail : Bool) (made : Call) (answer : Reply) (new : List ChangeParts) → Entered (arming p can_fail) made answer new → Entered p made answer new
-same_entered p can_fail (Edit ss time message) (Made (Some hash)) new e = e
-same_entered p can_fail (Edit ss time message) answer new e = e
-same_entered p can_fail made (Made (Some hash)) new e = absurd e
-same_entered p can_fail (Merge other) answer new e = e
-same_entered p can_fail (Receive link bytes) answer new e = e
-same_entered p can_fail made answer new e = e
+same_entered : (p : PeerData) (made : Call) (answer : Reply) (new : List ChangeParts) → Entered (disarming p) made answer new → Entered p made answer new
+same_entered p (Edit ss time message) (Made (Some hash)) new e = e
+same_entered p (Edit ss time message) answer new e = e
+same_entered p made (Made (Some hash)) new e = absurd e
+same_entered p (Merge other) answer new e = e
+same_entered p (Receive link bytes) answer new e = e
+same_entered p made answer new e = e
 
 -- what a call of the peer enters whose device isn't set to fail
-pub steps_enter : (p : PeerData) (made : Call) (answer : Reply) (p' : PeerData) → PeerStep (arming p false) made answer p' → Enters p made answer p'
+pub steps_enter : (p : PeerData) (made : Call) (answer : Reply) (p' : PeerData) → PeerStep (disarming p) made answer p' → Enters p made answer p'
 steps_enter p made answer p' s =
-    let e = calm_enters (arming p false) made answer p' refl s in
+    let e = calm_enters p made answer p' s in
     record {
       new = e.new;
       applied = e.applied;
-      entered = same_entered p false made answer e.new e.entered;
+      entered = same_entered p made answer e.new e.entered;
       fits = e.fits;
       limits = e.limits;
-      waits = subst (λ (K : List ChangeParts). AllIn p'.waiting (p.waiting ++ K)) (same_came p false made) e.waits;
+      waits = subst (λ (K : List ChangeParts). AllIn p'.waiting (p.waiting ++ K)) (same_came p made) e.waits;
       journal = e.journal;
       id = e.id;
       actor = e.actor;
       stopped = e.stopped;
+      calm = λ c. e.calm refl;
     }
 
 -- ---- what is noted of an answer

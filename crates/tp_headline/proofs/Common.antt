@@ -1,5 +1,5 @@
 -- The names that several proofs cite, passed on from one place. Declares nothing.
-pub use Rattle.std.proofs.Common.{Bool, IsSome, List, None, Option, Some, [], ap, append-nil, append_assoc, arith, cond, drop, false, filter, inl, inr, length, length-append, nat_le, refl, slice_set, subst, suc, sym, take, true, zero, ℕ, ◌++◌, ◌+◌, ◌-◌, ◌<◌, ◌∙◌, ◌∷◌, ◌≡◌, ◌≤◌, ◌⊎◌}
+pub use Rattle.std.proofs.Common.{Bool, IsSome, is_some, List, None, Option, Some, [], ap, append-nil, append_assoc, arith, cond, drop, false, filter, inl, inr, length, length-append, nat_le, refl, slice_set, subst, suc, sym, take, true, zero, ℕ, ◌++◌, ◌+◌, ◌-◌, ◌<◌, ◌∙◌, ◌∷◌, ◌≡◌, ◌≤◌, ◌⊎◌, ◌||◌}
 pub use Rattle.std.proofs.Math.Seq.{drop-append_seam, take-append-add, take-length}
 pub use Rattle.std.proofs.lemmas.List.{append_cancel_left, take_all}
 pub use Rattle.std.specs.List.{slice_get}
@@ -34,7 +34,7 @@ pub use Rattle.tp_headline.specs.World.{Entry, HasEntry, HasPeer, ReadRecord, Wo
 pub use Rattle.tp_journal.proofs.CutLaws.{journal-append, journal-push, recovers_cut}
 pub use Rattle.tp_journal.proofs.HistoryLaws.{history_none, history_prefix, history_push}
 pub use Rattle.tp_journal.proofs.RecoveryLaws.{recovers_once}
-pub use Rattle.tp_journal.specs.Journal.{no_device}
+pub use Rattle.tp_journal.specs.Journal.{Device, infallible, no_device}
 pub use Rattle.tp_journal.specs.Layout.{IsDocId, journal, record_of, records_of}
 pub use Rattle.tp_journal.specs.Recovery.{IsHistory, Recovers}
 pub use Rattle.tp_list.proofs.Members.{In-append, In-filter, In-last, In-left, In-push, In-right, In-slice_get, In-split, filter-In}
@@ -49,9 +49,9 @@ pub use Rattle.tp_opid.specs.declared.hash.Hash.{Hash}
 pub use Rattle.tp_peer.proofs.KeepingLaws.{coming, history_grows, run_advances}
 pub use Rattle.tp_peer.proofs.StepLaws.{journal_grows, step_cases, step_keeps}
 pub use Rattle.tp_peer.specs.Appending.{AppendsRecord, JournalState, RefusesRecord}
-pub use Rattle.tp_peer.specs.Laws.{Appends, AreFew, Keeps, came, changes_in, changes_of}
+pub use Rattle.tp_peer.specs.Laws.{Appends, AreFew, DeviceFails, Keeps, after_appends, came, changes_in, changes_of}
 pub use Rattle.tp_peer.specs.Links.{known_of}
-pub use Rattle.tp_peer.specs.PeerData.{PeerData, arming, opened}
+pub use Rattle.tp_peer.specs.PeerData.{PeerData, arming, disarming, opened}
 pub use Rattle.tp_peer.specs.Taking.{Takes, journal_of, receiver_of}
 pub use Rattle.tp_receive.specs.Outcome.{Done, Outcome, ReceivesWith, Report, Stopped, at_end}
 pub use Rattle.tp_receive.specs.Receiving.{Begins, EntersAfter}

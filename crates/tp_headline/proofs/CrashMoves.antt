@@ -104,6 +104,7 @@ back_is_carried w w' p p' bytes C keep actor q grows r made used none (inl is) =
   applied = made;
   waiting = λ c i. absurd i;
   used = used;
+  calm = refl;
   live = λ runs. record { journal = refl; own = λ c i by. absurd (none c i by) };
   dead = λ stopped. cc;
 })
@@ -113,6 +114,7 @@ back_is_carried w w' p p' bytes C keep actor q grows r made used none (inr is) =
   applied = made;
   waiting = λ c i. absurd i;
   used = grows.used p.actor q.used;
+  calm = refl;
   live = λ runs. cc;
   dead = λ stopped. record {
     more = [];

@@ -81,7 +81,7 @@ happens_carries w (Start actor) reply w' h may s = started w actor reply w' h (m
 happens_carries w (Fork n actor) reply w' h may s = forked w n actor reply w' h (may world.ActorUsed actor refl) s
 happens_carries w (Call n named) reply w' h may s = called w n named reply w' h may s
 happens_carries w (Crash n during kept actor) reply w' h may s = crash_carries w n during kept actor reply w' h may s
-happens_carries w (Fail n kept) reply w' h may s = becomes w w' (with_peer w n (arming s.0 true)) s.3 (peer_is_armed w n s.0 h s.1)
+happens_carries w (Fail n kept) reply w' h may s = becomes w w' (with_peer w n (arming s.0 kept)) s.3 (peer_is_armed w n s.0 kept h s.1)
 
 pub next_carries : (w : World) (e : Event) (reply : Reply) (w' : World) → Carried w → Next w e reply w' → Carries w w'
 next_carries w e reply w' h (inl refused) = still w w' h refused.left

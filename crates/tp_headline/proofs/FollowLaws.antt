@@ -23,7 +23,7 @@ stands_after w n named reply w' c =
     let peers = ap (λ (x : World). x.peers) c.left ∙ same_peers _ n (heads_at c.before c.made) c.answer in
     subst (λ (l : List PeerData). slice_get l n ≡ Some c.after) (sym peers) (slice_get-set_same w.peers n c.before c.after c.stands)
 
-answer_is : (k : ℕ) (given answer : peer.Reply) → Answered answer ≡ reply_to k given → given ≡ answer
+pub answer_is : (k : ℕ) (given answer : peer.Reply) → Answered answer ≡ reply_to k given → given ≡ answer
 answer_is k (peer.Generated (Some message)) answer e = absurd cc
 answer_is k (peer.Text text) answer e = cc
 answer_is k given answer e = cc

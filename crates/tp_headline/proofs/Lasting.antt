@@ -83,6 +83,7 @@ carried_stays w w' p grows own h = record {
   applied = λ c i. begins-In w.made w'.made grows.made c (h.applied c i);
   waiting = λ c i. begins-In w.made w'.made grows.made c (h.waiting c i);
   used = grows.used p.actor h.used;
+  calm = h.calm;
   live = λ runs. record { journal = (h.live runs).journal; own = λ c i by. (h.live runs).own c (own runs c i by) by };
   dead = λ stopped.
       let d = h.dead stopped in

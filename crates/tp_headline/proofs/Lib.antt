@@ -12,3 +12,4 @@ pub mod MayLaws
 pub mod ArrivalLaws
 pub mod BringingLaws
 pub mod FailureLaws
+pub mod DeviceLaws

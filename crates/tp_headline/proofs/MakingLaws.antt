@@ -4,7 +4,7 @@ use Rattle.std.proofs.lemmas.Grind.{flat_map-append}
 use Rattle.tp_document.specs.Editing.{Asked, Edited, asking}
 use Rattle.tp_document.proofs.EditFits.{edit_determined}
 use Rattle.tp_headline.specs.Call.{Call}
-use Rattle.tp_headline.proofs.CallLaws.{Enters, Stops, may_enter, steps_leave}
+use Rattle.tp_headline.proofs.CallLaws.{Enters, Stops, calm_kept, may_enter, steps_leave}
 use Rattle.tp_headline.proofs.Lasting.{Carries, Grows}
 use Rattle.tp_headline.proofs.PeerMoves.{AreBy, Moves, moves_grow, peer_changes}
 use Rattle.tp_peer.specs.PeerStep as peer
@@ -189,6 +189,7 @@ pub record Left (p : PeerData) (made : peer.Call) (p' : PeerData) : Type 0 where
   pub waits : AllIn p'.waiting (p.waiting ++ came p made)
   pub id : p'.id ≡ p.id
   pub actor : p'.actor ≡ p.actor
+  pub calm : p.device.can_fail ≡ false → p'.device.can_fail ≡ false
   pub on : p'.stopped ≡ false → (more ≡ []) × (p'.journal ≡ journal p'.id p'.applied)
 
 pub recovers_all : (id : DocId) (C : List ChangeParts) → IsDocId id → IsHistory C → Recovers (journal id C) id C (length (journal id C))
@@ -223,6 +224,7 @@ left_on w p made answer p' h q runs e =
       waits = e.waits;
       id = e.id;
       actor = e.actor;
+      calm = e.calm;
       on = λ on. (refl, journal_is);
     }
 
@@ -279,6 +281,7 @@ left_stopped w p made answer p' h q runs k s stopped =
       waits = k.waits;
       id = k.id;
       actor = k.actor;
+      calm = calm_kept p made answer p' k;
       on = λ on. never stopped on;
     }
 
@@ -307,6 +310,7 @@ left_is_carried w w' p call p' made l grows is m came runs q =
       ];
       waiting = λ c i. subst (λ x. In c x) (sym is) (In-left c w.made made (came c (l.waits c i)));
       used = subst (λ a. In a w'.used) (sym l.actor) (grows.used p.actor q.used);
+      calm = l.calm q.calm;
       live = λ on.
           let whole_new : l.whole ≡ l.new = l.entered ∙ ap (λ x. l.new ++ x) (l.on on).0 ∙ append-nil l.new in
           record {

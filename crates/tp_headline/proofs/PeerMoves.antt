@@ -1,5 +1,5 @@
 -- A peer of a world joins, or changes.
-use Rattle.tp_headline.proofs.Common.{◌≡◌, ◌⊎◌, inl, inr, ℕ, List, [], ◌∷◌, ◌++◌, slice_set, true, false, Some, refl, sym, ap, ◌∙◌, subst, append-nil, slice_get, In, AllIn, In-left, In-append, In-last, In-push, Actor, ChangeParts, AllChanges, Sound, no_device, IsDocId, IsHistory, Begins, PeerData, arming, opened, Entry, World, HasPeer, with_entry, with_new_peer, with_used, with_peer, Carried, IsCarried, IsMessageOf, LivesApart}
+use Rattle.tp_headline.proofs.Common.{◌≡◌, ◌⊎◌, inl, inr, ℕ, List, [], ◌∷◌, ◌++◌, slice_set, false, Some, refl, sym, ap, ◌∙◌, subst, append-nil, slice_get, In, AllIn, In-left, In-append, In-last, In-push, Actor, ChangeParts, AllChanges, Sound, no_device, IsDocId, IsHistory, Begins, PeerData, arming, opened, Entry, World, HasPeer, with_entry, with_new_peer, with_used, with_peer, Carried, IsCarried, IsMessageOf, LivesApart}
 use Rattle.tp_headline.proofs.PlaceLaws.{slice_get-set_same, slice_get-set, slice_get-set_either, slice_get-left, slice_get-push}
 use Rattle.tp_headline.proofs.Lasting.{Carries, Grows, Lasts, begins-In, begins_still, carried_stays, faithful_stays, message_stays, adds}
 
@@ -36,6 +36,7 @@ peer_joins w actor C h fresh history made =
       applied = made;
       waiting = λ c i. absurd i;
       used = In-last actor w.used;
+      calm = refl;
       live = λ runs. record { journal = refl; own = λ c i by. absurd (fresh (subst (λ a. In a w.used) by (h.used c i))) };
       dead = λ stopped. cc;
     } in
@@ -180,22 +181,23 @@ peer_changes w w' n p p' new c =
 -- ---- a device is to fail
 
 -- the peer stays carried
-armed_is_carried : (w w' : World) (p : PeerData) → w'.id ≡ w.id → w'.made ≡ w.made → w'.used ≡ w.used → IsCarried w p → IsCarried w' (arming p true)
-armed_is_carried w w' p id made used q = record {
+armed_is_carried : (w w' : World) (p : PeerData) (kept : ℕ) → w'.id ≡ w.id → w'.made ≡ w.made → w'.used ≡ w.used → IsCarried w p → IsCarried w' (arming p kept)
+armed_is_carried w w' p kept id made used q = record {
   id = q.id ∙ sym id;
   history = q.history;
   applied = subst (λ l. AllIn p.applied l) (sym made) q.applied;
   waiting = subst (λ l. AllIn p.waiting l) (sym made) q.waiting;
   used = subst (λ l. In p.actor l) (sym used) q.used;
+  calm = q.calm;
   live = λ runs. let l = q.live runs in record { journal = l.journal; own = λ c i by. l.own c (subst (λ x. In c x) made i) by };
   dead = λ stopped.
       let d = q.dead stopped in
       record { more = d.more; few = d.few; were_made = subst (λ l. AllIn d.more l) (sym made) d.were_made; keep = d.keep; recovers = d.recovers };
 }
 
-pub peer_is_armed : (w : World) (n : ℕ) (p : PeerData) → Carried w → HasPeer w n p → Carries w (with_peer w n (arming p true))
-peer_is_armed w n p h stands =
-    let p' = arming p true in
+pub peer_is_armed : (w : World) (n : ℕ) (p : PeerData) (kept : ℕ) → Carried w → HasPeer w n p → Carries w (with_peer w n (arming p kept))
+peer_is_armed w n p kept h stands =
+    let p' = arming p kept in
     let w' = with_peer w n p' in
     peer_changes w w' n p p' [] (record {
       old = h;
@@ -204,6 +206,6 @@ peer_is_armed w n p h stands =
       begins = begins_still p.applied;
       sound = subst Sound (sym (append-nil w.made)) h.sound;
       by = record { runs = λ c i. absurd i; actor = λ c i. absurd i; limits = λ c i. absurd i };
-      carried = armed_is_carried w w' p refl refl refl (h.peers n p stands);
+      carried = armed_is_carried w w' p kept refl refl refl (h.peers n p stands);
       life = λ runs. inl (runs, refl);
     })

@@ -22,13 +22,14 @@ pub record IsDead (made : List ChangeParts) (p : PeerData) : Type 0 where
   pub recovers : Recovers p.journal p.id (p.applied ++ more) keep
 
 -- What holds of each peer of the world: its changes are a history, and with those that wait they were made; its actor
--- is used; and it is live where it runs, and where it has stopped its journal recovers to its changes and maybe one more.
+-- is used; its device fails in no call but an append that it was set to fail in; and it is live where it runs, and where it has stopped its journal recovers to its changes and maybe one more.
 pub record IsCarried (w : World) (p : PeerData) : Type 0 where
   pub id : p.id ≡ w.id
   pub history : IsHistory p.applied
   pub applied : AllIn p.applied w.made
   pub waiting : AllIn p.waiting w.made
   pub used : In p.actor w.used
+  pub calm : p.device.can_fail ≡ false
   pub live : p.stopped ≡ false → IsLive w.made p
   pub dead : p.stopped ≡ true → IsDead w.made p
 

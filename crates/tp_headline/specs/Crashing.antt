@@ -1,6 +1,6 @@
 -- A peer that crashes, between calls or during one, and is opened again.
 use Rattle.std.specs.Prelude.{◌≡◌, ◌⊎◌, ℕ, ◌+◌, ◌≤◌, List, [], ◌∷◌, ◌++◌, length, take, true, false, Option, Some, None}
-use Rattle.tp_headline.specs.Common.{Actor, ChangeParts, no_device, record_of, Recovers, AllIn, EntersAfter, PeerError, came, PeerData, arming}
+use Rattle.tp_headline.specs.Common.{Actor, ChangeParts, no_device, record_of, Recovers, AllIn, EntersAfter, PeerError, came, PeerData, disarming}
 use Rattle.tp_journal.specs.Laws.{AreWhole}
 use Rattle.tp_peer.specs.Opening.{Reopens, NotReopened}
 use Rattle.tp_headline.specs.Calling.{IsCall, in_memory, made_by}
@@ -14,7 +14,7 @@ use Rattle.tp_headline.specs.Call as call
 -- during one, where the device doesn't fail.
 abbrev pub MayBe : World → PeerData → Option call.Call → PeerData → Type 0
 MayBe w p None at = at ≡ p
-MayBe w p (Some named) at = (made : peer.Call) × (answer : peer.Reply) × IsCall w named made × peer.PeerStep (arming p false) made answer at
+MayBe w p (Some named) at = (made : peer.Call) × (answer : peer.Reply) × IsCall w named made × peer.PeerStep (disarming p) made answer at
 
 -- what the journal keeps of a call that took the peer p to p': what it held before, and the first `kept` bytes of what
 -- was appended

@@ -11,7 +11,8 @@ use Rattle.tp_headline.specs.Call as call
 -- Crash n during kept actor: the peer crashes, between calls or during one. Its journal keeps what it held before
 --   the call and the first `kept` bytes of what the call appends, and is opened again under the actor. Its device doesn't
 --   fail in that call, and isn't set to fail from then on.
--- Fail n kept: the device of the peer's journal is to fail in the next append, and to keep the first `kept` bytes of it.
+-- Fail n kept: the device of the peer's journal is set to fail in the next append, and to keep the first `kept` bytes of it. That
+--   append ends the setting.
 pub data Event : Type 0 where
   Start : Actor → Event
   Fork : ℕ → Actor → Event

@@ -1,5 +1,5 @@
 -- What an event does to a world.
-use Rattle.std.specs.Prelude.{◌≡◌, ◌⊎◌, [], length, true}
+use Rattle.std.specs.Prelude.{◌≡◌, ◌⊎◌, [], length}
 use Rattle.tp_headline.specs.Common.{Actor, no_device, header_of, PeerError, PeerData, arming, opened}
 use Rattle.tp_headline.specs.declared.error.WorldError.{WorldError}
 use Rattle.tp_headline.specs.Calling.{Calls, in_memory}
@@ -28,7 +28,7 @@ Happens w (Call n named) reply w' = Calls w n named reply w'
 Happens w (Crash n during kept actor) reply w' =
     (c : Crashes w n during kept actor reply)
     × (w' ≡ with_used (with_made (with_peer w n c.after) (made_during during (gained c.before c.after))) actor)
-Happens w (Fail n kept) reply w' = (p : PeerData) × HasPeer w n p × (reply ≡ Armed) × (w' ≡ with_peer w n (arming p true))
+Happens w (Fail n kept) reply w' = (p : PeerData) × HasPeer w n p × (reply ≡ Armed) × (w' ≡ with_peer w n (arming p kept))
 
 -- The world refused the event: it is as it was.
 pub record Refuses (w : World) (e : Event) (reply : Reply) (w' : World) : Type 0 where

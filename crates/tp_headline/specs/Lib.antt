@@ -7,6 +7,7 @@ pub mod World
 pub mod Refusing
 pub mod Calling
 pub mod Crashing
+pub mod Devices
 pub mod Happening
 pub mod Running
 pub mod Headline

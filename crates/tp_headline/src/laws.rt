@@ -22,6 +22,7 @@ ghost use Rattle.tp_headline.specs.Arriving.{HoldsAll, HoldsReady};
 ghost use Rattle.tp_headline.specs.Call as call;
 ghost use Rattle.tp_headline.specs.Carried.{Carried, IsMessageOf};
 ghost use Rattle.tp_headline.specs.Crashing.{KeepsWhole, MakesUnanswered, MakesWhole};
+ghost use Rattle.tp_headline.specs.Devices.{SpendsFuse};
 ghost use Rattle.tp_headline.specs.Event.{Event, Call, Crash, Start};
 ghost use Rattle.tp_headline.specs.Follows.{Follows};
 ghost use Rattle.tp_headline.specs.Happening.{Next};
@@ -93,6 +94,14 @@ pub fn a_failure_within_an_edit()
     ensures { (w : World) (n : ℕ) (made : peer.Call) (w' : World) → Carried w
         → Next w (Call n (call.Alone made)) (Answered (peer.Refused JournalFailed)) w'
         → (w'.made ≡ w.made) ⊎ MakesUnanswered w w' n made }
+{}
+
+/// A device fails only where it was set to: where a call on a peer answered `JournalFailed`, its next append was to fail, and
+/// that ended the setting. So did the appends of a call that entered changes. Every other call leaves the device as it was.
+pub fn a_device_fails_where_it_was_set_to()
+    ensures { (w : World) (n : ℕ) (named : call.Call) (reply : Reply) (w' : World)
+        (p p' : PeerData) → Carried w → HasPeer w n p → HasPeer w' n p'
+        → Next w (Call n named) reply w' → SpendsFuse p reply p' }
 {}
 
 /// Where a peer crashed within a call, some of the changes that the call may enter had entered by then, as those that

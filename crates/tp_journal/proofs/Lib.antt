@@ -1,3 +1,4 @@
+pub mod FuseLaws
 pub mod RecordLaws
 pub mod HistoryLaws
 pub mod RecoveryLaws

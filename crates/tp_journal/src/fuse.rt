@@ -1,7 +1,8 @@
 //! A journal in memory whose device fails when it is told to.
 
-ghost use Rattle.std.specs.Prelude.{◌≡◌, ◌||◌, ◌++◌, length, true, false, None, Some, take};
-ghost use Rattle.tp_journal.specs.Journal.{can_fail};
+ghost use Rattle.std.specs.Prelude.{◌≡◌, ℕ, ◌++◌, length, true, false, None, Some, take, IsErrAnd, IsOk, IsOkUnless, OnErr, OnOk};
+ghost use Rattle.tp_journal.specs.Journal.{LeavesKept, with_failure};
+ghost use Rattle.tp_journal.specs.declared.error.JournalError.TheVariants.{Io, OutOfMemory};
 
 use crate::error::JournalError;
 use crate::journal::Journal;
@@ -85,11 +86,17 @@ impl FuseJournal {
 impl Journal for FuseJournal {
     ghost content = { λ j. j.content };
 
-    ghost device = { λ j. record { failures = j.failures; can_fail = can_fail j } };
+    ghost device = { λ j. record { failures = j.failures; can_fail = j.cut; fuse = j.append } };
 
     ghost is_settled = { λ _. Unit {0} };
 
-    fn append(&mut self, bytes: &[u8]) -> Result<(), JournalError> {
+    fn append(&mut self, bytes: &[u8]) -> Result<(), JournalError>
+        ensures armed { (kept : ℕ) → self.old.append ≡ Some kept
+            → IsErrAnd result (λ e. LeavesKept e kept bytes.now self.old self.new) }
+        ensures unarmed { self.old.append ≡ None → IsOkUnless result OutOfMemory
+            × OnOk result (self.new ≡ record self.old { content = self.old.content ++ bytes.now })
+            × OnErr result (self.new ≡ self.old) }
+    {
         match self.append {
             Some(kept) => {
                 let kept = kept.min(bytes.len() as u64) as usize;
@@ -106,7 +113,12 @@ impl Journal for FuseJournal {
         self.memory.settle()
     }
 
-    fn cut(&mut self, len: u64) -> Result<(), JournalError> {
+    fn cut(&mut self, len: u64) -> Result<(), JournalError>
+        ensures armed { self.old.cut ≡ true → (result ≡ Err Io)
+            × (self.new ≡ record (with_failure self.old) { cut = false }) }
+        ensures unarmed { self.old.cut ≡ false → IsOk result
+            × (self.new ≡ record self.old { content = take len self.old.content }) }
+    {
         if self.cut {
             self.cut = false;
             self.failures = self.failures.saturating_add(1);

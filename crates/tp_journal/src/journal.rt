@@ -1,7 +1,7 @@
 //! What a journal does, wherever its bytes are.
 
-ghost use Rattle.std.specs.Prelude.{◌≡◌, ℕ, List, ◌++◌, take, IfOk, IfErr, IsOkUnless, OnOk, OnErr};
-ghost use Rattle.tp_journal.specs.Journal.{CountsFailure, Device, Fails, LeavesPart};
+ghost use Rattle.std.specs.Prelude.{◌≡◌, ℕ, List, ◌++◌, take, true, false, IfOk, IfErr, IsOkUnless, OnOk, OnErr};
+ghost use Rattle.tp_journal.specs.Journal.{CountsFailure, Device, Fails, LeavesPart, without_fuse};
 ghost use Rattle.tp_journal.specs.declared.error.JournalError.TheVariants.{Io};
 
 use crate::error::JournalError;
@@ -9,7 +9,7 @@ use crate::error::JournalError;
 /// A place where bytes are kept, one piece behind another.
 ///
 /// Contracts see the bytes that were acknowledged (`content`), and how often the device failed and whether it can fail
-/// (`device`). It fails only where it can.
+/// (`device`). It fails only where it can, or where the next append is armed to.
 pub trait Journal: Drop {
     ghost content: { Self → List ℕ };
 
@@ -19,14 +19,14 @@ pub trait Journal: Drop {
     ghost is_settled: { Self → Type 0 };
 
     /// Puts the bytes behind the content. Where the device fails, a beginning of them may stand there; where memory is
-    /// short, the content stays.
+    /// short, the content stays. Where the append was armed to fail, the arming ends with it, unless memory was short.
     fn append(&mut self, bytes: &[u8]) -> Result<(), JournalError>
         ensures ok { OnOk result (content self.new ≡ content self.old ++ bytes.now) }
-        ensures quiet { OnOk result (device self.new ≡ device self.old) }
+        ensures quiet { OnOk result (device self.new ≡ without_fuse (device self.old)) }
         ensures part { IfErr result
             (λ e. LeavesPart e (content self.old) (content self.new) bytes.now) }
         ensures counts { IfErr result
-            (λ e. CountsFailure e (device self.old) (device self.new)) };
+            (λ e. CountsFailure true e (device self.old) (device self.new)) };
 
     /// Brings the content to where the journal keeps it for good. Where it was refused, as `Io`, less than the content may be
     /// kept.
@@ -35,7 +35,7 @@ pub trait Journal: Drop {
         ensures stays { content self.new ≡ content self.old }
         ensures quiet { OnOk result (device self.new ≡ device self.old) }
         ensures err { IsOkUnless result Io }
-        ensures counts { OnErr result (Fails (device self.old) (device self.new)) };
+        ensures counts { OnErr result (Fails false (device self.old) (device self.new)) };
 
     /// Cuts the content to so many bytes; one that has no more stays. A refusal leaves it as it was.
     fn cut(&mut self, len: u64) -> Result<(), JournalError>
@@ -43,7 +43,7 @@ pub trait Journal: Drop {
         ensures quiet { OnOk result (device self.new ≡ device self.old) }
         ensures err { OnErr result (content self.new ≡ content self.old) }
         ensures counts { IfErr result
-            (λ e. CountsFailure e (device self.old) (device self.new)) };
+            (λ e. CountsFailure false e (device self.old) (device self.new)) };
 
     /// All of the content, which stays.
     fn read_all(&mut self) -> Result<Vec<u8>, JournalError>
@@ -51,7 +51,7 @@ pub trait Journal: Drop {
         ensures quiet { OnOk result (device self.new ≡ device self.old) }
         ensures stays { content self.new ≡ content self.old }
         ensures counts { IfErr result
-            (λ e. CountsFailure e (device self.old) (device self.new)) };
+            (λ e. CountsFailure false e (device self.old) (device self.new)) };
 
     /// How often the device failed. At 2^64 - 1 the number stays, and counts as grown.
     fn failures(&self) -> u64

@@ -1,5 +1,5 @@
 -- The names that several proofs cite, passed on from one place. Declares nothing.
-pub use Rattle.std.proofs.Common.{Bool, Err, Global, IfErr, IfOk, IsTrue, List, MatchBool, None, Ok, Option, Result, Some, String, [], add-one, ap, append-nil, append_assoc, arith, cond, drop, eqb, eqb-true, false, inl, inr, length, length-append, nat_le, refl, slice_index_or, subst, suc, sym, take, take_all, true, zero, ℕ, ◌++◌, ◌+◌, ◌<◌, ◌==◌, ◌||◌, ◌↔◌, ◌∙◌, ◌∷◌, ◌≡◌, ◌≢◌, ◌≤◌, ◌⊎◌}
+pub use Rattle.std.proofs.Common.{Bool, Err, Global, IfErr, IfOk, IsTrue, List, MatchBool, None, Ok, Option, Result, Some, String, [], add-one, ap, append-nil, append_assoc, arith, cond, drop, eqb, eqb-true, false, inl, inr, is_some, length, length-append, nat_le, refl, slice_index_or, subst, suc, sym, take, take_all, true, zero, ℕ, ◌++◌, ◌+◌, ◌<◌, ◌==◌, ◌||◌, ◌↔◌, ◌∙◌, ◌∷◌, ◌≡◌, ◌≢◌, ◌≤◌, ◌⊎◌}
 pub use Rattle.tp_change.specs.Limits.{IsChange}
 pub use Rattle.tp_change.specs.declared.parts.ChangeParts.{ChangeParts}
 pub use Rattle.tp_document.specs.Applying.{HasMergeOutcome, kept_by}
@@ -13,7 +13,7 @@ pub use Rattle.tp_graph.specs.GraphState.{most_waiting}
 pub use Rattle.tp_graph.specs.Named.{HashesApart, has_all}
 pub use Rattle.tp_journal.proofs.CutLaws.{journal-append, recovers_cut}
 pub use Rattle.tp_journal.proofs.HistoryLaws.{history_push}
-pub use Rattle.tp_journal.specs.Journal.{CountsFailure, Device, Fails, LeavesPart}
+pub use Rattle.tp_journal.specs.Journal.{CountsFailure, Device, Fails, LeavesPart, fuse_left, without_fuse}
 pub use Rattle.tp_journal.specs.Layout.{IsDocId, journal, record_of, records_of}
 pub use Rattle.tp_journal.specs.Recovery.{IsHistory, Recovers}
 pub use Rattle.tp_list.proofs.Tests.{neither, neither_left, neither_right, never, or_left, or_right}
@@ -23,7 +23,7 @@ pub use Rattle.tp_opid.specs.declared.doc_id.DocId.{DocId}
 pub use Rattle.tp_opid.specs.declared.hash.Hash.{Hash}
 pub use Rattle.tp_peer.specs.Appending.{AppendsRecord, JournalState, RefusesRecord, StaysUnsettled, TearsRecord, journal_state, reason_of}
 pub use Rattle.tp_peer.specs.Calls.{IsReplyTo, call_in, call_of, fails, reply_of}
-pub use Rattle.tp_peer.specs.Laws.{Appends, AreFew, IsComplete, IsPartial, IsTornAt, Keeps, MovesLinks, RecoversTorn, TouchesLink, came, changes_of, is_on}
+pub use Rattle.tp_peer.specs.Laws.{Appends, AreFew, DeviceFails, after_appends, IsComplete, IsPartial, IsTornAt, Keeps, MovesLinks, RecoversTorn, TouchesLink, came, changes_of, is_on}
 pub use Rattle.tp_peer.specs.Links.{AreLinks, IsAt, LinksState, NumbersOnce, has_link, is_one_too_many, known_of, with_link, without_link}
 pub use Rattle.tp_peer.specs.PeerData.{HasJournal, IsPeer, IsTorn, PeerData, arming, peer_data}
 pub use Rattle.tp_peer.specs.PeerError.{is_failed, refusal_of_document, refusal_of_sync}

@@ -1,12 +1,17 @@
 -- What a journal is once records were appended, and what enters a history.
-use Rattle.tp_peer.proofs.Common.{◌≡◌, ℕ, suc, ◌+◌, ◌≤◌, inl, inr, List, [], ◌∷◌, ◌++◌, length, Bool, cond, refl, sym, ap, ◌∙◌, subst, append_assoc, append-nil, length-append, arith, ChangeParts, IsChange, Intake, Run, Turn, begin, record_of, records_of, IsHistory, history_push, AppendsRecord, JournalState, PeerData, Done, Report, Stopped, at_end, Takes, journal_of, receiver_of, AllChanges, most_waiting, has_all, delivery, slots, takes_slot, with_slots, EntersAfter, Grows, KeepsAll, progress, Run-keeps, TakesOut, Turn-cases, AllIn}
+use Rattle.tp_peer.proofs.Common.{◌≡◌, ℕ, suc, ◌+◌, ◌≤◌, inl, inr, List, [], ◌∷◌, ◌++◌, length, Bool, cond, refl, sym, ap, ◌∙◌, subst, append_assoc, append-nil, length-append, arith, ChangeParts, IsChange, Intake, Run, Turn, begin, record_of, records_of, IsHistory, history_push, AppendsRecord, Device, without_fuse, after_appends, JournalState, PeerData, Done, Report, Stopped, at_end, Takes, journal_of, receiver_of, AllChanges, most_waiting, has_all, delivery, slots, takes_slot, with_slots, EntersAfter, Grows, KeepsAll, progress, Run-keeps, TakesOut, Turn-cases, AllIn}
 use Rattle.tp_receive.specs.declared.error.ReceiveError.TheVariants as receive
 
 -- The records of the changes were appended.
 pub record AreAppended (k : JournalState) (new : List ChangeParts) (k' : JournalState) : Type 0 where
   pub content : k'.content ≡ k.content ++ records_of new
-  pub device : k'.device ≡ k.device
+  pub device : k'.device ≡ after_appends new k.device
   pub limits : AllChanges new
+
+-- no arming comes back by more appends
+still_without : (new : List ChangeParts) (d k : Device) → d ≡ without_fuse k → after_appends new d ≡ without_fuse k
+still_without [] d k e = e
+still_without (c ∷ new) d k e = ap without_fuse e
 
 pub all_appended : (new : List ChangeParts) (k k' : JournalState) → KeepsAll AppendsRecord k new k' → AreAppended k new k'
 all_appended [] k k' e = record {
@@ -19,7 +24,7 @@ all_appended (c ∷ new) k k' h =
     let rest = all_appended new h.0 k' h.2 in
     record {
       content = rest.content ∙ ap (λ l. l ++ records_of new) first.content ∙ append_assoc k.content (record_of c) (records_of new);
-      device = rest.device ∙ first.device;
+      device = rest.device ∙ still_without new h.0.device k.device first.device;
       limits = λ d i. elim i [ inl e ↦ subst IsChange (sym e) first.limits | inr j ↦ rest.limits d j ];
     }
 

@@ -1,5 +1,5 @@
 -- What receiving comes to, what a peer's journal recovers to, and who made an edit's change.
-use Rattle.tp_peer.proofs.Common.{◌≡◌, ℕ, inl, inr, List, [], ◌∷◌, ◌++◌, length, take, true, false, Bool, Some, None, refl, sym, ap, ◌∙◌, subst, append-nil, append_assoc, arith, ChangeParts, journal, record_of, records_of, IsDocId, IsHistory, Recovers, history_push, AppendsRecord, JournalState, journal_state, IsPeer, PeerData, HasJournal, IsTorn, Done, Report, Stopped, at_end, Takes, journal_of, receiver_of, PeerError, IsChange, Intake, Run, Turn, Next, enter, Call, Edit, Forget, Generate, Merge, PeerStep, Read, ReadAt, ReadHeads, Receive, Reply, Made, Refused, RefusesEdit, RefusesGenerate, RefusesMerge, RefusesReceive, Runs, In, HashesApart, Between, Grew-run, nothing_lost, Fails, recovers_cut, JournalFailed, TooManyLinks, Doc, Sync, OutOfMemory, Splice, Asked, asking, cause, LosesNone, Run-one, Run-then, IsComplete, IsPartial, IsTornAt, RecoversTorn}
+use Rattle.tp_peer.proofs.Common.{◌≡◌, ℕ, inl, inr, List, [], ◌∷◌, ◌++◌, length, take, true, false, Bool, Some, None, refl, sym, ap, ◌∙◌, subst, append-nil, append_assoc, arith, ChangeParts, journal, record_of, records_of, IsDocId, IsHistory, Recovers, history_push, AppendsRecord, JournalState, journal_state, IsPeer, PeerData, HasJournal, IsTorn, Done, Report, Stopped, at_end, Takes, journal_of, receiver_of, PeerError, IsChange, Intake, Run, Turn, Next, enter, Call, Edit, Forget, Generate, Merge, PeerStep, Read, ReadAt, ReadHeads, Receive, Reply, Made, Refused, RefusesEdit, RefusesGenerate, RefusesMerge, RefusesReceive, Runs, In, HashesApart, Between, Grew-run, nothing_lost, DeviceFails, without_fuse, recovers_cut, JournalFailed, TooManyLinks, Doc, Sync, OutOfMemory, Splice, Asked, asking, cause, LosesNone, Run-one, Run-then, IsComplete, IsPartial, IsTornAt, RecoversTorn}
 use Rattle.std.proofs.lemmas.List.{append_cancel_left}
 use Rattle.tp_graph.specs.Sound.{Sound}
 use Rattle.tp_receive.proofs.GrowsLaws.{Between-grown}
@@ -39,7 +39,7 @@ pub whole_turn : (at rest : Intake JournalState) (c : ChangeParts) → Next at c
     → (t : Intake JournalState) × Turn AppendsRecord at t × (t.applied ≡ at.applied ++ c ∷ [])
 whole_turn at rest c next fits limits =
     let is = rest_is at rest c next in
-    let k : JournalState = journal_state (at.keeper.content ++ record_of c) at.keeper.device in (
+    let k : JournalState = journal_state (at.keeper.content ++ record_of c) (without_fuse at.keeper.device) in (
       enter rest c k,
       record {
         change = c;
@@ -81,7 +81,7 @@ torn p K p' sound t =
           ∙ journal_grows p p' a.new (take part.0 (record_of c)) id (s.applied ∙ a.grows.begins) is;
     }
 
-pub fails_where_it_can : (p : PeerData) (call : Call) (p' : PeerData) → PeerStep p call (Refused JournalFailed) p' → Fails p.device p'.device
+pub fails_where_it_can : (p : PeerData) (call : Call) (p' : PeerData) → PeerStep p call (Refused JournalFailed) p' → DeviceFails p.device p'.device
 fails_where_it_can p call p' s = elim (step_keeps p call (Refused JournalFailed) p' s).journal [
   | inl appends ↦ absurd (appends.answered refl)
   | inr tears ↦ tears.device

@@ -1,5 +1,5 @@
 -- What each step of a peer keeps.
-use Rattle.tp_peer.proofs.Common.{◌≡◌, ◌≢◌, ◌⊎◌, ℕ, ◌≤◌, inl, inr, List, [], ◌∷◌, ◌++◌, take, Bool, true, false, length, Option, Some, None, refl, sym, ap, ◌∙◌, subst, append_assoc, append-nil, arith, ◌==◌, MatchBool, AllIn, In, DocId, Hash, ChangeParts, IsChange, Asked, asking, absent, cause, most_waiting, Intake, Device, Fails, IsDocId, journal, record_of, records_of, IsHistory, journal-append, PeerError, JournalFailed, TooManyLinks, Doc, Sync, OutOfMemory, JournalState, HasJournal, IsPeer, IsTorn, PeerData, Call, Decodes, Edit, Forget, Forgotten, Generate, Generated, Heads, Hears, Made, Merge, Merged, Read, ReadAt, ReadHeads, Receive, Received, Refused, RefusesEdit, RefusesGenerate, RefusesMerge, RefusesReceive, RefusesText, Reply, Runs, Speaks, Text, entered, knowing, needs_stopped, Report, StopsAt, StopsUnsettled, Takes, Appends, AreFew, Keeps, MovesLinks, TouchesLink, came, changes_of, is_on, known_of, with_link, without_link, MessageParts, SyncParts, heard, never, neither_left}
+use Rattle.tp_peer.proofs.Common.{◌≡◌, ◌≢◌, ◌⊎◌, ℕ, ◌≤◌, inl, inr, List, [], ◌∷◌, ◌++◌, take, Bool, true, false, length, Option, Some, None, refl, sym, ap, ◌∙◌, subst, append_assoc, append-nil, arith, ◌==◌, MatchBool, AllIn, In, DocId, Hash, ChangeParts, IsChange, Asked, asking, absent, cause, most_waiting, Intake, Device, DeviceFails, Fails, after_appends, is_some, or_right, IsDocId, journal, record_of, records_of, IsHistory, journal-append, PeerError, JournalFailed, TooManyLinks, Doc, Sync, OutOfMemory, JournalState, HasJournal, IsPeer, IsTorn, PeerData, Call, Decodes, Edit, Forget, Forgotten, Generate, Generated, Heads, Hears, Made, Merge, Merged, Read, ReadAt, ReadHeads, Receive, Received, Refused, RefusesEdit, RefusesGenerate, RefusesMerge, RefusesReceive, RefusesText, Reply, Runs, Speaks, Text, entered, knowing, needs_stopped, Report, StopsAt, StopsUnsettled, Takes, Appends, AreFew, Keeps, MovesLinks, TouchesLink, came, changes_of, is_on, known_of, with_link, without_link, MessageParts, SyncParts, heard, never, neither_left}
 use Rattle.tp_list.proofs.Members.{In-left}
 use Rattle.tp_peer.specs.PeerStep.{PeerStep}
 use Rattle.tp_peer.proofs.LinkLaws.{moves_leave, other_with, other_without, stays}
@@ -75,7 +75,7 @@ edit_keeps p p' call reply c other few running fits limits e = subst (λ (q : Pe
 
 -- the device failed before a change entered
 stops_keeps : (p p' : PeerData) (call : Call) (bytes : List ℕ) → p.stopped ≡ false → p' ≡ record p { journal = p'.journal; device = p'.device; stopped = true }
-    → IsTorn p.applied bytes → p'.journal ≡ p.journal ++ bytes → Fails p.device p'.device → Keeps p call (Refused JournalFailed) p'
+    → IsTorn p.applied bytes → p'.journal ≡ p.journal ++ bytes → DeviceFails p.device p'.device → Keeps p call (Refused JournalFailed) p'
 stops_keeps p p' call bytes running left torn content device = record {
   id = ap (λ (q : PeerData). q.id) left;
   actor = ap (λ (q : PeerData). q.actor) left;
@@ -104,12 +104,12 @@ stops_keeps p p' call bytes running left torn content device = record {
 edit_tears : (p p' : PeerData) (call : Call) (c : ChangeParts) → p.stopped ≡ false → cause p.applied c ≡ None → StopsAt p c p' → Keeps p call (Refused JournalFailed) p'
 edit_tears p p' call c running fits s =
     stops_keeps p p' call (take s.tears.part.0 (record_of c)) running s.left
-    (inr (record { change = c; limits = s.tears.limits; fits = fits; count = s.tears.part.0; torn = refl })) s.tears.part.1 s.tears.device
+    (inr (record { change = c; limits = s.tears.limits; fits = fits; count = s.tears.part.0; torn = refl })) s.tears.part.1 (true, s.tears.device)
 
 -- as the journal was settled
 unsettled_keeps : (p p' : PeerData) (call : Call) → p.stopped ≡ false → StopsUnsettled p p' → Keeps p call (Refused JournalFailed) p'
 unsettled_keeps p p' call running s =
-    stops_keeps p p' call [] running s.left (inl refl) (s.unsettled.content ∙ sym (append-nil p.journal)) s.unsettled.device
+    stops_keeps p p' call [] running s.left (inl refl) (s.unsettled.content ∙ sym (append-nil p.journal)) (false, s.unsettled.device)
 
 -- its links are those of another
 links_left : (p q : PeerData) → q.links ≡ p.links → q ≡ record q { links = p.links }
@@ -135,6 +135,13 @@ received_keeps p p' call K L reply q is kept running t few links e =
       others = links.others;
       journal = inl (record { journal = a.appended.content; device = a.appended.device; goes_on = refl; answered = kept });
     })
+
+-- the device failed in an append, once others were made
+fails_after : (new : List ChangeParts) (d k d' : Device) → k ≡ after_appends new d → Fails true k d' → DeviceFails d d'
+fails_after [] d k d' e f = (true, subst (λ (x : Device). Fails true x d') e f)
+fails_after (c ∷ new) d k d' e f =
+    let g = subst (λ (x : Device). Fails true x d') e f in
+    (true, record { could = or_right (is_some d.fuse) d.can_fail g.could; counted = g.counted; calm = g.calm; fuse = g.fuse })
 
 -- changes were received until the device failed
 received_tears : (p p' : PeerData) (call : Call) (K : List ChangeParts) → came p call ≡ K → p.stopped ≡ false → Takes p K (outcome.Stopped receive.NotKept) p' → ((at : Intake JournalState) (a : Advances p K at) → AreFew p call a.new)
@@ -162,7 +169,7 @@ received_tears p p' call K is running t few =
         bytes = take part.0 (record_of c);
         torn = inr (record { change = c; limits = tears.limits; fits = subst (λ C. cause C c ≡ None) (sym x.applied) x.by.fits; count = part.0; torn = refl });
         journal = part.1 ∙ ap (λ l. l ++ take part.0 (record_of c)) a.appended.content ∙ append_assoc p.journal (records_of a.new) (take part.0 (record_of c));
-        device = subst (λ (d : Device). Fails d p'.device) a.appended.device tears.device;
+        device = fails_after a.new p.device x.at.keeper.device p'.device a.appended.device tears.device;
         running = running;
         stopped = ap (λ (q : PeerData). q.stopped) t.left;
         answered = refl;

@@ -1,6 +1,6 @@
 -- What an append of a change's record does to a journal.
-use Rattle.std.specs.Prelude.{◌≡◌, ℕ, List, ◌++◌, Bool}
-use Rattle.tp_peer.specs.Common.{ChangeParts, IsChange, JournalError, Device, Fails, GrowsInPart, record_of}
+use Rattle.std.specs.Prelude.{◌≡◌, ℕ, List, ◌++◌, true, false}
+use Rattle.tp_peer.specs.Common.{ChangeParts, IsChange, JournalError, Device, Fails, GrowsInPart, record_of, without_fuse}
 use Rattle.tp_receive.specs.declared.keeper.KeepError.{KeepError}
 use Rattle.tp_receive.specs.declared.keeper.KeepError.TheVariants.{NotKept, OutOfMemory}
 use Rattle.tp_journal.specs.declared.error.JournalError.TheVariants as journal
@@ -14,10 +14,6 @@ pub record JournalState : Type 0 where
 abbrev pub journal_state : List ℕ → Device → JournalState
 journal_state content device = record { content = content; device = device }
 
--- the same, with a device that can fail, or can't
-abbrev pub armed : JournalState → Bool → JournalState
-armed k can_fail = record k { device = record k.device { can_fail = can_fail } }
-
 -- Some journal has this content and this device, and keeps all of it for good. Of a type of which nothing is known but that
 -- it is a journal, only settling gives one.
 pub record IsKept {J : Type 0} (content : J → List ℕ) (device : J → Device) (settled : J → Type 0) (k : JournalState) : Type 0 where
@@ -25,22 +21,22 @@ pub record IsKept {J : Type 0} (content : J → List ℕ) (device : J → Device
   pub same : journal_state (content journal) (device journal) ≡ k
   pub is_settled : settled journal
 
--- The record of the change was appended.
+-- The record of the change was appended, which ends the arming of the device.
 pub record AppendsRecord (k : JournalState) (c : ChangeParts) (k' : JournalState) : Type 0 where
   pub limits : IsChange c
   pub content : k'.content ≡ k.content ++ record_of c
-  pub device : k'.device ≡ k.device
+  pub device : k'.device ≡ without_fuse k.device
 
--- The device failed while the record was appended: a beginning of it may stand there.
+-- The device failed while the record was appended, or the journal settled behind it: a beginning of it may stand there.
 pub record TearsRecord (k : JournalState) (c : ChangeParts) (k' : JournalState) : Type 0 where
   pub limits : IsChange c
   pub part : GrowsInPart k.content k'.content (record_of c)
-  pub device : Fails k.device k'.device
+  pub device : Fails true k.device k'.device
 
 -- The device failed as the journal was settled.
 pub record StaysUnsettled (k k' : JournalState) : Type 0 where
   pub content : k'.content ≡ k.content
-  pub device : Fails k.device k'.device
+  pub device : Fails false k.device k'.device
 
 -- what a refused append leaves
 abbrev pub RefusesRecord : JournalState → ChangeParts → KeepError → JournalState → Type 0

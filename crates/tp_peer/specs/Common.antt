@@ -9,7 +9,7 @@ pub use Rattle.tp_document.specs.declared.error.DocError.{DocError}
 pub use Rattle.tp_edit.specs.declared.splice.Splice.{Splice}
 pub use Rattle.tp_graph.specs.Fit.{cause}
 pub use Rattle.tp_graph.specs.GraphState.{most_waiting}
-pub use Rattle.tp_journal.specs.Journal.{Device, Fails, GrowsInPart}
+pub use Rattle.tp_journal.specs.Journal.{Device, Fails, GrowsInPart, infallible, with_fuse, without_fuse}
 pub use Rattle.tp_journal.specs.Layout.{IsDocId, journal, record_of, records_of}
 pub use Rattle.tp_journal.specs.Recovery.{IsHistory, Recovers}
 pub use Rattle.tp_journal.specs.declared.error.JournalError.{JournalError}

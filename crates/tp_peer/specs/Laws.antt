@@ -1,6 +1,6 @@
 -- What the laws of peers say.
 use Rattle.std.specs.Prelude.{◌≡◌, ◌≢◌, ◌⊎◌, ℕ, ◌==◌, ◌+◌, ◌≤◌, List, [], ◌++◌, ◌∷◌, length, Bool, true, false, take, None, Result, Ok, Err}
-use Rattle.tp_peer.specs.Common.{ChangeParts, IsChange, cause, most_waiting, AllChanges, absent, Fails, journal, record_of, records_of, SyncError, MAX_CHANGES, MessageParts, message_at, SyncParts, Report}
+use Rattle.tp_peer.specs.Common.{ChangeParts, IsChange, cause, most_waiting, AllChanges, absent, Device, Fails, without_fuse, journal, record_of, records_of, SyncError, MAX_CHANGES, MessageParts, message_at, SyncParts, Report}
 use Rattle.tp_list.specs.Members.{AllIn}
 use Rattle.tp_receive.specs.Receiving.{Between, EntersAfter, Receives}
 use Rattle.tp_receive.specs.Replies.{AllAccounted, AreRefused, LosesNone}
@@ -51,12 +51,21 @@ is_on (Generate link) n = link == n
 is_on (Forget link) n = link == n
 is_on _ n = false
 
+-- the device once the records of the changes were appended: where there are any, that ends its arming
+abbrev pub after_appends : List ChangeParts → Device → Device
+after_appends [] device = device
+after_appends (c ∷ new) device = without_fuse device
+
 -- The records of the new changes were appended, and nothing else.
 pub record Appends (p : PeerData) (new : List ChangeParts) (reply : Reply) (p' : PeerData) : Type 0 where
   pub journal : p'.journal ≡ p.journal ++ records_of new
-  pub device : p'.device ≡ p.device
+  pub device : p'.device ≡ after_appends new p.device
   pub goes_on : p'.stopped ≡ p.stopped
   pub answered : reply ≢ Refused JournalFailed
+
+-- The device failed, in an append or in another call.
+abbrev pub DeviceFails : Device → Device → Type 0
+DeviceFails before after = (is_append : Bool) × Fails is_append before after
 
 -- The records of the new changes were appended, and then the device failed, at a further one or as the journal was settled:
 -- a beginning of the record of a change that could enter next may stand behind them. The peer has stopped, and says so.
@@ -64,7 +73,7 @@ pub record Tears (p : PeerData) (new : List ChangeParts) (reply : Reply) (p' : P
   pub bytes : List ℕ
   pub torn : IsTorn p'.applied bytes
   pub journal : p'.journal ≡ p.journal ++ (records_of new ++ bytes)
-  pub device : Fails p.device p'.device
+  pub device : DeviceFails p.device p'.device
   pub running : p.stopped ≡ false
   pub stopped : p'.stopped ≡ true
   pub answered : reply ≡ Refused JournalFailed

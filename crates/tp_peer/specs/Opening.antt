@@ -1,6 +1,6 @@
 -- Opening a peer on a journal: anew, again, or as a fork.
-use Rattle.std.specs.Prelude.{◌≡◌, ◌⊎◌, ℕ, List, [], true, false}
-use Rattle.tp_peer.specs.Common.{Actor, DocId, ChangeParts, Fails, GrowsInPart, journal, Recovers}
+use Rattle.std.specs.Prelude.{◌≡◌, ◌⊎◌, ℕ, List, [], Bool, true, false}
+use Rattle.tp_peer.specs.Common.{Actor, DocId, ChangeParts, Fails, without_fuse, GrowsInPart, journal, Recovers}
 use Rattle.tp_store.specs.declared.error.StoreError.TheVariants as store
 use Rattle.tp_journal.specs.Refusals.{IsRefusal}
 use Rattle.tp_peer.specs.declared.error.PeerError.{PeerError}
@@ -21,7 +21,8 @@ IsClearedOrSame k k' = (k' ≡ k) ⊎ (IsUnused k.content × (k' ≡ record k { 
 
 -- Its device failed: nothing changed, or it is empty but for a beginning of the bytes.
 pub record IsTornOrSame (bytes : List ℕ) (k k' : JournalState) : Type 0 where
-  pub device : Fails k.device k'.device
+  pub is_append : Bool
+  pub device : Fails is_append k.device k'.device
   pub content : (k'.content ≡ k.content) ⊎ (IsUnused k.content × GrowsInPart [] k'.content bytes)
 
 -- why a journal didn't begin with the bytes, and what it is then
@@ -38,7 +39,7 @@ pub record Forks (p : PeerData) (actor : Actor) (k : JournalState) (fork : PeerD
   pub running : p.stopped ≡ false
   pub unused : IsUnused k.content
   pub free : has_actor p.applied actor ≡ false
-  pub is : fork ≡ opened p.id actor p.applied k.device
+  pub is : fork ≡ opened p.id actor p.applied (without_fuse k.device)
 
 -- why a document with the changes C wasn't copied to the journal for the actor, and what the journal is then
 abbrev pub NotCopied : DocId → List ChangeParts → Actor → JournalState → PeerError → JournalState → Type 0
@@ -74,5 +75,5 @@ abbrev pub NotReopened : JournalState → Actor → PeerError → JournalState �
 NotReopened k actor ActorInUse k' = IsInUse k actor × (k' ≡ k)
 NotReopened k actor (Store e) k' = IsRefusal k.content e × (k' ≡ k)
 NotReopened k actor OutOfMemory k' = k' ≡ k
-NotReopened k actor JournalFailed k' = (k'.content ≡ k.content) × Fails k.device k'.device
+NotReopened k actor JournalFailed k' = (k'.content ≡ k.content) × Fails false k.device k'.device
 NotReopened k actor _ k' = ⊥

@@ -1,6 +1,6 @@
 -- What contracts see of a peer, and what every peer keeps.
 use Rattle.std.specs.Prelude.{◌≡◌, ◌⊎◌, ℕ, ◌≤◌, List, [], ◌++◌, length, take, Bool, true, false, None}
-use Rattle.tp_peer.specs.Common.{Actor, DocId, ChangeParts, Device, IsChange, cause, record_of, journal, IsDocId, SyncParts, DocState, most_waiting, IsHistory}
+use Rattle.tp_peer.specs.Common.{Actor, DocId, ChangeParts, Device, with_fuse, infallible, IsChange, cause, record_of, journal, IsDocId, SyncParts, DocState, most_waiting, IsHistory}
 use Rattle.tp_peer.specs.Appending.{JournalState}
 use Rattle.tp_peer.specs.Links.{AreLinks}
 
@@ -53,6 +53,10 @@ abbrev pub peer_data : Actor → DocState → List (ℕ × SyncParts) → Journa
 peer_data actor d links k stopped =
     record { id = d.id; actor = actor; applied = d.applied; waiting = d.waiting; links = links; journal = k.content; device = k.device; stopped = stopped }
 
--- the peer, with a device that can fail, or can't
-abbrev pub arming : PeerData → Bool → PeerData
-arming p can_fail = record p { device = record p.device { can_fail = can_fail } }
+-- the peer, whose journal's next append is to fail and to keep so many bytes
+abbrev pub arming : PeerData → ℕ → PeerData
+arming p kept = record p { device = with_fuse kept p.device }
+
+-- the peer, on whose journal no call can fail
+abbrev pub disarming : PeerData → PeerData
+disarming p = record p { device = infallible p.device }

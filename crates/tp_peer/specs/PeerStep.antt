@@ -1,6 +1,6 @@
 -- The peer as a machine: what a call may answer, and what it leaves.
 use Rattle.std.specs.Prelude.{◌≡◌, ◌≢◌, ◌⊎◌, ◌↔◌, ℕ, ◌<◌, ◌≤◌, List, [], ◌∷◌, ◌++◌, Bool, true, false, ◌||◌, Option, Some, None, Result, Ok, Err, length, IsTrue, MatchBool}
-use Rattle.tp_peer.specs.Common.{ChangeParts, hash_of, Splice, DocError, Done, Report, record_of, SyncError, SyncParts, heard, absent, MAX_HASHES, IsMessage, MessageParts, message_at, message_spelling}
+use Rattle.tp_peer.specs.Common.{ChangeParts, hash_of, Splice, DocError, Done, Report, record_of, without_fuse, SyncError, SyncParts, heard, absent, MAX_HASHES, IsMessage, MessageParts, message_at, message_spelling}
 use Rattle.tp_opid.specs.declared.hash.Hash.{Hash}
 use Rattle.tp_text.specs.Text.{IsTextOf}
 use Rattle.tp_graph.specs.Heads.{heads}
@@ -53,9 +53,9 @@ replied f (Err e) = Refused e
 
 -- ---- edits
 
--- the peer, where c entered as the last and its record was appended
+-- the peer, where c entered as the last and its record was appended, which ends the arming of its journal's device
 abbrev pub entered : PeerData → ChangeParts → PeerData
-entered p c = record p { applied = p.applied ++ c ∷ []; journal = p.journal ++ record_of c }
+entered p c = record p { applied = p.applied ++ c ∷ []; journal = p.journal ++ record_of c; device = without_fuse p.device }
 
 -- What an edit did: nothing where it asked nothing, and else its one change entered.
 abbrev pub Edits : PeerData → Asked → Option Hash → PeerData → Type 0

@@ -1,8 +1,8 @@
 //! The journal as what keeps each change before it enters.
 
-ghost use Rattle.std.specs.Prelude.{◌≡◌, OnOk, OnErr, IfErr, IsOkUnless, length, true, false};
-ghost use Rattle.tp_journal.specs.Journal.{no_device};
-ghost use Rattle.tp_peer.specs.Appending.{AppendsRecord, IsKept, RefusesRecord, StaysUnsettled, armed, journal_state, reason_of};
+ghost use Rattle.std.specs.Prelude.{◌≡◌, OnOk, OnErr, IfErr, IsOkUnless, length};
+ghost use Rattle.tp_journal.specs.Journal.{fallible, infallible, no_device, with_fuse};
+ghost use Rattle.tp_peer.specs.Appending.{AppendsRecord, IsKept, RefusesRecord, StaysUnsettled, journal_state, reason_of};
 ghost use Rattle.tp_peer.specs.declared.error.PeerError.TheVariants.{JournalFailed};
 
 use crate::error::PeerError;
@@ -131,21 +131,21 @@ impl Appender<MemJournal> {
 impl Appender<FuseJournal> {
     /// Lets the next append fail, as [`FuseJournal::arm`] does.
     pub(crate) fn arm(&mut self, kept: u64)
-        ensures { self.new ≡ armed self.old true }
+        ensures { self.new ≡ record self.old { device = with_fuse kept self.old.device } }
     {
         self.journal.arm(kept);
     }
 
     /// Lets the next cut fail.
     pub(crate) fn arm_cut(&mut self)
-        ensures { self.new ≡ armed self.old true }
+        ensures { self.new ≡ record self.old { device = fallible self.old.device } }
     {
         self.journal.arm_cut();
     }
 
     /// Lets neither fail.
     pub(crate) fn disarm(&mut self)
-        ensures { self.new ≡ armed self.old false }
+        ensures { self.new ≡ record self.old { device = infallible self.old.device } }
     {
         self.journal.disarm();
     }

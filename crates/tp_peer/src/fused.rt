@@ -1,7 +1,8 @@
 //! Peers on a journal that fails when it is told to.
 
-ghost use Rattle.std.specs.Prelude.{◌≡◌, length, true, false};
-ghost use Rattle.tp_peer.specs.PeerData.{arming};
+ghost use Rattle.std.specs.Prelude.{◌≡◌, length};
+ghost use Rattle.tp_journal.specs.Journal.{fallible};
+ghost use Rattle.tp_peer.specs.PeerData.{arming, disarming};
 
 use crate::peer::Peer;
 use tp_journal::FuseJournal;
@@ -9,21 +10,21 @@ use tp_journal::FuseJournal;
 impl Peer<FuseJournal> {
     /// Lets the next append to the journal fail, as [`FuseJournal::arm`] does. Nothing else changes.
     pub fn arm(&mut self, kept: u64)
-        ensures { self.new ≡ arming self.old true }
+        ensures { self.new ≡ arming self.old kept }
     {
         self.appender.arm(kept);
     }
 
     /// Lets the next cut of the journal fail, as [`FuseJournal::arm_cut`] does. Nothing else changes.
     pub fn arm_cut(&mut self)
-        ensures { self.new ≡ arming self.old true }
+        ensures { self.new ≡ record self.old { device = fallible self.old.device } }
     {
         self.appender.arm_cut();
     }
 
     /// Lets neither fail. Nothing else changes.
     pub fn disarm(&mut self)
-        ensures { self.new ≡ arming self.old false }
+        ensures { self.new ≡ disarming self.old }
     {
         self.appender.disarm();
     }

@@ -4,7 +4,7 @@ ghost use Rattle.std.specs.Prelude.{◌≡◌, ℕ, List, ◌++◌, true, false,
 ghost use Rattle.tp_list.specs.Members.{In};
 ghost use Rattle.tp_peer.specs.Common.{ChangeParts, Splice, Recovers, Done, Report, Stopped};
 ghost use Rattle.tp_graph.specs.Named.{HashesApart};
-ghost use Rattle.tp_journal.specs.Journal.{Fails, no_device};
+ghost use Rattle.tp_journal.specs.Journal.{no_device};
 ghost use Rattle.tp_graph.specs.Sound.{Sound};
 ghost use Rattle.tp_peer.specs.declared.error.PeerError.{PeerError as Refusal};
 ghost use Rattle.tp_peer.specs.declared.error.PeerError.TheVariants.{JournalFailed, OutOfMemory};
@@ -12,7 +12,7 @@ ghost use Rattle.tp_peer.specs.PeerData.{PeerData, IsPeer};
 ghost use Rattle.tp_peer.specs.PeerStep.{Call, Edit, PeerStep, Refused, Reply};
 ghost use Rattle.tp_receive.specs.declared.error.ReceiveError.TheVariants as receive;
 ghost use Rattle.tp_peer.specs.Taking.{Takes};
-ghost use Rattle.tp_peer.specs.Laws.{Keeps, IsComplete, IsPartial, IsTornAt, RecoversTorn};
+ghost use Rattle.tp_peer.specs.Laws.{DeviceFails, Keeps, IsComplete, IsPartial, IsTornAt, RecoversTorn};
 
 use crate::peer::Peer;
 use tp_journal::MemJournal;
@@ -68,10 +68,11 @@ pub fn a_stop_is_between()
         → Takes p K (Stopped receive.NotKept) p' → IsTornAt p K p' }
 {}
 
-/// A call answers `JournalFailed` only at a peer whose device can fail, and counts one failure more.
+/// A call answers `JournalFailed` only at a peer whose device can fail, or whose next append is armed to, and counts one
+/// failure more.
 pub fn a_device_fails_where_it_can()
     ensures { (p : PeerData) (call : Call) (p' : PeerData)
-        → PeerStep p call (Refused JournalFailed) p' → Fails p.device p'.device }
+        → PeerStep p call (Refused JournalFailed) p' → DeviceFails p.device p'.device }
 {}
 
 /// The journal of a peer in memory has no device that could fail, so by [`a_device_fails_where_it_can`] no call on it

@@ -1,6 +1,7 @@
 //! Opening a peer on a journal: anew, again, or as a fork.
 
 ghost use Rattle.std.specs.Prelude.{◌≡◌, ◌⊎◌, ℕ, List, [], false, MatchBool, OnOk, IfOk, IfErr, IsOkUnless};
+ghost use Rattle.tp_journal.specs.Journal.{without_fuse};
 ghost use Rattle.tp_journal.specs.Layout.{journal as journal_bytes};
 ghost use Rattle.tp_journal.specs.Recovery.{Recovers};
 ghost use Rattle.tp_journal.specs.Refusals.{IsRefusal};
@@ -74,7 +75,7 @@ fn check_unused<J: Journal>(alloc: Global, journal: &mut J) -> Result<(), PeerEr
 fn begin<J: Journal>(journal: &mut J, bytes: &[u8]) -> Result<(), PeerError>
     requires { IsUnused (J.content journal.old) }
     ensures ok { OnOk result (J.content journal.new ≡ bytes.now) }
-    ensures quiet { OnOk result (J.device journal.new ≡ J.device journal.old) }
+    ensures quiet { OnOk result (J.device journal.new ≡ without_fuse (J.device journal.old)) }
     ensures err { IfErr result
         (λ e. NotBegun bytes.now (journal_state (J.content journal.old) (J.device journal.old)) e
         (journal_state (J.content journal.new) (J.device journal.new))) }
@@ -159,7 +160,7 @@ fn copy_to<J: Journal>(
     ensures waiting { IfOk result (λ d. d.waiting ≡ []) }
     ensures begun { OnOk result
         (J.content journal.new ≡ journal_bytes document.now.id document.now.applied) }
-    ensures quiet { OnOk result (J.device journal.new ≡ J.device journal.old) }
+    ensures quiet { OnOk result (J.device journal.new ≡ without_fuse (J.device journal.old)) }
     ensures err { IfErr result
         (λ e. NotCopied document.now.id document.now.applied actor.now
         (journal_state (J.content journal.old) (J.device journal.old)) e
@@ -195,7 +196,7 @@ fn begin_empty<J: Journal>(
         (λ e. (e ≡ Lack) ⊎ IsRefusal (J.content journal.old) e) }
     ensures unused { OnOk result (IsUnused (J.content journal.old)) }
     ensures begun { OnOk result (J.content journal.new ≡ journal_bytes id []) }
-    ensures quiet { OnOk result (J.device journal.new ≡ J.device journal.old) }
+    ensures quiet { OnOk result (J.device journal.new ≡ without_fuse (J.device journal.old)) }
     ensures err { IfErr result
         (λ e. NotBegun (journal_bytes id [])
         (journal_state (J.content journal.old) (J.device journal.old)) e
@@ -314,7 +315,7 @@ pub fn create_journal<J: Journal>(
     ensures unused { OnOk result (IsUnused (J.content journal.old)) }
     ensures begun { OnOk result
         (J.content journal.new ≡ journal_bytes document.now.id document.now.applied) }
-    ensures quiet { OnOk result (J.device journal.new ≡ J.device journal.old) }
+    ensures quiet { OnOk result (J.device journal.new ≡ without_fuse (J.device journal.old)) }
     ensures err { IfErr result
         (λ e. NotBegun (journal_bytes document.now.id document.now.applied)
         (journal_state (J.content journal.old) (J.device journal.old)) e
@@ -343,7 +344,7 @@ impl<J: Journal> Peer<J> {
         id: DocId,
         actor: Actor,
     ) -> Result<Peer<J>, Unopened<J>>
-        ensures ok { IfOk result (λ p. p ≡ opened id actor [] (J.device journal)) }
+        ensures ok { IfOk result (λ p. p ≡ opened id actor [] (without_fuse (J.device journal))) }
         ensures unused { OnOk result (IsUnused (J.content journal)) }
         ensures err { IfErr result
             (λ u. NotBegun (journal_bytes id [])
@@ -375,7 +376,7 @@ impl<J: Journal> Peer<J> {
             × (r.document.waiting ≡ [])) }
         requires refused { IfErr recovered
             (λ e. (e ≡ Lack) ⊎ IsRefusal (J.content journal) e) }
-        ensures ok { IfOk result (λ p. p ≡ opened id actor [] (J.device journal)) }
+        ensures ok { IfOk result (λ p. p ≡ opened id actor [] (without_fuse (J.device journal))) }
         ensures unused { OnOk result (IsUnused (J.content journal)) }
         ensures err { IfErr result
             (λ u. NotBegun (journal_bytes id [])

@@ -41,7 +41,7 @@ pub use Rattle.tp_opid.specs.declared.actor.Actor.{Actor}
 pub use Rattle.tp_opid.specs.declared.doc_id.DocId.{DocId}
 pub use Rattle.tp_opid.specs.declared.hash.Hash.{Hash}
 pub use Rattle.tp_peer.specs.Laws.{changes_in, changes_of}
-pub use Rattle.tp_peer.specs.PeerData.{PeerData, arming, opened}
+pub use Rattle.tp_peer.specs.PeerData.{PeerData, disarming, opened}
 pub use Rattle.tp_peer.specs.PeerStep.{Edit, Merge, Merged, PeerStep, Refused, Runs, needs_stopped, replied}
 pub use Rattle.tp_peer.specs.Taking.{Takes, journal_of, report_of}
 pub use Rattle.tp_peer.specs.declared.error.PeerError.{PeerError}
@@ -51,7 +51,7 @@ pub use Rattle.tp_world.specs.Judging.{AllRun, AllThere, IsFresh, Judges, Meets,
 pub use Rattle.tp_world.specs.Lives.{member_data}
 pub use Rattle.tp_world.specs.Made.{AreNoted, IsNotedFor, IsReady, MadeData, is_noted}
 pub use Rattle.tp_world.specs.Making.{AnswersAt, IsRunningEdit, IsWould, Notes, entered_of, heads_named, is_kept_in, is_made}
-pub use Rattle.tp_world.specs.Members.{ArmsAt, MergesAt, OpensAgainAt, OpensOn, StepsAt, left_with}
+pub use Rattle.tp_world.specs.Members.{ArmsAt, DisarmsAt, MergesAt, OpensAgainAt, OpensOn, StepsAt, left_with}
 pub use Rattle.tp_world.specs.Order.{pairs_of}
 pub use Rattle.tp_world.specs.States.{world_of}
 pub use Rattle.tp_world.specs.Told.{answer_of, call_of, during_of, event_of, reply_of}

@@ -1,5 +1,5 @@
 -- What an event comes to, from what its calls did.
-use Rattle.tp_world.proofs.Common.{◌≡◌, ◌⊎◌, inl, inr, ℕ, ◌+◌, ◌-◌, ◌^◌, ◌<◌, ◌≤◌, min, List, [], ◌∷◌, ◌++◌, length, take, slice_set, true, false, Bool, ◌&&◌, nat_le, Option, Some, None, Result, Ok, Err, refl, sym, ap, ◌∙◌, subst, append-nil, arith, OnOk, is_err, slice_get, nat_tests, length-append, length-take, take_all, In, truth, Actor, DocId, Hash, ChangeParts, record_of, records_of, Recovers, recovered, length-record_of, PeerData, arming, IsCall, heads_at, made_by, noting, Carried, Event, Crash, called_in, entries_of, IsEditAt, IsEditOf, MayHappen, WouldEdit, Reply, reply_to, Entry, ReadRecord, World, HasPeer, gained, with_made, with_peer, with_used, Left, left_of, nothing_left, one_call, one_cut, one_edit, one_named, would_edit, slice_get-set, slice_get-set_same, Meets, AnswersAt, IsWould, Notes, entered_of, heads_named, is_kept_in, is_made, ArmsAt, OpensAgainAt, OpensOn, StepsAt, left_with}
+use Rattle.tp_world.proofs.Common.{◌≡◌, ◌⊎◌, inl, inr, ℕ, ◌+◌, ◌-◌, ◌^◌, ◌<◌, ◌≤◌, min, List, [], ◌∷◌, ◌++◌, length, take, slice_set, true, false, Bool, ◌&&◌, nat_le, Option, Some, None, Result, Ok, Err, refl, sym, ap, ◌∙◌, subst, append-nil, arith, OnOk, is_err, slice_get, nat_tests, length-append, length-take, take_all, In, truth, Actor, Hash, ChangeParts, record_of, records_of, Recovers, recovered, length-record_of, PeerData, disarming, IsCall, heads_at, made_by, noting, Carried, Event, Crash, called_in, entries_of, IsEditAt, IsEditOf, MayHappen, WouldEdit, Reply, reply_to, Entry, ReadRecord, World, HasPeer, gained, with_made, with_peer, with_used, Left, left_of, nothing_left, one_call, one_cut, one_edit, one_named, would_edit, slice_get-set, slice_get-set_same, Meets, AnswersAt, IsWould, Notes, entered_of, heads_named, is_kept_in, is_made, DisarmsAt, OpensAgainAt, OpensOn, StepsAt, left_with}
 use Rattle.tp_journal.proofs.RecoveredLaws.{recovered_again}
 use Rattle.tp_headline.specs.Crashing.{ComesBack, kept_bytes, made_during, stopped_with}
 use Rattle.tp_headline.specs.Event.{Call}
@@ -253,15 +253,15 @@ between_meets w n kept actor peers used reply h o named =
     )
 
 -- a call of a peer whose device isn't to fail, in the world as it was
-calm_call : (w : World) (n : ℕ) (p q q' : PeerData) (named : call.Call) (made : peer.Call) (answer : peer.Reply) → HasPeer w n p → IsCall (with_peer w n (arming p false)) named made → peer.PeerStep q made answer q'
+calm_call : (w : World) (n : ℕ) (p q q' : PeerData) (named : call.Call) (made : peer.Call) (answer : peer.Reply) → HasPeer w n p → IsCall (with_peer w n (disarming p)) named made → peer.PeerStep q made answer q'
     → (own : peer.Call) × IsCall w named own × peer.PeerStep q own answer q'
 calm_call w n p q q' (call.Alone own) made answer stands is step = (made, is, step)
 calm_call w n p q q' (call.Deliver entry) made answer stands is step = (made, is, step)
-calm_call w n p q q' (call.Merge from) made answer stands is step = elim (slice_get-set w.peers n from (arming p false) is.0 is.1) [
+calm_call w n p q q' (call.Merge from) made answer stands is step = elim (slice_get-set w.peers n from (disarming p) is.0 is.1) [
   | inl same ↦ (
     peer.Merge p,
     (p, subst (λ k. HasPeer w k p) (sym same.0) stands, refl),
-    merge_calm q p false answer q' (subst (λ m. peer.PeerStep q m answer q') (is.2 ∙ ap peer.Merge same.1) step),
+    merge_calm q p answer q' (subst (λ m. peer.PeerStep q m answer q') (is.2 ∙ ap peer.Merge same.1) step),
   )
   | inr still ↦ (made, (is.0, still.1, is.2), step)
 ]
@@ -269,14 +269,14 @@ calm_call w n p q q' (call.Merge from) made answer stands is step = elim (slice_
 -- during a call, once the peer's device isn't to fail
 pub during_meets : (w v m : World) (n : ℕ) (named : call.Call) (kept len cut : ℕ) (actor : Actor) (change : Option ChangeParts) (answer : peer.Reply) (flag : Bool) (all : List ChangeParts) (peers : List PeerData)
     (used : List Actor) (reply : Reply) → Carried w → MayHappen w (Crash n (Some named) kept actor) → IsWould w (Crash n (Some named) kept actor) change
-    → (a : ArmsAt w.peers n false v.peers) → v ≡ with_peer w n (arming a.before false) → AnswersAt v n named answer m
+    → (a : DisarmsAt w.peers n v.peers) → v ≡ with_peer w n (disarming a.before) → AnswersAt v n named answer m
     → ((p : PeerData) → HasPeer v n p → len ≡ length p.journal) → cut ≡ min (len + kept) (2 ^ 64 - 1) → flag ≡ (is_made answer && is_kept_in change kept)
     → all ≡ m.made ++ entered_of change flag → OpensAgainAt m.peers n cut actor reply peers → used ≡ m.used ++ actor ∷ []
     → Meets w (Crash n (Some named) kept actor) reply (record m { peers = peers; made = all; used = used })
 during_meets w v m n named kept len cut actor change answer flag all peers used reply h may would a v_is s len_is cut_is flag_is e o f =
     let p = a.before in
     let at = s.after in
-    let calm = arming p false in
+    let calm = disarming p in
     let calm_stands : HasPeer v n calm = subst (λ (x : World). HasPeer x n calm) (sym v_is) (slice_get-set_same w.peers n p calm a.stands) in
     let before_is : s.before ≡ calm = let both : Some s.before ≡ Some calm = sym s.stands ∙ calm_stands in cc in
     let own = calm_call w n p calm at named s.made answer a.stands (subst (λ (x : World). IsCall x named s.made) v_is s.is) (subst (λ (x : PeerData). peer.PeerStep x s.made answer at) before_is s.steps) in

@@ -1,5 +1,5 @@
 -- From the tests of an event to whether it may happen, and else why not.
-use Rattle.tp_world.proofs.Common.{◌≡◌, inl, inr, ℕ, ◌+◌, ◌==◌, ◌<◌, ◌≤◌, List, [], ◌∷◌, length, true, false, Bool, ◌||◌, not, nat_lt, if◌then◌else◌, zero, suc, IsSome, Option, Some, None, refl, sym, ap, ◌∙◌, subst, arith, nat_tests, MatchBool, option_to_list, slice_get, In, both, both_left, both_right, never, or_left, or_right, truth, Actor, same_actor-itself, same_actor-same, ChangeParts, hash_of, has, has-In, In-has, PeerData, WorldError, NoPeer, ActorUsed, ForeignChange, HashClash, Stopped, NoEntry, OutOfMemory, code_of, Carried, Event, entries_of, peers_of, running_of, IsRefusal, MayHappen, Passes, WouldMake, keeps_whole, World, edit_is_new, AllThere, IsFresh, PassesBefore, clashes_in, is_named, IsWould}
+use Rattle.tp_world.proofs.Common.{◌≡◌, inl, inr, ℕ, ◌+◌, ◌==◌, ◌<◌, List, [], ◌∷◌, length, true, false, Bool, ◌||◌, not, nat_lt, if◌then◌else◌, zero, suc, IsSome, Option, Some, None, refl, sym, ap, ◌∙◌, subst, arith, nat_tests, MatchBool, option_to_list, slice_get, In, both, both_left, both_right, never, or_left, or_right, truth, Actor, same_actor-itself, same_actor-same, ChangeParts, hash_of, has, has-In, In-has, PeerData, WorldError, NoPeer, ActorUsed, ForeignChange, HashClash, Stopped, NoEntry, OutOfMemory, code_of, Carried, Event, entries_of, peers_of, running_of, IsRefusal, MayHappen, Passes, WouldMake, keeps_whole, World, edit_is_new, AllThere, IsFresh, PassesBefore, clashes_in, is_named, IsWould}
 use Rattle.tp_opid.specs.Same.{same_actor}
 use Rattle.tp_world.proofs.Happenings.{one_would}
 

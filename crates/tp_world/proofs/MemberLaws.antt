@@ -1,11 +1,10 @@
 -- What calls on the peers of a world did.
-use Rattle.tp_world.proofs.Common.{◌≡◌, inl, inr, ℕ, zero, suc, ◌^◌, ◌<◌, List, [], ◌∷◌, length, take, slice_set, Bool, true, false, ◌||◌, cond, Some, refl, sym, ap, ◌∙◌, subst, arith, MatchBool, slice_get, AllIn, Actor, DocId, ChangeParts, hash_of, has, In-has, journal, PeerError, PeerData, arming, opened, Merge, Merged, Refused, Runs, needs_stopped, Takes, journal_of, in_memory, slice_get-set, MergesAt, OpensAgainAt, OpensOn, left_with, or_right, neither}
+use Rattle.tp_world.proofs.Common.{◌≡◌, inl, inr, ℕ, zero, suc, ◌^◌, ◌<◌, List, [], ◌∷◌, length, take, slice_set, Bool, true, false, ◌||◌, cond, Some, refl, sym, ap, ◌∙◌, subst, arith, MatchBool, slice_get, AllIn, Actor, DocId, ChangeParts, hash_of, has, In-has, PeerData, disarming, opened, Merge, Merged, Refused, Runs, needs_stopped, Takes, journal_of, slice_get-set, MergesAt, OpensAgainAt, OpensOn, left_with, or_right, neither}
 use Rattle.tp_document.specs.Merging.{absent}
 use Rattle.tp_journal.specs.Journal.{no_device}
 use Rattle.tp_receive.proofs.TakingLaws.{Stops-still}
-use Rattle.tp_peer.specs.declared.error.PeerError.TheVariants.{ActorInUse, JournalFailed, JournalNotEmpty, Stopped, Doc, Store, OutOfMemory}
-use Rattle.tp_peer.specs.Appending.{AppendsRecord, JournalState, RefusesRecord}
-use Rattle.tp_peer.specs.Opening.{NotBegun, NotCopied, NotForked, NotReopened}
+use Rattle.tp_peer.specs.declared.error.PeerError.TheVariants.{JournalFailed, Stopped, Doc, OutOfMemory}
+use Rattle.tp_peer.specs.Appending.{AppendsRecord, RefusesRecord}
 use Rattle.tp_peer.specs.declared.call.Call.{Call as OwnCall}
 use Rattle.tp_peer.specs.Calls.{call_of}
 use Rattle.tp_peer.specs.PeerStep.{Call, Reply, PeerStep}
@@ -85,21 +84,21 @@ takes_nothing p runs = step_runs p (Merge p) (Refused OutOfMemory) p (neither p.
 -- ---- devices that aren't to fail
 
 -- what is taken from a peer doesn't depend on its device
-takes_calm : (p q : PeerData) (can_fail : Bool) (reply : Reply) (p' : PeerData) → Runs p (Merge (arming q can_fail)) reply p' → Runs p (Merge q) reply p'
-takes_calm p q can_fail (Merged r) p' h = h
-takes_calm p q can_fail (Refused (Doc e)) p' h = h
-takes_calm p q can_fail (Refused JournalFailed) p' h = h
-takes_calm p q can_fail (Refused OutOfMemory) p' h = h
-takes_calm p q can_fail _ p' h = absurd h
+takes_calm : (p q : PeerData) (reply : Reply) (p' : PeerData) → Runs p (Merge (disarming q)) reply p' → Runs p (Merge q) reply p'
+takes_calm p q (Merged r) p' h = h
+takes_calm p q (Refused (Doc e)) p' h = h
+takes_calm p q (Refused JournalFailed) p' h = h
+takes_calm p q (Refused OutOfMemory) p' h = h
+takes_calm p q _ p' h = absurd h
 
 match_runs : (A B C : Type 0) (b : Bool) → (B → C) → MatchBool b A B → MatchBool b A C
 match_runs A B C true f h = h
 match_runs A B C false f h = f h
 
-pub merge_calm : (p q : PeerData) (can_fail : Bool) (reply : Reply) (p' : PeerData) → PeerStep p (Merge (arming q can_fail)) reply p' → PeerStep p (Merge q) reply p'
+pub merge_calm : (p q : PeerData) (reply : Reply) (p' : PeerData) → PeerStep p (Merge (disarming q)) reply p' → PeerStep p (Merge q) reply p'
 unfolding PeerStep
-merge_calm p q can_fail reply p' h =
-    match_runs ((reply ≡ Refused Stopped) × (p' ≡ p)) (Runs p (Merge (arming q can_fail)) reply p') (Runs p (Merge q) reply p') (p.stopped || q.stopped) (takes_calm p q can_fail reply p') h
+merge_calm p q reply p' h =
+    match_runs ((reply ≡ Refused Stopped) × (p' ≡ p)) (Runs p (Merge (disarming q)) reply p') (Runs p (Merge q) reply p') (p.stopped || q.stopped) (takes_calm p q reply p') h
 
 -- ---- by their numbers
 

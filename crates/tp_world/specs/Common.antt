@@ -8,5 +8,5 @@ pub use Rattle.tp_headline.specs.Reply.{Answered, Peer, Refused, Reopened, Reply
 pub use Rattle.tp_headline.specs.World.{HasPeer, World, with_new_peer, with_peer, with_used}
 pub use Rattle.tp_headline.specs.declared.error.WorldError.TheVariants.{OutOfMemory}
 pub use Rattle.tp_opid.specs.declared.actor.Actor.{Actor}
-pub use Rattle.tp_peer.specs.PeerData.{PeerData, arming}
+pub use Rattle.tp_peer.specs.PeerData.{PeerData, arming, disarming}
 pub use Rattle.tp_peer.specs.declared.error.PeerError.{PeerError}

@@ -1,5 +1,5 @@
 -- The change that an event would make, and what is noted of an answer.
-use Rattle.std.specs.Prelude.{◌≡◌, ◌⊎◌, ℕ, List, [], ◌∷◌, ◌++◌, length, Bool, true, false, nat_le, Option, Some, None, Result, Ok, Err}
+use Rattle.std.specs.Prelude.{◌≡◌, ◌⊎◌, ℕ, List, [], ◌∷◌, length, Bool, true, false, nat_le, Option, Some, None, Result, Ok, Err}
 use Rattle.tp_world.specs.Common.{Actor, ChangeParts, PeerError, PeerData, OutOfMemory, IsCall, heads_at, noting, Event, IsEditOf, WouldEdit, Reply, Peer, Answered, Refused, reply_to, World, HasPeer, with_new_peer, with_peer, with_used}
 use Rattle.tp_opid.specs.declared.hash.Hash.{Hash}
 use Rattle.tp_graph.specs.Heads.{heads}

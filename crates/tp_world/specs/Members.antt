@@ -1,6 +1,6 @@
 -- The peers of a world, by their numbers, and what becomes of one that crashes.
-use Rattle.std.specs.Prelude.{◌≡◌, ◌⊎◌, ℕ, ◌<◌, ◌^◌, List, [], length, take, slice_set, Bool, true, Option, Some, None, Result, Ok, Err}
-use Rattle.tp_world.specs.Common.{slice_get, Actor, ChangeParts, PeerError, PeerData, arming, in_memory, Reply, Answered, Reopened}
+use Rattle.std.specs.Prelude.{◌≡◌, ◌⊎◌, ℕ, ◌<◌, ◌^◌, List, [], length, take, slice_set, true, Option, Some, None, Result, Ok, Err}
+use Rattle.tp_world.specs.Common.{slice_get, Actor, ChangeParts, PeerError, PeerData, arming, disarming, in_memory, Reply, Answered, Reopened}
 use Rattle.tp_opid.specs.declared.doc_id.DocId.{DocId}
 use Rattle.tp_journal.specs.Journal.{no_device}
 use Rattle.tp_journal.specs.Recovery.{recovered}
@@ -47,11 +47,17 @@ pub record MergesAt (peers : List PeerData) (n m : ℕ) (answer : peer.Reply) (p
   pub there : slice_get peers m ≡ Some other
   pub at : StepsAt peers n (peer.Merge other) answer peers'
 
--- The device of the peer numbered n is set to fail, or not to, and nothing else changed.
-pub record ArmsAt (peers : List PeerData) (n : ℕ) (can_fail : Bool) (peers' : List PeerData) : Type 0 where
+-- The next append to the journal of the peer numbered n is set to fail and to keep so many bytes, and nothing else changed.
+pub record ArmsAt (peers : List PeerData) (n kept : ℕ) (peers' : List PeerData) : Type 0 where
   pub before : PeerData
   pub stands : slice_get peers n ≡ Some before
-  pub left : peers' ≡ slice_set peers n (arming before can_fail)
+  pub left : peers' ≡ slice_set peers n (arming before kept)
+
+-- The device of the journal of the peer numbered n isn't to fail, and nothing else changed.
+pub record DisarmsAt (peers : List PeerData) (n : ℕ) (peers' : List PeerData) : Type 0 where
+  pub before : PeerData
+  pub stands : slice_get peers n ≡ Some before
+  pub left : peers' ≡ slice_set peers n (disarming before)
 
 -- The journal of the peer numbered n kept `keep` bytes at most, and was opened again under the actor.
 pub record OpensAgainAt (peers : List PeerData) (n keep : ℕ) (actor : Actor) (reply : Reply) (peers' : List PeerData) : Type 0 where

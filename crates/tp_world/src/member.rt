@@ -7,7 +7,7 @@ ghost use Rattle.tp_journal.specs.Journal.{no_device};
 ghost use Rattle.tp_journal.specs.Layout.{header_of, record_of};
 ghost use Rattle.tp_peer.specs.Calls.{call_of, reply_of};
 ghost use Rattle.tp_peer.specs.Opening.{Forks, NotBegun, NotForked};
-ghost use Rattle.tp_peer.specs.PeerData.{arming, opened};
+ghost use Rattle.tp_peer.specs.PeerData.{arming, disarming, opened};
 ghost use Rattle.tp_peer.specs.PeerStep.{Edit, Merge, Merged, PeerStep, replied};
 ghost use Rattle.tp_peer.specs.Taking.{report_of};
 ghost use Rattle.tp_headline.specs.Calling.{in_memory};
@@ -286,7 +286,7 @@ impl Member {
     /// The device of its journal is to fail in the next append, and to keep so many bytes.
     pub(crate) fn arm(&mut self, kept: u64)
         requires { self.old.stopped ≡ false }
-        ensures { self.new ≡ arming self.old true }
+        ensures { self.new ≡ arming self.old kept }
     {
         match &mut self.life {
             Life::Running(peer) => peer.arm(kept),
@@ -296,7 +296,7 @@ impl Member {
 
     /// The device of its journal isn't to fail.
     pub(crate) fn disarm(&mut self)
-        ensures { self.new ≡ arming self.old false }
+        ensures { self.new ≡ disarming self.old }
     {
         match &mut self.life {
             Life::Running(peer) => peer.disarm(),

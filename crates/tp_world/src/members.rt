@@ -1,13 +1,13 @@
 //! The peers of a world by their numbers.
 
-ghost use Rattle.std.specs.Prelude.{◌≡◌, ◌<◌, length, slice_set, Some, true, false, IfOk};
+ghost use Rattle.std.specs.Prelude.{◌≡◌, ◌<◌, length, slice_set, Some, false, IfOk};
 ghost use Rattle.std.specs.List.{slice_get};
 ghost use Rattle.tp_graph.specs.Heads.{heads};
 ghost use Rattle.tp_peer.specs.Calls.{call_of, reply_of};
 ghost use Rattle.tp_peer.specs.PeerData.{PeerData};
 ghost use Rattle.tp_peer.specs.PeerStep.{Merged, Receive, replied};
 ghost use Rattle.tp_peer.specs.Taking.{report_of};
-ghost use Rattle.tp_world.specs.Members.{ArmsAt, ForksAt, MergesAt, OpensAgainAt, StepsAt};
+ghost use Rattle.tp_world.specs.Members.{ArmsAt, DisarmsAt, ForksAt, MergesAt, OpensAgainAt, StepsAt};
 ghost use Rattle.tp_world.specs.Told.{reply_of as told};
 
 use crate::entry::Entry;
@@ -157,7 +157,7 @@ pub(crate) fn journal_len_at(members: &[Member], n: usize) -> u64
 /// The device of a peer that runs is to fail in the next append, and to keep so many bytes.
 pub(crate) fn arm_at(members: &mut Vec<Member>, n: usize, kept: u64)
     requires { (p : PeerData) × (slice_get members.old.items n ≡ Some p) × (p.stopped ≡ false) }
-    ensures { ArmsAt members.old.items n true members.new.items }
+    ensures { ArmsAt members.old.items n kept members.new.items }
 {
     let member = &mut members[n];
     member.arm(kept);
@@ -166,7 +166,7 @@ pub(crate) fn arm_at(members: &mut Vec<Member>, n: usize, kept: u64)
 /// The device of a peer isn't to fail.
 pub(crate) fn disarm_at(members: &mut Vec<Member>, n: usize)
     requires { n < length members.old.items }
-    ensures { ArmsAt members.old.items n false members.new.items }
+    ensures { DisarmsAt members.old.items n members.new.items }
 {
     let member = &mut members[n];
     member.disarm();

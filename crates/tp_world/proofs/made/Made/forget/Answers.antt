@@ -1,4 +1,4 @@
-use Rattle.tp_world.proofs.Common.{◌≡◌, ◌∙◌, List, false, ap, sym, ChangeParts, has}
+use Rattle.tp_world.proofs.Common.{◌∙◌, List, ap, sym, ChangeParts, has}
 use Rattle.tp_opid.specs.Order.{hash_cmp}
 use Rattle.tp_opid.specs.Same.{same_hash}
 use Rattle.tp_world.proofs.MadeLaws.{noted_fewer}

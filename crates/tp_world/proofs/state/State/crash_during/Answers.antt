@@ -1,4 +1,4 @@
-use Rattle.tp_world.proofs.Common.{◌≡◌, ◌<◌, List, length, Some, false, inl, refl, sym, ap, subst, slice_get, PeerData, arming, World, AnswersAt, world_of, answer_of, call_of, reply_of}
+use Rattle.tp_world.proofs.Common.{◌≡◌, ◌<◌, List, length, Some, inl, refl, sym, ap, subst, slice_get, PeerData, disarming, World, AnswersAt, world_of, answer_of, call_of, reply_of}
 use Rattle.tp_world.proofs.Happenings.{during_meets, entry_named, roomy_crash}
 use Rattle.tp_world.proofs.JudgeLaws.{sent_below, there_below}
 use Rattle.tp_world.proofs.MadeLaws.{ready_for}
@@ -13,13 +13,13 @@ pub journal_len_at-requires : goal.journal_len_at-requires
 journal_len_at-requires c =
     let a = c.disarm_at.ensures in
     subst (λ (l : List PeerData). c.args.n < length l) (sym c.deref.ensures.value)
-    (set_below c.args.self.now.peers.items c.disarm_at.new.members.items c.args.n c.args.n (arming a.before false) a.left
+    (set_below c.args.self.now.peers.items c.disarm_at.new.members.items c.args.n c.args.n (disarming a.before) a.left
     (there_below (world_of c.args.self.now) (events.Crash c.args.n (Some (call_of c.args.call)) c.args.kept c.args.actor) c.args.n c.requires.may (inl refl)))
 
 pub answer-answer-requires-clause-peers : goal.answer-answer-requires-clause-peers
 answer-answer-requires-clause-peers c = λ m i.
     let a = c.disarm_at.ensures in
-    set_below c.args.self.now.peers.items c.disarm_at.new.members.items c.args.n m (arming a.before false) a.left
+    set_below c.args.self.now.peers.items c.disarm_at.new.members.items c.args.n m (disarming a.before) a.left
     (there_below (world_of c.args.self.now) (events.Crash c.args.n (Some (call_of c.args.call)) c.args.kept c.args.actor) m c.requires.may i)
 
 pub answer-answer-requires-clause-entries : goal.answer-answer-requires-clause-entries
@@ -31,7 +31,7 @@ reopen_at-opened-requires c =
     let a = c.disarm_at.ensures in
     let s = c.answer-answer.ensures.answers in
     set_below c.disarm_at.new.members.items c.answer-answer.new.self.peers.items c.args.n c.args.n s.after (ap (λ (x : World). x.peers) s.left)
-    (set_below c.args.self.now.peers.items c.disarm_at.new.members.items c.args.n c.args.n (arming a.before false) a.left
+    (set_below c.args.self.now.peers.items c.disarm_at.new.members.items c.args.n c.args.n (disarming a.before) a.left
     (there_below (world_of c.args.self.now) (events.Crash c.args.n (Some (call_of c.args.call)) c.args.kept c.args.actor) c.args.n c.requires.may (inl refl)))
 
 pub add_if-requires : goal.add_if-requires

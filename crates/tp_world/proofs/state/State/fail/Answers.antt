@@ -1,4 +1,4 @@
-use Rattle.tp_world.proofs.Common.{inl, inr, refl, ap, World, world_of}
+use Rattle.tp_world.proofs.Common.{inl, inr, refl, ap, world_of}
 use Rattle.tp_headline.specs.Event as events
 use Rattle.tp_world.proofs.JudgeLaws.{runs_there}
 use Rattle.tp_world.proofs.state.State.fail.Goals as goal
