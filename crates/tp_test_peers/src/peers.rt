@@ -5,12 +5,12 @@ use std::alloc::Global;
 use std::fmt::Display;
 use tp_change::Change;
 use tp_document::Applied;
-use tp_journal::{FuseJournal, MemJournal};
+use tp_journal::{FuseJournal, MemJournal, header, put_record};
 use tp_opid::{Actor, DocId};
 use tp_peer::{Peer, PeerError, Unopened};
 use tp_test_runner::{
-    Fault, Runs, Shelf, Words, actor, count, document_id, done, keep_bytes, number, put_kept,
-    put_name, refusal,
+    Fault, Runs, Shelf, Words, actor, count, document_id, done, firsts, keep_bytes, number,
+    put_kept, put_name, range, refusal,
 };
 
 // `[on=BYTES]`: a copy of these bytes; none where there are none named.
@@ -80,6 +80,25 @@ fn reopen(world: &mut World, words: &mut Words) -> Result<String, Fault> {
     let journal = journal_of(&world.bytes, words)?;
     let made = Peer::reopen(world.alloc, journal, actor);
     keep(&mut world.peers, name, made)
+}
+
+// The bytes of a journal with these changes.
+fn journal_with(alloc: Global, id: DocId, changes: &[Change]) -> Result<Vec<u8>, Fault> {
+    let mut bytes = header(alloc, id).ok().ok_or(Fault::Memory)?;
+    for change in changes {
+        bytes = put_record(bytes, change).ok().ok_or(Fault::Memory)?;
+    }
+    Ok(bytes)
+}
+
+// `branches NAME FROM..TO [id=ID]`: names the bytes of a journal with the first changes of the actors with the numbers from
+// `FROM` up to, but without, `TO`, each of which inserts one character.
+fn branches(world: &mut World, words: &mut Words) -> Result<String, Fault> {
+    let name = words.next()?;
+    let (from, to) = range(words.next()?)?;
+    let made = firsts(world.alloc, from, to, "x")?;
+    let bytes = journal_with(world.alloc, id_of(words)?, &made)?;
+    keep_bytes(&mut world.bytes, name, bytes)
 }
 
 // `fork NAME OF ACTOR [on=BYTES] [append=K] [cut=0]`.
@@ -221,6 +240,7 @@ pub fn call(world: &mut World, word: &str, words: &mut Words) -> Option<Result<S
         "merge" => merge(world, words),
         "stop" => stop(world, words),
         "create_armed" => create_armed(world, words),
+        "branches" => branches(world, words),
         "arm" => arm(world, words),
         "arm_cut" => arm_cut(world, words),
         "disarm" => disarm(world, words),

@@ -8,12 +8,13 @@ use std::alloc::Global;
 use tp_frame::{Framer, PartFramer};
 use tp_journal::{FuseJournal, MemJournal};
 use tp_net::run_session;
+use tp_opid::Actor;
 use tp_peer::Link;
 use tp_session::{LinkedPeer, NetError, Role};
-use tp_test_runner::{Fault, Input, Judge, Output, Runs, Shelf, Words, actor_of, of_cuts};
+use tp_test_runner::{Fault, Input, Judge, Output, Runs, Shelf, Words, of_cuts};
 
-// The number of the actor of each fork.
-const FORKED: u16 = 999;
+// The actor of each fork, which no row names.
+const FORKED: Actor = Actor([255; 16]);
 
 /// A session to be run over a fork of a peer, where the other side sends these bytes: a fork of the other peer, if there
 /// is one, which then takes what was sent, and meets the first again.
@@ -58,7 +59,7 @@ fn planned<'a>(world: &'a World, words: &mut Words) -> Result<Plan<'a>, Fault> {
 /// Another peer with the same changes, on a journal of its own.
 pub fn forked(alloc: Global, peer: &RowPeer) -> Result<RowPeer, Fault> {
     let journal = FuseJournal::new(MemJournal::new(Vec::new(alloc)));
-    match peer.fork(journal, actor_of(FORKED)) {
+    match peer.fork(journal, FORKED) {
         Ok(peer) => Ok(peer),
         Err(_) => Err(Fault::Memory),
     }

@@ -28,6 +28,7 @@ mod words;
 pub use altering::{altered, call_on_bytes, derived, keep_bytes, spelled};
 pub use calls::Calls;
 pub use changes::{call_on_fields, keep_change};
+pub use crowds::firsts;
 pub use documents::{
     answer_position, answer_text, call_on_documents, document_id, keep_cursor, keep_document,
     read_document, text_of,

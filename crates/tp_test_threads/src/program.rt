@@ -6,7 +6,9 @@ use crate::runs::{
     sync_beside_silence, sync_once,
 };
 use crate::strangers::{Answered, Pace, UNKNOWN, first_other};
+use std::fs;
 use std::net::{Net, SocketAddr};
+use std::rt::Files;
 use std::sync::Wait;
 use std::test::Fail;
 use std::thread::{Threads, join};
@@ -172,6 +174,13 @@ where
     (ida, joe, kim)
 }
 
+// Removes the files, where they are there.
+fn remove_all<R: Files>(rt: &R, files: &[&str]) {
+    for file in files {
+        let _ = fs::remove_file(rt, *file);
+    }
+}
+
 // Hal's disk fails while he serves his journal: it takes Ida's change, and of Joe's nothing, a part, or all, but doesn't
 // bring that to its ground. Joe's session is refused, and so is Kim's, behind which the serving ends with the error. Hal's
 // journal has what Ida was told; once Hal has a disk again, Joe's change enters, if it didn't.
@@ -183,8 +192,10 @@ fn a_journal_fails_while_it_is_served(rt: HostRuntime) -> Result<(), Fail> {
         (Device::new(9, 0, 2), "ida hal joe\n"),
     ];
     assert!(rt; begin(&rt, "first", "hal", &[]));
+    let copies = ["hal", "ida", "joe", "kim"];
     for (disk, text) in rows {
-        assert!(rt; copy_all(&rt, "first", &["hal", "ida", "joe", "kim"]));
+        remove_all(&rt, &copies);
+        assert!(rt; copy_all(&rt, "first", &copies));
         assert!(rt; insert(&rt, "ida", "0", "ida ").status == 0);
         assert!(rt; insert(&rt, "joe", "3", " joe").status == 0);
         let place = Place::free(&rt)?;

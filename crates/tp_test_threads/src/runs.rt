@@ -110,7 +110,7 @@ pub fn copy_all<R: Disk>(rt: &R, file: &str, copies: &[&str]) -> bool {
     };
     let mut is_done = true;
     for copy in copies {
-        is_done = is_done && rt.replace(copy, bytes.as_slice()).is_ok();
+        is_done = is_done && rt.replace(copy, file, bytes.as_slice()).is_ok();
     }
     is_done
 }

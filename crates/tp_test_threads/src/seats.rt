@@ -81,26 +81,39 @@ fn in_order(changes: &[Change], text: &str) -> u64 {
     next
 }
 
-// Two threads make 100 edits each, and their seats meet half-way: how many characters each of three seats reads then,
-// and how many changes of each thread the peer has in order in the end.
-fn edited_by_two<R: Threads + Wait + Sync>(
-    rt: &R,
-    alloc: Global,
-) -> Option<([usize; 3], [u64; 2])> {
-    let room = seated(alloc, MemJournal::new(Vec::new(alloc)), 1)?;
-    let room = write_by_two(rt, room, 0, 50);
-    let room = write_by_two(rt, met(room), 50, 100);
+// How many characters each of three seats reads, and how many changes of each thread the peer has in order in the end.
+fn counted(alloc: Global, room: Room<MemJournal>) -> Option<([usize; 3], [u64; 2])> {
     let (room, lens) = read_by_each(room);
     let peer = peer_of(alloc, room)?;
     let changes = peer.document().changes();
     Some((lens, [in_order(changes, "a"), in_order(changes, "b")]))
 }
 
+// Two threads make 100 edits each: what is counted then.
+fn edited_by_two<R: Threads + Wait + Sync>(
+    rt: &R,
+    alloc: Global,
+) -> Option<([usize; 3], [u64; 2])> {
+    let room = seated(alloc, MemJournal::new(Vec::new(alloc)), 1)?;
+    counted(alloc, write_by_two(rt, room, 0, 100))
+}
+
+// The same, where their seats meet half-way.
+fn edited_by_two_that_meet<R: Threads + Wait + Sync>(
+    rt: &R,
+    alloc: Global,
+) -> Option<([usize; 3], [u64; 2])> {
+    let room = seated(alloc, MemJournal::new(Vec::new(alloc)), 1)?;
+    let room = write_by_two(rt, room, 0, 50);
+    counted(alloc, write_by_two(rt, met(room), 50, 100))
+}
+
 #[test]
 fn two_threads_edit_by_turns(rt: HostRuntime) -> Result<(), Fail> {
-    let (lens, in_order) = edited_by_two(&rt, rt.alloc()).ok_or("memory")?;
-    assert_eq!(rt; lens, [200, 200, 200]);
-    assert_eq!(rt; in_order, [100, 100]);
+    let apart = edited_by_two(&rt, rt.alloc()).ok_or("memory")?;
+    let met = edited_by_two_that_meet(&rt, rt.alloc()).ok_or("memory")?;
+    assert_eq!(rt; apart, ([200, 200, 200], [100, 100]));
+    assert_eq!(rt; met, ([200, 200, 200], [100, 100]));
     Ok(())
 }
 

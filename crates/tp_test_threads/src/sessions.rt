@@ -1,7 +1,7 @@
 //! Sessions over TCP, in threads of one process.
 
 use crate::hold::{Broken, Hold};
-use crate::sides::{client, server};
+use crate::sides::{client, server, server_without_seats};
 use crate::strangers::{Answered, Pace, UNKNOWN, first_other, leaves};
 use std::net::{Ipv4Addr, OpenListener, SocketAddr, TcpListener};
 use std::test::Fail;
@@ -31,13 +31,14 @@ fn both_sides_read_one_text(rt: HostRuntime) -> Result<(), Fail> {
     Ok(())
 }
 
-// The first session is held until the second has ended, so they go on side by side.
+// The first session is held until the second has ended, so they go on side by side. Whichever client's is the second gets
+// the server's change, and the other one gets both that it lacks.
 #[test]
 fn sessions_go_on_side_by_side(rt: HostRuntime) -> Result<(), Fail> {
     let listener = TcpListener::bind(&rt, here())?;
     let addr = listener.local_addr()?;
     let gate = Hold::new();
-    let (served, _) = join(
+    let (served, (two, three)) = join(
         &rt,
         || server(&rt, &listener, 2, 2, &gate),
         || {
@@ -48,6 +49,9 @@ fn sessions_go_on_side_by_side(rt: HostRuntime) -> Result<(), Fail> {
             )
         },
     );
+    let (two, three) = (two.ok_or("a client")?, three.ok_or("a client")?);
+    let both = ((two.0, two.1.as_str()), (three.0, three.1.as_str()));
+    assert!(rt; both == ((1, "qabc"), (2, "rqabc")) || both == ((2, "rqabc"), (1, "rabc")));
     assert_eq!(rt; served.ok_or("the server")?.as_str(), "rqabc");
     assert!(rt; !gate.gave_up());
     Ok(())
@@ -109,9 +113,10 @@ fn a_client_leaves(rt: HostRuntime) -> Result<(), Fail> {
     Ok(())
 }
 
-// A listener that fails ends the server.
+// A listener that fails ends the server, but where nothing is to be accepted.
 #[test]
 fn a_listener_fails(rt: HostRuntime) {
     assert!(rt; server(&rt, &Broken, 2, 1, &AlwaysOpen).is_none());
     assert!(rt; server(&rt, &Broken, 2, 0, &AlwaysOpen).is_some());
+    assert_eq!(rt; server_without_seats(&rt, &Broken, 1), Some(0));
 }

@@ -9,7 +9,7 @@ use std::net::{Net, OpenListener, OpenStream, SocketAddr};
 use std::sync::Wait;
 use std::thread::Threads;
 use tp_journal::MemJournal;
-use tp_net::{Gate, connect, serve};
+use tp_net::{AlwaysOpen, Gate, connect, serve};
 use tp_peer::Peer;
 use tp_served::{Seat, Served};
 
@@ -56,6 +56,28 @@ pub fn server<
     let (served, seats) = served(rt, 1, "abc", seats)?;
     match serve(rt, rt.alloc(), listener, &served, seats, sessions, gate) {
         Ok(seats) => text_of(rt, &served, seats),
+        Err(_) => None,
+    }
+}
+
+/// Serves `abc` of actor 1 to so many sessions without a seat: how many seats come back. `None` where that is refused.
+pub fn server_without_seats<
+    R: AllocGlobal + Threads + Wait + Sync,
+    S: Read + Write + OpenStream + Send + Drop,
+    L: OpenListener<Stream = S>,
+>(rt: &R, listener: &L, sessions: u64) -> Option<usize> {
+    let (served, _seats) = served(rt, 1, "abc", 1)?;
+    let none = Vec::new(rt.alloc());
+    match serve(
+        rt,
+        rt.alloc(),
+        listener,
+        &served,
+        none,
+        sessions,
+        &AlwaysOpen,
+    ) {
+        Ok(back) => Some(back.len()),
         Err(_) => None,
     }
 }
