@@ -66,11 +66,11 @@ HasReady K C = length C < most_changes → (c : ChangeParts) → In c K → has_
 
 pub takes_ready : (w : World) (p : PeerData) (K : List ChangeParts) (r : Report) (p' : PeerData) → Carried w → IsCarried w p → AllIn (p.waiting ++ K) w.made → Takes p K (Done r) p' → HasReady K p'.applied × AllIn p.applied p'.applied
 takes_ready w p K r p' h q came t =
-    let apart : HashesApart (p.waiting ++ K) = λ c d i j e. hashes_apart w.made h.sound c d (came c i) (came d j) e in
+    let apart : HashesApart (p.waiting ++ K) = λ c d i j e. hashes_apart w.made h.coherent.sound c d (came c i) (came d j) e in
     let x = (results AppendsRecord (journal_of p) p.applied p.waiting K (at_end (receiver_of p') r) q.history.sound apart t.receives.space t.receives.run t.receives.ends).receives in
     let S = p'.applied in
     let all : AllIn S w.made = λ c i. elim (In-append c p.applied x.new (subst (λ l. In c l) x.entered.begins i)) [ inl old ↦ q.applied c old | inr new ↦ came c (x.entered.came c new) ] in
-    let ready : HasReady K S = λ few c i deps. ready_is_there w.made S c h.sound x.sound all (came c (In-right c p.waiting K i)) deps few (x.closed c (In-right c p.waiting K i)) in
+    let ready : HasReady K S = λ few c i deps. ready_is_there w.made S c h.coherent.sound x.sound all (came c (In-right c p.waiting K i)) deps few (x.closed c (In-right c p.waiting K i)) in
     (ready, λ c i. subst (λ l. In c l) (sym x.entered.begins) (In-left c p.applied x.new i))
 
 -- what is there with all that came has all of a list of which the rest was there

@@ -1,5 +1,5 @@
 -- What merges and messages bring.
-use Rattle.tp_headline.proofs.Common.{◌≡◌, ◌⊎◌, inl, inr, ℕ, List, [], ◌∷◌, ◌++◌, ◌<◌, length, Bool, true, false, Option, Some, refl, sym, ap, ◌∙◌, subst, slice_get, In, AllIn, In-append, filter-In, truth, Hash, ChangeParts, hash_of, absent, most_changes, heads, has_all, Sound, has_all-heads, In-has_all, has-In, has_all-In, NoTwins, Sound-prefix, hashes_apart, Begins, changes_in, changes_of, known_of, PeerData, Report, message_at, all_carried, message_again, Alone, Deliver, Merge, after_call, Carried, Event, Call, Next, Answered, Reply, Wire, reply_to, GoesOn, Entry, World, HasEntry, HasPeer}
+use Rattle.tp_headline.proofs.Common.{◌≡◌, ◌⊎◌, inl, inr, ℕ, List, [], ◌∷◌, ◌++◌, ◌<◌, length, Bool, true, false, Option, Some, refl, sym, ap, ◌∙◌, subst, slice_get, In, AllIn, In-append, In-left, filter-In, truth, Hash, ChangeParts, hash_of, absent, most_changes, heads, has_all, Sound, has_all-heads, In-has_all, has-In, has_all-In, NoTwins, Sound-prefix, hashes_apart, Begins, changes_in, changes_of, known_of, PeerData, Report, message_at, all_carried, message_again, Alone, Deliver, Merge, Act, ActStep, ActSteps, after_call, Carried, Event, Call, Next, Answered, Reply, Wire, reply_to, GoesOn, Entry, World, HasEntry, HasPeer, lists_of}
 use Rattle.std.specs.Option.{option_map}
 use Rattle.tp_sync.specs.Due.{carried, due_of, is_due, leaves_out}
 use Rattle.tp_sync.specs.State.{declared}
@@ -7,9 +7,10 @@ use Rattle.tp_sync.proofs.UnionLaws.{not_due_held}
 use Rattle.tp_headline.specs.Arriving.{HoldsAll, HoldsReady}
 use Rattle.tp_headline.proofs.ArrivalLaws.{absent_or_there, all_arrive, takes_ready}
 use Rattle.tp_headline.proofs.CallLaws.{runs_of_steps}
-use Rattle.tp_headline.proofs.EventLaws.{goes_on_carries, next_carries}
+use Rattle.tp_headline.proofs.ActLaws.{later_on, step_later, steps_later}
+use Rattle.tp_headline.proofs.EventLaws.{goes_on_acts, next_acts}
 use Rattle.tp_headline.proofs.FollowLaws.{did, same_peer, stands_after}
-use Rattle.tp_headline.proofs.Lasting.{begins-In, lasts_on}
+use Rattle.tp_headline.proofs.Lasting.{begins-In, has_list}
 use Rattle.tp_headline.proofs.MakingLaws.{all_was_made}
 use Rattle.tp_graph.proofs.PlacesLaws.{at_last}
 use Rattle.tp_peer.specs.PeerStep as peer
@@ -37,7 +38,7 @@ merge_brings w into from report w' other h there next =
       | inl j ↦ inr j
       | inr known ↦
           let d = has-In p.applied (hash_of x) known in
-          inl (taken.1 x (subst (λ y. In y p.applied) (hashes_apart w.made h.sound d.0 x (q.applied d.0 d.1) (o.applied x i) d.2) d.1))
+          inl (taken.1 x (subst (λ y. In y p.applied) (hashes_apart w.made h.coherent.sound d.0 x (q.applied d.0 d.1) (o.applied x i) d.2) d.1))
     ] in
     let holds : HoldsAll w' into source.applied = record {
       peer = p';
@@ -102,6 +103,16 @@ message_stands w from to n m p there (inr does) =
       changes = ap changes_of (ap message_at runs.spelled ∙ message_again runs.message runs.limits) ∙ runs.answers.changes;
     })
 
+-- what a peer has it has later on
+list_stays : (w m v w' : World) (n : ℕ) (p p' : PeerData) (a : Act) (acts : List Act) (b : Act) → HasPeer w n p → HasPeer w' n p' → ActStep (lists_of w) a (lists_of m) → ActSteps (lists_of m) acts (lists_of v)
+    → ActStep (lists_of v) b (lists_of w') → AllIn p.applied p'.applied
+list_stays w m v w' n p p' a acts b stands stands' first on last =
+    let later = later_on (lists_of w) (lists_of m) (lists_of w') (step_later (lists_of w) a (lists_of m) first)
+    (later_on (lists_of m) (lists_of v) (lists_of w') (steps_later (lists_of m) acts (lists_of v) on) (step_later (lists_of v) b (lists_of w') last)) in
+    let grown = later.lists n p.applied (has_list w n p stands) in
+    let same : p'.applied ≡ p.applied ++ grown.0 = let is : Some p'.applied ≡ Some (p.applied ++ grown.0) = sym (has_list w' n p' stands') ∙ grown.1 in cc in
+    λ c i. subst (λ l. In c l) (sym same) (In-left c p.applied grown.0 i)
+
 has_all-append : (D : List ChangeParts) (H K : List Hash) → has_all D H ≡ true → has_all D K ≡ true → has_all D (H ++ K) ≡ true
 has_all-append D H K a b = In-has_all D (H ++ K) (λ h i. elim (In-append h H K i) [ inl j ↦ has_all-In D H a h j | inr j ↦ has_all-In D K b h j ])
 
@@ -114,20 +125,17 @@ message_brings w from to n p q D m events v report same w' h stands_p stands_q b
     let s = known_of p.links to in
     let hp = h.peers from p stands_p in
     let hq = h.peers to q stands_q in
-    let first = next_carries w (Call from (Alone (peer.Generate to))) (Wire n) m h send in
-    let on = goes_on_carries events m v first.carried goes in
-    let last = next_carries v (Call to (Deliver n)) (Answered (peer.Received report same)) w' on.carried deliver in
-    let lasts = lasts_on w m w' first.lasts (lasts_on m v w' on.lasts last.lasts) in
+    let first = next_acts w (Call from (Alone (peer.Generate to))) (Wire n) m h send in
+    let on = goes_on_acts events m v first.carries.carried goes in
+    let last = next_acts v (Call to (Deliver n)) (Answered (peer.Received report same)) w' on.carried deliver in
     let sent = message_stands w from to n m p stands_p send in
     let e = sent.entry in
     let K = changes_in e.bytes in
-    let ready = delivery_brings v n to report same w' e on.carried (on.lasts.grows.wire n e sent.stands) deliver in
+    let ready = delivery_brings v n to report same w' e on.carried (on.grows.wire n e sent.stands) deliver in
     let P = ready.peer in
-    let grown = lasts.lists to q stands_q in
-    let one = same_peer w' to grown.peer P grown.stands ready.stands in
-    let longer : AllIn q.applied P.applied = subst (λ (x : PeerData). AllIn q.applied x.applied) one (begins-In q.applied grown.peer.applied grown.begins) in
+    let longer : AllIn q.applied P.applied = list_stays w m v w' to q P first.act on.acts.acts last.act stands_q ready.stands first.carries.step on.acts.steps last.carries.step in
     let old : AllIn D q.applied = begins-In D q.applied b in
-    let apart : NoTwins C D = λ c d i j same_hash. hashes_apart w.made h.sound c d (hp.applied c i) (hq.applied d (old d j)) same_hash in
+    let apart : NoTwins C D = λ c d i j same_hash. hashes_apart w.made h.coherent.sound c d (hp.applied c i) (hq.applied d (old d j)) same_hash in
     let sound : Sound D = Sound-prefix D b.0 (subst Sound b.1 hq.history.sound) in
     let theirs : List Hash = heads D ++ s.known in
     let there : has_all D theirs ≡ true = has_all-append D (heads D) s.known (has_all-heads D) knows in

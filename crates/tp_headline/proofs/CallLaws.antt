@@ -1,10 +1,10 @@
 -- What calls leave of a peer.
-use Rattle.tp_headline.proofs.Common.{length, ◌≤◌, arith, append-nil, ◌≡◌, ◌⊎◌, inl, inr, ℕ, List, [], ◌∷◌, ◌++◌, take, true, false, Some, None, refl, sym, ap, ◌∙◌, subst, append_assoc, append_cancel_left, In, AllIn, Hash, ChangeParts, IsChange, IsTextOf, AllChanges, absent, text_at_all_heads, has_all, past, Sound, has_all-heads, record_of, records_of, Outcome, Done, Stopped, ReceivesWith, at_end, EntersAfter, AppendsRecord, JournalState, RefusesRecord, Appends, AreFew, came, changes_in, changes_of, Keeps, known_of, PeerData, Device, DeviceFails, after_appends, infallible, disarming, Takes, receiver_of, coming, run_advances, step_cases, step_keeps, message_at, carried-In, message_again, heads_at, IsMessageOf, MayEnter, IsEditOf}
+use Rattle.tp_headline.proofs.Common.{length, ◌≤◌, arith, append-nil, ◌≡◌, ◌⊎◌, inl, inr, ℕ, List, [], ◌∷◌, ◌++◌, take, Bool, true, false, Some, None, refl, sym, ap, ◌∙◌, subst, append_assoc, append_cancel_left, In, AllIn, ChangeParts, IsChange, AllChanges, absent, record_of, records_of, Outcome, Done, Stopped, ReceivesWith, at_end, EntersAfter, AppendsRecord, JournalState, RefusesRecord, Appends, AreFew, came, changes_in, changes_of, Keeps, known_of, PeerData, Device, DeviceFails, after_appends, infallible, disarming, Takes, receiver_of, coming, run_advances, step_cases, step_keeps, message_at, carried-In, message_again, IsMessageOf, MayEnter, IsEditOf}
 use Rattle.tp_edit.specs.declared.splice.Splice.{Splice}
 use Rattle.tp_receive.specs.declared.error.ReceiveError.{ReceiveError}
 use Rattle.tp_receive.specs.Intake.{Intake, Receiver, Run}
 use Rattle.tp_receive.proofs.TurnLaws.{Run-one, Run-then}
-use Rattle.tp_peer.specs.PeerStep.{Call, Edit, Merge, Receive, Generate, Read, ReadAt, Decodes, HearsPart, Reply, Made, Merged, Received, Generated, Text, Refused, PeerStep, Runs}
+use Rattle.tp_peer.specs.PeerStep.{Call, Edit, Merge, Receive, Generate, Read, ReadAt, Decodes, HearsPart, Reply, Made, Merged, Received, Generated, Refused, PeerStep, Runs}
 use Rattle.tp_peer.proofs.PeerLaws.{whole_turn}
 use Rattle.tp_sync.specs.Message.{MessageParts}
 use Rattle.tp_receive.specs.declared.error.ReceiveError.TheVariants as receive
@@ -13,16 +13,16 @@ use Rattle.tp_peer.specs.declared.error.PeerError.TheVariants as error
 -- ---- what a call may enter
 
 -- a list of applied changes grew by these alone
-same_new : (p p' : PeerData) (new more : List ChangeParts) → p'.applied ≡ p.applied ++ new → p'.applied ≡ p.applied ++ more → new ≡ more
+pub same_new : (p p' : PeerData) (new more : List ChangeParts) → p'.applied ≡ p.applied ++ new → p'.applied ≡ p.applied ++ more → new ≡ more
 same_new p p' new more grown also = append_cancel_left p.applied new more (sym grown ∙ also)
 
-none_new : (p p' : PeerData) (new : List ChangeParts) → p'.applied ≡ p.applied ++ new → p'.applied ≡ p.applied → new ≡ []
+pub none_new : (p p' : PeerData) (new : List ChangeParts) → p'.applied ≡ p.applied ++ new → p'.applied ≡ p.applied → new ≡ []
 none_new p p' new grown same = same_new p p' new [] grown (same ∙ sym (append-nil p.applied))
 
 none_In : (new K : List ChangeParts) → new ≡ [] → AllIn new K
 none_In new K none c i = absurd (subst (λ l. In c l) none i)
 
-as_it_was : (p p' : PeerData) → p' ≡ p → p'.applied ≡ p.applied
+pub as_it_was : (p p' : PeerData) → p' ≡ p → p'.applied ≡ p.applied
 as_it_was p p' same = ap (λ (x : PeerData). x.applied) same
 
 -- what receiving entered waited or came
@@ -276,16 +276,10 @@ steps_enter p made answer p' s =
       calm = λ c. e.calm refl;
     }
 
--- ---- what is noted of an answer
+-- ---- what is sent
 
--- a message carries applied changes, and a text is that at the heads
-abbrev pub IsNoted : PeerData → List Hash → Reply → Type 0
-IsNoted p H (Generated (Some message)) = IsMessageOf p.applied message.0
-IsNoted p H (Text text) = (has_all p.applied H ≡ true) × IsTextOf (past p.applied H) text
-IsNoted p H answer = Unit {0}
-
-run_noted : (p : PeerData) (made : Call) (answer : Reply) (p' : PeerData) → Sound p.applied → Runs p made answer p' → IsNoted p' (heads_at p made) answer
-run_noted p (Generate link) (Generated (Some message)) p' sound h =
+run_sends : (p : PeerData) (made : Call) (message : List ℕ × Bool) (p' : PeerData) → Runs p made (Generated (Some message)) p' → IsMessageOf p'.applied message.0
+run_sends p (Generate link) message p' h =
     let known = known_of p.links link in
     let left : p'.applied ≡ p.applied = ap (λ (x : PeerData). x.applied) h.left in
     record {
@@ -293,15 +287,8 @@ run_noted p (Generate link) (Generated (Some message)) p' sound h =
       reads = ap message_at h.spelled ∙ message_again h.message h.limits;
       carries = λ c i. subst (λ l. In c l) (sym left) (carried-In p.applied known c (subst (λ l. In c l) h.answers.changes i));
     }
-run_noted p Read (Text text) p' sound h =
-    subst (λ (x : PeerData). IsNoted x (heads_at p Read) (Text text)) (sym h.1) (has_all-heads p.applied, (text_at_all_heads p.applied text sound).1 h.0)
-run_noted p (ReadAt H) (Text text) p' sound h = subst (λ (x : PeerData). IsNoted x H (Text text)) (sym h.2) (h.0, h.1)
-run_noted p made (Generated (Some message)) p' sound h = absurd h
-run_noted p made (Text text) p' sound h = absurd h
-run_noted p made answer p' sound h = tt
+run_sends p made message p' h = absurd h
 
-pub steps_noted : (p : PeerData) (made : Call) (answer : Reply) (p' : PeerData) → Sound p.applied → PeerStep p made answer p' → IsNoted p' (heads_at p made) answer
-steps_noted p made answer p' sound s = elim (step_cases p made answer p' s) [
-  | inl stopped ↦ subst (λ a. IsNoted p' (heads_at p made) a) (sym stopped.0) tt
-  | inr runs ↦ run_noted p made answer p' sound runs.1
-]
+-- a message carries applied changes
+pub steps_sends : (p : PeerData) (made : Call) (message : List ℕ × Bool) (p' : PeerData) → PeerStep p made (Generated (Some message)) p' → IsMessageOf p'.applied message.0
+steps_sends p made message p' s = run_sends p made message p' (runs_of_steps p made (Generated (Some message)) p' s (λ e. cc))

@@ -1,7 +1,7 @@
 -- The names that several proofs cite, passed on from one place. Declares nothing.
-pub use Rattle.std.proofs.Common.{Bool, IsSome, is_some, List, None, Option, Some, [], ap, append-nil, append_assoc, arith, cond, drop, false, filter, inl, inr, length, length-append, nat_le, refl, slice_set, subst, suc, sym, take, true, zero, ℕ, ◌++◌, ◌+◌, ◌-◌, ◌<◌, ◌∙◌, ◌∷◌, ◌≡◌, ◌≤◌, ◌⊎◌, ◌||◌}
+pub use Rattle.std.proofs.Common.{Bool, IsSome, is_some, List, None, Option, Some, [], ap, append-nil, append_assoc, arith, cond, drop, false, filter, inl, inr, length, length-append, map, nat_le, option_map, refl, slice_set, subst, suc, sym, take, true, zero, ℕ, ◌++◌, ◌+◌, ◌<◌, ◌∙◌, ◌∷◌, ◌≡◌, ◌≤◌, ◌⊎◌, ◌||◌}
 pub use Rattle.std.proofs.Math.Seq.{drop-append_seam, take-append-add, take-length}
-pub use Rattle.std.proofs.lemmas.List.{append_cancel_left, take_all}
+pub use Rattle.std.proofs.lemmas.List.{append_cancel_left, drop-map, length-map, map-append, take-append-drop, take-map, take_all}
 pub use Rattle.std.specs.List.{slice_get}
 pub use Rattle.tp_change.specs.ChangeHash.{hash_of}
 pub use Rattle.tp_change.specs.Limits.{IsChange}
@@ -22,15 +22,18 @@ pub use Rattle.tp_graph.specs.Past.{past}
 pub use Rattle.tp_graph.specs.Sound.{Fits, Sound}
 pub use Rattle.tp_headline.specs.Call.{Alone, Deliver, Merge}
 pub use Rattle.tp_headline.specs.Calling.{Calls, IsAlone, IsCall, after_call, heads_at, made_by, noting}
-pub use Rattle.tp_headline.specs.Carried.{Carried, IsCarried, IsFaithful, IsMessageOf, LivesApart}
+pub use Rattle.tp_headline.specs.Carried.{Carried, IsCarried, IsMessageOf, LivesApart}
+pub use Rattle.tp_headline.specs.Coherent.{Coherent, IsFaithful}
 pub use Rattle.tp_headline.specs.Crashing.{ComesBack, Crashes, KeepsWhole, MakesUnanswered, MakesWhole, MayBe, MayEnter, kept_bytes, made_during, stopped_with}
 pub use Rattle.tp_headline.specs.Event.{Call, Crash, Event, Fail, Fork, Start, bytes_of, called_in, entries_of, named_by, needed_by}
-pub use Rattle.tp_headline.specs.Follows.{Follows, HoldsFrom, Saw, ShowsFromNowOn}
+pub use Rattle.tp_headline.specs.Follows.{Follows, IsMoment}
 pub use Rattle.tp_headline.specs.Happening.{Happens, Next}
+pub use Rattle.tp_headline.specs.Headline.{Act, ActStep, ActSteps, HasList, Headline, Lasts, Lists, ReadRecord, add_change, add_list, add_read, no_lists, seen, set_list}
+pub use Rattle.tp_headline.specs.Refining.{AreActs, IsActOf, IsOneAct}
 pub use Rattle.tp_headline.specs.Refusing.{IsEditAt, IsEditOf, IsOpen, MayHappen, WouldEdit}
 pub use Rattle.tp_headline.specs.Reply.{Answered, Peer, Reply, Wire, reply_to}
-pub use Rattle.tp_headline.specs.Running.{GoesOn, Met}
-pub use Rattle.tp_headline.specs.World.{Entry, HasEntry, HasPeer, ReadRecord, World, beginning, gained, seen, with_entry, with_made, with_new_peer, with_peer, with_read, with_used}
+pub use Rattle.tp_headline.specs.Running.{GoesOn, GoesOnWith, Met}
+pub use Rattle.tp_headline.specs.World.{Entry, HasEntry, HasPeer, World, beginning, gained, lists_of, with_entry, with_made, with_new_peer, with_peer, with_read, with_used}
 pub use Rattle.tp_journal.proofs.CutLaws.{journal-append, journal-push, recovers_cut}
 pub use Rattle.tp_journal.proofs.HistoryLaws.{history_none, history_prefix, history_push}
 pub use Rattle.tp_journal.proofs.RecoveryLaws.{recovers_once}

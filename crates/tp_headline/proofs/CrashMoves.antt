@@ -1,11 +1,12 @@
 -- What a crash makes of a peer of a world.
-use Rattle.tp_headline.proofs.Common.{◌≡◌, ◌⊎◌, inl, inr, ℕ, ◌+◌, ◌<◌, ◌≤◌, nat_le, List, [], ◌∷◌, ◌++◌, length, take, drop, true, false, Option, Some, None, refl, sym, ap, ◌∙◌, subst, append-nil, arith, take_all, drop-append_seam, take-append-add, In, AllIn, In-append, In-last, In-left, truth, Actor, DocId, ChangeParts, no_device, IsDocId, record_of, records_of, journal, IsHistory, Recovers, recovers_cut, recovers_once, PeerData, opened, history_grows, Alone, Merge, Deliver, IsCall, made_by, Carried, IsCarried, ComesBack, Crashes, KeepsWhole, MakesWhole, MayBe, MayEnter, kept_bytes, made_during, stopped_with, Crash, bytes_of, Happens, Next, MayHappen, Reply, World, HasPeer, gained, with_made, with_peer, with_used}
+use Rattle.tp_headline.proofs.Common.{◌≡◌, ◌⊎◌, inl, inr, ℕ, ◌+◌, ◌<◌, ◌≤◌, nat_le, List, [], ◌∷◌, ◌++◌, length, take, drop, true, false, Option, Some, None, refl, sym, ap, ◌∙◌, subst, append-nil, arith, take_all, drop-append_seam, take-append-add, In, AllIn, In-append, In-last, In-left, never, truth, Act, Actor, DocId, ChangeParts, no_device, IsDocId, record_of, records_of, journal, IsHistory, Recovers, recovers_cut, recovers_once, PeerData, opened, history_grows, Alone, Merge, Deliver, IsCall, made_by, Carried, IsCarried, ComesBack, Crashes, KeepsWhole, MakesWhole, MayBe, MayEnter, kept_bytes, made_during, stopped_with, Crash, bytes_of, Happens, IsActOf, Next, MayHappen, Reply, World, HasPeer, gained, with_made, with_peer, with_used}
 use Rattle.std.proofs.lemmas.Bool.Decides.{nat_tests}
 use Rattle.tp_headline.specs.Call.{Call}
 use Rattle.tp_headline.proofs.CallLaws.{Enters, may_enter, steps_enter}
-use Rattle.tp_headline.proofs.Lasting.{Carries, Grows, becomes, begins-In}
+use Rattle.tp_headline.specs.Headline.{Nothing}
+use Rattle.tp_headline.proofs.Lasting.{Acts, Carries, Grows, begins-In}
 use Rattle.tp_headline.proofs.MakingLaws.{Makes, all_was_made, makes, makes_none, nothing_left, one_cut, recovers_all, would_edit}
-use Rattle.tp_headline.proofs.PeerMoves.{LivesOn, Moves, moves_grow, peer_changes}
+use Rattle.tp_headline.proofs.PeerMoves.{IsMaking, LivesOn, Moves, act_by, enters_by, moves_grow, peer_changes}
 use Rattle.tp_headline.proofs.PlaceLaws.{slice_get-set_same}
 use Rattle.tp_peer.specs.PeerStep as peer
 use Rattle.tp_headline.specs.declared.error.WorldError.TheVariants as world
@@ -42,24 +43,27 @@ recovered_cut p at kept new is own appended history =
     }
 
 -- What the journal of p recovers to between calls: its changes, and those that were made of which it has whole records.
+-- A peer that runs has just its changes there.
 pub record FoundBetween (w : World) (p : PeerData) (kept : ℕ) : Type 0 where
   pub whole : List ChangeParts
   pub were_made : AllIn whole w.made
+  pub none : p.stopped ≡ false → whole ≡ []
   pub keep : ℕ
   pub recovers : Recovers (kept_bytes p p kept) p.id (p.applied ++ whole) keep
 
-found_in : (w : World) (p : PeerData) (kept keep : ℕ) (whole : List ChangeParts) → AllIn whole w.made → Recovers p.journal p.id (p.applied ++ whole) keep → FoundBetween w p kept
-found_in w p kept keep whole were_made r =
+found_in : (w : World) (p : PeerData) (kept keep : ℕ) (whole : List ChangeParts) → AllIn whole w.made → (p.stopped ≡ false → whole ≡ []) → Recovers p.journal p.id (p.applied ++ whole) keep
+    → FoundBetween w p kept
+found_in w p kept keep whole were_made none r =
     let bytes : kept_bytes p p kept ≡ p.journal = take_all (length p.journal + kept) p.journal (omega arith) in
-    record { whole = whole; were_made = were_made; keep = keep; recovers = subst (λ b. Recovers b p.id (p.applied ++ whole) keep) (sym bytes) r }
+    record { whole = whole; were_made = were_made; none = none; keep = keep; recovers = subst (λ b. Recovers b p.id (p.applied ++ whole) keep) (sym bytes) r }
 
 pub found_between : (w : World) (p : PeerData) (kept : ℕ) → Carried w → IsCarried w p → FoundBetween w p kept
 found_between w p kept h q = elim (truth p.stopped) [
-  | inl stopped ↦ let d = q.dead stopped in found_in w p kept d.keep d.more d.were_made d.recovers
+  | inl stopped ↦ let d = q.dead stopped in found_in w p kept d.keep d.more d.were_made (λ runs. never stopped runs) d.recovers
   | inr runs ↦
       let keep = length (journal p.id p.applied) in
       let all = recovers_all p.id p.applied (subst IsDocId (sym q.id) h.is_id) q.history in
-      found_in w p kept keep [] (λ c i. absurd i) (subst (λ b. Recovers b p.id (p.applied ++ []) keep) (sym (q.live runs).journal) (subst (λ C. Recovers (journal p.id p.applied) p.id C keep) (sym (append-nil p.applied)) all))
+      found_in w p kept keep [] (λ c i. absurd i) (λ r. refl) (subst (λ b. Recovers b p.id (p.applied ++ []) keep) (sym (q.live runs).journal) (subst (λ C. Recovers (journal p.id p.applied) p.id C keep) (sym (append-nil p.applied)) all))
 ]
 
 -- ---- the peer afterwards
@@ -133,7 +137,7 @@ new_life w p p' bytes C actor fresh (inr is) runs = absurd (let stopped : true �
 -- the peer that crashed comes back, and changes of its life were made
 crash_returns : (w : World) (n : ℕ) (p p' : PeerData) (bytes : List ℕ) (whole made : List ChangeParts) (keep : ℕ) (actor : Actor) (reply : Reply) → Carried w → HasPeer w n p
     → Recovers bytes p.id (p.applied ++ whole) keep → ComesBack p bytes actor reply p' → (In actor w.used → ⊥) → Makes w p whole made
-    → Carries w (with_used (with_made (with_peer w n p') made) actor)
+    → Carries w (act_by n whole made) (with_used (with_made (with_peer w n p') made) actor)
 crash_returns w n p p' bytes whole made keep actor reply h stands r comes fresh m =
     let w' = with_used (with_made (with_peer w n p') made) actor in
     let C = p.applied ++ whole in
@@ -149,12 +153,11 @@ crash_returns w n p p' bytes whole made keep actor reply h stands r comes fresh 
       | inl old ↦ fresh (subst (λ a. In a w.used) is (h.used c old))
       | inr fresh_one ↦ fresh (subst (λ a. In a w.used) (sym (m.by.actor c fresh_one) ∙ is) q.used)
     ] in
-    peer_changes w w' n p p' made (record {
+    let may : IsMaking w p (whole ++ []) made = subst (λ x. IsMaking w p x made) (sym (append-nil whole)) m.may in
+    peer_changes w w' n p p' made (act_by n whole made) (enters_by w n p p' whole [] made stands (back_applied p p' bytes C actor back) r.history.sound may) (record {
       old = h;
       stands = stands;
       moves = moves;
-      begins = (whole, back_applied p p' bytes C actor back);
-      sound = m.sound;
       by = m.by;
       carried = back_is_carried w w' p p' bytes C keep actor q grows r all (In-last actor w.used) none back;
       life = new_life w p p' bytes C actor fresh back;
@@ -199,26 +202,50 @@ during_is w (Deliver entry) made new is = ap (λ (m : peer.Call). made_by m new)
 
 -- ---- every crash
 
+-- as a reply, that a peer crashed doesn't say how its lists changed
+crash_is : (w : World) (n : ℕ) (named : Call) (kept : ℕ) (actor : Actor) (reply : Reply) (p p' : PeerData) (bytes : List ℕ) (a : Act) → ComesBack p bytes actor reply p'
+    → IsActOf w (Crash n (Some named) kept actor) reply a
+crash_is w n named kept actor reply p p' bytes a (inl again) = subst (λ r. IsActOf w (Crash n (Some named) kept actor) r a) (sym again.0) tt
+crash_is w n named kept actor reply p p' bytes a (inr down) = subst (λ r. IsActOf w (Crash n (Some named) kept actor) r a) (sym down.1) tt
+
+-- but that a peer that ran crashed between calls does
+between_is : (w : World) (n kept : ℕ) (actor : Actor) (reply : Reply) (p p' : PeerData) (bytes : List ℕ) (a : Act) → ComesBack p bytes actor reply p'
+    → ((q : PeerData) → HasPeer w n q → q.stopped ≡ false → a ≡ Nothing) → IsActOf w (Crash n None kept actor) reply a
+between_is w n kept actor reply p p' bytes a (inl again) none = subst (λ r. IsActOf w (Crash n None kept actor) r a) (sym again.0) none
+between_is w n kept actor reply p p' bytes a (inr down) none = subst (λ r. IsActOf w (Crash n None kept actor) r a) (sym down.1) none
+
+same_running : (w : World) (n : ℕ) (p q : PeerData) → HasPeer w n p → HasPeer w n q → q.stopped ≡ false → p.stopped ≡ false
+same_running w n p q i j runs = let same : Some p ≡ Some q = sym i ∙ j in let is : p ≡ q = cc in ap (λ (x : PeerData). x.stopped) is ∙ runs
+
 crashed : (w : World) (n : ℕ) (during : Option Call) (kept : ℕ) (actor : Actor) (reply : Reply) → Carried w → MayHappen w (Crash n during kept actor) → (c : Crashes w n during kept actor reply)
-    → Carries w (with_used (with_made (with_peer w n c.after) (made_during during (gained c.before c.after))) actor)
+    → Acts w (Crash n during kept actor) reply (with_used (with_made (with_peer w n c.after) (made_during during (gained c.before c.after))) actor)
 crashed w n None kept actor reply h may c =
     let p = c.before in
     let f = found_between w p kept h (h.peers n p c.stands) in
-    crash_returns w n p c.after (kept_bytes p p kept) f.whole [] f.keep actor reply h c.stands f.recovers
-    (subst (λ (x : PeerData). ComesBack p (kept_bytes p x kept) actor reply c.after) c.might c.back) (may world.ActorUsed actor refl) (makes_none w p f.whole h f.were_made)
+    let comes = subst (λ (x : PeerData). ComesBack p (kept_bytes p x kept) actor reply c.after) c.might c.back in
+    record {
+      act = act_by n f.whole [];
+      carries = crash_returns w n p c.after (kept_bytes p p kept) f.whole [] f.keep actor reply h c.stands f.recovers comes (may world.ActorUsed actor refl) (makes_none w p f.whole f.were_made);
+      is = between_is w n kept actor reply p c.after (kept_bytes p p kept) (act_by n f.whole []) comes (λ q there runs. ap (λ l. act_by n l []) (f.none (same_running w n p q c.stands there runs)));
+    }
 crashed w n (Some named) kept actor reply h may c =
     let p = c.before in
     let i = interrupted w n p named c.at kept actor h may c.stands c.might in
     let made = c.might.0 in
-    let same : made_during (Some named) (gained p c.after) ≡ made_by made i.cut.whole =
-    during_is w named made (gained p c.after) c.might.2 ∙ ap (λ l. made_by made l) (gained_back p c.after (kept_bytes p c.at kept) i.cut.whole i.cut.keep actor reply i.cut.recovers c.back) in
-    subst (λ l. Carries w (with_used (with_made (with_peer w n c.after) l) actor)) (sym same)
-    (crash_returns w n p c.after (kept_bytes p c.at kept) i.cut.whole (made_by made i.cut.whole) i.cut.keep actor reply h c.stands i.cut.recovers c.back (may world.ActorUsed actor refl) i.makes)
+    let whole = i.cut.whole in
+    let same : made_during (Some named) (gained p c.after) ≡ made_by made whole =
+    during_is w named made (gained p c.after) c.might.2 ∙ ap (λ l. made_by made l) (gained_back p c.after (kept_bytes p c.at kept) whole i.cut.keep actor reply i.cut.recovers c.back) in
+    let act = act_by n whole (made_by made whole) in
+    record {
+      act = act;
+      carries = subst (λ l. Carries w act (with_used (with_made (with_peer w n c.after) l) actor)) (sym same)
+          (crash_returns w n p c.after (kept_bytes p c.at kept) whole (made_by made whole) i.cut.keep actor reply h c.stands i.cut.recovers c.back (may world.ActorUsed actor refl) i.makes);
+      is = crash_is w n named kept actor reply p c.after (kept_bytes p c.at kept) act c.back;
+    }
 
-pub crash_carries : (w : World) (n : ℕ) (during : Option Call) (kept : ℕ) (actor : Actor) (reply : Reply) (w' : World) → Carried w → MayHappen w (Crash n during kept actor)
-    → Happens w (Crash n during kept actor) reply w' → Carries w w'
-crash_carries w n during kept actor reply w' h may s =
-    becomes w w' (with_used (with_made (with_peer w n s.0.after) (made_during during (gained s.0.before s.0.after))) actor) s.1 (crashed w n during kept actor reply h may s.0)
+pub crash_acts : (w : World) (n : ℕ) (during : Option Call) (kept : ℕ) (actor : Actor) (reply : Reply) (w' : World) → Carried w → MayHappen w (Crash n during kept actor)
+    → Happens w (Crash n during kept actor) reply w' → Acts w (Crash n during kept actor) reply w'
+crash_acts w n during kept actor reply w' h may s = subst (λ x. Acts w (Crash n during kept actor) reply x) (sym s.1) (crashed w n during kept actor reply h may s.0)
 
 -- ---- what is kept of a call
 

@@ -1,5 +1,9 @@
--- What lasts from one moment of a world to a later one.
-use Rattle.tp_headline.proofs.Common.{◌≡◌, ℕ, List, [], ◌++◌, true, false, refl, sym, ap, ◌∙◌, subst, append_assoc, append-nil, inl, inr, ◌⊎◌, Some, In, AllIn, In-left, ChangeParts, IsTextOf, has_all, past, Sound, has_all-more, Sound-before, Begins, PeerData, Entry, ReadRecord, World, HasEntry, HasPeer, seen, HoldsFrom, Carried, IsCarried, IsFaithful, IsMessageOf, LivesApart, Actor, slice_get}
+-- What lasts from one moment of a world to a later one, and what each act leaves carried.
+use Rattle.tp_headline.proofs.Common.{◌≡◌, ℕ, List, [], ◌++◌, false, refl, sym, ap, ◌∙◌, subst, append_assoc, append-nil, inl, inr, ◌⊎◌, Some, option_map, In, AllIn, In-left, ChangeParts, Begins, PeerData, Act, ActStep, HasList, set_list, Event, IsActOf, Reply, Entry, World, HasEntry, HasPeer, lists_of, with_made, with_peer, Carried, IsCarried, IsMessageOf, LivesApart, ReadRecord, Actor, slice_get, slice_set}
+use Rattle.std.proofs.lemmas.Option.{slice_get-map}
+use Rattle.tp_headline.specs.Headline.{Nothing}
+use Rattle.tp_headline.proofs.ActLaws.{step_coheres}
+use Rattle.tp_headline.proofs.PlaceLaws.{map-slice_set, slice_set-still}
 
 -- From w to w' the document is the same, what was made and used is so still, and each entry of the wire stays.
 pub record Grows (w w' : World) : Type 0 where
@@ -8,72 +12,81 @@ pub record Grows (w w' : World) : Type 0 where
   pub used : AllIn w.used w'.used
   pub wire : (n : ℕ) (e : Entry) → HasEntry w n e → HasEntry w' n e
 
--- And each peer's list only grew, and what was read is so still.
-pub record Lasts (w w' : World) : Type 0 where
+-- w goes on as w', which is carried, by the act.
+pub record Carries (w : World) (a : Act) (w' : World) : Type 0 where
   pub grows : Grows w w'
-  pub lists : (n : ℕ) (p : PeerData) → HasPeer w n p → HoldsFrom w' n p.applied
-  pub reads : (more : List ReadRecord) × (w'.reads ≡ w.reads ++ more)
-
--- w goes on as w', which is carried
-pub record Carries (w w' : World) : Type 0 where
-  pub lasts : Lasts w w'
+  pub step : ActStep (lists_of w) a (lists_of w')
   pub carried : Carried w'
+
+-- The event, with its reply, is an act by which w goes on as w'.
+pub record Acts (w : World) (e : Event) (reply : Reply) (w' : World) : Type 0 where
+  pub act : Act
+  pub carries : Carries w act w'
+  pub is : IsActOf w e reply act
 
 pub begins_still : (C : List ChangeParts) → Begins C C
 begins_still C = ([], sym (append-nil C))
 
-pub begins_on : (C D E : List ChangeParts) → Begins C D → Begins D E → Begins C E
+begins_on : (C D E : List ChangeParts) → Begins C D → Begins D E → Begins C E
 begins_on C D E d e = (d.0 ++ e.0, e.1 ∙ ap (λ l. l ++ e.0) d.1 ∙ append_assoc C d.0 e.0)
 
 pub begins-In : (C D : List ChangeParts) → Begins C D → AllIn C D
 begins-In C D b c i = subst (λ l. In c l) (sym b.1) (In-left c C b.0 i)
 
-pub lasts_still : (w : World) → Lasts w w
-lasts_still w = record {
-  grows = record { id = refl; made = begins_still w.made; used = λ a i. i; wire = λ n e i. i };
-  lists = λ n p h. record { peer = p; stands = h; begins = begins_still p.applied };
-  reads = ([], sym (append-nil w.reads));
-}
+pub grows_still : (w : World) → Grows w w
+grows_still w = record { id = refl; made = begins_still w.made; used = λ a i. i; wire = λ n e i. i }
 
-pub lasts_on : (w m w' : World) → Lasts w m → Lasts m w' → Lasts w w'
-lasts_on w m w' first next = record {
-  grows = record {
-    id = next.grows.id ∙ first.grows.id;
-    made = begins_on w.made m.made w'.made first.grows.made next.grows.made;
-    used = λ a i. next.grows.used a (first.grows.used a i);
-    wire = λ n e i. next.grows.wire n e (first.grows.wire n e i);
-  };
-  lists = λ n p h.
-      let one = first.lists n p h in
-      let two = next.lists n one.peer one.stands in
-      record { peer = two.peer; stands = two.stands; begins = begins_on p.applied one.peer.applied two.peer.applied one.begins two.begins };
-  reads = (first.reads.0 ++ next.reads.0, next.reads.1 ∙ ap (λ l. l ++ next.reads.0) first.reads.1 ∙ append_assoc w.reads first.reads.0 next.reads.0);
+pub grows_on : (w m w' : World) → Grows w m → Grows m w' → Grows w w'
+grows_on w m w' first next = record {
+  id = next.id ∙ first.id;
+  made = begins_on w.made m.made w'.made first.made next.made;
+  used = λ a i. next.used a (first.used a i);
+  wire = λ n e i. next.wire n e (first.wire n e i);
 }
 
 -- nothing changed
-pub still : (w w' : World) → Carried w → w' ≡ w → Carries w w'
-still w w' h is = subst (λ x. Carries w x) (sym is) (record { lasts = lasts_still w; carried = h })
+pub still : (w w' : World) → Carried w → w' ≡ w → Carries w Nothing w'
+still w w' h is = subst (λ x. Carries w Nothing x) (sym is) (record { grows = grows_still w; step = refl; carried = h })
 
-pub becomes : (w w' m : World) → w' ≡ m → Carries w m → Carries w w'
-becomes w w' m is c = subst (λ x. Carries w x) (sym is) c
+pub becomes : (w : World) (a : Act) (w' m : World) → w' ≡ m → Carries w a m → Carries w a w'
+becomes w a w' m is c = subst (λ x. Carries w a x) (sym is) c
 
--- what a read saw stays the same
-pub seen_stays : (w w' : World) (r : ReadRecord) → has_all w.made r.heads ≡ true → Begins w.made w'.made → Sound w'.made → seen w' r ≡ seen w r
-seen_stays w w' r known made sound =
-    ap (λ C. past C r.heads) made.1 ∙ Sound-before w.made made.0 r.heads known (subst Sound made.1 sound)
+-- an act after nothing, and nothing after an act
+pub acts_after : (w m : World) (a : Act) (w' : World) → Carries w Nothing m → Carries m a w' → Carries w a w'
+acts_after w m a w' first next = record {
+  grows = grows_on w m w' first.grows next.grows;
+  step = subst (λ s. ActStep s a (lists_of w')) first.step next.step;
+  carried = next.carried;
+}
 
--- a read stays faithful
-pub faithful_stays : (w w' : World) (r : ReadRecord) → Lasts w w' → Sound w'.made → IsFaithful w r → IsFaithful w' r
-faithful_stays w w' r lasts sound h =
-    let same = seen_stays w w' r h.known lasts.grows.made sound in
-    let on = lasts.lists r.peer h.peer h.stands in
-    record {
-      known = has_all-more w.made w'.made r.heads (begins-In w.made w'.made lasts.grows.made) h.known;
-      text = subst (λ C. IsTextOf C r.text) (sym same) h.text;
-      peer = on.peer;
-      stands = on.stands;
-      held = λ c i. begins-In h.peer.applied on.peer.applied on.begins c (h.held c (subst (λ C. In c C) same i));
-    }
+pub acts_before : (w : World) (a : Act) (m w' : World) → Carries w a m → Carries m Nothing w' → Carries w a w'
+acts_before w a m w' first next = record {
+  grows = grows_on w m w' first.grows next.grows;
+  step = subst (λ s. ActStep (lists_of w) a s) (sym next.step) first.step;
+  carried = next.carried;
+}
+
+-- ---- the lists of a world
+
+-- the list of a peer
+pub has_list : (w : World) (n : ℕ) (p : PeerData) → HasPeer w n p → HasList (lists_of w) n p.applied
+has_list w n p stands = slice_get-map (λ (x : PeerData). x.applied) w.peers n ∙ ap (option_map (λ (x : PeerData). x.applied)) stands
+
+-- the lists, once a peer has another one and changes were made
+pub lists_are : (w : World) (n : ℕ) (p' : PeerData) (made : List ChangeParts) (C M : List ChangeParts) → p'.applied ≡ C → w.made ++ made ≡ M
+    → (let s = set_list (lists_of w) n C in lists_of (with_made (with_peer w n p') made) ≡ record s { made = M })
+lists_are w n p' made C M applied all =
+    let s = lists_of w in
+    ap (λ (l : List (List ChangeParts)). record s { lists = l; made = w.made ++ made }) (map-slice_set (λ (x : PeerData). x.applied) w.peers n p' ∙ ap (λ D. slice_set s.lists n D) applied)
+    ∙ ap (λ m. record s { lists = slice_set s.lists n C; made = m }) all
+
+-- a peer that has its list
+pub set_still : (w : World) (n : ℕ) (p : PeerData) → HasPeer w n p → set_list (lists_of w) n p.applied ≡ lists_of w
+set_still w n p stands =
+    let s = lists_of w in
+    ap (λ (l : List (List ChangeParts)). record s { lists = l }) (slice_set-still s.lists n p.applied (has_list w n p stands))
+
+-- ---- what stays carried
 
 -- A peer that stays as it is stays carried, where its actor made nothing new.
 pub carried_stays : (w w' : World) (p : PeerData) → Grows w w' → (p.stopped ≡ false → (c : ChangeParts) → In c w'.made → c.actor ≡ p.actor → In c w.made) → IsCarried w p → IsCarried w' p
@@ -95,24 +108,23 @@ pub message_stays : (C D : List ChangeParts) (bytes : List ℕ) → AllIn C D �
 message_stays C D bytes all h = record { message = h.message; reads = h.reads; carries = λ c i. all c (h.carries c i) }
 
 -- The same was made, and peers, actors, entries and reads are there besides, each as it should be.
-pub adds : (w : World) (peers : List PeerData) (used : List Actor) (wire : List Entry) (reads new : List ReadRecord) → Carried w → reads ≡ w.reads ++ new → AllIn w.used used
-    → ((n : ℕ) (e : Entry) → HasEntry w n e → slice_get wire n ≡ Some e) → ((n : ℕ) (p : PeerData) → HasPeer w n p → slice_get peers n ≡ Some p)
-    → (let w' : World = record w { peers = peers; used = used; wire = wire; reads = reads } in ((n : ℕ) (p : PeerData) → HasPeer w' n p → HasPeer w n p ⊎ IsCarried w' p) → LivesApart w'
-    → ((e : Entry) → In e wire → In e w.wire ⊎ IsMessageOf w.made e.bytes) → ((r : ReadRecord) → In r reads → In r w.reads ⊎ IsFaithful w' r) → Carries w w')
-adds w peers used wire reads new h is more entries stand carried lives sent read =
+pub adds : (w : World) (peers : List PeerData) (used : List Actor) (wire : List Entry) (reads : List ReadRecord) (a : Act) → Carried w → AllIn w.used used
+    → ((n : ℕ) (e : Entry) → HasEntry w n e → slice_get wire n ≡ Some e)
+    → (let w' : World = record w { peers = peers; used = used; wire = wire; reads = reads } in ActStep (lists_of w) a (lists_of w')
+    → ((n : ℕ) (p : PeerData) → HasPeer w' n p → HasPeer w n p ⊎ IsCarried w' p) → LivesApart w' → ((e : Entry) → In e wire → In e w.wire ⊎ IsMessageOf w.made e.bytes) → Carries w a w')
+adds w peers used wire reads a h more entries step carried lives sent =
     let w' : World = record w { peers = peers; used = used; wire = wire; reads = reads } in
     let grows : Grows w w' = record { id = refl; made = begins_still w.made; used = more; wire = entries } in
-    let lasts : Lasts w w' = record { grows = grows; lists = λ n p i. record { peer = p; stands = stand n p i; begins = begins_still p.applied }; reads = (new, is) } in
     record {
-      lasts = lasts;
+      grows = grows;
+      step = step;
       carried = record {
         is_id = h.is_id;
-        sound = h.sound;
+        coherent = step_coheres (lists_of w) a (lists_of w') h.coherent step;
         limits = h.limits;
         used = λ c i. more c.actor (h.used c i);
         peers = λ n p i. elim (carried n p i) [ inl old ↦ carried_stays w w' p grows (λ runs c j by. j) (h.peers n p old) | inr fresh ↦ fresh ];
         lives = lives;
         wire = λ e i. elim (sent e i) [ inl old ↦ h.wire e old | inr fresh ↦ fresh ];
-        reads = λ r i. elim (read r i) [ inl old ↦ faithful_stays w w' r lasts h.sound (h.reads r old) | inr fresh ↦ fresh ];
       };
     }

@@ -1,5 +1,6 @@
 pub mod Common
 pub mod PlaceLaws
+pub mod ActLaws
 pub mod CallLaws
 pub mod Lasting
 pub mod PeerMoves

@@ -1,12 +1,13 @@
 -- What calls make, and what they make of a peer of a world.
-use Rattle.tp_headline.proofs.Common.{◌≡◌, ◌⊎◌, inl, inr, ℕ, ◌+◌, ◌<◌, ◌≤◌, List, [], ◌∷◌, ◌++◌, length, length-append, take, cond, Bool, true, false, Option, Some, refl, sym, ap, ◌∙◌, subst, append-nil, append_assoc, arith, take-append-add, take-length, append_cancel_left, In, AllIn, In-append, In-left, In-right, In-slice_get, never, not_true, DocId, same_actor, same_actor-same, ChangeParts, hash_of, IsChange, absent, has, Sound, Fits-from_cause, has-In, In-has, Fits-whole, Sound-push, IsDocId, journal, record_of, records_of, IsHistory, Recovers, journal-append, recovers_cut, history_prefix, recovers_once, Keeps, came, changes_in, changes_of, PeerData, history_grows, journal_grows, step_keeps, Alone, Merge, Deliver, IsAlone, IsCall, made_by, Carried, IsCarried, MayEnter, Event, called_in, IsEditAt, IsEditOf, WouldEdit, World, HasPeer, with_made, with_peer}
+use Rattle.tp_headline.proofs.Common.{◌≡◌, ◌⊎◌, inl, inr, ℕ, ◌+◌, ◌<◌, ◌≤◌, List, [], ◌∷◌, ◌++◌, length, length-append, take, cond, Bool, true, false, Option, Some, refl, sym, ap, ◌∙◌, subst, append-nil, append_assoc, arith, take-append-add, take-length, append_cancel_left, In, AllIn, In-append, In-left, In-right, In-slice_get, never, not_true, DocId, ChangeParts, hash_of, IsChange, absent, has, Sound, Fits-from_cause, has-In, In-has, Sound-push, IsDocId, journal, record_of, records_of, IsHistory, Recovers, journal-append, recovers_cut, history_prefix, recovers_once, Keeps, came, changes_in, changes_of, PeerData, history_grows, journal_grows, step_keeps, Alone, Merge, Deliver, IsAlone, IsCall, made_by, Carried, IsCarried, MayEnter, Event, called_in, IsEditAt, IsEditOf, WouldEdit, World, HasPeer, lists_of, with_made, with_peer}
 use Rattle.std.proofs.lemmas.Grind.{flat_map-append}
 use Rattle.tp_document.specs.Editing.{Asked, Edited, asking}
 use Rattle.tp_document.proofs.EditFits.{edit_determined}
 use Rattle.tp_headline.specs.Call.{Call}
 use Rattle.tp_headline.proofs.CallLaws.{Enters, Stops, calm_kept, may_enter, steps_leave}
 use Rattle.tp_headline.proofs.Lasting.{Carries, Grows}
-use Rattle.tp_headline.proofs.PeerMoves.{AreBy, Moves, moves_grow, peer_changes}
+use Rattle.tp_headline.specs.Headline.{MayMake}
+use Rattle.tp_headline.proofs.PeerMoves.{AreBy, IsMaking, Moves, act_by, enters_by, moves_grow, peer_changes}
 use Rattle.tp_peer.specs.PeerStep as peer
 
 -- ---- edits
@@ -60,44 +61,47 @@ would_edit w e n named made c called is edit =
 
 -- ---- what is made
 
--- Of the new changes these were made: they fit all that was made, by the peer alone, and the others were made before.
+-- Of the new changes these were made, by the peer alone, and the others were made before.
 pub record Makes (w : World) (p : PeerData) (new made : List ChangeParts) : Type 0 where
-  pub sound : Sound (w.made ++ made)
+  pub may : IsMaking w p new made
   pub by : AreBy p made
   pub all : AllIn new (w.made ++ made)
   pub own : AllIn made new
 
 -- nothing is made where all was made before
-pub makes_none : (w : World) (p : PeerData) (new : List ChangeParts) → Carried w → AllIn new w.made → Makes w p new []
-makes_none w p new h old = record {
-  sound = subst Sound (sym (append-nil w.made)) h.sound;
+pub makes_none : (w : World) (p : PeerData) (new : List ChangeParts) → AllIn new w.made → Makes w p new []
+makes_none w p new old = record {
+  may = old;
   by = record { runs = λ c i. absurd i; actor = λ c i. absurd i; limits = λ c i. absurd i };
   all = λ c i. In-left c w.made [] (old c i);
   own = λ c i. absurd i;
 }
 
--- The change of an edit fits all that was made, where no other that was made has its hash.
-edit_is_sound : (w : World) (n : ℕ) (made : peer.Call) (c : ChangeParts) → Carried w → (e : IsEditAt w n made c) → IsAsked e.peer c → ((d : ChangeParts) → In d w.made → hash_of d ≡ hash_of c → d ≡ c)
-    → Sound (w.made ++ c ∷ [])
-edit_is_sound w n made c h e a apart =
+-- The change of an edit may be made, where no other that was made has its hash.
+edit_may : (w : World) (n : ℕ) (made : peer.Call) (c : ChangeParts) → Carried w → (e : IsEditAt w n made c) → IsAsked e.peer c → ((d : ChangeParts) → In d w.made → hash_of d ≡ hash_of c → d ≡ c)
+    → MayMake (lists_of w) e.peer.applied c
+edit_may w n made c h e a apart =
     let p = e.peer in
     let q = h.peers n p e.stands in
     let live = q.live e.runs in
     let fits = Fits-from_cause p.applied c a.edited.enters in
     let actor : c.actor ≡ p.actor = a.edited.edit.actor ∙ a.who in
-    let own : (d : ChangeParts) → In d w.made → same_actor d.actor c.actor ≡ true → In d p.applied = λ d i same. live.own d i (same_actor-same d.actor c.actor same ∙ actor) in
-    let new : has w.made (hash_of c) ≡ false = not_true (has w.made (hash_of c)) (λ t.
-    let d = has-In w.made (hash_of c) t in
-    let there : In c p.applied = live.own c (subst (λ x. In x w.made) (apart d.0 d.1 d.2) d.1) actor in
-    never (In-has p.applied c (hash_of c) there refl) fits.new) in
-    Sound-push w.made c h.sound (Fits-whole p.applied w.made c q.history.sound h.sound q.applied own fits new)
+    record {
+      deps = a.edited.edit.deps;
+      sound = Sound-push p.applied c q.history.sound fits;
+      hash = not_true (has w.made (hash_of c)) (λ t.
+          let d = has-In w.made (hash_of c) t in
+          let there : In c p.applied = live.own c (subst (λ x. In x w.made) (apart d.0 d.1 d.2) d.1) actor in
+          never (In-has p.applied c (hash_of c) there refl) fits.new);
+      own = λ d i same. live.own d i (same ∙ actor);
+    }
 
 makes_edit : (w : World) (n : ℕ) (made : peer.Call) (c : ChangeParts) → Carried w → (e : IsEditAt w n made c) → ((d : ChangeParts) → In d w.made → hash_of d ≡ hash_of c → d ≡ c)
     → Makes w e.peer (c ∷ []) (c ∷ [])
 makes_edit w n made c h e apart =
     let a = asked_of e.peer made c e.edited in
     record {
-      sound = edit_is_sound w n made c h e a apart;
+      may = (refl, refl, edit_may w n made c h e a apart);
       by = record {
         runs = λ d i. e.runs;
         actor = λ d i. elim i [ inl is ↦ ap (λ (x : ChangeParts). x.actor) is ∙ a.edited.edit.actor ∙ a.who | inr none ↦ absurd none ];
@@ -122,16 +126,16 @@ pub makes : (w : World) (n : ℕ) (p : PeerData) (made : peer.Call) (new whole o
     → AllIn (p.waiting ++ came p made) w.made
     → ((c : ChangeParts) → whole ≡ c ∷ [] → IsEditAt w n made c → (d : ChangeParts) → In d w.made → hash_of d ≡ hash_of c → d ≡ c) → Makes w p whole (made_by made whole)
 makes w n p (peer.Edit ss time message) new whole others h stands runs (inl none) split came apart =
-    subst (λ l. Makes w p l l) (sym (nothing_left whole others (sym none ∙ split))) (makes_none w p [] h (λ c i. absurd i))
+    subst (λ l. Makes w p l l) (sym (nothing_left whole others (sym none ∙ split))) (makes_none w p [] (λ c i. absurd i))
 makes w n p (peer.Edit ss time message) new whole others h stands runs (inr one) split came apart =
     let c = one.0 in
     let e : IsEditAt w n (peer.Edit ss time message) c = record { peer = p; stands = stands; runs = runs; edited = one.1 } in
     elim (one_cut c whole others (sym one.2 ∙ split)) [
-      | inl none ↦ subst (λ l. Makes w p l l) (sym none) (makes_none w p [] h (λ d i. absurd i))
+      | inl none ↦ subst (λ l. Makes w p l l) (sym none) (makes_none w p [] (λ d i. absurd i))
       | inr is ↦ subst (λ l. Makes w p l l) (sym is) (makes_edit w n (peer.Edit ss time message) c h e (apart c is e))
     ]
 makes w n p made new whole others h stands runs enters split came apart =
-    makes_none w p whole h (λ c i. came c (enters c (subst (λ l. In c l) (sym split) (In-left c whole others i))))
+    makes_none w p whole (λ c i. came c (enters c (subst (λ l. In c l) (sym split) (In-left c whole others i))))
 
 -- ---- what comes
 
@@ -331,17 +335,16 @@ left_is_carried w w' p call p' made l grows is m came runs q =
 
 -- a call of a running peer
 pub peer_left : (w : World) (n : ℕ) (p : PeerData) (call : peer.Call) (p' : PeerData) → Carried w → HasPeer w n p → p.stopped ≡ false → (l : Left p call p') → AllIn (p.waiting ++ came p call) w.made
-    → Makes w p l.whole (made_by call l.whole) → Carries w (with_made (with_peer w n p') (made_by call l.whole))
+    → Makes w p l.whole (made_by call l.whole) → Carries w (act_by n l.new (made_by call l.whole)) (with_made (with_peer w n p') (made_by call l.whole))
 peer_left w n p call p' h stands runs l came m =
     let made = made_by call l.whole in
     let w' = with_made (with_peer w n p') made in
     let moves : Moves w w' n p' made = record { id = refl; peers = refl; made = refl; used = λ a i. i; wire = refl; reads = refl } in
-    peer_changes w w' n p p' made (record {
+    let may : IsMaking w p (l.new ++ l.more) made = subst (λ x. IsMaking w p x made) l.entered m.may in
+    peer_changes w w' n p p' made (act_by n l.new made) (enters_by w n p p' l.new l.more made stands l.applied (subst Sound l.applied l.history.sound) may) (record {
       old = h;
       stands = stands;
       moves = moves;
-      begins = (l.new, l.applied);
-      sound = m.sound;
       by = m.by;
       carried = left_is_carried w w' p call p' made l (moves_grow w w' n p' made moves) refl m came runs (h.peers n p stands);
       life = λ on. inl (runs, l.actor);

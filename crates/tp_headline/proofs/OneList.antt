@@ -1,5 +1,5 @@
 -- The one list of all elements, and each text that was read as a part of it.
-use Rattle.tp_headline.proofs.Common.{◌≡◌, inl, inr, ℕ, List, [], ◌∷◌, ◌++◌, filter, refl, sym, ap, ◌∙◌, subst, append_assoc, append-nil, In, SameMembers, In-push, In-filter, filter-In, Hash, id_eq, id_eq-flip, ChangeParts, IsTextOf, chars_of, text_of_a_set, past, Sound, past-In, past-more, sound-induct, sound_pasts, World, Carried}
+use Rattle.tp_headline.proofs.Common.{◌≡◌, inl, inr, ℕ, List, [], ◌∷◌, ◌++◌, filter, refl, sym, ap, ◌∙◌, subst, append_assoc, append-nil, In, SameMembers, In-push, In-filter, filter-In, Hash, id_eq, id_eq-flip, ChangeParts, IsTextOf, chars_of, text_of_a_set, past, Sound, past-In, past-more, sound-induct, sound_pasts, Act, ActSteps, Coherent, Lists, no_lists}
 use Rattle.tp_opid.specs.Insert.{Insert}
 use Rattle.tp_opid.specs.Tree.{AreApart, IsNew}
 use Rattle.tp_opid.proofs.Trees.{IsTree-same}
@@ -16,6 +16,7 @@ use Rattle.tp_document.proofs.ShowingLaws.{one_text}
 use Rattle.tp_document.proofs.SoundText.{CanApply-fits}
 use Rattle.tp_graph.proofs.TreeLaws.{inserts_tree}
 use Rattle.tp_headline.specs.Headline.{Agrees, Headline, inserted_by}
+use Rattle.tp_headline.proofs.ActLaws.{no_lists_coherent, steps_cohere}
 
 -- ---- identifiers apart
 
@@ -83,16 +84,20 @@ texts_alike C H K s t sound same a b =
 
 -- ---- the headline
 
-pub carried_headline : (w : World) → Carried w → Headline w
-carried_headline w h =
-    let tree = inserts_tree w.made h.sound in
-    let found = order_exists (inserts w.made) tree in
+pub coherent_headline : (s : Lists) → Coherent s → Headline s
+coherent_headline s h =
+    let tree = inserts_tree s.made h.sound in
+    let found = order_exists (inserts s.made) tree in
     record {
-      apart = inserts_apart w.made h.sound;
+      apart = inserts_apart s.made h.sound;
       elements = found.0;
       order = found.1;
-      once = stands_once (inserts w.made) found.0 tree found.1;
-      one_list = λ other order. one_order (inserts w.made) other found.0 tree order found.1;
-      agree = λ r i. text_agrees w.made r.heads found.0 r.text h.sound found.1 (h.reads r i).text;
-      alike = λ r s i j same. texts_alike w.made r.heads s.heads r.text s.text h.sound same (h.reads r i).text (h.reads s j).text;
+      once = stands_once (inserts s.made) found.0 tree found.1;
+      one_list = λ other order. one_order (inserts s.made) other found.0 tree order found.1;
+      agree = λ r i. text_agrees s.made r.heads found.0 r.text h.sound found.1 (h.reads r i).text;
+      alike = λ r q i j same. texts_alike s.made r.heads q.heads r.text q.text h.sound same (h.reads r i).text (h.reads q j).text;
     }
+
+-- so it holds of each world that acts lead to
+pub acts_headline : (acts : List Act) (s : Lists) → ActSteps no_lists acts s → Headline s
+acts_headline acts s steps = coherent_headline s (steps_cohere no_lists acts s no_lists_coherent steps)

@@ -1,33 +1,45 @@
 -- A peer of a world joins, or changes.
-use Rattle.tp_headline.proofs.Common.{◌≡◌, ◌⊎◌, inl, inr, ℕ, List, [], ◌∷◌, ◌++◌, slice_set, false, Some, refl, sym, ap, ◌∙◌, subst, append-nil, slice_get, In, AllIn, In-left, In-append, In-last, In-push, Actor, ChangeParts, AllChanges, Sound, no_device, IsDocId, IsHistory, Begins, PeerData, arming, opened, Entry, World, HasPeer, with_entry, with_new_peer, with_used, with_peer, Carried, IsCarried, IsMessageOf, LivesApart}
-use Rattle.tp_headline.proofs.PlaceLaws.{slice_get-set_same, slice_get-set, slice_get-set_either, slice_get-left, slice_get-push}
-use Rattle.tp_headline.proofs.Lasting.{Carries, Grows, Lasts, begins-In, begins_still, carried_stays, faithful_stays, message_stays, adds}
+use Rattle.tp_headline.proofs.Common.{◌≡◌, ◌⊎◌, inl, inr, ℕ, List, [], ◌∷◌, ◌++◌, map-append, slice_set, false, Some, refl, sym, ap, ◌∙◌, subst, append-nil, slice_get, In, AllIn, In-left, In-append, In-last, In-push, Actor, Hash, ChangeParts, AllChanges, Sound, no_device, IsDocId, IsHistory, PeerData, arming, opened, Act, ActStep, Lists, add_change, add_list, Entry, World, HasPeer, lists_of, with_entry, with_made, with_new_peer, with_read, with_used, with_peer, Carried, IsCarried, IsMessageOf, LivesApart}
+use Rattle.tp_headline.specs.Headline.{MayMake, Nothing, Make, Strand, Take}
+use Rattle.tp_headline.proofs.ActLaws.{step_coheres}
+use Rattle.tp_headline.proofs.PlaceLaws.{map-slice_set, slice_get-set, slice_get-left, slice_get-push}
+use Rattle.tp_headline.proofs.Lasting.{Carries, Grows, adds, begins-In, carried_stays, has_list, lists_are, message_stays, set_still}
 
 -- ---- actors
 
 -- nothing else changes where an actor is named
-pub actor_is_used : (w : World) (actor : Actor) → Carried w → Carries w (with_used w actor)
+pub actor_is_used : (w : World) (actor : Actor) → Carried w → Carries w Nothing (with_used w actor)
 actor_is_used w actor h =
-    adds w w.peers (w.used ++ actor ∷ []) w.wire w.reads [] h (sym (append-nil w.reads)) (λ a i. In-left a w.used (actor ∷ []) i) (λ n e i. i) (λ n p i. i)
-    (λ n p i. inl i) h.lives (λ e i. inl i) (λ r i. inl i)
+    adds w w.peers (w.used ++ actor ∷ []) w.wire w.reads Nothing h (λ a i. In-left a w.used (actor ∷ []) i) (λ n e i. i) refl (λ n p i. inl i) h.lives (λ e i. inl i)
 
 -- ---- the wire
 
 -- a message of changes that were made goes on the wire
-pub entry_is_sent : (w : World) (n : ℕ) (bytes : List ℕ) → Carried w → IsMessageOf w.made bytes → Carries w (with_entry w n bytes)
+pub entry_is_sent : (w : World) (n : ℕ) (bytes : List ℕ) → Carried w → IsMessageOf w.made bytes → Carries w Nothing (with_entry w n bytes)
 entry_is_sent w n bytes h is =
     let new : Entry = record { sender = n; bytes = bytes } in
-    adds w w.peers w.used (w.wire ++ new ∷ []) w.reads [] h (sym (append-nil w.reads)) (λ a i. i) (λ m e i. slice_get-left w.wire (new ∷ []) m e i) (λ m p i. i)
-    (λ m p i. inl i) h.lives
+    adds w w.peers w.used (w.wire ++ new ∷ []) w.reads Nothing h (λ a i. i) (λ m e i. slice_get-left w.wire (new ∷ []) m e i) refl (λ m p i. inl i) h.lives
     (λ e i. elim (In-push e w.wire new i) [ inl old ↦ inl old | inr last ↦ inr (subst (λ (x : Entry). IsMessageOf w.made x.bytes) (sym last) is) ])
-    (λ r i. inl i)
+
+-- ---- reads
+
+-- a text was read
+pub text_is_read : (w : World) (n : ℕ) (H : List Hash) (text : List ℕ) (a : Act) → Carried w → ActStep (lists_of w) a (lists_of (with_read w n H text)) → Carries w a (with_read w n H text)
+text_is_read w n H text a h step =
+    adds w w.peers w.used w.wire (with_read w n H text).reads a h (λ b i. i) (λ m e i. i) step (λ m p i. inl i) h.lives (λ e i. inl i)
 
 -- ---- a peer joins
 
+-- its list is there besides
+lists_with : (w : World) (p : PeerData) (actor : Actor) → lists_of (with_used (with_new_peer w p) actor) ≡ add_list (lists_of w) p.applied
+lists_with w p actor =
+    let s = lists_of w in
+    ap (λ (l : List (List ChangeParts)). record s { lists = l }) (map-append (λ (x : PeerData). x.applied) w.peers (p ∷ []))
+
 -- a peer joins under an actor that wasn't named, with changes that were made
-pub peer_joins : (w : World) (actor : Actor) (C : List ChangeParts) → Carried w → (In actor w.used → ⊥) → IsHistory C → AllIn C w.made
-    → Carries w (with_used (with_new_peer w (opened w.id actor C no_device)) actor)
-peer_joins w actor C h fresh history made =
+pub peer_joins : (w : World) (actor : Actor) (C : List ChangeParts) (a : Act) → Carried w → (In actor w.used → ⊥) → IsHistory C → AllIn C w.made
+    → ((s : Lists) → s ≡ add_list (lists_of w) C → ActStep (lists_of w) a s) → Carries w a (with_used (with_new_peer w (opened w.id actor C no_device)) actor)
+peer_joins w actor C a h fresh history made step =
     let p = opened w.id actor C no_device in
     let w' = with_used (with_new_peer w p) actor in
     let new : IsCarried w' p = record {
@@ -40,7 +52,7 @@ peer_joins w actor C h fresh history made =
       live = λ runs. record { journal = refl; own = λ c i by. absurd (fresh (subst (λ a. In a w.used) by (h.used c i))) };
       dead = λ stopped. cc;
     } in
-    adds w (w.peers ++ p ∷ []) (w.used ++ actor ∷ []) w.wire w.reads [] h (sym (append-nil w.reads)) (λ a i. In-left a w.used (actor ∷ []) i) (λ n e i. i) (λ n q i. slice_get-left w.peers (p ∷ []) n q i)
+    adds w (w.peers ++ p ∷ []) (w.used ++ actor ∷ []) w.wire w.reads a h (λ a i. In-left a w.used (actor ∷ []) i) (λ n e i. i) (step (lists_of w') (lists_with w p actor))
     (λ n q i. elim (slice_get-push w.peers p q n i) [ inl last ↦ inr (subst (λ x. IsCarried w' x) (sym last.1) new) | inr old ↦ inl old ])
     (λ n m q s i j run_q run_s same. elim (slice_get-push w.peers p q n i) [
       | inl last_q ↦ elim (slice_get-push w.peers p s m j) [
@@ -52,7 +64,7 @@ peer_joins w actor C h fresh history made =
         | inr old_s ↦ h.lives n m q s old_q old_s run_q run_s same
       ]
     ])
-    (λ e i. inl i) (λ r i. inl i)
+    (λ e i. inl i)
 
 -- ---- a peer changes
 
@@ -83,14 +95,12 @@ pub record AreBy (p : PeerData) (new : List ChangeParts) : Type 0 where
 abbrev pub LivesOn : World → PeerData → PeerData → Type 0
 LivesOn w p p' = p'.stopped ≡ false → ((p.stopped ≡ false) × (p'.actor ≡ p.actor)) ⊎ (In p'.actor w.used → ⊥)
 
--- What is known where a peer changes: the world before is carried, and so is the peer afterwards, whose list only grew;
--- and what was made with it fits, by that peer alone.
+-- What is known where a peer changes: the world before is carried, and so is the peer afterwards; and what was made with
+-- it is by that peer alone.
 pub record Changes (w w' : World) (n : ℕ) (p p' : PeerData) (new : List ChangeParts) : Type 0 where
   pub old : Carried w
   pub stands : HasPeer w n p
   pub moves : Moves w w' n p' new
-  pub begins : Begins p.applied p'.applied
-  pub sound : Sound (w.made ++ new)
   pub by : AreBy p new
   pub carried : IsCarried w' p'
   pub life : LivesOn w p p'
@@ -101,22 +111,6 @@ old_or_new w w' n p' new moves m q i = slice_get-set w.peers n m p' q (subst (λ
 
 made_before : (w w' : World) (n : ℕ) (p' : PeerData) (new : List ChangeParts) → Moves w w' n p' new → (c : ChangeParts) → In c w'.made → In c w.made ⊎ In c new
 made_before w w' n p' new moves c i = In-append c w.made new (subst (λ l. In c l) moves.made i)
-
-lasts_changed : (w w' : World) (n : ℕ) (p p' : PeerData) (new : List ChangeParts) → Changes w w' n p p' new → Lasts w w'
-lasts_changed w w' n p p' new c =
-    let moves = c.moves in
-    record {
-      grows = moves_grow w w' n p' new moves;
-      lists = λ m q i. elim (slice_get-set_either w.peers n m p p' q c.stands i) [
-        | inl same ↦ record {
-          peer = p';
-          stands = subst (λ k. HasPeer w' k p') (sym same.0) (subst (λ l. slice_get l n ≡ Some p') (sym moves.peers) (slice_get-set_same w.peers n p p' c.stands));
-          begins = subst (λ (x : PeerData). Begins x.applied p'.applied) (sym same.1) c.begins;
-        }
-        | inr other ↦ record { peer = q; stands = subst (λ l. slice_get l m ≡ Some q) (sym moves.peers) other; begins = begins_still q.applied }
-      ];
-      reads = ([], moves.reads ∙ sym (append-nil w.reads));
-    }
 
 -- another running peer made nothing of the new
 others_own : (w w' : World) (n : ℕ) (p p' : PeerData) (new : List ChangeParts) → Changes w w' n p p' new → (m : ℕ) (q : PeerData) → (m ≡ n → ⊥) → HasPeer w m q → q.stopped ≡ false
@@ -152,17 +146,17 @@ lives_changed w w' n p p' new c k m q s i j run_q run_s same = elim (old_or_new 
   ]
 ]
 
-pub peer_changes : (w w' : World) (n : ℕ) (p p' : PeerData) (new : List ChangeParts) → Changes w w' n p p' new → Carries w w'
-peer_changes w w' n p p' new c =
+pub peer_changes : (w w' : World) (n : ℕ) (p p' : PeerData) (new : List ChangeParts) (a : Act) → ActStep (lists_of w) a (lists_of w') → Changes w w' n p p' new → Carries w a w'
+peer_changes w w' n p p' new a step c =
     let h = c.old in
     let moves = c.moves in
-    let sound : Sound w'.made = subst Sound (sym moves.made) c.sound in
-    let lasts = lasts_changed w w' n p p' new c in
+    let grows = moves_grow w w' n p' new moves in
     record {
-      lasts = lasts;
+      grows = grows;
+      step = step;
       carried = record {
         is_id = subst IsDocId (sym moves.id) h.is_id;
-        sound = sound;
+        coherent = step_coheres (lists_of w) a (lists_of w') h.coherent step;
         limits = λ d i. elim (made_before w w' n p' new moves d i) [ inl old ↦ h.limits d old | inr fresh ↦ c.by.limits d fresh ];
         used = λ d i. elim (made_before w w' n p' new moves d i) [
           | inl old ↦ moves.used d.actor (h.used d old)
@@ -170,13 +164,56 @@ peer_changes w w' n p p' new c =
         ];
         peers = λ m q i. elim (old_or_new w w' n p' new moves m q i) [
           | inl this ↦ subst (λ x. IsCarried w' x) (sym this.1) c.carried
-          | inr old ↦ carried_stays w w' q lasts.grows (others_own w w' n p p' new c m q old.0 old.1) (h.peers m q old.1)
+          | inr old ↦ carried_stays w w' q grows (others_own w w' n p p' new c m q old.0 old.1) (h.peers m q old.1)
         ];
         lives = lives_changed w w' n p p' new c;
-        wire = λ e i. message_stays w.made w'.made e.bytes (begins-In w.made w'.made lasts.grows.made) (h.wire e (subst (λ l. In e l) moves.wire i));
-        reads = λ r i. faithful_stays w w' r lasts sound (h.reads r (subst (λ l. In r l) moves.reads i));
+        wire = λ e i. message_stays w.made w'.made e.bytes (begins-In w.made w'.made grows.made) (h.wire e (subst (λ l. In e l) moves.wire i));
       };
     }
+
+-- ---- a peer that enters changes
+
+-- what a peer did by whose list n got the changes `new`, while those of `made` were made
+abbrev pub act_by : ℕ → List ChangeParts → List ChangeParts → Act
+act_by n [] [] = Nothing
+act_by n (c ∷ new) [] = Take n (c ∷ new)
+act_by n [] (d ∷ made) = Strand n d
+act_by n (c ∷ new) (d ∷ made) = Make n d
+
+-- Of the new changes of the peer p these were made: the one new change, which p may make; or none, where all were made before.
+abbrev pub IsMaking : World → PeerData → List ChangeParts → List ChangeParts → Type 0
+IsMaking w p new [] = AllIn new w.made
+IsMaking w p new (c ∷ made) = (made ≡ []) × (new ≡ c ∷ []) × MayMake (lists_of w) p.applied c
+
+one_alone : (c d : ChangeParts) (new more : List ChangeParts) → (c ∷ new) ++ more ≡ d ∷ [] → c ∷ new ≡ d ∷ []
+one_alone c d [] more e = cc
+one_alone c d (b ∷ new) more e = absurd cc
+
+-- that is the act by which the lists changed
+pub enters_by : (w : World) (n : ℕ) (p p' : PeerData) (new more made : List ChangeParts) → HasPeer w n p → p'.applied ≡ p.applied ++ new → Sound (p.applied ++ new) → IsMaking w p (new ++ more) made
+    → ActStep (lists_of w) (act_by n new made) (lists_of (with_made (with_peer w n p') made))
+enters_by w n p p' [] more [] stands applied sound is =
+    lists_are w n p' [] p.applied w.made (applied ∙ append-nil p.applied) (append-nil w.made) ∙ set_still w n p stands
+enters_by w n p p' (c ∷ new) more [] stands applied sound is = (
+  p.applied,
+  has_list w n p stands,
+  (λ d i. is d (In-left d (c ∷ new) more i)),
+  sound,
+  lists_are w n p' [] (p.applied ++ c ∷ new) w.made applied (append-nil w.made),
+)
+enters_by w n p p' [] more (d ∷ made) stands applied sound is = (
+  p.applied,
+  has_list w n p stands,
+  is.2,
+  lists_are w n p' (d ∷ made) p.applied (w.made ++ d ∷ []) (applied ∙ append-nil p.applied) (ap (λ l. w.made ++ d ∷ l) is.0)
+      ∙ ap (λ s. add_change s d) (set_still w n p stands),
+)
+enters_by w n p p' (c ∷ new) more (d ∷ made) stands applied sound is = (
+  p.applied,
+  has_list w n p stands,
+  is.2,
+  lists_are w n p' (d ∷ made) (p.applied ++ d ∷ []) (w.made ++ d ∷ []) (applied ∙ ap (λ l. p.applied ++ l) (one_alone c d new more is.1)) (ap (λ l. w.made ++ d ∷ l) is.0),
+)
 
 -- ---- a device is to fail
 
@@ -195,16 +232,17 @@ armed_is_carried w w' p kept id made used q = record {
       record { more = d.more; few = d.few; were_made = subst (λ l. AllIn d.more l) (sym made) d.were_made; keep = d.keep; recovers = d.recovers };
 }
 
-pub peer_is_armed : (w : World) (n : ℕ) (p : PeerData) (kept : ℕ) → Carried w → HasPeer w n p → Carries w (with_peer w n (arming p kept))
+pub peer_is_armed : (w : World) (n : ℕ) (p : PeerData) (kept : ℕ) → Carried w → HasPeer w n p → Carries w Nothing (with_peer w n (arming p kept))
 peer_is_armed w n p kept h stands =
     let p' = arming p kept in
     let w' = with_peer w n p' in
-    peer_changes w w' n p p' [] (record {
+    let s = lists_of w in
+    let same : lists_of w' ≡ lists_of w =
+    ap (λ (l : List (List ChangeParts)). record s { lists = l }) (map-slice_set (λ (x : PeerData). x.applied) w.peers n p') ∙ set_still w n p stands in
+    peer_changes w w' n p p' [] Nothing same (record {
       old = h;
       stands = stands;
       moves = record { id = refl; peers = refl; made = sym (append-nil w.made); used = λ a i. i; wire = refl; reads = refl };
-      begins = begins_still p.applied;
-      sound = subst Sound (sym (append-nil w.made)) h.sound;
       by = record { runs = λ c i. absurd i; actor = λ c i. absurd i; limits = λ c i. absurd i };
       carried = armed_is_carried w w' p kept refl refl refl (h.peers n p stands);
       life = λ runs. inl (runs, refl);

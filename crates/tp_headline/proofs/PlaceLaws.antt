@@ -1,5 +1,5 @@
 -- Lists by their numbers, where one member is replaced or one is put behind the last.
-use Rattle.tp_headline.proofs.Common.{◌≡◌, ◌⊎◌, inl, inr, ℕ, zero, suc, List, [], ◌∷◌, ◌++◌, length, Some, slice_set, refl, ap, arith, slice_get}
+use Rattle.tp_headline.proofs.Common.{◌≡◌, ◌⊎◌, inl, inr, ℕ, zero, suc, List, [], ◌∷◌, ◌++◌, length, map, Some, slice_set, refl, sym, ap, arith, slice_get}
 
 -- what stands where a member was replaced
 pub slice_get-set_same : {X : Type 0} (xs : List X) (n : ℕ) (x y : X) → slice_get xs n ≡ Some x → slice_get (slice_set xs n y) n ≡ Some y
@@ -28,6 +28,19 @@ slice_get-set_either (a ∷ xs) zero (suc m) x y q e f = inr f
 slice_get-set_either (a ∷ xs) (suc n) zero x y q e f = inr f
 slice_get-set_either (a ∷ xs) (suc n) (suc m) x y q e f =
     elim (slice_get-set_either xs n m x y q e f) [ inl w ↦ inl (ap suc w.0, w.1) | inr w ↦ inr w ]
+
+-- a member that is replaced by itself
+pub slice_set-still : {X : Type 0} (xs : List X) (n : ℕ) (x : X) → slice_get xs n ≡ Some x → slice_set xs n x ≡ xs
+slice_set-still [] n x e = absurd cc
+slice_set-still (a ∷ xs) zero x e = let same : a ≡ x = cc in ap (λ y. y ∷ xs) (sym same)
+slice_set-still (a ∷ xs) (suc n) x e = ap (λ l. a ∷ l) (slice_set-still xs n x e)
+
+-- what a function makes of the list is what it makes of the others and of the new member
+pub map-slice_set : {X Y : Type 0} (f : X → Y) (xs : List X) (n : ℕ) (x : X) → map f (slice_set xs n x) ≡ slice_set (map f xs) n (f x)
+map-slice_set f [] zero x = refl
+map-slice_set f [] (suc n) x = refl
+map-slice_set f (a ∷ xs) zero x = refl
+map-slice_set f (a ∷ xs) (suc n) x = ap (λ l. f a ∷ l) (map-slice_set f xs n x)
 
 -- what is there stays where one is put behind
 pub slice_get-left : {X : Type 0} (xs ys : List X) (n : ℕ) (x : X) → slice_get xs n ≡ Some x → slice_get (xs ++ ys) n ≡ Some x

@@ -1,11 +1,11 @@
 -- What every world that a run reaches keeps, event by event.
 use Rattle.std.specs.Prelude.{◌≡◌, ℕ, ◌≤◌, List, ◌++◌, length, Ok, true, false}
-use Rattle.tp_headline.specs.Common.{In, AllIn, ChangeParts, has_all, IsDocId, journal, IsHistory, Recovers, PeerData, IsTextOf}
+use Rattle.tp_headline.specs.Common.{In, AllIn, ChangeParts, IsDocId, journal, IsHistory, Recovers, PeerData}
 use Rattle.tp_document.specs.DocState.{AllChanges}
-use Rattle.tp_graph.specs.Sound.{Sound}
 use Rattle.tp_sync.specs.Message.{MessageParts}
 use Rattle.tp_sync.specs.Reading.{message_at}
-use Rattle.tp_headline.specs.World.{Entry, ReadRecord, World, HasPeer, seen}
+use Rattle.tp_headline.specs.Coherent.{Coherent}
+use Rattle.tp_headline.specs.World.{Entry, World, HasPeer, lists_of}
 
 -- A running peer has its changes in its journal, and holds each change that its actor made.
 pub record IsLive (made : List ChangeParts) (p : PeerData) : Type 0 where
@@ -39,28 +39,19 @@ pub record IsMessageOf (made : List ChangeParts) (bytes : List ℕ) : Type 0 whe
   pub reads : message_at bytes ≡ Ok message
   pub carries : AllIn message.changes made
 
--- A read's heads are known, its text is that of the changes that it saw, and its peer holds these.
-pub record IsFaithful (w : World) (r : ReadRecord) : Type 0 where
-  pub known : has_all w.made r.heads ≡ true
-  pub text : IsTextOf (seen w r) r.text
-  pub peer : PeerData
-  pub stands : HasPeer w r.peer peer
-  pub held : AllIn (seen w r) peer.applied
-
 -- No two running peers have one actor.
 abbrev pub LivesApart : World → Type 0
 LivesApart w =
     (n m : ℕ) (p q : PeerData) → HasPeer w n p → HasPeer w m q → p.stopped ≡ false → q.stopped ≡ false
     → p.actor ≡ q.actor → n ≡ m
 
--- The changes that were made are sound and by actors that are used, and each peer, each entry of the wire and each read is
--- as it should be.
+-- As lists the world is coherent; the changes that were made are by actors that are used; and each peer and each entry of
+-- the wire is as it should be.
 pub record Carried (w : World) : Type 0 where
   pub is_id : IsDocId w.id
-  pub sound : Sound w.made
+  pub coherent : Coherent (lists_of w)
   pub limits : AllChanges w.made
   pub used : (c : ChangeParts) → In c w.made → In c.actor w.used
   pub peers : (n : ℕ) (p : PeerData) → HasPeer w n p → IsCarried w p
   pub lives : LivesApart w
   pub wire : (e : Entry) → In e w.wire → IsMessageOf w.made e.bytes
-  pub reads : (r : ReadRecord) → In r w.reads → IsFaithful w r

@@ -14,5 +14,5 @@ pub use Rattle.tp_opid.specs.declared.hash.Hash.{Hash}
 pub use Rattle.tp_peer.specs.Laws.{came, changes_in}
 pub use Rattle.tp_peer.specs.PeerData.{PeerData, arming, disarming, opened}
 pub use Rattle.tp_peer.specs.declared.error.PeerError.{PeerError}
-pub use Rattle.tp_receive.specs.Receiving.{Begins, EntersAfter}
+pub use Rattle.tp_receive.specs.Receiving.{EntersAfter}
 pub use Rattle.tp_text.specs.Text.{IsTextOf, chars_of}

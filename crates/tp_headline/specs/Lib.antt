@@ -1,4 +1,6 @@
 pub mod Common
+pub mod Headline
+pub mod Coherent
 pub mod WorldError
 pub mod Call
 pub mod Event
@@ -10,7 +12,7 @@ pub mod Crashing
 pub mod Devices
 pub mod Happening
 pub mod Running
-pub mod Headline
+pub mod Refining
 pub mod Follows
 pub mod Carried
 pub mod Arriving

@@ -1,12 +1,7 @@
 -- A world of peers that edit one document.
-use Rattle.std.specs.Prelude.{◌≡◌, ℕ, List, [], ◌∷◌, ◌++◌, length, drop, slice_set, Some}
-use Rattle.tp_headline.specs.Common.{slice_get, Actor, DocId, Hash, ChangeParts, past, PeerData}
-
--- A read: the number of the peer, the heads at which the text was read, and its characters.
-pub record ReadRecord : Type 0 where
-  pub peer : ℕ
-  pub heads : List Hash
-  pub text : List ℕ
+use Rattle.std.specs.Prelude.{◌≡◌, ℕ, List, [], ◌∷◌, ◌++◌, length, drop, map, slice_set, Some}
+use Rattle.tp_headline.specs.Common.{slice_get, Actor, DocId, Hash, ChangeParts, PeerData}
+use Rattle.tp_headline.specs.Headline.{Lists, ReadRecord}
 
 -- An entry of the wire: the number of the peer that sent it, and its bytes. It stays there whatever happens to it, so it
 -- may be delivered never, once or many times, to any peer.
@@ -36,9 +31,9 @@ HasPeer w n p = slice_get w.peers n ≡ Some p
 abbrev pub HasEntry : World → ℕ → Entry → Type 0
 HasEntry w n e = slice_get w.wire n ≡ Some e
 
--- the changes that a read saw: the past of its heads
-abbrev pub seen : World → ReadRecord → List ChangeParts
-seen w r = past w.made r.heads
+-- the world as lists: of each peer only the changes that it has applied; what was made; and the reads
+abbrev pub lists_of : World → Lists
+lists_of w = record { lists = map (λ (p : PeerData). p.applied) w.peers; made = w.made; reads = w.reads }
 
 -- ---- how a world changes
 

@@ -24,37 +24,55 @@ ghost use Rattle.tp_headline.specs.Carried.{Carried, IsMessageOf};
 ghost use Rattle.tp_headline.specs.Crashing.{KeepsWhole, MakesUnanswered, MakesWhole};
 ghost use Rattle.tp_headline.specs.Devices.{SpendsFuse};
 ghost use Rattle.tp_headline.specs.Event.{Event, Call, Crash, Start};
-ghost use Rattle.tp_headline.specs.Follows.{Follows};
+ghost use Rattle.tp_headline.specs.Follows.{Follows, IsMoment};
 ghost use Rattle.tp_headline.specs.Happening.{Next};
-ghost use Rattle.tp_headline.specs.Headline.{Headline};
+ghost use Rattle.tp_headline.specs.Headline.{Act, ActSteps, Headline, Lasts, Lists, no_lists};
+ghost use Rattle.tp_headline.specs.Refining.{AreActs, IsOneAct};
 ghost use Rattle.tp_headline.specs.Reply.{Answered, Peer, Reply, Wire};
 ghost use Rattle.tp_headline.specs.Refusing.{IsEditAt, IsOpen, MayHappen};
-ghost use Rattle.tp_headline.specs.Running.{GoesOn, Run};
-ghost use Rattle.tp_headline.specs.World.{Entry, World, HasEntry, HasPeer, beginning, with_made, with_new_peer, with_peer, with_used};
+ghost use Rattle.tp_headline.specs.Running.{GoesOn, GoesOnWith, Run};
+ghost use Rattle.tp_headline.specs.World.{Entry, World, HasEntry, HasPeer, beginning, lists_of, with_made, with_new_peer, with_peer, with_used};
 
-/// The headline: after every run, one list holds every element ever inserted, each once; every text that any peer ever
-/// read is that list kept to the elements that its seen changes insert and don't delete; and two reads under equal
-/// heads are equal.
+/// The headline: whatever acts happen to peers that are lists of changes, one list holds every element ever inserted, each
+/// once; every text that any peer ever read is that list kept to the elements that its seen changes insert and don't delete;
+/// and two reads under equal heads are equal. And what a peer has or showed it has and shows for ever.
+pub fn lists_agree()
+    ensures headline { (acts : List Act) (s : Lists) → ActSteps no_lists acts s → Headline s }
+    ensures lasts { (acts : List Act) (s : Lists) → ActSteps no_lists acts s → Lasts s }
+{}
+
+/// Peers are lists: a world in which nothing happened is one with no list; each event is one act, refused ones too, that
+/// of its reply; and what goes on is as many acts.
+pub fn peers_are_lists()
+    ensures begins { (id : DocId) → lists_of (beginning id) ≡ no_lists }
+    ensures event { (w : World) (e : Event) (reply : Reply) (w' : World) → Carried w
+        → Next w e reply w' → IsOneAct w e reply w' }
+    ensures runs { (w : World) (events : List (Event × Reply)) (w' : World) → Carried w
+        → GoesOn w events w' → AreActs w (length events) w' }
+{}
+
+/// The headline of every run: its acts are those of a world of lists.
 pub fn headline()
     ensures { (id : DocId) (events : List (Event × Reply)) (w : World) → IsDocId id
-        → Run id events w → Headline w }
+        → Run id events w → Headline (lists_of w) }
 {}
 
 /// After every run, and whatever happens from then on, crashes and restarts among it: each peer's list only grows; what
-/// a peer answered or showed it shows for ever; and what a read saw has all that it depends on.
+/// a peer answered or showed it shows for ever; what a read saw has all that it depends on; and what happens are acts.
 pub fn what_was_shown_lasts()
     ensures { (id : DocId) (events : List (Event × Reply)) (w : World) → IsDocId id
         → Run id events w → Follows w }
 {}
 
 /// Every world that a run reaches is carried: what was made is sound, and each peer, each journal, each entry of the
-/// wire and each read is as it should be.
+/// wire and each read is as it should be. Of a world that is carried the headline holds, and what follows.
 pub fn a_run_is_carried()
     ensures begins { (id : DocId) → IsDocId id → Carried (beginning id) }
     ensures goes_on { (w : World) (e : Event) (reply : Reply) (w' : World) → Carried w
         → Next w e reply w' → Carried w' }
     ensures runs { (id : DocId) (events : List (Event × Reply)) (w : World)
         → IsDocId id → Run id events w → Carried w }
+    ensures promises { (w : World) → Carried w → Headline (lists_of w) × Follows w }
 {}
 
 /// After every run each entry of the wire is a message, and each change that it carries was made: so no delivery of an
@@ -65,12 +83,14 @@ pub fn the_wire_carries_what_was_made()
 {}
 
 /// Runs one after another are a run, and a run passes a moment after each of its events: what is promised of all runs
-/// is promised of every moment.
+/// is promised of every moment, from a world that is carried on.
 pub fn runs_part_by_part()
     ensures join { (events more : List (Event × Reply)) (w m w' : World) → GoesOn w events m
         → GoesOn m more w' → GoesOn w (events ++ more) w' }
     ensures split { (events more : List (Event × Reply)) (w w' : World)
         → GoesOn w (events ++ more) w' → (m : World) × GoesOn w events m × GoesOn m more w' }
+    ensures moments { (w : World) (events : List Event) (replies : List Reply) (w' : World)
+        (k : ℕ) → Carried w → GoesOnWith w events replies w' → IsMoment w events replies w' k }
 {}
 
 /// The change of an edit wasn't made before: one that was and has its hash is another.

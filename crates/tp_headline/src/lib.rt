@@ -14,7 +14,7 @@ mod laws;
 pub use error::WorldError;
 pub use laws::{
     a_crash_while_receiving, a_crash_within_an_edit, a_delivery_brings_what_is_ready,
-    a_failure_within_an_edit, a_merge_brings_all, a_message_brings_all, a_run_is_carried,
-    an_edit_is_new, headline, runs_part_by_part, the_wire_carries_what_was_made, what_may_happen,
-    what_was_shown_lasts,
+    a_device_fails_where_it_was_set_to, a_failure_within_an_edit, a_merge_brings_all,
+    a_message_brings_all, a_run_is_carried, an_edit_is_new, headline, lists_agree, peers_are_lists,
+    runs_part_by_part, the_wire_carries_what_was_made, what_may_happen, what_was_shown_lasts,
 };

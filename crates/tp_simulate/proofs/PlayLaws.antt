@@ -10,8 +10,8 @@ use Rattle.tp_headline.specs.Happening.{Next}
 use Rattle.tp_headline.specs.Reply.{Reply}
 use Rattle.tp_headline.specs.Running.{GoesOn}
 use Rattle.tp_headline.specs.World.{World, beginning}
-use Rattle.tp_headline.proofs.EventLaws.{beginning_carried, goes_on_carries}
-use Rattle.tp_headline.proofs.OneList.{carried_headline}
+use Rattle.tp_headline.proofs.EventLaws.{beginning_carried, goes_on_acts}
+use Rattle.tp_headline.proofs.FollowLaws.{carried_headline}
 use Rattle.tp_simulate.specs.declared.asked.Asked.{Asked}
 use Rattle.tp_simulate.specs.declared.mark.Mark.{Mark}
 use Rattle.tp_simulate.specs.Playing.{Carries, CarriesLine, Meets, Played, Plays, event_in}
@@ -54,5 +54,5 @@ played_of id is asked out w M plays =
       events = run.0;
       one_each = run.1 ∙ sym (length-map plays.lines (λ (l : Asked × Reply). l.0)) ∙ ap length plays.asks;
       run = run.2;
-      headline = carried_headline w (goes_on_carries run.0 (beginning id) w (beginning_carried id is) run.2).carried;
+      headline = carried_headline w (goes_on_acts run.0 (beginning id) w (beginning_carried id is) run.2).carried;
     }

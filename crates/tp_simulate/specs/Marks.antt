@@ -5,7 +5,8 @@ use Rattle.std.specs.Str.{chars}
 use Rattle.tp_opid.specs.declared.hash.Hash.{Hash}
 use Rattle.tp_peer.specs.PeerStep.{Text}
 use Rattle.tp_headline.specs.Reply.{Reply, Answered}
-use Rattle.tp_headline.specs.World.{ReadRecord, World}
+use Rattle.tp_headline.specs.Headline.{ReadRecord}
+use Rattle.tp_headline.specs.World.{World}
 use Rattle.tp_simulate.specs.declared.mark.Mark.{Mark}
 
 -- the heads of the latest mark with the name; those found before, where there is none

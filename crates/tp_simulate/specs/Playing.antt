@@ -16,7 +16,7 @@ use Rattle.tp_headline.specs.Happening.{Next}
 use Rattle.tp_headline.specs.Headline.{Headline}
 use Rattle.tp_headline.specs.Reply.{Reply}
 use Rattle.tp_headline.specs.Running.{Run}
-use Rattle.tp_headline.specs.World.{World, beginning}
+use Rattle.tp_headline.specs.World.{World, beginning, lists_of}
 use Rattle.tp_simulate.specs.declared.asked.Asked.{Asked}
 use Rattle.tp_simulate.specs.declared.asked.Asked.TheVariants as asks
 use Rattle.tp_simulate.specs.declared.asked.AskedCall.{AskedCall}
@@ -86,4 +86,4 @@ pub record Played (asked : List Asked) (printed : List ℕ) (w : World) : Type 0
   pub events : List (Event × Reply)
   pub one_each : length events ≡ length asked
   pub run : Run id events w
-  pub headline : Headline w
+  pub headline : Headline (lists_of w)

@@ -13,19 +13,20 @@ pub use Rattle.tp_graph.proofs.NamedLaws.{In-has, has-In, has-append}
 pub use Rattle.tp_graph.proofs.SoundLaws.{Fits-at, Sound-prefix, hashes_apart}
 pub use Rattle.tp_graph.specs.Named.{HashesApart, has}
 pub use Rattle.tp_graph.specs.Sound.{Sound}
-pub use Rattle.tp_headline.proofs.EventLaws.{beginning_carried, goes_on_carries, next_carries}
-pub use Rattle.tp_headline.proofs.FollowLaws.{carried_follows}
+pub use Rattle.tp_headline.proofs.EventLaws.{beginning_carried, goes_on_acts, next_acts}
+pub use Rattle.tp_headline.proofs.FollowLaws.{carried_acts, carried_follows, carried_headline, carried_moment}
 pub use Rattle.tp_headline.proofs.MakingLaws.{Left, edit_is_new, left_of, nothing_left, one_call, one_cut, one_edit, one_named, would_edit}
-pub use Rattle.tp_headline.proofs.OneList.{carried_headline}
-pub use Rattle.tp_headline.proofs.PlaceLaws.{slice_get-set, slice_get-set_same}
+pub use Rattle.tp_headline.proofs.PlaceLaws.{slice_get-set, slice_get-set_same, slice_set-still}
 pub use Rattle.tp_headline.specs.Calling.{IsCall, heads_at, in_memory, made_by, noting}
 pub use Rattle.tp_headline.specs.Carried.{Carried}
 pub use Rattle.tp_headline.specs.Event.{Crash, Event, actor_of, bytes_of, called_in, entries_of, peers_of, running_of}
 pub use Rattle.tp_headline.specs.Happening.{Next}
+pub use Rattle.tp_headline.specs.Headline.{ReadRecord}
+pub use Rattle.tp_headline.specs.Refining.{IsOneAct}
 pub use Rattle.tp_headline.specs.Refusing.{IsEditAt, IsEditOf, IsRefusal, MayHappen, Passes, WouldEdit, WouldMake, keeps_whole}
 pub use Rattle.tp_headline.specs.Reply.{Reply, reply_to}
 pub use Rattle.tp_headline.specs.Running.{GoesOnWith, Met}
-pub use Rattle.tp_headline.specs.World.{Entry, HasPeer, ReadRecord, World, gained, with_made, with_peer, with_used}
+pub use Rattle.tp_headline.specs.World.{Entry, HasPeer, World, gained, with_made, with_peer, with_used}
 pub use Rattle.tp_headline.specs.WorldError.{code_of}
 pub use Rattle.tp_headline.specs.declared.error.WorldError.{WorldError}
 pub use Rattle.tp_headline.specs.declared.error.WorldError.TheVariants.{ActorUsed, ForeignChange, HashClash, NoEntry, NoPeer, OutOfMemory, Stopped}

@@ -1,12 +1,12 @@
 -- What an event comes to, from what its calls did.
-use Rattle.tp_world.proofs.Common.{◌≡◌, ◌⊎◌, inl, inr, ℕ, ◌+◌, ◌-◌, ◌^◌, ◌<◌, ◌≤◌, min, List, [], ◌∷◌, ◌++◌, length, take, slice_set, true, false, Bool, ◌&&◌, nat_le, Option, Some, None, Result, Ok, Err, refl, sym, ap, ◌∙◌, subst, append-nil, arith, OnOk, is_err, slice_get, nat_tests, length-append, length-take, take_all, In, truth, Actor, Hash, ChangeParts, record_of, records_of, Recovers, recovered, length-record_of, PeerData, disarming, IsCall, heads_at, made_by, noting, Carried, Event, Crash, called_in, entries_of, IsEditAt, IsEditOf, MayHappen, WouldEdit, Reply, reply_to, Entry, ReadRecord, World, HasPeer, gained, with_made, with_peer, with_used, Left, left_of, nothing_left, one_call, one_cut, one_edit, one_named, would_edit, slice_get-set, slice_get-set_same, Meets, AnswersAt, IsWould, Notes, entered_of, heads_named, is_kept_in, is_made, DisarmsAt, OpensAgainAt, OpensOn, StepsAt, left_with}
+use Rattle.tp_world.proofs.Common.{◌≡◌, ◌⊎◌, inl, inr, ℕ, ◌+◌, ◌-◌, ◌^◌, ◌<◌, ◌≤◌, min, List, [], ◌∷◌, ◌++◌, length, take, slice_set, true, false, Bool, ◌&&◌, nat_le, Option, Some, None, Result, Ok, Err, refl, sym, ap, ◌∙◌, subst, append-nil, arith, OnOk, is_err, slice_get, nat_tests, length-append, length-take, take_all, In, truth, Actor, Hash, ChangeParts, record_of, records_of, Recovers, recovered, length-record_of, PeerData, disarming, IsCall, heads_at, made_by, noting, Carried, Event, Crash, called_in, entries_of, IsEditAt, IsEditOf, MayHappen, WouldEdit, Reply, reply_to, Entry, ReadRecord, World, HasPeer, gained, with_made, with_peer, with_used, Left, left_of, nothing_left, one_call, one_cut, one_edit, one_named, would_edit, slice_get-set, slice_get-set_same, slice_set-still, Meets, AnswersAt, IsWould, Notes, entered_of, heads_named, is_kept_in, is_made, DisarmsAt, OpensAgainAt, OpensOn, StepsAt, left_with}
 use Rattle.tp_journal.proofs.RecoveredLaws.{recovered_again}
 use Rattle.tp_headline.specs.Crashing.{ComesBack, kept_bytes, made_during, stopped_with}
 use Rattle.tp_headline.specs.Event.{Call}
 use Rattle.tp_headline.proofs.CallLaws.{Entered, runs_of_steps}
 use Rattle.tp_headline.proofs.CrashMoves.{during_is, found_between, gained_back, interrupted}
 use Rattle.tp_world.specs.Members.{changes_in}
-use Rattle.tp_world.proofs.MemberLaws.{merge_calm, set_set, set_still}
+use Rattle.tp_world.proofs.MemberLaws.{merge_calm, set_set}
 use Rattle.tp_peer.specs.PeerStep as peer
 use Rattle.tp_headline.specs.declared.error.WorldError.TheVariants as world
 use Rattle.tp_headline.specs.Call as call
@@ -90,7 +90,7 @@ text_makes_none p made text p' new h = absurd h
 
 unchanged : (w : World) (n : ℕ) (p : PeerData) → HasPeer w n p → with_made (with_peer w n p) [] ≡ w
 unchanged w n p stands =
-    ap (λ l. record w { peers = slice_set w.peers n p; made = l }) (append-nil w.made) ∙ ap (λ l. record w { peers = l }) (sym (set_still w.peers n p stands))
+    ap (λ l. record w { peers = slice_set w.peers n p; made = l }) (append-nil w.made) ∙ ap (λ l. record w { peers = l }) (slice_set-still w.peers n p stands)
 
 -- no call but an edit would make a change
 edits_change : (w : World) (e : Event) (n : ℕ) (named : call.Call) (made : peer.Call) (c : ChangeParts) → called_in e ≡ Some (n, named) → IsCall w named made → WouldEdit w e c → (p : PeerData) × IsEditOf p made c

@@ -131,12 +131,6 @@ reopened_at peers mid after n keep actor reply p nobody p' stands out small open
   left = back ∙ ap (λ l. slice_set l n p') out ∙ set_set peers n nobody p';
 }
 
--- a peer that stays as it is
-pub set_still : {X : Type 0} (xs : List X) (n : ℕ) (x : X) → slice_get xs n ≡ Some x → xs ≡ slice_set xs n x
-set_still [] n x h = absurd cc
-set_still (a ∷ xs) zero x h = let same : a ≡ x = cc in ap (λ y. y ∷ xs) same
-set_still (a ∷ xs) (suc n) x h = ap (λ l. a ∷ l) (set_still xs n x h)
-
 pub set_below : {X : Type 0} (xs ys : List X) (n m : ℕ) (x : X) → ys ≡ slice_set xs n x → m < length xs → m < length ys
 set_below xs ys n m x e h = subst (λ l. m < length l) (sym e) (below xs n m x h) where
   below : {X : Type 0} (xs : List X) (n m : ℕ) (x : X) → m < length xs → m < length (slice_set xs n x)

@@ -1,5 +1,5 @@
 -- Steps of a world that is carried.
-use Rattle.tp_world.proofs.Common.{inl, inr, List, refl, WorldError, OutOfMemory, Carried, Event, Next, IsRefusal, MayHappen, Reply, GoesOnWith, World, goes_on_carries, next_carries, Meets}
+use Rattle.tp_world.proofs.Common.{inl, inr, List, refl, WorldError, OutOfMemory, Carried, Event, Next, IsRefusal, MayHappen, Reply, GoesOnWith, World, goes_on_acts, next_acts, Meets}
 use Rattle.tp_headline.specs.Reply.{Refused}
 
 -- an event that may happen, and did or was refused memory
@@ -12,7 +12,7 @@ pub refused_next : (w : World) (e : Event) (why : WorldError) → IsRefusal w e 
 refused_next w e why is = inl (record { why = why; refused = is; replied = refl; left = refl })
 
 pub step_carried : (w : World) (e : Event) (reply : Reply) (w' : World) → Carried w → Next w e reply w' → Carried w'
-step_carried w e reply w' h next = (next_carries w e reply w' h next).carried
+step_carried w e reply w' h next = (next_acts w e reply w' h next).carries.carried
 
 pub run_carried : (w : World) (events : List Event) (replies : List Reply) (w' : World) → Carried w → GoesOnWith w events replies w' → Carried w'
-run_carried w events replies w' h goes = (goes_on_carries goes.both w w' h goes.run).carried
+run_carried w events replies w' h goes = (goes_on_acts goes.both w w' h goes.run).carried

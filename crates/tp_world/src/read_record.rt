@@ -17,7 +17,7 @@ pub struct ReadRecord {
 }
 
 impl Model for ReadRecord {
-    ghost use Rattle.tp_headline.specs.World.{ReadRecord as Record};
+    ghost use Rattle.tp_headline.specs.Headline.{ReadRecord as Record};
 
     ghost Value = { Record };
 

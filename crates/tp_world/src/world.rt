@@ -1,12 +1,13 @@
 //! The world that runs.
 
-ghost use Rattle.std.specs.Prelude.{◌≡◌, map, IfErr, IfOk, IsOkUnless};
+ghost use Rattle.std.specs.Prelude.{◌≡◌, ℕ, map, IfErr, IfOk, IsOkUnless};
 ghost use Rattle.tp_headline.specs.declared.error.WorldError.TheVariants.{OutOfMemory};
-ghost use Rattle.tp_headline.specs.Follows.{Follows};
+ghost use Rattle.tp_headline.specs.Follows.{Follows, IsMoment};
 ghost use Rattle.tp_headline.specs.Happening.{Next};
 ghost use Rattle.tp_headline.specs.Headline.{Headline};
+ghost use Rattle.tp_headline.specs.Refining.{IsOneAct};
 ghost use Rattle.tp_headline.specs.Running.{GoesOnWith};
-ghost use Rattle.tp_headline.specs.World.{beginning};
+ghost use Rattle.tp_headline.specs.World.{beginning, lists_of};
 ghost use Rattle.tp_world.specs.Order.{IsOneList};
 ghost use Rattle.tp_world.specs.Told.{event_of, reply_of};
 
@@ -61,7 +62,7 @@ impl World {
         }
     }
 
-    /// The event happens, or is refused; a refused one changes nothing.
+    /// The event happens, or is refused; a refused one changes nothing. To the peers as lists of changes it is one act.
     ///
     /// It is refused at the first of these that holds: `NoPeer` where a peer that it names isn't there; `ActorUsed` where
     /// the actor that it names was named before; `ForeignChange` where it brings bytes of any origin that carry a change
@@ -76,18 +77,23 @@ impl World {
     /// is the one with its hash. A message that was sent isn't judged. A crash opens the journal again.
     pub fn step(&mut self, event: Event) -> Reply
         ensures next { Next self.old (event_of event.entry) (reply_of result) self.new }
-        ensures headline { Headline self.new }
+        ensures act { IsOneAct self.old (event_of event.entry) (reply_of result) self.new }
+        ensures headline { Headline (lists_of self.new) }
         ensures follows { Follows self.new }
     {
         self.state.step(&event)
     }
 
-    /// The events happen one after another. Room for the replies is taken first: where that is refused nothing happens.
+    /// The events happen one after another, and what is promised of a world holds at each moment between two of them. Room
+    /// for the replies is taken first: where that is refused nothing happens.
     pub fn run(&mut self, events: Vec<Event>) -> Result<Vec<Reply>, WorldError>
         ensures ok { IfOk result
             (λ replies. GoesOnWith self.old (map event_of events.entry.items)
             (map reply_of replies.items) self.new) }
-        ensures headline { Headline self.new }
+        ensures moments { IfOk result
+            (λ replies. (k : ℕ) → IsMoment self.old (map event_of events.entry.items)
+            (map reply_of replies.items) self.new k) }
+        ensures headline { Headline (lists_of self.new) }
         ensures follows { Follows self.new }
         ensures err { IfErr result (λ e. (e ≡ OutOfMemory) × (self.new ≡ self.old)) }
     {
@@ -112,7 +118,7 @@ impl World {
     /// What was read so far, in order.
     pub fn reads(&self) -> &[ReadRecord]
         ensures reads { result.now ≡ self.now.reads }
-        ensures headline { Headline self.now }
+        ensures headline { Headline (lists_of self.now) }
     {
         &self.state.reads
     }

@@ -3,7 +3,7 @@ use Rattle.tp_world.proofs.Verdicts.{judges_bytes}
 use Rattle.tp_world.proofs.state.State.brings_made.Goals as goal
 
 pub carry_made-requires : goal.carry_made-requires
-carry_made-requires c = subst (λ (l : List ChangeParts). HashesApart l) (sym c.as_slice.ensures) (hashes_apart c.args.self.now.made.items c.requires.sound)
+carry_made-requires c = subst (λ (l : List ChangeParts). HashesApart l) (sym c.as_slice.ensures) (hashes_apart c.args.self.now.made.items c.requires.coherent.sound)
 
 pub returns-in-Some-clause-ok : goal.returns-in-Some-clause-ok
 returns-in-Some-clause-ok c =

@@ -1,4 +1,4 @@
-use Rattle.tp_world.proofs.Common.{subst, arith, Carried, World, carried_follows, carried_headline}
+use Rattle.tp_world.proofs.Common.{subst, arith, Carried, World, carried_follows, carried_headline, carried_moment}
 use Rattle.tp_world.proofs.Runs.{goes_none, goes_push, goes_whole}
 use Rattle.tp_world.proofs.Steps.{run_carried}
 use Rattle.tp_world.proofs.world.World.run.Goals as goal
@@ -31,6 +31,12 @@ pub returns-clause-ok : goal.returns-clause-ok
 returns-clause-ok c =
     goes_whole c.args.self.now c.loop-event.self c.as_slice-all.result.now c.args.events.items c.loop-event.event-index c.loop-event.replies.items c.loop-event-test.false c.as_slice-all.ensures.value
     c.loop-event.invariant.goes
+
+pub returns-clause-moments : goal.returns-clause-moments
+returns-clause-moments c = λ k.
+    carried_moment c.args.self.now _ _ c.loop-event.self k (subst (λ (w : World). Carried w) c.self.view_is c.self.invariant)
+    (goes_whole c.args.self.now c.loop-event.self c.as_slice-all.result.now c.args.events.items c.loop-event.event-index c.loop-event.replies.items c.loop-event-test.false c.as_slice-all.ensures.value
+    c.loop-event.invariant.goes)
 
 pub returns-clause-headline : goal.returns-clause-headline
 returns-clause-headline c =
