@@ -183,7 +183,8 @@ typedef struct tp_shared {
 /* Opens the journal in the file at the path, to be edited under the actor: tp_shared_open(path, path_len, actor, &shared.at).
  * The actor is 16 bytes that were drawn anew: no change of the journal may be that actor's (501). What a crash left behind
  * the last whole change is cut off. 801 where another has the file open, 802 where it isn't there or can't be opened, locked
- * or read; 301 and further where its bytes are no journal, 308 where it has no header yet. Nothing is written to *at then.
+ * or read; 301 and further where its bytes are no journal, 308 where it has no header yet; 304 also where whole changes would
+ * be cut off, since the record before them is damaged: the program's `recover` has them. Nothing is written to *at then.
  * The path is UTF-8; it ends at path_len, and has no zero in it. */
 uint32_t tp_shared_open(const char *path, size_t path_len, const uint8_t actor[16], void **at);
 
