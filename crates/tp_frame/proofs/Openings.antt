@@ -1,8 +1,9 @@
 -- What is at the front of bytes once the head of a frame is there.
-use Rattle.std.proofs.Common.{◌≡◌, ℕ, zero, suc, ◌+◌, ◌-◌, ◌<◌, ◌≤◌, inl, inr, Bool, true, false, cond, ltb, leb, eqb-true, List, [], ◌∷◌, ◌++◌, length, take, drop, Some, None, Result, Ok, Err, refl, sym, ap, ◌∙◌, append_assoc, arith, length-append, eqb, ltb-true, lt-ltb, le-ltb}
+use Rattle.std.proofs.Common.{◌≡◌, ℕ, zero, suc, ◌+◌, ◌-◌, ◌<◌, ◌≤◌, inl, inr, Bool, true, false, cond, ltb, leb, eqb-true, List, [], ◌∷◌, ◌++◌, length, take, drop, slice_get, Option, Some, None, Result, Ok, Err, refl, sym, ap, ◌∙◌, append_assoc, arith, length-append, eqb, ltb-true, lt-ltb, le-ltb}
 use Rattle.std.specs.Int.{w32, to_be_bytes, from_be_bytes}
 use Rattle.std.proofs.lemmas.Bool.{cases_lt}
 use Rattle.std.proofs.lemmas.List.{drop_at, length-take-le, length-drop}
+use Rattle.std.proofs.lemmas.Option.{slice_get_within}
 use Rattle.tp_codec.specs.Prefix.{byte_at, bytes_at, number_at}
 use Rattle.tp_codec.specs.Reading.{Reads, and_next, and_then, found_or, or_fail, passed, require, give}
 use Rattle.tp_codec.proofs.Fields.{AreBytes, reads_more}
@@ -15,6 +16,7 @@ use Rattle.tp_frame.specs.declared.reading.NoFrame.{NoFrame}
 use Rattle.tp_frame.specs.declared.reading.NoFrame.TheVariants.{Missing, Fault}
 use Rattle.tp_frame.specs.Frame.{Body, body_of}
 use Rattle.tp_frame.specs.Openings.{right_len, fault_of, IsOther, IsDue}
+use Rattle.tp_frame.specs.Parts.{HasSyncKind}
 use Rattle.tp_frame.specs.Reading.{head_at, body_at, frame_behind, frame_at, IsRest, ShowsFault}
 use Rattle.tp_frame.proofs.FrameFields.{spelling_of_head, IsHead, head_field, made, stands}
 use Rattle.tp_frame.proofs.StreamLaws.{fault_stays}
@@ -183,6 +185,29 @@ pub few_bytes : (bytes : List ℕ) (h : Head) (rest : List ℕ) (n : ℕ) → Ar
 few_bytes bytes h rest n fits e lt le =
     let t = head_field.takes bytes h rest fits e in
     omega (arith, ap length t.0, length-append (spelling_of_head h) rest)
+
+-- ---- where the kind of a sync frame is there
+
+fifth : (a bytes : List ℕ) (k : ℕ) (rest : List ℕ) → length a ≡ 4 → bytes ≡ (a ++ k ∷ []) ++ rest → HasSyncKind bytes → k ≡ 1
+fifth a bytes k rest four e has =
+    let same : slice_get bytes 4 ≡ Some k =
+    ap (λ (b : List ℕ). slice_get b 4) (e ∙ append_assoc a (k ∷ []) rest) ∙ ap (λ (n : ℕ). slice_get (a ++ k ∷ rest) n) (sym four) ∙ seam a in
+    let both : (let o : Option ℕ = Some k in o) ≡ Some 1 = sym same ∙ has in
+    cc
+  where
+    seam : (xs : List ℕ) → slice_get (xs ++ k ∷ rest) (length xs) ≡ Some k
+    seam [] = refl
+    seam (x ∷ xs) = seam xs
+
+-- A head whose kind is there is read.
+pub kind_is_read : (bytes : List ℕ) → head_at bytes ≡ Err Missing → HasSyncKind bytes → ⊥
+kind_is_read bytes e has = let few = head_short bytes e in let within = slice_get_within bytes 4 1 has in omega (arith, few, within)
+
+-- A head that was read has the kind that is there.
+pub kind_is_sync : (bytes : List ℕ) (h : Head) (rest : List ℕ) → AreBytes bytes → head_at bytes ≡ Ok (h, rest) → HasSyncKind bytes → h.kind ≡ 1
+kind_is_sync bytes h rest fits e has =
+    let t = head_field.takes bytes h rest fits e in
+    fifth (to_be_bytes w32 (h.len + 1)) bytes h.kind rest (omega arith) t.0 has
 
 -- a sync frame at the front
 pub sync_is : (bytes : List ℕ) (h : Head) (rest : List ℕ) → AreBytes bytes → head_at bytes ≡ Ok (h, rest) → h.kind ≡ 1 → (5 ≤ length bytes) × (h.len < 16777216) × (bytes ≡ to_be_bytes w32 (h.len + 1) ++ 1 ∷ drop 5 bytes)

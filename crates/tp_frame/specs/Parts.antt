@@ -1,5 +1,5 @@
 -- Parts of frames: what leads a framer of parts to where it is, what it answers there, and the frames that parts make.
-use Rattle.std.specs.Prelude.{◌≡◌, ℕ, ◌+◌, ◌-◌, ◌<◌, ◌≤◌, ◌⊎◌, List, [], ◌∷◌, ◌++◌, length, Option, Some, None, Result, Ok, Err}
+use Rattle.std.specs.Prelude.{◌≡◌, ℕ, ◌+◌, ◌-◌, ◌<◌, ◌≤◌, ◌⊎◌, List, [], ◌∷◌, ◌++◌, length, slice_get, Option, Some, None, Result, Ok, Err}
 use Rattle.std.specs.Int.{w32, to_be_bytes}
 use Rattle.tp_frame.specs.declared.limits.TheConstants.{MAX_BODY}
 use Rattle.tp_frame.specs.declared.error.FrameError.{FrameError}
@@ -76,6 +76,16 @@ PartAnswers led (Ok (Some part)) s = (after : Led) × Gives led part after × St
 PartAnswers led (Ok None) s = IsRest led.came × Stands led s × (length s.held ≤ 21)
 PartAnswers led (Err OutOfMemory) s = (frame : Opened) × (led.opened ≡ Some frame) × (length frame.given < frame.len) × Stands led s
 PartAnswers led (Err e) s = (led.opened ≡ None) × ShowsFault led.came e × Stands led s
+
+-- the kind of a sync frame is there
+abbrev pub HasSyncKind : List ℕ → Type 0
+HasSyncKind bytes = slice_get bytes 4 ≡ Some 1
+
+-- What is held while more has to come: between frames no kind of a sync frame, and inside one nothing.
+abbrev pub MayWait : Stage → List ℕ → Type 0
+MayWait Front held = HasSyncKind held → ⊥
+MayWait (Inside left) held = held ≡ []
+MayWait (Refused left e) held = Unit {0}
 
 -- what is answered inside a sync frame of which so many bytes are still to be given
 abbrev pub InsideAnswers : ℕ → List ℕ → Result (Option Part) FrameError → PartState → Type 0

@@ -3,7 +3,7 @@
 ghost use Rattle.std.specs.Prelude.{◌≡◌, ◌≤◌, ◌⊎◌, ℕ, ◌<◌, [], length, Err, None, Ok, OnOk, OnErr, IsOkUnless};
 ghost use Rattle.tp_frame.specs.declared.error.FrameError.TheVariants.{OutOfMemory};
 ghost use Rattle.tp_frame.specs.declared.parts.Stage.TheVariants.{Front, Inside, Refused};
-ghost use Rattle.tp_frame.specs.Parts.{Led, at_first, with_more, Stands, PartAnswers, InsideAnswers};
+ghost use Rattle.tp_frame.specs.Parts.{Led, at_first, with_more, Stands, PartAnswers, InsideAnswers, MayWait};
 
 use crate::error::FrameError;
 use crate::frame::Frame;
@@ -113,6 +113,7 @@ impl PartFramer {
     /// it is. What is taken is a count of the block's owners.
     pub fn next(&mut self) -> Result<Option<Part>, FrameError>
         ensures exact { (led : Led) → Stands led self.old → PartAnswers led result self.new }
+        ensures soon { result ≡ Ok None → MayWait self.new.stage self.new.held }
         ensures memory { result ≡ Err OutOfMemory → self.new ≡ self.old }
     {
         match self.stage {
@@ -126,6 +127,7 @@ impl PartFramer {
     fn begin(&mut self) -> Result<Option<Part>, FrameError>
         requires { self.old.stage ≡ Front }
         ensures exact { PartAnswers (with_more at_first self.old.held) result self.new }
+        ensures soon { result ≡ Ok None → MayWait self.new.stage self.new.held }
         ensures memory { result ≡ Err OutOfMemory → ⊥ }
     {
         match opening_of(self.buffer.as_slice()) {

@@ -11,6 +11,7 @@ ghost use Rattle.tp_frame.specs.declared.reading.NoFrame.TheVariants.{Missing, F
 ghost use Rattle.tp_frame.specs.declared.error.FrameError.TheVariants.{BadKind, BadHello, OutOfMemory};
 ghost use Rattle.tp_frame.specs.Gives.{Is};
 ghost use Rattle.tp_frame.specs.Openings.{right_len, fault_of, IsOpening};
+ghost use Rattle.tp_frame.specs.Parts.{HasSyncKind};
 ghost use Rattle.tp_frame.specs.Reading.{head_at, hello_of, done_of, refusal_of, frame_behind, frame_at};
 
 use crate::error::FrameError;
@@ -180,6 +181,7 @@ pub(crate) fn opening_of(bytes: &[u8]) -> Result<Opening, NoFrame>
     ensures found { IfOk result (λ opening. IsOpening bytes.now opening) }
     ensures err { IfErr result (λ e. (frame_at bytes.now ≡ Err e) × (e ≡ Fault OutOfMemory → ⊥)) }
     ensures missing { result ≡ Err Missing → length bytes.now ≤ 21 }
+    ensures soon { result ≡ Err Missing → HasSyncKind bytes.now → ⊥ }
     ensures bytes { (i : ℕ) → slice_index bytes.now i < 256 }
 {
     let mut reader = Reader::new(bytes);

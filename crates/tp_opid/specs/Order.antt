@@ -2,13 +2,15 @@
 -- bytes: the laws in proofs/Orders say all that is to be known of them.
 use Rattle.std.specs.Prelude.{◌≡◌}
 use Rattle.std.specs.Ordering.{nat_cmp, ordering_then}
-use Rattle.std.specs.declared.cmp.Ordering.TheVariants.{Less}
+use Rattle.std.specs.declared.cmp.Ordering.TheVariants.{Less, Equal, Greater}
 use Rattle.std.specs.declared.cmp.Ordering.{Ordering}
 use Rattle.std.specs.Cmp.Lexicographic.{slice_cmp}
 use Rattle.tp_opid.specs.declared.actor.Actor.{Actor}
 use Rattle.tp_opid.specs.declared.hash.Hash.{Hash}
 use Rattle.tp_opid.specs.declared.doc_id.DocId.{DocId}
 use Rattle.tp_opid.specs.declared.op_id.OpId.{OpId}
+use Rattle.tp_opid.specs.declared.op_id.Place.{Place}
+use Rattle.tp_opid.specs.declared.op_id.Place.TheVariants.{Start, After}
 
 -- by the 16 bytes, the first that differ
 unfoldable pub actor_cmp : Actor → Actor → Ordering
@@ -28,3 +30,10 @@ id_cmp a b = ordering_then (nat_cmp a.counter b.counter) (slice_cmp nat_cmp a.ac
 -- a stands below b in the order of identifiers
 unfoldable pub Below : OpId → OpId → Type 0
 Below a b = id_cmp a b ≡ Less
+
+-- References: the start is below every identifier, and equal to itself alone.
+abbrev pub place_cmp : Place → Place → Ordering
+place_cmp Start Start = Equal
+place_cmp Start (After b) = Less
+place_cmp (After a) Start = Greater
+place_cmp (After a) (After b) = id_cmp a b

@@ -1,7 +1,7 @@
 //! Identifiers of operations, and references to elements.
 
 ghost use Rattle.std.specs.Prelude.{◌≡◌, ◌↔◌, IsTrue};
-ghost use Rattle.tp_opid.specs.Order.{Below};
+ghost use Rattle.tp_opid.specs.Order.{Below, place_cmp};
 ghost use Rattle.tp_opid.specs.Same.{id_eq, place_eq};
 
 use crate::actor::Actor;
@@ -40,7 +40,7 @@ impl OpId {
 /// The reference of an insert (origin, in Yjs): the start, or the element directly after which it is inserted.
 #[derive(Clone, Copy, Debug, PartialEq, Eq, PartialOrd, Ord, Hash)]
 pub enum Place {
-    /// Before every element. It stands below every identifier.
+    /// Before every element. It is below every identifier, and equal to itself alone.
     Start,
     /// After the element with this identifier.
     After(OpId),
@@ -56,5 +56,13 @@ impl Place {
             (Place::After(a), Place::After(b)) => a.is(b),
             _ => false,
         }
+    }
+
+    /// How the two stand to each other in their order, where the start is below every identifier.
+    #[tactic(auto, unfolding(crate::specs::Order::id_cmp))]
+    pub fn order(&self, other: &Place) -> Ordering
+        ensures { result ≡ place_cmp self.now other.now }
+    {
+        self.cmp(other)
     }
 }

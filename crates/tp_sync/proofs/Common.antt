@@ -49,7 +49,7 @@ pub use Rattle.tp_sync.specs.Gives.{FailsWith}
 pub use Rattle.tp_sync.specs.Known.{IsPowerBeforeEnd, before_end, known_hashes, powers_before_end}
 pub use Rattle.tp_sync.specs.Lists.{parts_in}
 pub use Rattle.tp_sync.specs.Message.{AreHashes, IsMessage, MessageParts, TellsKnown}
-pub use Rattle.tp_sync.specs.ReaderState.{Answers, IsLed, IsReader, ReaderState, Refuses, Takes, reads}
+pub use Rattle.tp_sync.specs.ReaderState.{Answers, EndsAtField, IsLed, IsReader, ReaderState, Refuses, Takes, reads}
 pub use Rattle.tp_sync.specs.Reading.{decoded, each_entry, message_at, stay}
 pub use Rattle.tp_sync.specs.Spelling.{entry, spelling_of_changes, spelling_of_hashes, spelling_of_known}
 pub use Rattle.tp_sync.specs.Stages.{entries_from, fault_of, hashes_from, is_whole, limit_of, need, with_changes, with_hashes}

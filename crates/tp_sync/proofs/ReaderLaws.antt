@@ -1,5 +1,5 @@
 -- What the calls of a reader make of its state.
-use Rattle.tp_sync.proofs.Common.{◌≡◌, inl, ℕ, ◌+◌, ◌-◌, ◌<◌, ◌≤◌, List, [], ◌∷◌, ◌++◌, length, take, drop, true, Result, Ok, Err, refl, sym, ap, subst, ◌∙◌, append_assoc, append-nil, arith, length-append, take-append-drop, nil_from_length, AreBytes, MAX_BYTES, SyncError, OutOfMemory, Stage, Version, Body, Whole, Failed, MessageParts, IsMessage, is_whole, need, Steps, ReaderState, FailsWith, length-take-le, Moves, Stands, Refuses, Takes, drop-drop, take_all, AreBytes-append, AreBytes-take, Answers, IsLed, IsReader}
+use Rattle.tp_sync.proofs.Common.{◌≡◌, inl, inr, ℕ, ◌+◌, ◌-◌, ◌<◌, ◌≤◌, List, [], ◌∷◌, ◌++◌, length, take, drop, true, Result, Ok, Err, refl, sym, ap, subst, ◌∙◌, append_assoc, append-nil, arith, length-append, take-append-drop, nil_from_length, AreBytes, MAX_BYTES, SyncError, OutOfMemory, Stage, Version, Body, Whole, Failed, MessageParts, IsMessage, is_whole, need, Steps, ReaderState, EndsAtField, FailsWith, length-take-le, Moves, Stands, Refuses, Takes, drop-drop, take_all, AreBytes-append, AreBytes-take, Answers, IsLed, IsReader}
 use Rattle.std.proofs.lemmas.List.{length-drop}
 use Rattle.tp_codec.specs.Reading.{fail, give}
 use Rattle.tp_sync.specs.Reading.{ended, message_at, parts_at}
@@ -132,6 +132,23 @@ reader_refused s t piece e is fits refuses few = record {
 abbrev pub IsOpen : ReaderState → Type 0
 IsOpen s = (s.stage ≡ Whole → ⊥) × ((e : SyncError) → s.stage ≡ Failed e → ⊥)
 
+-- All of a piece that ends within the field is taken.
+pub part_ends : (s : ReaderState) (piece : List ℕ) → length piece < need s.stage - length s.held → EndsAtField s piece (length piece)
+part_ends s piece lt = (omega (arith, lt), inr refl)
+
+-- The rest of the field is taken.
+pub field_ends : (s : ReaderState) (piece : List ℕ) (count : ℕ) → IsReader s → IsOpen s → count ≡ need s.stage - length s.held → EndsAtField s piece count
+field_ends s piece count is (w, f) size =
+    let o = stands_open s.stage (length s.held) s.left is.stands w f in
+    (omega (arith, o.0, size), inl (omega (arith, o.0, size)))
+
+-- Of a whole message nothing is taken.
+pub whole_ends : (s : ReaderState) (piece : List ℕ) → IsReader s → s.stage ≡ Whole → EndsAtField s piece 0
+whole_ends s piece is whole =
+    let t = stands_whole s.stage (length s.held) s.left (ap is_whole whole) is.stands in
+    let none : need s.stage ≡ 0 = ap need whole in
+    (omega (arith, t.1, none), inl (omega (arith, t.1, none)))
+
 pub part_read : (s t : ReaderState) (piece : List ℕ) → IsReader s → AreBytes piece → IsOpen s → length piece < need s.stage - length s.held
     → t.stage ≡ s.stage → t.parts ≡ s.parts → t.held ≡ s.held ++ piece → t.left ≡ s.left - length piece → Takes s piece (length piece) t × IsReader t
 part_read s t piece is fits (w, f) lt same-stage same-parts more less =
@@ -172,6 +189,13 @@ body_moves s len more left piece result after at none few moves =
 
 body_size : (s : ReaderState) (len more : ℕ) → s.stage ≡ Body len more → s.held ≡ [] → len ≡ need s.stage - length s.held
 body_size s len more at none = let size : need s.stage ≡ len = ap need at in let held : length s.held ≡ 0 = ap length none in omega (arith, size, held)
+
+-- All of the change is taken.
+pub change_ends : (s : ReaderState) (len more : ℕ) (piece : List ℕ) → s.stage ≡ Body len more → s.held ≡ [] → EndsAtField s piece len
+change_ends s len more piece at none =
+    let size : need s.stage ≡ len = ap need at in
+    let held : length s.held ≡ 0 = ap length none in
+    (omega (arith, size, held), inl (omega (arith, size, held)))
 
 pub change_read : (s t : ReaderState) (len more : ℕ) (piece : List ℕ) → IsReader s → AreBytes piece → s.stage ≡ Body len more → s.held ≡ [] → len ≤ length piece → t.left ≡ s.left - len → t.held ≡ []
     → Moves (Body (length (take len piece)) more) s.parts (take len piece) t.left (Ok t.stage) t.parts → Takes s piece len t × IsReader t

@@ -7,7 +7,7 @@ use Rattle.tp_sync.specs.declared.stages.Stage.{Stage}
 use Rattle.tp_sync.specs.declared.stages.Stage.TheVariants.{Failed}
 use Rattle.tp_sync.specs.Message.{MessageParts}
 use Rattle.tp_sync.specs.Reading.{message_at, ended}
-use Rattle.tp_sync.specs.Stages.{is_whole, rest_at}
+use Rattle.tp_sync.specs.Stages.{is_whole, need, rest_at}
 use Rattle.tp_sync.specs.Steps.{Stands}
 
 -- What comes next, the parts that were read, the bytes of a field that isn't whole yet, and how many bytes are left.
@@ -30,6 +30,10 @@ pub record Takes (s : ReaderState) (piece : List ℕ) (count : ℕ) (t : ReaderS
   pub some : count ≡ 0 → (piece ≡ []) ⊎ (s.left ≡ 0)
   -- once all were taken, only of a whole message
   pub whole : s.left ≡ 0 → is_whole s.stage ≡ true
+
+-- So many bytes of the piece were taken, no more than the field that comes next still lacks: they end it, or are all.
+abbrev pub EndsAtField : ReaderState → List ℕ → ℕ → Type 0
+EndsAtField s piece count = (length s.held + count ≤ need s.stage) × ((length s.held + count ≡ need s.stage) ⊎ (count ≡ length piece))
 
 -- The message was refused, since it is with whatever follows some of the bytes.
 pub record Refuses (s : ReaderState) (piece : List ℕ) (e : SyncError) (t : ReaderState) : Type 0 where

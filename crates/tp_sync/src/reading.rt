@@ -10,7 +10,7 @@ ghost use Rattle.tp_sync.specs.Spelling.{message_spelling};
 ghost use Rattle.tp_sync.specs.Gives.{Gives};
 ghost use Rattle.tp_sync.specs.Reading.{message_at};
 ghost use Rattle.tp_sync.specs.Stages.{is_whole, fault_of};
-ghost use Rattle.tp_sync.specs.ReaderState.{reads, Answers};
+ghost use Rattle.tp_sync.specs.ReaderState.{reads, Answers, EndsAtField};
 
 use crate::error::SyncError;
 use crate::message::Message;
@@ -94,8 +94,8 @@ impl MessageReader {
         })
     }
 
-    /// Takes bytes of the piece, to the end of one field at most, and tells how many: none only where there are none,
-    /// or all of the message were taken.
+    /// Takes bytes of the piece, all of them or to the end of the field that comes next, and tells how many: none only
+    /// where there are none, or all of the message were taken.
     ///
     /// A refusal is [`Message::decode`]'s, for all bytes of the message that begin with those taken, and comes as soon as
     /// a field shows it: `BadMessage`, or `BadChange`, also for a change of no byte or of more than 4,194,304, once its
@@ -104,6 +104,7 @@ impl MessageReader {
     /// Bytes are copied only where a field comes in several pieces.
     pub fn take(&mut self, piece: &[u8]) -> Result<usize, SyncError>
         ensures answers { Answers self.old piece.now result self.new }
+        ensures field { IfOk result (λ count. EndsAtField self.old piece.now count) }
         ensures again { (e : Refusal) → fault_of self.old.stage ≡ Some e
             → (result ≡ Err e) × (self.new ≡ self.old) }
     {
@@ -161,6 +162,7 @@ impl MessageReader {
     #[inline]
     pub fn take_ahead(&mut self, piece: &[u8], ahead: &mut Ahead<'_>) -> Result<usize, SyncError>
         ensures answers { Answers self.old piece.now result self.new }
+        ensures field { IfOk result (λ count. EndsAtField self.old piece.now count) }
         ensures again { (e : Refusal) → fault_of self.old.stage ≡ Some e
             → (result ≡ Err e) × (self.new ≡ self.old) }
     {
@@ -183,7 +185,8 @@ impl MessageReader {
         requires stage { self.old.stage ≡ Body len more }
         requires none { self.old.held ≡ [] }
         requires whole { len ≤ length piece.now }
-        ensures { Answers self.old piece.now result self.new }
+        ensures answers { Answers self.old piece.now result self.new }
+        ensures field { IfOk result (λ count. EndsAtField self.old piece.now count) }
     {
         let count = len as usize;
         let left = self.left - count;

@@ -108,7 +108,8 @@ fn order(alloc: Global, words: &mut Words) -> Result<String, Fault> {
 // `order_places PLACE PLACE`: the same of references.
 fn order_places(alloc: Global, words: &mut Words) -> Result<String, Fault> {
     let (a, b) = (place(words.next()?)?, place(words.next()?)?);
-    order_of(alloc, a < b, b < a, a.is(&b))
+    let order = a.order(&b);
+    order_of(alloc, order.is_lt(), order.is_gt(), a.is(&b))
 }
 
 /// Makes a call on identifiers; `None` where the word is none of these.

@@ -5,7 +5,7 @@ use Rattle.tp_frame.specs.declared.reading.NoFrame.{NoFrame}
 use Rattle.tp_frame.specs.Reading.{head_at}
 use Rattle.tp_frame.proofs.FrameFields.{made}
 use Rattle.tp_frame.proofs.FrontSteps.{none_is, fault_is}
-use Rattle.tp_frame.proofs.Openings.{body_there, body_missing, body_none, missing_apart, short_content, head_short, few_bytes, sync_is, wrong_is_due, whole_is}
+use Rattle.tp_frame.proofs.Openings.{body_there, body_missing, body_none, missing_apart, short_content, head_short, few_bytes, sync_is, wrong_is_due, whole_is, kind_is_read, kind_is_sync}
 use Rattle.tp_frame.proofs.reading.opening_of.Goals as goal
 
 pub returns-in_err-head-clause-err : goal.returns-in_err-head-clause-err
@@ -57,3 +57,16 @@ returns-in-Err-clause-err c =
     let found = rw c.new-reader.ensures at c.in_ok-head.ensures.found in
     let body = body_there c.args.bytes.now c.in_ok-head.head c.head_of.new.reader c.in_ok-content.content.now c.bytes_of.new.reader found c.in_ok-content.ensures.found in
     (fault_is c.args.bytes.now (made c.in_ok-head.head.kind c.in_ok-content.content.now) c.bytes_of.new.reader c.in-Err.e body c.in-Err.ensures.found, λ e. c.in-Err.ensures.err cc)
+
+pub returns-in_err-head-clause-soon : goal.returns-in_err-head-clause-soon
+returns-in_err-head-clause-soon c =
+    let p = err_from_is_err_and c.from_residual.result c.from_residual.ensures.1 in
+    let found = rw c.new-reader.ensures at c.in_err-head.ensures.found in
+    λ e.
+    let same : c.in_err-head.field-0.0 ≡ Missing = cc (p.1, p.2) in
+    kind_is_read c.args.bytes.now (subst (λ (d : NoFrame). head_at c.args.bytes.now ≡ Err d) same found)
+
+pub returns-in_err-content-clause-soon : goal.returns-in_err-content-clause-soon
+returns-in_err-content-clause-soon c =
+    let found = rw c.new-reader.ensures at c.in_ok-head.ensures.found in
+    λ e has. c.if-head-eq1.false (kind_is_sync c.args.bytes.now c.in_ok-head.head c.head_of.new.reader (λ i. omega (arith, c.type_inv.bytes i)) found has)

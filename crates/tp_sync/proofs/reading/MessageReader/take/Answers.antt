@@ -1,6 +1,6 @@
-use Rattle.tp_sync.proofs.Common.{◌-◌, ℕ, length, take, sym, ap, subst, ◌∙◌, refl, arith, AreBytes, parts_in, ReaderState, Failed, Refuses, Takes}
+use Rattle.tp_sync.proofs.Common.{◌-◌, ℕ, length, take, sym, ap, subst, ◌∙◌, refl, arith, AreBytes, parts_in, ReaderState, EndsAtField, Failed, Refuses, Takes}
 use Rattle.tp_sync.proofs.JudgeLaws.{fault_is}
-use Rattle.tp_sync.proofs.ReaderLaws.{answers_again, answers_refusal, part_read, field_read, field_failed}
+use Rattle.tp_sync.proofs.ReaderLaws.{answers_again, answers_refusal, part_ends, field_ends, part_read, field_read, field_failed, whole_ends}
 use Rattle.tp_sync.proofs.reading.MessageReader.take.Goals as goal
 
 pub returns-in-Failed-clause-answers : goal.returns-in-Failed-clause-answers
@@ -24,6 +24,8 @@ returns-then-piece-missing c =
     (omega (arith, c.if-piece-missing.true, c.field_len.ensures, c.len.ensures, c.self.inside.held.ok.0)) refl refl c.in_ok-extend_from_slice.ensures.items refl).0 in
     record {
       answers = subst (λ (x : ReaderState). Takes x c.args.piece.now (length c.args.piece.now) t) c.self.view_is taken;
+      field = subst (λ (x : ReaderState). EndsAtField x c.args.piece.now (length c.args.piece.now)) c.self.view_is
+          (part_ends s c.args.piece.now (omega (arith, c.if-piece-missing.true, c.field_len.ensures, c.len.ensures, c.self.inside.held.ok.0)));
       again = λ e f. absurd (c.in_default.not-Failed e (ap (λ (x : ReaderState). x.stage) c.self.view_is ∙ fault_is c.args.self.now.stage e f));
     }
 
@@ -46,6 +48,8 @@ returns-in-Ok c =
     (omega (arith, c.field_len.ensures, c.len.ensures, c.self.inside.held.ok.0)) c.if-piece-missing.false refl refl c.in-Ok.ensures.ok c.in-Ok.ensures.moves).0 in
     record {
       answers = subst (λ (x : ReaderState). Takes x c.args.piece.now count t) c.self.view_is taken;
+      field = subst (λ (x : ReaderState). EndsAtField x c.args.piece.now count) c.self.view_is
+          (field_ends s c.args.piece.now count c.self.invariant (c.in_default.not-Whole, c.in_default.not-Failed) (omega (arith, c.field_len.ensures, c.len.ensures, c.self.inside.held.ok.0)));
       again = λ e f. absurd (c.in_default.not-Failed e (ap (λ (x : ReaderState). x.stage) c.self.view_is ∙ fault_is c.args.self.now.stage e f));
     }
 
@@ -68,5 +72,11 @@ returns-in_default-error c =
     (omega (arith, c.field_len.ensures, c.len.ensures, c.self.inside.held.ok.0)) c.if-piece-missing.false refl refl refl c.in-Err.ensures.few c.in_default-error.not-OutOfMemory c.in-Err.ensures.moves).0 in
     record {
       answers = answers_refusal c.args.self.now c.args.piece.now c.in-Err.error t c.in_default-error.not-OutOfMemory (subst (λ (x : ReaderState). Refuses x c.args.piece.now c.in-Err.error t) c.self.view_is refused);
+      field = tt;
       again = λ e f. absurd (c.in_default.not-Failed e (ap (λ (x : ReaderState). x.stage) c.self.view_is ∙ fault_is c.args.self.now.stage e f));
     }
+
+pub returns-in-Whole-clause-field : goal.returns-in-Whole-clause-field
+returns-in-Whole-clause-field c =
+    let s : ReaderState = record { stage = c.self.inside.stage; parts = parts_in c.self.inside.lists; held = c.self.inside.held.items; left = c.self.inside.left } in
+    subst (λ (x : ReaderState). EndsAtField x c.args.piece.now 0) c.self.view_is (whole_ends s c.args.piece.now c.self.invariant c.in-Whole.is)

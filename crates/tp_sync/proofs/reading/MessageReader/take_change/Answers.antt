@@ -1,5 +1,5 @@
-use Rattle.tp_sync.proofs.Common.{◌≡◌, ◌-◌, [], ap, subst, ◌∙◌, refl, arith, AreBytes, parts_in, ReaderState, Body, Failed, Refuses, Takes}
-use Rattle.tp_sync.proofs.ReaderLaws.{answers_refusal, change_read, change_failed}
+use Rattle.tp_sync.proofs.Common.{◌≡◌, ◌-◌, [], ap, subst, ◌∙◌, refl, arith, AreBytes, parts_in, ReaderState, EndsAtField, Body, Failed, Refuses, Takes}
+use Rattle.tp_sync.proofs.ReaderLaws.{answers_refusal, change_ends, change_read, change_failed}
 use Rattle.tp_sync.proofs.reading.MessageReader.take_change.Goals as goal
 
 pub invariant_of-self : goal.invariant_of-self
@@ -19,7 +19,10 @@ returns-in-Ok c =
     let at : s.stage ≡ Body c.args.len c.args.more = ap (λ (x : ReaderState). x.stage) c.self.view_is ∙ c.requires.stage in
     let none : s.held ≡ [] = ap (λ (x : ReaderState). x.held) c.self.view_is ∙ c.requires.none in
     let taken : Takes s c.args.piece.now c.args.len t = (change_read s t c.args.len c.args.more c.args.piece.now c.self.invariant fits at none c.requires.whole refl none c.in-Ok.ensures).0 in
-    subst (λ (x : ReaderState). Takes x c.args.piece.now c.args.len t) c.self.view_is taken
+    record {
+      answers = subst (λ (x : ReaderState). Takes x c.args.piece.now c.args.len t) c.self.view_is taken;
+      field = subst (λ (x : ReaderState). EndsAtField x c.args.piece.now c.args.len) c.self.view_is (change_ends s c.args.len c.args.more c.args.piece.now at none);
+    }
 
 pub invariant_of-self-in_default : goal.invariant_of-self-in_default
 invariant_of-self-in_default c =
@@ -38,4 +41,7 @@ returns-in_default c =
     let at : s.stage ≡ Body c.args.len c.args.more = ap (λ (x : ReaderState). x.stage) c.self.view_is ∙ c.requires.stage in
     let none : s.held ≡ [] = ap (λ (x : ReaderState). x.held) c.self.view_is ∙ c.requires.none in
     let refused : Refuses s c.args.piece.now c.in-Err.error t = (change_failed s t c.args.len c.args.more c.args.piece.now c.in-Err.error (parts_in c.next_change.new.lists) c.self.invariant fits at none c.requires.whole refl refl none c.in_default.not-OutOfMemory c.in-Err.ensures).0 in
-    answers_refusal c.args.self.now c.args.piece.now c.in-Err.error t c.in_default.not-OutOfMemory (subst (λ (x : ReaderState). Refuses x c.args.piece.now c.in-Err.error t) c.self.view_is refused)
+    record {
+      answers = answers_refusal c.args.self.now c.args.piece.now c.in-Err.error t c.in_default.not-OutOfMemory (subst (λ (x : ReaderState). Refuses x c.args.piece.now c.in-Err.error t) c.self.view_is refused);
+      field = tt;
+    }
