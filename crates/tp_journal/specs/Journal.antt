@@ -1,5 +1,6 @@
 -- What the calls of a journal leave, by its content and by what is seen of its device.
 use Rattle.std.specs.Prelude.{◌≡◌, ℕ, ◌+◌, ◌-◌, ◌^◌, min, List, ◌++◌, take, Bool, true, false, ◌||◌, ◌&&◌, Option, Some, None, is_some}
+use Rattle.tp_journal.specs.Calls.{FileCalls}
 use Rattle.tp_journal.specs.declared.error.JournalError.{JournalError}
 use Rattle.tp_journal.specs.declared.error.JournalError.TheVariants.{Io, OutOfMemory}
 
@@ -63,10 +64,11 @@ abbrev pub LeavesPart : JournalError → List ℕ → List ℕ → List ℕ → 
 LeavesPart Io before after bytes = GrowsInPart before after bytes
 LeavesPart OutOfMemory before after bytes = after ≡ before
 
--- what contracts see of a journal in a file: its content, and how often its device failed
+-- what contracts see of a journal in a file: its content, how often its device failed, and what was asked of the file
 pub record FileState : Type 0 where
   pub content : List ℕ
   pub failures : ℕ
+  pub asked : FileCalls
 
 -- what contracts see of a journal that fails when it is told to: its content; how often it failed; how many bytes the next
 -- append keeps as it fails, if it is to; and whether the next cut fails

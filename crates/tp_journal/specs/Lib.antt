@@ -6,3 +6,4 @@ pub mod Whole
 pub mod Pieces
 pub mod Laws
 pub mod Journal
+pub mod Calls

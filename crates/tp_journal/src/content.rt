@@ -27,6 +27,13 @@ impl Content {
         Content {}
     }
 
+    /// These bytes.
+    pub(crate) fn of(bytes: &[u8]) -> Content
+        ensures { result.bytes ≡ bytes.now }
+    {
+        Content::with(&Content::none(), bytes)
+    }
+
     /// More bytes behind those before.
     pub(crate) fn with(_before: &Content, _bytes: &[u8]) -> Content
         ensures { result.bytes ≡ _before.now.bytes ++ _bytes.now }

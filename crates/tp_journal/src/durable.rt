@@ -1,6 +1,7 @@
 //! A journal in a file that brings to the disk what was appended.
 
 ghost use Rattle.std.specs.Prelude.{◌≡◌, ◌⊎◌, [], false, IfOk, IfErr};
+ghost use Rattle.tp_journal.specs.Calls.{IsAllSynced};
 ghost use Rattle.tp_journal.specs.Journal.{failing};
 ghost use Rattle.tp_journal.specs.Recovery.{HasTail, Recovers};
 ghost use Rattle.tp_journal.specs.Refusals.{IsRefusal};
@@ -25,6 +26,7 @@ use tp_store::StoreError;
 pub struct DurableJournal<F: Write + OpenFile + Drop> {
     file: FileJournal<F>,
     is_ahead: bool,
+    ghost is_synced: { is_ahead ≡ false → IsAllSynced file.asked },
 }
 
 impl<F: Read + Write + OpenFile + Lockable + Drop> DurableJournal<F> {
@@ -84,7 +86,9 @@ impl<F: Write + OpenFile + Drop> Journal for DurableJournal<F> {
 
     ghost device = { λ j. failing j.file.failures };
 
-    ghost is_settled = { λ j. j.is_ahead ≡ false };
+    ghost asked = { λ j. j.file.asked };
+
+    ghost is_settled = { λ j. IsAllSynced j.file.asked };
 
     fn append(&mut self, bytes: &[u8]) -> Result<(), JournalError> {
         self.is_ahead = true;

@@ -1,12 +1,15 @@
 //! A journal in a file.
 
 ghost use Rattle.std.specs.Prelude.{◌≡◌, ◌⊎◌, ◌+◌, [], ◌++◌, length, OnOk, OnErr, IfOk, IfErr, IfSome, IsOkUnless};
+ghost use Rattle.tp_journal.specs.Calls.{AsksOnce, IsSync, IsAllSynced};
 ghost use Rattle.tp_journal.specs.Journal.{HasGrown, failing};
 ghost use Rattle.tp_journal.specs.Recovery.{HasTail, Recovers};
 ghost use Rattle.tp_journal.specs.Refusals.{IsRefusal};
 ghost use Rattle.tp_journal.specs.declared.error.JournalError.TheVariants.{Io};
 ghost use Rattle.tp_store.specs.declared.error.StoreError.TheVariants.{OutOfMemory as Lack};
 
+use crate::beneath::CalledFile;
+use crate::content::Content;
 use crate::error::JournalError;
 use crate::journal::Journal;
 use crate::kept::Kept;
@@ -16,15 +19,14 @@ use crate::pieces::Recovering;
 use crate::recovering::Recovered;
 use std::alloc::Global;
 use std::fs::{OpenFile, OpenOptions};
-use std::io;
 use std::io::{Read, Write};
 use std::marker::Model;
 use std::rt::Files;
 use tp_rga::Sequence;
 use tp_store::StoreError;
 
-/// A journal in a file. Its content is what it read at opening and what its writes and cuts did then: that the file agrees
-/// with it is a matter of the device. It has the file's lock from its opening on until it ends, so no other journal is
+/// A journal in a file. Its content is what it read at opening and what its writes and cuts make of that: that the file
+/// agrees with it is a matter of the device. It has the file's lock from its opening on until it ends, so no other journal is
 /// opened on the file meanwhile, in this process or in another one.
 ///
 /// Each append is one write at the end of the file. A write that took fewer bytes than it was given is a failure of the
@@ -34,17 +36,15 @@ use tp_store::StoreError;
 /// A copy of the content is held in memory by one that [`at`](FileJournal::at) opened, and none by one that
 /// [`recovering`](FileJournal::recovering) opened.
 ///
-/// Contracts see its content and how often its device failed.
+/// Contracts see its content, how often its device failed, and what was asked of the file.
 pub struct FileJournal<F: Write + OpenFile + Drop> {
-    file: F,
-    kept: Kept,
+    kept: Kept<CalledFile<F>>,
     failures: u64,
 }
 
 impl<F: Write + OpenFile + Drop> Drop for FileJournal<F> {
     fn drop(self) {
         let FileJournal {
-            file: _,
             kept: _,
             failures: _,
         } = self;
@@ -52,87 +52,50 @@ impl<F: Write + OpenFile + Drop> Drop for FileJournal<F> {
 }
 
 impl<F: Write + OpenFile + Drop> Model for FileJournal<F> {
+    ghost use Rattle.tp_journal.specs.Calls.{file_content};
     ghost use Rattle.tp_journal.specs.Journal.{FileState};
 
     ghost Value = { FileState };
 
-    ghost view = { λ j. record { content = j.kept; failures = j.failures } };
-}
-
-// Takes the file's lock.
-fn lock<F: Lockable>(file: &F) -> Result<(), OpenError>
-    ensures { OnOk result (F.is_locked file.now) }
-{
-    if file.take_lock()? {
-        Ok(())
-    } else {
-        Err(OpenError::Busy)
-    }
+    ghost view = { λ j. record { content = file_content j.kept; failures = j.failures; asked = j.kept } };
 }
 
 // Opens the file at the path for reading and appending, and takes its lock.
-fn open<R: Files>(rt: &R, path: &str, make: bool) -> Result<R::File, OpenError>
+fn open<R: Files>(rt: &R, path: &str, make: bool) -> Result<CalledFile<R::File>, OpenError>
 where
     R::File: Lockable,
-    ensures { IfOk result (λ file. R.File.is_locked file) }
+    ensures locked { IfOk result (λ file. R.File.is_locked file.file) }
+    ensures new { IfOk result (λ file. file.calls.list ≡ []) }
 {
     let file = OpenOptions::new()
         .read(true)
         .append(true)
         .create(make)
         .open(rt, path)?;
-    lock(&file)?;
+    let file = CalledFile::of(file);
+    file.lock()?;
     Ok(file)
 }
 
-// All that the reader has.
-fn read_whole<R: Read>(alloc: Global, reader: &mut R) -> io::Result<Vec<u8>>
-    ensures { IfOk result
-        (λ bytes. IfSome (R.remaining reader.old) (λ held. bytes.items ≡ held)) }
-{
-    let mut bytes = Vec::new(alloc);
-    reader.read_to_end(&mut bytes)?;
-    Ok(bytes)
-}
-
-// Reads all that the reader has, by pieces. Gives how many bytes it was.
-fn read_into<S: Sequence, R: Read>(
-    reader: &mut R,
-    recovering: &mut Recovering<S>,
-) -> Result<u64, OpenError>
-    ensures count { IfOk result
-        (λ count. length recovering.new ≡ length recovering.old + count) }
-    ensures whole { OnOk result (IfSome (R.remaining reader.old)
-        (λ held. recovering.new ≡ recovering.old ++ held)) }
-{
-    let count = io::copy(reader, recovering)?;
-    if count == u64::MAX {
-        return Err(OpenError::Io);
-    }
-    Ok(count)
-}
-
-// What is kept of all that the reader has, and what it recovers to.
-fn recover_from<S: Sequence, R: Read>(
+// What was read of all that the file has, how many bytes it was, and what it recovers to.
+fn recover_from<S: Sequence, F: Read + Write + OpenFile + Drop>(
     alloc: Global,
-    reader: &mut R,
-) -> Result<(Kept, Result<Recovered<S>, StoreError>), OpenError>
-    ensures whole { IfOk result (λ read. IfSome (R.remaining reader.old)
-        (λ held. read.0 ≡ held)) }
-    ensures ok { IfOk result (λ read. IfOk read.1 (λ r.
-        Recovers read.0 r.document.id r.document.applied r.keep × (r.document.waiting ≡ []))) }
-    ensures tail { IfOk result (λ read. IfOk read.1 (λ r. HasTail read.0 r.keep r.tail.items)) }
-    ensures err { IfOk result (λ read. IfErr read.1 (λ e. (e ≡ Lack) ⊎ IsRefusal read.0 e)) }
+    file: &mut CalledFile<F>,
+) -> Result<(Content, u64, Result<Recovered<S>, StoreError>), OpenError>
+    ensures whole { IfOk result (λ read. (read.1 ≡ length read.0.bytes)
+        × (file.new.calls.list ≡ file.old.calls.list)
+        × IfSome (F.remaining file.old.file) (λ held. read.0.bytes ≡ held)) }
+    ensures ok { IfOk result (λ read. IfOk read.2 (λ r.
+        Recovers read.0.bytes r.document.id r.document.applied r.keep × (r.document.waiting ≡ []))) }
+    ensures tail { IfOk result (λ read. IfOk read.2 (λ r. HasTail read.0.bytes r.keep r.tail.items)) }
+    ensures err { IfOk result (λ read. IfErr read.2 (λ e. (e ≡ Lack) ⊎ IsRefusal read.0.bytes e)) }
 {
     let mut recovering = Recovering::new(alloc);
-    match read_into(reader, &mut recovering) {
-        Ok(count) => {
-            let kept = Kept::counted(recovering.content(), count);
-            Ok((kept, recovering.finish()))
-        }
+    match file.read_into(&mut recovering) {
+        Ok(count) => Ok((recovering.content(), count, recovering.finish())),
         Err(error) => {
             drop(recovering);
-            Err(error)
+            Err(OpenError::from(error))
         }
     }
 }
@@ -148,14 +111,14 @@ impl<F: Read + Write + OpenFile + Lockable + Drop> FileJournal<F> {
         path: &str,
         make: bool,
     ) -> Result<FileJournal<F>, OpenError>
-        ensures new { IfOk result (λ j. j.failures ≡ 0) }
+        ensures new { IfOk result
+            (λ j. (j.failures ≡ 0) × (j.asked ≡ record { opened = j.content; calls = [] })) }
         ensures locked { IfOk result (λ _. (file : F) × F.is_locked file) }
     {
         let mut file = open(rt, path, make)?;
-        let copy = read_whole(alloc, &mut file)?;
+        let copy = file.read_whole(alloc)?;
         Ok(FileJournal {
-            file,
-            kept: Kept::copied(copy),
+            kept: Kept::copied(file, copy),
             failures: 0,
         })
     }
@@ -171,7 +134,8 @@ impl<F: Read + Write + OpenFile + Lockable + Drop> FileJournal<F> {
         path: &str,
         make: bool,
     ) -> Result<(FileJournal<F>, Result<Recovered<S>, StoreError>), OpenError>
-        ensures new { IfOk result (λ opened. opened.0.failures ≡ 0) }
+        ensures new { IfOk result (λ opened. (opened.0.failures ≡ 0)
+            × (opened.0.asked ≡ record { opened = opened.0.content; calls = [] })) }
         ensures locked { IfOk result (λ _. (file : F) × F.is_locked file) }
         ensures ok { IfOk result (λ opened. IfOk opened.1 (λ r.
             Recovers opened.0.content r.document.id r.document.applied r.keep
@@ -182,10 +146,9 @@ impl<F: Read + Write + OpenFile + Lockable + Drop> FileJournal<F> {
             (λ e. (e ≡ Lack) ⊎ IsRefusal opened.0.content e)) }
     {
         let mut file = open(rt, path, make)?;
-        let (kept, recovered) = recover_from(alloc, &mut file)?;
+        let (content, len, recovered) = recover_from(alloc, &mut file)?;
         let journal = FileJournal {
-            file,
-            kept,
+            kept: Kept::counted(file, content, len),
             failures: 0,
         };
         Ok((journal, recovered))
@@ -193,19 +156,19 @@ impl<F: Read + Write + OpenFile + Lockable + Drop> FileJournal<F> {
 }
 
 impl<F: Write + OpenFile + Drop> FileJournal<F> {
-    /// Brings to the disk what was written. A failure is refused as `Io` and counted; the content stays.
+    /// Brings to the disk what was written. A failure is refused as `Io` and counted; the content stays. After one failure
+    /// each is refused so, and the file isn't asked, since the system may have dropped what it was to bring.
     pub fn sync(&mut self) -> Result<(), JournalError>
+        ensures asks { AsksOnce IsSync self.old.asked self.new.asked }
         ensures stays { self.new.content ≡ self.old.content }
-        ensures ok { OnOk result (self.new.failures ≡ self.old.failures) }
-        ensures err { IsOkUnless result Io }
-        ensures counts { OnErr result (HasGrown self.old.failures self.new.failures) }
+        ensures ok { OnOk result (IsAllSynced self.new.asked × (self.new.failures ≡ self.old.failures)) }
+        ensures err { IsOkUnless result Io × OnErr result (HasGrown self.old.failures self.new.failures) }
     {
-        match self.file.sync_data() {
-            Ok(()) => Ok(()),
-            Err(_) => {
-                self.failures = self.failures.saturating_add(1);
-                Err(JournalError::Io)
-            }
+        if self.kept.sync() {
+            Ok(())
+        } else {
+            self.failures = self.failures.saturating_add(1);
+            Err(JournalError::Io)
         }
     }
 }
@@ -215,10 +178,12 @@ impl<F: Write + OpenFile + Drop> Journal for FileJournal<F> {
 
     ghost device = { λ j. failing j.failures };
 
+    ghost asked = { λ j. j.asked };
+
     ghost is_settled = { λ _. Unit {0} };
 
     fn append(&mut self, bytes: &[u8]) -> Result<(), JournalError> {
-        match self.kept.write(&mut self.file, bytes) {
+        match self.kept.write(bytes) {
             Ok(count) if count == bytes.len() => Ok(()),
             Ok(_) => {
                 self.failures = self.failures.saturating_add(1);
@@ -237,15 +202,11 @@ impl<F: Write + OpenFile + Drop> Journal for FileJournal<F> {
         if self.kept.len() <= len {
             return Ok(());
         }
-        match self.file.set_len(len) {
-            Ok(()) => {
-                self.kept.cut(len);
-                Ok(())
-            }
-            Err(_) => {
-                self.failures = self.failures.saturating_add(1);
-                Err(JournalError::Io)
-            }
+        if self.kept.cut(len) {
+            Ok(())
+        } else {
+            self.failures = self.failures.saturating_add(1);
+            Err(JournalError::Io)
         }
     }
 

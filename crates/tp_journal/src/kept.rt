@@ -1,43 +1,49 @@
-//! What is kept of the content of a journal in a file.
+//! What is kept of the content of a file beneath a journal.
 
-ghost use Rattle.std.specs.Prelude.{◌≡◌, ◌≤◌, ℕ, List, ◌++◌, length, take, OnOk, OnErr, IfOk, IfSome};
-ghost use Rattle.std.specs.Io.KnownBytes.{Appends};
+ghost use Rattle.std.specs.Prelude.{◌≡◌, ◌≤◌, ℕ, List, [], ◌++◌, length, take, true, false, OnOk, OnErr, IfOk, IfSome};
+ghost use Rattle.tp_journal.specs.Calls.{AsksOnce, IsCut, IsSync, IsAllSynced, IsWrite, file_content};
 
+use crate::beneath::JournalFile;
 use crate::content::Content;
 use crate::error::JournalError;
 use std::alloc::AllocError;
-use std::io::Write;
 use std::marker::Model;
 
-/// How many bytes a content has, and a copy of it, where one is held. A content that has none is nowhere in memory.
+/// A file, what was read of it, how many bytes it has, a copy of these, where one is held, and whether a sync failed. Bytes
+/// that have no copy are nowhere in memory.
 ///
-/// Contracts see the content.
-#[derive(Drop)]
-pub(crate) struct Kept {
-    content: Content,
+/// Contracts see what was asked of the file.
+pub(crate) struct Kept<F: JournalFile + Drop> {
+    file: F,
+    opened: Content,
     len: u64,
     copy: Option<Vec<u8>>,
+    fails: bool,
 }
 
-impl Model for Kept {
-    ghost use Rattle.std.specs.Prelude.{◌≡◌, ℕ, List, length, IfSome};
-
-    ghost Value = { List ℕ };
-
-    ghost view = { λ k. k.content.bytes };
-
-    ghost invariant = { λ k. (k.len ≡ length k.content.bytes) × IfSome k.copy (λ copy. copy.items ≡ k.content.bytes) };
-}
-
-// Writes the bytes, once. How many were taken: none where the writer failed.
-fn write_once<W: Write>(writer: &mut W, bytes: &[u8]) -> usize
-    ensures bound { result ≤ length bytes.now }
-    ensures written { Appends (W.contents writer.old) (W.contents writer.new) (take result bytes.now) }
-{
-    match writer.write(bytes) {
-        Ok(count) => count,
-        Err(_) => 0,
+impl<F: JournalFile + Drop> Drop for Kept<F> {
+    fn drop(self) {
+        let Kept {
+            file: _,
+            opened: _,
+            len: _,
+            copy: _,
+            fails: _,
+        } = self;
     }
+}
+
+impl<F: JournalFile + Drop> Model for Kept<F> {
+    ghost use Rattle.std.specs.Prelude.{◌≡◌, length, IfSome};
+    ghost use Rattle.tp_journal.specs.Calls.{FileCalls, content_after, fails_sync};
+
+    ghost Value = { FileCalls };
+
+    ghost view = { λ k. record { opened = k.opened.bytes; calls = F.calls k.file } };
+
+    ghost invariant = { λ k. (k.len ≡ length (content_after k.opened.bytes (F.calls k.file)))
+        × IfSome k.copy (λ copy. copy.items ≡ content_after k.opened.bytes (F.calls k.file))
+        × (k.fails ≡ fails_sync (F.calls k.file)) };
 }
 
 // Puts the bytes behind a copy, if one is held.
@@ -63,48 +69,49 @@ fn truncate(copy: &mut Option<Vec<u8>>, len: u64)
     }
 }
 
-impl Kept {
-    /// A content of which this is the copy that is held.
-    pub(crate) fn copied(copy: Vec<u8>) -> Kept
-        ensures { result ≡ copy.items }
+impl<F: JournalFile + Drop> Kept<F> {
+    /// A file that was just opened, and of whose bytes this is the copy that is held.
+    pub(crate) fn copied(file: F, copy: Vec<u8>) -> Kept<F>
+        requires { F.calls file ≡ [] }
+        ensures { result ≡ record { opened = copy.items; calls = [] } }
     {
         Kept {
-            content: Content::with(&Content::none(), copy.as_slice()),
+            file,
+            opened: Content::of(copy.as_slice()),
             len: copy.len() as u64,
             copy: Some(copy),
+            fails: false,
         }
     }
 
-    /// A content of so many bytes, of which no copy is held.
-    pub(crate) fn counted(content: Content, len: u64) -> Kept
-        requires { len ≡ length content.bytes }
-        ensures { result ≡ content.bytes }
+    /// A file that was just opened and has so many bytes, of which no copy is held.
+    pub(crate) fn counted(file: F, opened: Content, len: u64) -> Kept<F>
+        requires calls { F.calls file ≡ [] }
+        requires len { len ≡ length opened.bytes }
+        ensures { result ≡ record { opened = opened.bytes; calls = [] } }
     {
         Kept {
-            content,
+            file,
+            opened,
             len,
             copy: None,
+            fails: false,
         }
     }
 
-    /// How many bytes the content has.
+    /// How many bytes the file has.
     pub(crate) fn len(&self) -> u64
-        ensures { result ≡ length self.now }
+        ensures { result ≡ length (file_content self.now) }
     {
         self.len
     }
 
-    /// Writes the bytes, once, behind the content. How many were taken, which the content has then; none of more bytes than
+    /// Writes the bytes, once, at the end of the file. How many were taken, which the file has then; none of more bytes than
     /// a number of 64 bits counts.
-    pub(crate) fn write<W: Write>(
-        &mut self,
-        writer: &mut W,
-        bytes: &[u8],
-    ) -> Result<usize, AllocError>
+    pub(crate) fn write(&mut self, bytes: &[u8]) -> Result<usize, AllocError>
+        ensures asks { AsksOnce (IsWrite bytes.now) self.old self.new }
         ensures ok { IfOk result (λ count. (count ≤ length bytes.now)
-            × (self.new ≡ self.old ++ take count bytes.now)) }
-        ensures written { IfOk result
-            (λ count. Appends (W.contents writer.old) (W.contents writer.new) (take count bytes.now)) }
+            × (file_content self.new ≡ file_content self.old ++ take count bytes.now)) }
         ensures err { OnErr result (self.new ≡ self.old) }
     {
         if bytes.len() as u64 > u64::MAX - self.len {
@@ -114,26 +121,44 @@ impl Kept {
             Ok(()) => {}
             Err(error) => return Err(error),
         }
-        let count = write_once(writer, bytes);
+        let count = self.file.write(bytes);
         self.len += count as u64;
         truncate(&mut self.copy, self.len);
-        self.content = Content::with(&self.content, &bytes[..count]);
         Ok(count)
     }
 
-    /// Cuts the content to so many bytes, which it has.
-    pub(crate) fn cut(&mut self, len: u64)
-        requires { len ≤ length self.old }
-        ensures { self.new ≡ take len self.old }
+    /// Cuts the file to so many bytes, which it has. Whether that was done.
+    pub(crate) fn cut(&mut self, len: u64) -> bool
+        requires { len ≤ length (file_content self.old) }
+        ensures asks { AsksOnce (IsCut len) self.old self.new }
+        ensures done { result ≡ true → file_content self.new ≡ take len (file_content self.old) }
+        ensures stays { result ≡ false → file_content self.new ≡ file_content self.old }
     {
-        self.len = len;
-        truncate(&mut self.copy, len);
-        self.content = Content::first(&self.content, &len);
+        let done = self.file.cut(len);
+        if done {
+            self.len = len;
+            truncate(&mut self.copy, len);
+        }
+        done
     }
 
-    /// A copy of the content. `Io` where none is held, else `OutOfMemory`.
+    /// Brings the file to the disk. Whether that was done; after one sync that failed none is.
+    pub(crate) fn sync(&mut self) -> bool
+        ensures asks { AsksOnce IsSync self.old self.new }
+        ensures done { result ≡ true → IsAllSynced self.new }
+        ensures stays { file_content self.new ≡ file_content self.old }
+    {
+        if self.fails {
+            return false;
+        }
+        let done = self.file.sync();
+        self.fails = !done;
+        done
+    }
+
+    /// A copy of what the file has. `Io` where none is held, else `OutOfMemory`.
     pub(crate) fn read(&self) -> Result<Vec<u8>, JournalError>
-        ensures { IfOk result (λ bytes. bytes.items ≡ self.now) }
+        ensures { IfOk result (λ bytes. bytes.items ≡ file_content self.now) }
     {
         match &self.copy {
             Some(copy) => match Vec::from_slice(*copy.allocator(), copy.as_slice()) {

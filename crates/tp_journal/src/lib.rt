@@ -5,6 +5,8 @@
 //! next recovery. docs/FORMATS.md says every byte.
 #![tactic(auto)]
 
+mod beneath;
+mod calls;
 mod content;
 mod durable;
 mod error;

@@ -1,27 +1,28 @@
 //! Keeping what is cut off a journal.
 
-ghost use Rattle.std.specs.Prelude.{IfOk};
-ghost use Rattle.tp_shell.specs.Files.{KeepsTail};
+ghost use Rattle.std.specs.Prelude.{IfOk, OnOk};
+ghost use Rattle.tp_shell.specs.Files.{KeepsTail, cut_path};
 
+use crate::folders::Folders;
 use crate::replacing::put_new;
-use std::fs;
-use std::rt::Files;
 use tp_commands::CommandError;
 use tp_journal::{Recovered, holds_record};
 use tp_peer::{PeerError, PeerSequence};
 
 // Puts what is cut off from the offset on into a file of its own, unless it is there already.
-fn put_cut<R: Files + AllocGlobal>(
-    rt: &R,
+fn put_cut<D: Folders + AllocGlobal>(
+    rt: &D,
     path: &str,
     at: u64,
     bytes: &[u8],
-) -> Result<(), CommandError> {
+) -> Result<(), CommandError>
+    ensures { OnOk result (D.leaves rt.now (cut_path path.now at) bytes.now) }
+{
     let place = format!(in rt.alloc(); "{path}.cut-{at}")?;
     match put_new(rt, place.as_str(), path, bytes) {
         Err(CommandError::Peer(PeerError::JournalNotEmpty)) => {
-            if fs::read(rt, place.as_str())?.as_slice() == bytes {
-                Ok(())
+            if rt.has(place.as_str(), bytes)? {
+                rt.sync_folder(place.as_str())
             } else {
                 Err(CommandError::Peer(PeerError::JournalNotEmpty))
             }
@@ -32,12 +33,12 @@ fn put_cut<R: Files + AllocGlobal>(
 
 /// Keeps the bytes that opening the journal at the path cuts off, as [`Disk::recovered_journal`](crate::Disk::recovered_journal)
 /// says. The offset of the first of them, where they are kept.
-pub(crate) fn keep_cut<R: Files + AllocGlobal>(
-    rt: &R,
+pub(crate) fn keep_cut<D: Folders + AllocGlobal>(
+    rt: &D,
     path: &str,
     recovered: &Recovered<PeerSequence>,
 ) -> Result<Option<u64>, CommandError>
-    ensures { IfOk result (KeepsTail (λ _ _. Unit {0}) path.now
+    ensures { IfOk result (KeepsTail (D.leaves rt.now) path.now
         recovered.now.keep recovered.now.tail.items) }
 {
     if holds_record(rt.alloc(), recovered.tail.as_slice())? {

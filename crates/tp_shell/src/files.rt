@@ -1,11 +1,12 @@
 //! The files that commands read and write.
 
 ghost use Rattle.std.specs.Prelude.{◌≡◌, ℕ, List, [], IfOk, OnOk, Ok};
+ghost use Rattle.tp_journal.specs.Calls.{IsAllSynced};
 ghost use Rattle.tp_journal.specs.Recovery.{Recovers};
 ghost use Rattle.tp_shell.specs.Files.{CutsJournal, KeepsTail};
 
 use crate::cutting::keep_cut;
-use crate::replacing::{put_new, replace};
+use crate::folders::Folders;
 use std::fs::OpenFile;
 use std::io::{Read, Seek, Write};
 use std::rt::Files;
@@ -29,8 +30,8 @@ pub struct Opened<J: Drop> {
 ///
 /// Contracts see what a call did by three relations of its own, each between a path and bytes: these were read of the file
 /// there (`reads`); its lock was taken, and then these were read of it (`takes`); and the file there was left with these,
-/// on the disk (`leaves`). What the system does with a file between two calls is outside of them.
-pub trait Disk {
+/// on the disk ([`leaves`](Folders)). What the system does with a file between two calls is outside of them.
+pub trait Disk: Folders {
     /// An open file.
     type File: Read + Write + Seek + OpenFile + Drop;
 
@@ -39,9 +40,6 @@ pub trait Disk {
 
     /// The path, and the bytes that were read of the file there, once its lock was taken.
     ghost takes: { Self → List ℕ → List ℕ → Type 0 };
-
-    /// The path, and the bytes with which the file there was left.
-    ghost leaves: { Self → List ℕ → List ℕ → Type 0 };
 
     /// Opens a file to read it.
     fn open(&self, path: &str) -> Result<Self::File, CommandError>;
@@ -68,7 +66,7 @@ pub trait Disk {
             o.recovered.document.applied o.recovered.keep
             × (o.recovered.document.waiting ≡ [])) }
         ensures cuts { IfOk result
-            (λ o. CutsJournal (leaves self.now) path.now o.journal.content o.cut) };
+            (λ o. CutsJournal (Self.leaves self.now) path.now o.journal.content o.cut) };
 
     /// The same, all of which is brought to the disk before what is told of it.
     fn durable_journal(
@@ -80,25 +78,13 @@ pub trait Disk {
             o.recovered.document.applied o.recovered.keep
             × (o.recovered.document.waiting ≡ [])) }
         ensures cuts { IfOk result
-            (λ o. CutsJournal (leaves self.now) path.now o.journal.file.content o.cut) };
+            (λ o. CutsJournal (Self.leaves self.now) path.now o.journal.file.content o.cut) };
 
     /// Brings to the disk what was written to a journal that was taken from the path. Its content stays.
     fn sync(&self, path: &str, journal: &mut FileJournal<Self::File>) -> Result<(), CommandError>
-        ensures left { OnOk result (leaves self.now path.now journal.new.content) }
+        ensures synced { OnOk result (IsAllSynced journal.new.asked) }
+        ensures left { OnOk result (Self.leaves self.now path.now journal.new.content) }
         ensures stays { journal.new.content ≡ journal.old.content };
-
-    /// Makes the file at the path of these bytes, in place of one that is there: a link is followed, and a regular file keeps
-    /// its mode. A new one has the mode of the file at the path `like`. A crash leaves it as it was, or whole. What is no
-    /// regular file, as a pipe, or is open already, as the standard output, is written to.
-    ///
-    /// A file that begins as a journal does is refused as `JournalNotEmpty`, and stays.
-    fn replace(&self, path: &str, like: &str, bytes: &[u8]) -> Result<(), CommandError>
-        ensures { OnOk result (leaves self.now path.now bytes.now) };
-
-    /// Makes a new file at the path of these bytes, with the mode of the file at the path `like`. A crash leaves none, or the
-    /// whole. What is there already, whatever it is, is refused as `JournalNotEmpty`, and stays.
-    fn put_new(&self, path: &str, like: &str, bytes: &[u8]) -> Result<(), CommandError>
-        ensures { OnOk result (leaves self.now path.now bytes.now) };
 }
 
 // The journal at the path with what it recovers to, once what opening it cuts off is kept.
@@ -133,9 +119,7 @@ fn opened_journal<R: Files + AllocGlobal, J: Journal>(
     }
 }
 
-/// The files of the system, of which its calls promise nothing. A file is replaced by one that is written beside it, under a
-/// name that no other has and that ends with `.part`, and then takes its name; and the folder is brought to the disk. Where
-/// it is refused, the file beside it is removed, as far as that can be done.
+/// The files of the system, of which its calls promise nothing.
 impl<R: Files + AllocGlobal> Disk for R
 where
     R::File: Lockable,
@@ -145,8 +129,6 @@ where
     ghost reads = { λ _ _ _. Unit {0} };
 
     ghost takes = { λ _ _ _. Unit {0} };
-
-    ghost leaves = { λ _ _ _. Unit {0} };
 
     fn open(&self, path: &str) -> Result<R::File, CommandError> {
         Ok(fs::open(self, path)?)
@@ -184,13 +166,5 @@ where
 
     fn sync(&self, _path: &str, journal: &mut FileJournal<R::File>) -> Result<(), CommandError> {
         Ok(journal.sync()?)
-    }
-
-    fn replace(&self, path: &str, like: &str, bytes: &[u8]) -> Result<(), CommandError> {
-        replace(self, path, like, bytes)
-    }
-
-    fn put_new(&self, path: &str, like: &str, bytes: &[u8]) -> Result<(), CommandError> {
-        put_new(self, path, like, bytes)
     }
 }

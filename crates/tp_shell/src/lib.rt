@@ -4,6 +4,7 @@
 mod cutting;
 mod error;
 mod files;
+mod folders;
 mod job;
 mod keys;
 mod program;
@@ -14,6 +15,7 @@ mod telling;
 
 pub use error::{JobError, Made, ShellError};
 pub use files::{Disk, Opened};
+pub use folders::{Folders, Found};
 pub use job::{FileJob, Job, job_of, journal_path};
 pub use keys::draw_actor;
 pub use program::{Errors, MISUSED, explain};

@@ -1,202 +1,131 @@
 //! Putting bytes in the place of a file.
 
-use std::alloc::{AllocError, Global};
-use std::fs::{File, OpenFile, OpenOptions, Permissions};
-use std::io::{ErrorKind, Read, Write};
-use std::rt::Files;
-use std::{fs, io};
+ghost use Rattle.std.specs.Prelude.{List, ℕ, OnOk};
+
+use crate::files::Disk;
+use crate::folders::{Folders, Found};
+use std::fs::Permissions;
+use std::io::{ErrorKind, Read};
 use tp_commands::CommandError;
 use tp_journal::MAGIC;
 use tp_peer::PeerError;
 
-// How many links are followed, as by Linux.
-const MOST_LINKS: usize = 40;
-
-// The folder of the file at the path.
-fn folder_of(path: &str) -> &str {
-    match path.rsplit_once('/') {
-        Some(("", _)) => "/",
-        Some((folder, _)) => folder,
-        None => ".",
-    }
-}
-
-// The path to which a link leads.
-fn led_to(alloc: Global, link: &str, target: &str) -> Result<String, AllocError> {
-    if target.starts_with('/') {
-        String::from_str(alloc, target)
-    } else {
-        format!(in alloc; "{}/{target}", folder_of(link))
-    }
-}
-
-// Whether the path is one of the system's own, as that of the standard output.
-fn is_of_system(path: &str) -> bool {
-    path.starts_with("/dev/") || path.starts_with("/proc/")
-}
-
-// The path of the file itself, where this one may be that of a link. `None` where it leads to what is open already.
-fn file_behind<R: Files + AllocGlobal>(rt: &R, path: &str) -> Result<Option<String>, CommandError> {
-    let mut place = String::from_str(rt.alloc(), path)?;
-    for _ in 0..MOST_LINKS {
-        if is_of_system(place.as_str()) {
-            return Ok(None);
-        }
-        match fs::symlink_metadata(rt, place.as_str()) {
-            Ok(found) if found.is_symlink() => {
-                let target = fs::read_link(rt, place.as_str())?;
-                place = led_to(rt.alloc(), place.as_str(), target.as_str())?;
-            }
-            Ok(_) => return Ok(Some(place)),
-            Err(error) if error.kind() == ErrorKind::NotFound => return Ok(Some(place)),
-            Err(error) => return Err(CommandError::from(error)),
-        }
-    }
-    Err(CommandError::Io)
-}
-
 // Whether the file begins as a journal does.
-fn begins_journal<R: Files>(rt: &R, path: &str) -> Result<bool, CommandError> {
+fn begins_journal<D: Disk>(rt: &D, path: &str) -> Result<bool, CommandError> {
     let mut first = [0; MAGIC.len()];
-    match fs::open(rt, path)?.read_exact(&mut first) {
+    match rt.open(path)?.read_exact(&mut first) {
         Ok(()) => Ok(first == MAGIC),
         Err(error) if error.kind() == ErrorKind::UnexpectedEof => Ok(false),
         Err(error) => Err(CommandError::from(error)),
     }
 }
 
-// Writes behind what was written there.
-fn write_to<R: Files>(rt: &R, path: &str, bytes: &[u8]) -> Result<(), CommandError> {
-    let mut file = OpenOptions::new().append(true).open(rt, path)?;
-    file.write_all(bytes)?;
-    Ok(file.flush()?)
-}
-
-// Gives the file the mode, if its file system has modes.
-fn give_mode<F: OpenFile>(file: &F, mode: Permissions) -> io::Result<()> {
-    match file.set_permissions(mode) {
-        Err(error) => match error.kind() {
-            ErrorKind::PermissionDenied | ErrorKind::Unsupported => Ok(()),
-            _ => Err(error),
-        },
-        Ok(()) => Ok(()),
+// The mode of what is at the path.
+fn mode_of<D: Folders>(rt: &D, path: &str) -> Result<Permissions, CommandError> {
+    match rt.find(path)? {
+        Found::File(mode) | Found::Other(mode) => Ok(mode),
+        Found::Nothing => Err(CommandError::Io),
     }
 }
 
 // Writes a new file of the mode, and brings it to the disk.
-fn write_new<R: Files>(
-    rt: &R,
+fn write_and_sync<D: Folders>(
+    rt: &D,
     path: &str,
     mode: Permissions,
     bytes: &[u8],
-) -> Result<(), CommandError> {
-    let mut file = File::create_new(rt, path)?;
-    give_mode(&file, mode)?;
-    file.write_all(bytes)?;
-    file.sync_all()?;
-    Ok(())
-}
-
-// A name for a file beside the one at the path, with 16 bytes that nobody can guess.
-fn name_beside<R: Files + AllocGlobal>(rt: &R, path: &str) -> Result<String, CommandError> {
-    let mut drawn = [0; 16];
-    let mut source = fs::open(rt, "/dev/urandom")?;
-    source.read_exact(&mut drawn)?;
-    let digits = hex::encode(rt.alloc(), &drawn)?;
-    Ok(format!(in rt.alloc(); "{path}.{digits}.part")?)
-}
-
-// Brings to the disk which files the folder has, where a folder can be opened.
-fn sync_folder<R: Files>(rt: &R, folder: &str) -> Result<(), CommandError> {
-    match fs::open(rt, folder) {
-        Ok(folder) => Ok(folder.sync_all()?),
-        Err(_) => Ok(()),
-    }
+) -> Result<(), CommandError>
+    ensures { OnOk result (D.synced rt.now path.now bytes.now) }
+{
+    let new = rt.write_new(path, mode, bytes)?;
+    rt.sync_new(new)
 }
 
 // Writes a new file at the path `part`, which then takes the name of the other.
-fn write_and_rename<R: Files>(
-    rt: &R,
+fn write_and_rename<D: Folders>(
+    rt: &D,
     part: &str,
     path: &str,
     mode: Permissions,
     bytes: &[u8],
-) -> Result<(), CommandError> {
-    write_new(rt, part, mode, bytes)?;
-    fs::rename(rt, part, path)?;
-    sync_folder(rt, folder_of(path))
+) -> Result<(), CommandError>
+    ensures { OnOk result (D.leaves rt.now path.now bytes.now) }
+{
+    write_and_sync(rt, part, mode, bytes)?;
+    rt.rename(part, path)?;
+    rt.sync_folder(path)
 }
 
 // Puts a new file of the mode in the place of the one at the path, if one is there.
-fn put_in_place<R: Files + AllocGlobal>(
-    rt: &R,
+fn put_in_place<D: Folders>(
+    rt: &D,
     path: &str,
     mode: Permissions,
     bytes: &[u8],
-) -> Result<(), CommandError> {
-    let part = name_beside(rt, path)?;
+) -> Result<(), CommandError>
+    ensures { OnOk result (D.leaves rt.now path.now bytes.now) }
+{
+    let part = rt.name_beside(path)?;
     let put = write_and_rename(rt, part.as_str(), path, mode, bytes);
     if put.is_err() {
-        let _ = fs::remove_file(rt, part.as_str());
+        rt.remove(part.as_str());
     }
     put
 }
 
 // Puts a file of the mode where the path leads.
-fn put<R: Files + AllocGlobal>(
-    rt: &R,
-    path: &str,
-    mode: Permissions,
-    bytes: &[u8],
-) -> Result<(), CommandError> {
-    match file_behind(rt, path)? {
+fn put<D: Folders>(rt: &D, path: &str, mode: Permissions, bytes: &[u8]) -> Result<(), CommandError>
+    ensures { OnOk result (D.leaves rt.now path.now bytes.now) }
+{
+    match rt.behind(path)? {
         Some(place) => put_in_place(rt, place.as_str(), mode, bytes),
-        None => write_to(rt, path, bytes),
+        None => rt.write_behind(path, bytes),
     }
 }
 
-/// Makes the file at the path of these bytes, as [`Disk::replace`](crate::Disk::replace) says.
-pub(crate) fn replace<R: Files + AllocGlobal>(
-    rt: &R,
+/// Makes the file at the path of these bytes, in place of one that is there: a link is followed, and a regular file keeps
+/// its mode. A new one has the mode of the file at the path `like`. A crash leaves it as it was, or whole. What is no
+/// regular file, as a pipe, or is open already, as the standard output, is written to.
+///
+/// The file is replaced by one that is written beside it, under a name that no other has and that ends with `.part`, and
+/// then takes its name; and the folder is brought to the disk. Where it is refused, the file beside it is removed, as far as
+/// that can be done.
+///
+/// A file that begins as a journal does is refused as `JournalNotEmpty`, and stays.
+pub(crate) fn replace<D: Disk>(
+    rt: &D,
     path: &str,
     like: &str,
     bytes: &[u8],
-) -> Result<(), CommandError> {
-    match fs::metadata(rt, path) {
-        Ok(found) if found.is_file() => {
+) -> Result<(), CommandError>
+    ensures { OnOk result (D.leaves rt.now path.now bytes.now) }
+{
+    match rt.find(path)? {
+        Found::File(mode) => {
             if begins_journal(rt, path)? {
                 return Err(CommandError::Peer(PeerError::JournalNotEmpty));
             }
-            put(rt, path, found.permissions(), bytes)
-        }
-        Ok(_) => write_to(rt, path, bytes),
-        Err(error) if error.kind() == ErrorKind::NotFound => {
-            let mode = fs::metadata(rt, like)?.permissions();
             put(rt, path, mode, bytes)
         }
-        Err(error) => Err(CommandError::from(error)),
-    }
-}
-
-// Whether nothing is at the path, not even a link.
-fn is_absent<R: Files>(rt: &R, path: &str) -> Result<bool, CommandError> {
-    match fs::symlink_metadata(rt, path) {
-        Ok(_) => Ok(false),
-        Err(error) if error.kind() == ErrorKind::NotFound => Ok(true),
-        Err(error) => Err(CommandError::from(error)),
+        Found::Other(_) => rt.write_behind(path, bytes),
+        Found::Nothing => put(rt, path, mode_of(rt, like)?, bytes),
     }
 }
 
 // Gives the file at the path `part` the other name too, if nothing has that.
-fn name_new<R: Files>(rt: &R, part: &str, path: &str) -> Result<(), CommandError> {
-    match fs::hard_link(rt, part, path) {
+fn name_new<D: Folders>(rt: &D, part: &str, path: &str) -> Result<(), CommandError>
+    requires { (bytes : List ℕ) × D.synced rt.now part.now bytes }
+    ensures { OnOk result ((bytes : List ℕ) → D.synced rt.now part.now bytes
+        → D.named rt.now path.now bytes) }
+{
+    match rt.link(part, path) {
         Ok(()) => Ok(()),
         Err(error) => match error.kind() {
             ErrorKind::AlreadyExists => Err(CommandError::Peer(PeerError::JournalNotEmpty)),
             // The file system has no second names.
             ErrorKind::PermissionDenied | ErrorKind::Unsupported => {
-                if is_absent(rt, path)? {
-                    Ok(fs::rename(rt, part, path)?)
+                if rt.is_absent(path)? {
+                    Ok(rt.rename(part, path)?)
                 } else {
                     Err(CommandError::Peer(PeerError::JournalNotEmpty))
                 }
@@ -207,34 +136,39 @@ fn name_new<R: Files>(rt: &R, part: &str, path: &str) -> Result<(), CommandError
 }
 
 // Writes a new file at the path `part`, which then gets the other name, and brings the folder to the disk.
-fn write_and_name<R: Files>(
-    rt: &R,
+fn write_and_name<D: Folders>(
+    rt: &D,
     part: &str,
     path: &str,
     mode: Permissions,
     bytes: &[u8],
-) -> Result<(), CommandError> {
-    write_new(rt, part, mode, bytes)?;
+) -> Result<(), CommandError>
+    ensures { OnOk result (D.leaves rt.now path.now bytes.now) }
+{
+    write_and_sync(rt, part, mode, bytes)?;
     name_new(rt, part, path)?;
-    let _ = fs::remove_file(rt, part);
-    sync_folder(rt, folder_of(path))
+    rt.remove(part);
+    rt.sync_folder(path)
 }
 
-/// Makes a new file at the path of these bytes, as [`Disk::put_new`](crate::Disk::put_new) says.
-pub(crate) fn put_new<R: Files + AllocGlobal>(
-    rt: &R,
+/// Makes a new file at the path of these bytes, with the mode of the file at the path `like`. A crash leaves none, or the
+/// whole. What is there already, whatever it is, is refused as `JournalNotEmpty`, and stays.
+pub(crate) fn put_new<D: Folders>(
+    rt: &D,
     path: &str,
     like: &str,
     bytes: &[u8],
-) -> Result<(), CommandError> {
-    if !is_absent(rt, path)? {
+) -> Result<(), CommandError>
+    ensures { OnOk result (D.leaves rt.now path.now bytes.now) }
+{
+    if !rt.is_absent(path)? {
         return Err(CommandError::Peer(PeerError::JournalNotEmpty));
     }
-    let mode = fs::metadata(rt, like)?.permissions();
-    let part = name_beside(rt, path)?;
+    let mode = mode_of(rt, like)?;
+    let part = rt.name_beside(path)?;
     let put = write_and_name(rt, part.as_str(), path, mode, bytes);
     if put.is_err() {
-        let _ = fs::remove_file(rt, part.as_str());
+        rt.remove(part.as_str());
     }
     put
 }

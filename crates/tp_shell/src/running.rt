@@ -18,6 +18,7 @@ use crate::error::{JobError, Made};
 use crate::files::{Disk, Opened};
 use crate::job::FileJob;
 use crate::keys::{draw, draw_actor, generator};
+use crate::replacing::{put_new, replace};
 use crate::rescuing::{check_report, rescue_report};
 use crate::telling::{put, put_made};
 use std::alloc::Global;
@@ -274,7 +275,7 @@ fn save_to<D: Disk + AllocGlobal>(rt: &D, file: &str, out: &str) -> Result<Strin
         (λ journal. SavesTo (D.leaves rt.now) out.now journal)) }
 {
     let bytes = saved(rt.alloc(), rt.recover(file)?)?;
-    rt.replace(out, file, &bytes)?;
+    replace(rt, out, file, &bytes)?;
     Ok(String::new(rt.alloc()))
 }
 
@@ -308,7 +309,7 @@ fn recover_to<D: Disk + AllocGlobal>(rt: &D, file: &str, out: &str) -> Result<St
         (λ bytes. RescuesTo (D.leaves rt.now) out.now bytes (string_bytes l))) }
 {
     let (journal, text) = rescue_report(rt.alloc(), &rt.read(file)?)?;
-    rt.put_new(out, file, &journal)?;
+    put_new(rt, out, file, &journal)?;
     Ok(text)
 }
 

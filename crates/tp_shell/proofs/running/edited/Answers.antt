@@ -1,6 +1,33 @@
-use Rattle.std.proofs.Common.{inr}
+use Rattle.std.proofs.Common.{◌≡◌, List, ℕ, Result, Ok, Err, IfOk, inr, sym, subst}
+use Rattle.std.specs.String.{string_bytes}
+use Rattle.tp_document.specs.Common.{chars}
+use Rattle.tp_commands.specs.Editing.{EditsJournal}
 use Rattle.tp_shell.proofs.DoneLaws.{done_on, refused_on}
 use Rattle.tp_shell.proofs.running.edited.Goals as goal
+
+-- what is said of each value is said of the one that was answered
+on_value : {A E : Type 0} (P Q : A → Type 0) (r : Result A E) → IfOk r P → ((x : A) → P x → Q x) → IfOk r Q
+on_value P Q (Ok x) p f = f x p
+on_value P Q (Err e) p f = tt
+
+pub returns-clause-line : goal.returns-clause-line
+returns-clause-line g c =
+    let actor = c.in_ok-actor.ensures in
+    let before = c.in_ok-journal.field-0.journal.content in
+    let after = c.in_ok-journal-2.journal.content in
+    on_value _ _ c.made_line.result c.made_line.ensures.line (λ p spelled. (
+      before,
+      after,
+      c.in_ok-journal.ensures.taken,
+      record {
+        generator = actor.0;
+        made = c.in_ok-journal-2.made;
+        keyed = actor.1;
+        edits = subst (λ a. EditsJournal before a c.args.splice c.args.time (chars c.args.message.now) c.in_ok-journal-2.made after) actor.2 c.in_ok-journal-2.ensures.edits;
+        spelled = spelled;
+      },
+      subst (g.D.Folders.leaves c.args.rt.now c.args.file.now) c.in_ok-sync.ensures.stays c.in_ok-sync.ensures.left,
+    ))
 
 pub returns-in_err-journal-2-clause-may_cut : goal.returns-in_err-journal-2-clause-may_cut
 returns-in_err-journal-2-clause-may_cut g c =

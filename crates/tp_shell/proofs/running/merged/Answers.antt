@@ -33,7 +33,7 @@ returns-in_ok-format-in-Ok-clause-line g c =
       c.in_ok-journal-in-Ok.journal.content,
       c.in_ok-journal.ensures.taken,
       (c.in-Ok.read, c.in-Ok.ensures, merges),
-      subst (g.D.Disk.leaves c.args.rt.now c.args.file.now) c.in_ok-sync-in-Ok.ensures.stays c.in_ok-sync-in-Ok.ensures.left,
+      subst (g.D.Folders.leaves c.args.rt.now c.args.file.now) c.in_ok-sync-in-Ok.ensures.stays c.in_ok-sync-in-Ok.ensures.left,
     )
 
 pub returns-in_ok-format-in-Ok-clause-cuts : goal.returns-in_ok-format-in-Ok-clause-cuts

@@ -19,5 +19,5 @@ returns-clause-line g c =
         begins = begins;
         spelled = c.in_ok-id_line.ensures.line;
       },
-      subst (g.D.Disk.leaves c.args.rt.now c.args.file.now) c.in_ok-sync.ensures.stays c.in_ok-sync.ensures.left,
+      subst (g.D.Folders.leaves c.args.rt.now c.args.file.now) c.in_ok-sync.ensures.stays c.in_ok-sync.ensures.left,
     )
