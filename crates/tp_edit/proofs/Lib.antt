@@ -1,4 +1,5 @@
 pub mod Landed
+pub mod EdgeLaws
 pub mod SpliceLists
 pub mod RecordSteps
 pub mod ShownEdits

@@ -4,9 +4,9 @@ ghost use Rattle.std.specs.Prelude.{◌≡◌, ◌+◌, ◌<◌, ◌^◌, ◌++�
 ghost use Rattle.tp_rga.specs.Shown.{shown};
 ghost use Rattle.tp_edit.specs.Splices.{AllInRange, IsInRange, inserted, total_count};
 ghost use Rattle.tp_edit.specs.EditRecords.{can_count, goes_on, records_of, records_of_splice, removal, removals_of, visible_ids};
-ghost use Rattle.tp_edit.specs.Landings.{AllFit, ids_through};
+ghost use Rattle.tp_edit.specs.Landings.{HasLandings, ids_through};
 
-use crate::landing::{Landing, id_through};
+use crate::landing::{Landing, Landings, id_through};
 use crate::splice::Splice;
 use std::alloc::{AllocError, Global};
 use tp_change::Record;
@@ -40,16 +40,16 @@ fn append_removals<S: Sequence>(
     records: &mut Vec<Record>,
     sequence: &S,
     actor: Actor,
-    landings: &[Landing],
+    landings: &Landings,
     splice: &Splice,
 ) -> Result<(), AllocError>
-    requires fit { AllFit actor
+    requires landings { HasLandings actor
         (visible_ids (S.removals sequence.now) (S.placed sequence.now))
         landings.now }
     requires in_range { IsInRange
         (length (ids_through actor
         (visible_ids (S.removals sequence.now) (S.placed sequence.now))
-        landings.now))
+        landings.now.done.items))
         splice.now }
     requires counted { length (shown (S.removals sequence.now) (S.placed sequence.now)) < 2 ^ 64 }
     ensures { OnOk result (records.new.items
@@ -58,7 +58,7 @@ fn append_removals<S: Sequence>(
         (drop splice.now.at
         (ids_through actor
         (visible_ids (S.removals sequence.now) (S.placed sequence.now))
-        landings.now)))) }
+        landings.now.done.items)))) }
 {
     if splice.del == 0 {
         return Ok(());
@@ -86,17 +86,17 @@ fn append_splice<S: Sequence>(
     records: &mut Vec<Record>,
     sequence: &S,
     actor: Actor,
-    landings: &[Landing],
+    landings: &Landings,
     splice: &Splice,
     count: usize,
 ) -> Result<(), AllocError>
-    requires fit { AllFit actor
+    requires landings { HasLandings actor
         (visible_ids (S.removals sequence.now) (S.placed sequence.now))
         landings.now }
     requires in_range { IsInRange
         (length (ids_through actor
         (visible_ids (S.removals sequence.now) (S.placed sequence.now))
-        landings.now))
+        landings.now.done.items))
         splice.now }
     requires count { count ≡ length (inserted splice.now) }
     requires counted { length (shown (S.removals sequence.now) (S.placed sequence.now)) < 2 ^ 64 }
@@ -105,7 +105,7 @@ fn append_splice<S: Sequence>(
         ++ records_of_splice
         (ids_through actor
         (visible_ids (S.removals sequence.now) (S.placed sequence.now))
-        landings.now)
+        landings.now.done.items)
         splice.now) }
 {
     append_removals(records, sequence, actor, landings, splice)?;
@@ -137,8 +137,10 @@ fn text_count(splices: &[Splice]) -> usize {
 /// below 2^64, by [`operation_count`](crate::operation_count). The only refusal is for want of memory.
 ///
 /// One splice looks up each deleted element in the sequence and the one before the run, and makes no pass over the
-/// text. A later splice traces each position back through the ones before it. Each inserted text is copied once. Memory
-/// is for the records alone: the deletes of a stretch take that of one record.
+/// text. A position before all that the earlier splices touched, or after it, is looked up at once, so the time that
+/// splices take which rise or fall grows with their number; another position is traced back through the splices before
+/// it. Each inserted text is copied once. Memory is for the records and the places of the splices: the deletes of a
+/// stretch take that of one record.
 pub fn records<S: Sequence>(
     alloc: Global,
     sequence: &S,
@@ -158,7 +160,7 @@ pub fn records<S: Sequence>(
     // So its length is known to fit a `usize`.
     let _len = sequence.len();
     let mut records = Vec::with_capacity(alloc, text_count(splices))?;
-    let mut landings: Vec<Landing> = Vec::with_capacity(alloc, splices.len())?;
+    let mut landings = Landings::none(alloc, splices.len())?;
     let mut next = start;
     for splice in splices {
         let count = splice.inserted_count();

@@ -8,4 +8,4 @@ use Rattle.tp_edit.proofs.making.append_removals.Given as goal
 abbrev pub invariant-loop-k : goal.invariant-loop-k
 invariant-loop-k g l =
     let V = ids_of (shown (g.S.Sequence.removals l.sequence) (g.S.Sequence.placed l.sequence)) in
-    IsGrouped (ids_through l.actor V l.landings) l.splice.at l.splice.del l.k l.first l.count l.fn.records.items l.records.items
+    IsGrouped (ids_through l.actor V l.landings.done.items) l.splice.at l.splice.del l.k l.first l.count l.fn.records.items l.records.items

@@ -10,7 +10,7 @@ use Rattle.tp_edit.proofs.making.append_splice.Goals.{then-at-eq0, else-at-eq0}
 
 pub returns-in_ok-push : goal.returns-in_ok-push
 returns-in_ok-push g c =
-    let W = ids_through c.args.actor (ids_of (shown (g.S.Sequence.removals c.args.sequence.now) (g.S.Sequence.placed c.args.sequence.now))) c.args.landings.now in
+    let W = ids_through c.args.actor (ids_of (shown (g.S.Sequence.removals c.args.sequence.now) (g.S.Sequence.placed c.args.sequence.now))) c.args.landings.now.done.items in
     let s = c.args.splice.now in
     let at = s.at in
     let removed = removals_of (take s.del (drop at W)) in
@@ -25,7 +25,7 @@ returns-in_ok-push g c =
 
 pub returns-else-count-gt0 : goal.returns-else-count-gt0
 returns-else-count-gt0 g c =
-    let W = ids_through c.args.actor (ids_of (shown (g.S.Sequence.removals c.args.sequence.now) (g.S.Sequence.placed c.args.sequence.now))) c.args.landings.now in
+    let W = ids_through c.args.actor (ids_of (shown (g.S.Sequence.removals c.args.sequence.now) (g.S.Sequence.placed c.args.sequence.now))) c.args.landings.now.done.items in
     let s = c.args.splice.now in
     let none : length (inserted s) ≤ 0 = omega (arith, c.requires.count, c.if-count-gt0.false) in
     no_run_put (removals_of (take s.del (drop s.at W))) (after_last Start (take s.at W)) (inserted s) c.args.records.now.items _ c.in_ok-append_removals.ensures none

@@ -2,7 +2,7 @@ use Rattle.std.proofs.Common.{◌+◌, ◌*◌, ◌≤◌, ◌^◌, length}
 use Rattle.tp_rga.specs.Shown.{shown}
 use Rattle.tp_edit.specs.EditRecords.{ids_of}
 use Rattle.tp_edit.proofs.Landed.{IsTraced}
-use Rattle.tp_edit.proofs.landing.id_through.Given as goal
+use Rattle.tp_edit.proofs.landing.traced_id.Given as goal
 
 -- The element stood at `position` before the landings from `left` on; each landing moves it by less than 2^64.
 abbrev pub invariant-loop-left : goal.invariant-loop-left
