@@ -11,6 +11,9 @@ pub mod EndLaws
 pub mod PastElements
 pub mod ChangePlaces
 pub mod SnapshotLaws
+pub mod DifferenceLaws
+pub mod VisibleLaws
+pub mod BuilderLaws
 pub mod TargetLaws
 pub mod TextLaws
 pub mod RepeatLaws

@@ -5,11 +5,11 @@ use Rattle.tp_rga.specs.declared.walk.Seen.{Seen}
 use Rattle.tp_rga.proofs.Lookups.{position-cons}
 
 -- whether an element is shown
-abbrev is_shown : List (Actor × ℕ) → List (OpId × OpId) → Insert → Bool
+abbrev pub is_shown : List (Actor × ℕ) → List (OpId × OpId) → Insert → Bool
 is_shown K R e = has_op K e.id && not (is_removed (deletes_by K R) e.id)
 
 -- the test that a snapshot makes
-abbrev tested : List (Actor × ℕ) → List Stretch → Seen → Bool
+abbrev pub tested : List (Actor × ℕ) → List Stretch → Seen → Bool
 tested K T x = has_op K x.id && not (x.deleted && covers T x.id)
 
 -- what one of the kept deletes names, one of all names
@@ -24,7 +24,7 @@ removed_before K (r ∷ R) x h =
       either true b c f h = refl
       either false b c f h = f h
 
-test_is : (K : List (Actor × ℕ)) (R : List (OpId × OpId)) (T : List Stretch) (e : Insert) → AreTargets T K R → tested K T (seen_of R e) ≡ is_shown K R e
+pub test_is : (K : List (Actor × ℕ)) (R : List (OpId × OpId)) (T : List Stretch) (e : Insert) → AreTargets T K R → tested K T (seen_of R e) ≡ is_shown K R e
 test_is K R T e targets =
     ap (λ b. has_op K e.id && not b) (both_are (is_removed R e.id) (covers T e.id) (is_removed (deletes_by K R) e.id) (targets e.id) (removed_before K R e.id)) where
       both_are : (a b c : Bool) → b ≡ c → (c ≡ true → a ≡ true) → (a && b) ≡ c
@@ -33,7 +33,7 @@ test_is K R T e targets =
       both_are false b false e f = refl
 
 -- the first element is shown or isn't
-shown_first : (K : List (Actor × ℕ)) (R : List (OpId × OpId)) (e : Insert) (L : List Insert) → shown_by K R (e ∷ L) ≡ cond (is_shown K R e) (e ∷ shown_by K R L) (shown_by K R L)
+pub shown_first : (K : List (Actor × ℕ)) (R : List (OpId × OpId)) (e : Insert) (L : List Insert) → shown_by K R (e ∷ L) ≡ cond (is_shown K R e) (e ∷ shown_by K R L) (shown_by K R L)
 shown_first K R e L =
     let D = deletes_by K R in
     let M = inserts_by K L in
@@ -128,7 +128,7 @@ before_none K R (e ∷ L) x out = by_test (id_eq e.id x) refl (before_none K R L
       let hidden : has_op K e.id ≡ false = ap (has_op K) (id_eq-same e.id x same) ∙ out in
       ap (λ b. shown_before (deletes_by K R) (cond b (e ∷ inserts_by K L) (inserts_by K L)) x) hidden ∙ rest
 
-left_from : (L : List Insert) (k : ℕ) (e : Insert) → k < length L → get_or L k e ≡ e → drop k L ≡ e ∷ drop (k + 1) L
+pub left_from : (L : List Insert) (k : ℕ) (e : Insert) → k < length L → get_or L k e ≡ e → drop k L ≡ e ∷ drop (k + 1) L
 left_from L k e lt is =
     let next : suc k ≡ k + 1 = omega arith in
     drop-cons L k e lt ∙ ap (λ x. x ∷ drop (suc k) L) is ∙ ap (λ n. e ∷ drop n L) next
@@ -220,7 +220,7 @@ pub shown_all : (K : List (Actor × ℕ)) (R : List (OpId × OpId)) (L : List In
 shown_all K R L k end = ap (shown_by K R) (take_all k L (seen_end R L k end))
 
 -- none is left
-none_left : (R : List (OpId × OpId)) (L : List Insert) (k : ℕ) → None ≡ option_map (seen_of R) (slice_get L k) → drop k L ≡ []
+pub none_left : (R : List (OpId × OpId)) (L : List Insert) (k : ℕ) → None ≡ option_map (seen_of R) (slice_get L k) → drop k L ≡ []
 none_left R L k end = drop_all k L (seen_end R L k end)
 
 -- so the element that is asked for isn't there

@@ -7,3 +7,5 @@ pub mod Making
 pub mod Merging
 pub mod Applying
 pub mod History
+pub mod Views
+pub mod Differences

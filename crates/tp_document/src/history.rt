@@ -17,24 +17,24 @@ use tp_graph::{Clock, Graph, GraphError};
 use tp_opid::{Hash, OpId};
 use tp_rga::{Seen, Sequence, Walk};
 
-// What a past shows of the elements: those that it inserts and doesn't delete.
+/// What a past shows of the elements: those that it inserts and doesn't delete.
 #[derive(Drop)]
-struct Snapshot {
+pub(crate) struct Snapshot {
     clock: Clock,
     targets: Targets,
 }
 
-// What is kept from one element of a walk to the next, so that most take no look-up: who inserted it, and the place of
-// the targets' stretch that has it, where it is one.
+/// What is kept from one element of a walk to the next, so that most take no look-up: who inserted it, and the place of
+/// the targets' stretch that has it, where it is one.
 #[derive(Clone, Copy)]
-struct Trail {
+pub(crate) struct Trail {
     author: Author,
     place: usize,
 }
 
 impl Snapshot {
-    // Where no element was asked for.
-    fn trail(&self) -> Trail
+    /// Where no element was asked for.
+    pub(crate) fn trail(&self) -> Trail
         ensures { IsAuthorOf self.now.clock result.author }
     {
         Trail {
@@ -43,9 +43,9 @@ impl Snapshot {
         }
     }
 
-    // Whether the past shows an element. One that isn't deleted now wasn't in any past: only others are looked for among
-    // what the past deletes. One that is found there needs no look-up of its author.
-    fn shows(&self, element: &Seen, trail: &mut Trail) -> bool
+    /// Whether the past shows an element. One that isn't deleted now wasn't in any past: only others are looked for among
+    /// what the past deletes. One that is found there needs no look-up of its author.
+    pub(crate) fn shows(&self, element: &Seen, trail: &mut Trail) -> bool
         requires { IsAuthorOf self.now.clock trail.old.author }
         ensures trail { IsAuthorOf self.now.clock trail.new.author }
         ensures shown { result ≡ (has_op self.now.clock element.now.id
@@ -79,8 +79,8 @@ fn clock_of(graph: &Graph, heads: &[Hash]) -> Result<Clock, DocError>
     }
 }
 
-// What the past of the hashes shows: one walk over all deletes.
-fn snapshot_at<S: Sequence>(
+/// What the past of the hashes shows: one walk over all deletes.
+pub(crate) fn snapshot_at<S: Sequence>(
     alloc: Global,
     graph: &Graph,
     sequence: &S,

@@ -8,6 +8,8 @@
 mod applying;
 mod author;
 mod cursor;
+mod difference_builder;
+mod differences;
 mod document;
 mod editing;
 mod error;
@@ -18,8 +20,10 @@ mod making;
 mod merging;
 mod replica;
 mod targets;
+mod views;
 
 pub use cursor::Cursor;
+pub use differences::Difference;
 pub use document::Document;
 pub use error::DocError;
 pub use laws::{

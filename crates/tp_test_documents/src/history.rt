@@ -1,5 +1,6 @@
 //! Calls that read a document.
 
+use crate::differences;
 use crate::lists::hashes;
 use crate::world::World;
 use std::alloc::Global;
@@ -144,6 +145,8 @@ pub fn call<S: Sequence>(
         "check" => check(document, world, words),
         "missing" => missing(document, world),
         "since" => since(document, world, words),
+        "differences" => differences::between(document, world, words),
+        "differences_since" => differences::since(document, world, words),
         _ => Err(Fault::Row("no such call")),
     }
 }

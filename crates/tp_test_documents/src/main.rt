@@ -5,6 +5,7 @@
 
 mod blocks;
 mod cursors;
+mod differences;
 mod documents;
 mod edits;
 mod elements;
