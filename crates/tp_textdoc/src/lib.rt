@@ -6,7 +6,7 @@
 #![tactic(auto)]
 
 pub use tp_change::{Change, ChangeError, ChangeParts, Op, Record};
-pub use tp_document::{Applied, Cursor, DocError, Document};
+pub use tp_document::{Applied, Cursor, Difference, DocError, Document};
 pub use tp_edit::Splice;
 pub use tp_graph::GraphError;
 pub use tp_journal::{

@@ -25,20 +25,27 @@ uint32_t tp_shared_feed(tp_shared *shared, const char *bytes, size_t bytes_len, 
 void tp_shared_end(tp_shared *shared);
 ]])
 
--- The names of refusals, by the hundreds of their statuses.
+-- The names of refusals, by their statuses.
+-- statuses: made of ffi/statuses.txt by tools/statuses
 local NAMES = {
-  [0] = { 'OutOfMemory', 'NoLink', 'NoChange', 'BadText' },
-  { 'OutOfRange', 'CounterLimit', 'TooManyOps', 'TooManyHeads', 'UnknownHead', 'UnknownElement', 'PendingFull', 'HashTaken',
-    'OutOfMemory', 'OtherDocument', 'TooLong', 'Full', 'NotKept' },
-  { 'BadMessage', 'BadChange', 'TooManyHeads', 'PendingFull', 'OutOfMemory', 'OtherDocument', 'NotKept' },
-  { 'BadMagic', 'Truncated', 'BadDigest', 'Damaged', 'Refused', 'Io', 'OutOfMemory', 'NoHeader' },
-  { 'Version', 'Short', 'Trailing', 'ZeroSeqOrStart', 'BadUtf8', 'DepsOrder', 'NoRecords', 'BadTag', 'EmptyRun', 'Limit',
-    'OutOfMemory', 'NoRun' },
-  { 'ActorInUse', 'JournalFailed', 'Stopped', 'TooManyLinks', 'JournalNotEmpty', [9] = 'OutOfMemory' },
-  { [2] = 'Frame', [3] = 'OtherDocument', [4] = 'Version', [5] = 'Unexpected', [8] = 'OutOfMemory' },
-  { 'OtherDocument', 'Version', 'Malformed', 'TooMany', 'Other' },
-  { 'Busy', 'Io', 'OutOfMemory' },
+  [1] = 'OutOfMemory', [2] = 'NoLink', [3] = 'NoChange', [4] = 'BadText',
+  [101] = 'OutOfRange', [102] = 'CounterLimit', [103] = 'TooManyOps', [104] = 'TooManyHeads', [105] = 'UnknownHead',
+  [106] = 'UnknownElement', [107] = 'PendingFull', [108] = 'HashTaken', [109] = 'OutOfMemory', [110] = 'OtherDocument',
+  [111] = 'TooLong', [112] = 'Full', [113] = 'NotKept',
+  [201] = 'BadMessage', [202] = 'BadChange', [203] = 'TooManyHeads', [204] = 'PendingFull', [205] = 'OutOfMemory', [206]
+  = 'OtherDocument', [207] = 'NotKept',
+  [301] = 'BadMagic', [302] = 'Truncated', [303] = 'BadDigest', [304] = 'Damaged', [305] = 'Refused', [306] = 'Io',
+  [307] = 'OutOfMemory', [308] = 'NoHeader',
+  [401] = 'Version', [402] = 'Short', [403] = 'Trailing', [404] = 'ZeroSeqOrStart', [405] = 'BadUtf8', [406] =
+  'DepsOrder', [407] = 'NoRecords', [408] = 'BadTag', [409] = 'EmptyRun', [410] = 'Limit', [411] = 'OutOfMemory', [412]
+  = 'NoRun',
+  [501] = 'ActorInUse', [502] = 'JournalFailed', [503] = 'Stopped', [504] = 'TooManyLinks', [505] = 'JournalNotEmpty',
+  [509] = 'OutOfMemory',
+  [602] = 'Frame', [603] = 'OtherDocument', [604] = 'Version', [605] = 'Unexpected', [608] = 'OutOfMemory',
+  [701] = 'OtherDocument', [702] = 'Version', [703] = 'Malformed', [704] = 'TooMany', [705] = 'Other',
+  [801] = 'Busy', [802] = 'Io', [803] = 'OutOfMemory',
 }
+-- end of statuses
 
 local Refusal = {
   __tostring = function(refusal)
@@ -46,13 +53,11 @@ local Refusal = {
   end,
 }
 
--- The refusal with the status.
-function M.refusal(status)
-  local names = NAMES[math.floor(status / 100)] or {}
-  local name = names[status % 100] or ('status ' .. status)
-  -- What the other side told, and not this one.
-  if status > 700 and status < 800 then
-    name = 'refused by the server as ' .. name
+-- The refusal with the status. In a session all from 700 on is the number that the other side told, which may be any byte.
+function M.refusal(status, in_session)
+  local name = NAMES[status] or ('status ' .. status)
+  if status >= 700 and (status < 800 or in_session) then
+    name = 'refused by the server as ' .. (status < 800 and NAMES[status] or 'number ' .. status - 700)
   end
   return setmetatable({ status = status, name = name }, Refusal)
 end
@@ -192,7 +197,7 @@ end
 -- off, if it did.
 function Engine:feed(bytes)
   local status = self.lib.tp_shared_feed(self.handle, bytes, #bytes, length, going, number)
-  local refusal = status ~= 0 and M.refusal(status) or nil
+  local refusal = status ~= 0 and M.refusal(status, true) or nil
   return self:answer(), going[0] == 1, refusal
 end
 

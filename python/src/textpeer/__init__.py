@@ -1,0 +1,32 @@
+"""textpeer: the engine under a local-first text editor. Peers edit one plain text, offline or not, and hand each
+other the changes that the other lacks; all copies with the same changes have the same text.
+
+    from textpeer import SharedEditor
+
+    with SharedEditor.open("notes.journal") as notes:
+        notes.edit(0, 0, "Hello world")
+        notes.sync("127.0.0.1:7000")
+        print(notes.text())
+
+`SharedEditor` edits a journal in a file, the same file that the program ``textpeer`` reads and writes, and exchanges
+changes with others over sockets, pipes or any streams of bytes. `Editor` is a document in memory, whose changes,
+messages and saved files are bytes for you to carry.
+
+Identifiers, actors, hashes, changes, messages and saved files are ``bytes`` (a ``bytearray`` or a ``memoryview`` is
+taken too), texts are ``str``, and positions count the characters of a ``str``. An argument of another type raises
+TypeError, and one that can't be meant ValueError. What the engine itself refuses raises a subclass of `Refused` that
+is named after the refusal, as `OutOfRange`; for want of memory that is a MemoryError too.
+
+Don't use an editor in the child of a ``fork``.
+"""
+from . import refusals
+from ._owner import Cursor
+from .editor import Editor, Link
+from .refusals import *  # noqa: F403
+from .sessions import Session
+from .shared import SharedEditor
+
+__version__ = "0.1"
+
+__all__ = ["Cursor", "Editor", "Link", "Session", "SharedEditor", "__version__"]
+__all__ += refusals.__all__
