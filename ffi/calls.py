@@ -1,8 +1,10 @@
 """Each call of the Python module once, and each kind of refusal that it names: run by ffi/test."""
+import random
 import unittest
 
 import textpeer
 from textpeer import Cursor, Editor
+from textpeer._library import Splice, library
 
 TEXT, OTHER, ANN, BEN = bytes(16), bytes([9]) * 16, bytes([1]) * 16, bytes([2]) * 16
 
@@ -21,6 +23,48 @@ class Calls(unittest.TestCase):
         self.assertEqual((ann.text(), ann.heads(), ann.change_count()), ("he \u20ac \U0001f600", [second], 2))
         self.assertNotEqual(first, second)
         self.assertIsNone(ann.edit(ANN, 0, 0, ""))
+
+    def test_edit_many(self):
+        ann = self.ann
+        ann.edit(ANN, 0, 0, "a b c")
+        made = ann.edit_many(ANN, [(0, 1, "\u20ac"), (2, 1, ""), (2, 0, "xy"), (5, 0, "!")], time=7, message="four")
+        self.assertEqual((ann.text(), ann.heads(), ann.change_count()), ("\u20ac xy !c", [made], 2))
+        self.assertIsNone(ann.edit_many(ANN, []))
+        self.assertIsNone(ann.edit_many(ANN, [(7, 0, ""), (0, 0, "")]))
+        with self.assertRaises(textpeer.OutOfRange):
+            ann.edit_many(ANN, [(0, 7, "ab"), (3, 0, "x")])
+        with self.assertRaises(textpeer.TooManyOps):
+            ann.edit_many(ANN, [(0, 0, "x" * 32768), (0, 0, "y" * 32769)])
+        self.assertEqual((ann.text(), ann.change_count()), ("\u20ac xy !c", 2))
+        ann.edit_many(ANN, [(0, 0, "x" * 32768), (0, 32768, "")])
+        self.assertEqual((ann.text(), ann.change_count()), ("\u20ac xy !c", 3))
+
+    def test_edit_many_anywhere(self):
+        draw, text = random.Random(7), ""
+        for number in range(60):
+            splices, order = [], number % 3
+            for at in range(20):
+                # Rising, falling, or anywhere.
+                at = min(3 * at, len(text)) if order == 0 else max(0, len(text) - 3 * at) if order == 1 else draw.randint(0, len(text))
+                delete = draw.randint(0, min(3, len(text) - at))
+                inserted = "".join(draw.choice("ab\u00e9\u20ac\U0001f600") for _ in range(draw.randint(0, 3)))
+                splices.append((at, delete, inserted))
+                text = text[:at] + inserted + text[at + delete:]
+            self.ann.edit_many(ANN, splices)
+            self.assertEqual(self.ann.text(), text)
+        self.ben.merge(self.ann)
+        self.assertEqual(self.ben.text(), text)
+
+    def test_splices_of_other_lengths(self):
+        given = (Splice * 2)((0, 0, 1), (0, 0, 3))
+        for texts, message, refusal in ((b"abc", b"", textpeer.BadLengths), (b"abcde", b"", textpeer.BadLengths),
+                                        (b"", b"", textpeer.BadLengths), (b"\xe2\x82\xac!", b"", textpeer.BadText),
+                                        (b"abc", b"\xff", textpeer.BadText)):
+            with self.assertRaises(refusal):
+                self.ann._answer(library.tp_edit_many, ANN, given, 2, texts, len(texts), 0, message, len(message))
+        self.assertEqual(self.ann.change_count(), 0)
+        self.ann._answer(library.tp_edit_many, ANN, given, 2, b"!\xe2\x82\xac", 4, 0, b"", 0)
+        self.assertEqual(self.ann.text(), "\u20ac!")
 
     def test_cursor(self):
         ann = self.ann

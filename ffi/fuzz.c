@@ -194,6 +194,51 @@ static void fuzz_edit(fuzzer *f, size_t document)
     }
 }
 
+/* Splices one after another; *left is how long the text is that they leave, and *fit whether each is within the text that the
+ * ones before it leave, as mostly. */
+static size_t some_splices(tp_handle *handle, tp_splice *splices, uint8_t *texts, size_t *texts_len, size_t *left, bool *fit)
+{
+    size_t count = below(8), scalars, length = tp_len(handle);
+    *texts_len = 0;
+    *fit = true;
+    for (size_t i = 0; i < count; i++) {
+        size_t at = below(32) == 0 ? (size_t)draw() : below(length + 1), most = at <= length ? length - at : 0;
+        size_t del = below(32) == 0 ? below(20) : below((most < 20 ? most : 20) + 1);
+        splices[i] = (tp_splice){.at = at, .del = del, .len = some_text(texts + *texts_len, 10, &scalars)};
+        *texts_len += splices[i].len;
+        *fit &= at <= length && del <= most;
+        length = *fit ? length - del + scalars : length;
+    }
+    *left = length;
+    return count;
+}
+
+static void fuzz_edit_many(fuzzer *f, size_t document)
+{
+    tp_handle *handle = &f->documents[document];
+    tp_splice splices[8];
+    uint8_t texts[512];
+    size_t texts_len, left, before = tp_len(handle), changes = tp_change_count(handle), together = 0, len = 1;
+    bool fit;
+    size_t count = some_splices(handle, splices, texts, &texts_len, &left, &fit);
+    if (count && below(16) == 0)
+        splices[below(count)].len += below(2) ? 1 : (size_t)draw();
+    for (size_t i = 0; i < count; i++)
+        together += splices[i].len;
+    uint32_t status = STATUS("tp_edit_many", tp_edit_many(handle, some_actor(f, document), count ? splices : NULL, count, texts_len ? (char *)texts : NULL,
+                             texts_len, draw(), NULL, 0, &len), 1, 4, 5, 101, 102, 103, 104, 108, 109, 111, 112);
+    check((status == 5) == (together != texts_len), "tp_edit_many", "refused otherwise");
+    check(status != 101 || !fit, "tp_edit_many", "refused within the text");
+    if (status == 0) {
+        check(fit && tp_len(handle) == left, "tp_edit_many", "the text has another length");
+        check(len == 0 || len == 32, "tp_edit_many", "the answer is no hash");
+        check(tp_change_count(handle) == changes + (len != 0), "tp_edit_many", "another number of changes");
+        keep_answer(f, handle, "tp_edit_many", len);
+    } else {
+        check(tp_len(handle) == before && tp_change_count(handle) == changes, "tp_edit_many", "a refusal changed the document");
+    }
+}
+
 static void fuzz_answers(fuzzer *f, tp_handle *handle)
 {
     size_t len = 0, count = tp_change_count(handle), place = below(8) ? below(count + 1) : (size_t)draw();
@@ -329,8 +374,11 @@ static void fuzz_call(fuzzer *f)
     growths_refused_in = below(4) ? 0 : 1 + below(20);
     f->calls++;
     switch (below(16)) {
-    case 0: case 1: case 2: case 3: case 4:
+    case 0: case 1: case 2: case 3:
         fuzz_edit(f, document);
+        break;
+    case 4:
+        fuzz_edit_many(f, document);
         break;
     case 5: case 6: case 7:
         fuzz_answers(f, &f->documents[document]);

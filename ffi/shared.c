@@ -125,6 +125,18 @@ static void print_cursor(tp_shared *shared)
            (unsigned)tp_shared_cursor(shared, 1000, &counter, actor));
 }
 
+/* Two splices as one change, the second on the text that the first leaves; and lengths that aren't those of the texts. */
+static void edit_twice(tp_shared *shared)
+{
+    static const tp_splice SPLICES[] = {{0, 3, 2}, {1, 1, 0}};
+    size_t len;
+    must(tp_shared_edit_many(shared, SPLICES, 2, "<<", 2, 0, NULL, 0, &len), "edit_many");
+    printf("hash of %u bytes, ", (unsigned)len);
+    must(tp_shared_edit_many(shared, NULL, 0, NULL, 0, 0, NULL, 0, &len), "edit_many");
+    printf("then of %u, ", (unsigned)len);
+    printf("then %u\n", (unsigned)tp_shared_edit_many(shared, SPLICES, 2, "<", 1, 0, NULL, 0, &len));
+}
+
 /* What is refused, by its status. */
 static void print_refusals(const char *path, const char *absent, tp_shared *shared)
 {
@@ -183,6 +195,7 @@ int main(int count, char **arguments)
     edit(&ben, 0, 5, "");
     meet(&ann, &ben);
     print_cursor(&ann);
+    edit_twice(&ann);
     print_refusals(first, absent, &ann);
     tp_shared_close(ben);
     tp_shared_close(ann);

@@ -44,7 +44,8 @@ enum tp_status {
     TP_OUT_OF_MEMORY = 1, /* memory was refused, before a layer below was asked */
     TP_NO_LINK = 2, /* there is no link with this number */
     TP_NO_CHANGE = 3, /* there is no applied change with this number */
-    TP_BAD_TEXT = 4, /* what should be a text is no UTF-8 */
+    TP_BAD_TEXT = 4, /* what should be a text isn't UTF-8 */
+    TP_BAD_LENGTHS = 5, /* the lengths of the splices don't add up to the bytes that are given for their texts */
 
     /* of a document */
     TP_DOC_OUT_OF_RANGE = 101, /* the text ends before the position, or before the end of what is to be deleted */
@@ -85,7 +86,7 @@ enum tp_status {
     TP_CHANGE_SHORT = 402, /* a field of the change is not whole */
     TP_CHANGE_TRAILING = 403, /* bytes come after the last record of the change */
     TP_CHANGE_ZERO_SEQ_OR_START = 404, /* the sequence number or the start counter of the change is 0 */
-    TP_CHANGE_BAD_UTF8 = 405, /* the message or a text of the change is no UTF-8 */
+    TP_CHANGE_BAD_UTF8 = 405, /* the message or a text of the change isn't UTF-8 */
     TP_CHANGE_DEPS_ORDER = 406, /* the dependencies of the change don't rise strictly */
     TP_CHANGE_NO_RECORDS = 407, /* the change has no record */
     TP_CHANGE_BAD_TAG = 408, /* the version of the change has no such record or reference */
@@ -135,6 +136,7 @@ static inline const char *tp_status_name(uint32_t status)
     case TP_NO_LINK: return "NoLink";
     case TP_NO_CHANGE: return "NoChange";
     case TP_BAD_TEXT: return "BadText";
+    case TP_BAD_LENGTHS: return "BadLengths";
     case TP_DOC_OUT_OF_RANGE: return "OutOfRange";
     case TP_DOC_COUNTER_LIMIT: return "CounterLimit";
     case TP_DOC_TOO_MANY_OPS: return "TooManyOps";
@@ -206,7 +208,8 @@ static inline const char *tp_status_words(uint32_t status)
     case TP_OUT_OF_MEMORY: return "memory was refused, before a layer below was asked";
     case TP_NO_LINK: return "there is no link with this number";
     case TP_NO_CHANGE: return "there is no applied change with this number";
-    case TP_BAD_TEXT: return "what should be a text is no UTF-8";
+    case TP_BAD_TEXT: return "what should be a text isn't UTF-8";
+    case TP_BAD_LENGTHS: return "the lengths of the splices don't add up to the bytes that are given for their texts";
     case TP_DOC_OUT_OF_RANGE: return "the text ends before the position, or before the end of what is to be deleted";
     case TP_DOC_COUNTER_LIMIT: return "the last counter of the edit would be past 2^48 - 1";
     case TP_DOC_TOO_MANY_OPS: return "the edit has more than 65,536 operations, one for each character that comes or goes";
@@ -239,7 +242,7 @@ static inline const char *tp_status_words(uint32_t status)
     case TP_CHANGE_SHORT: return "a field of the change is not whole";
     case TP_CHANGE_TRAILING: return "bytes come after the last record of the change";
     case TP_CHANGE_ZERO_SEQ_OR_START: return "the sequence number or the start counter of the change is 0";
-    case TP_CHANGE_BAD_UTF8: return "the message or a text of the change is no UTF-8";
+    case TP_CHANGE_BAD_UTF8: return "the message or a text of the change isn't UTF-8";
     case TP_CHANGE_DEPS_ORDER: return "the dependencies of the change don't rise strictly";
     case TP_CHANGE_NO_RECORDS: return "the change has no record";
     case TP_CHANGE_BAD_TAG: return "the version of the change has no such record or reference";
@@ -309,6 +312,20 @@ uint32_t tp_text(tp_handle *handle, size_t *len);
  * 100. */
 uint32_t tp_edit(tp_handle *handle, const uint8_t actor[16], size_t at, size_t del, const char *text, size_t text_len,
                  uint64_t time, const char *message, size_t message_len, size_t *len);
+
+/* One splice of an edit: deletes del characters from at on, and inserts the next len bytes of the edit's texts there. */
+typedef struct tp_splice {
+    size_t at; /* on the text that the splices before it leave */
+    size_t del;
+    size_t len; /* counts bytes */
+} tp_splice;
+
+/* As tp_edit, but does each of the count splices in turn, all as one change. Their texts are the bytes of texts, one after
+ * another. Refused as 4 where the message isn't UTF-8; else as 5 where the splices' len together aren't texts_len; else as 4
+ * where one of the texts isn't UTF-8 or as 1, and as tp_edit: as 103 where the splices delete and insert more than 65,536
+ * characters together. */
+uint32_t tp_edit_many(tp_handle *handle, const uint8_t actor[16], const tp_splice *splices, size_t count, const char *texts,
+                      size_t texts_len, uint64_t time, const char *message, size_t message_len, size_t *len);
 
 /* The answer is the hashes of the heads, 32 bytes each, rising. Refused as 109. */
 uint32_t tp_heads(tp_handle *handle, size_t *len);
@@ -401,6 +418,11 @@ size_t tp_shared_change_count(tp_shared *shared);
 uint32_t tp_shared_edit(tp_shared *shared, size_t at, size_t del, const char *text, size_t text_len, uint64_t time,
                         const char *message, size_t message_len, size_t *len);
 
+/* As tp_edit_many, under the editor's actor and with the answer, the length and the refusals of tp_shared_edit. Where it is
+ * refused as 4, 5 or 1, the answer stays. */
+uint32_t tp_shared_edit_many(tp_shared *shared, const tp_splice *splices, size_t count, const char *texts, size_t texts_len,
+                             uint64_t time, const char *message, size_t message_len, size_t *len);
+
 /* The answer is the text, as UTF-8 without a zero at its end. A refusal leaves the answer. */
 uint32_t tp_shared_text(tp_shared *shared, size_t *len);
 
@@ -467,6 +489,25 @@ static inline uint32_t tp_edit_some(tp_handle *handle, const uint8_t actor[16], 
                    message_len, len ? len : &unused);
 }
 
+static inline uint32_t tp_edit_many_some(tp_handle *handle, const uint8_t actor[16], const tp_splice *splices, size_t count,
+                                         const char *texts, size_t texts_len, uint64_t time, const char *message,
+                                         size_t message_len, size_t *len)
+{
+    tp_splice none;
+    size_t unused;
+    return tp_edit_many(handle, actor, splices ? splices : &none, count, (const char *)tp_some(texts), texts_len, time,
+                        (const char *)tp_some(message), message_len, len ? len : &unused);
+}
+
+static inline uint32_t tp_shared_edit_many_some(tp_shared *shared, const tp_splice *splices, size_t count, const char *texts,
+                                                size_t texts_len, uint64_t time, const char *message, size_t message_len,
+                                                size_t *len)
+{
+    tp_splice none;
+    return tp_shared_edit_many(shared, splices ? splices : &none, count, (const char *)tp_some(texts), texts_len, time,
+                               (const char *)tp_some(message), message_len, len);
+}
+
 static inline uint32_t tp_apply_some(tp_handle *handle, const uint8_t *bytes, size_t bytes_len)
 {
     return tp_apply(handle, (const uint8_t *)tp_some(bytes), bytes_len);
@@ -481,6 +522,8 @@ static inline uint32_t tp_receive_some(tp_handle *handle, size_t link, const uin
 #define tp_answer tp_answer_some
 #define tp_load tp_load_some
 #define tp_edit tp_edit_some
+#define tp_edit_many tp_edit_many_some
+#define tp_shared_edit_many tp_shared_edit_many_some
 #define tp_apply tp_apply_some
 #define tp_receive tp_receive_some
 

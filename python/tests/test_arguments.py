@@ -75,6 +75,8 @@ class Others(unittest.TestCase):
                 lambda number: self.editor.edit(ANN, number, 0, "x"),
                 lambda number: self.editor.edit(ANN, 0, number, "x"),
                 lambda number: self.editor.edit(ANN, 0, 0, "x", time=number),
+                lambda number: self.editor.edit_many(ANN, [(0, 0, "x"), (number, 0, "y")]),
+                lambda number: self.editor.edit_many(ANN, [(0, 0, "x"), (0, number, "y")]),
                 self.editor.change,
                 self.editor.cursor,
             ):
@@ -91,6 +93,12 @@ class Others(unittest.TestCase):
                 self.editor.edit(ANN, 0, 0, bad)
             with self.assertRaises(TypeError):
                 self.editor.edit(ANN, 0, 0, "x", message=bad)
+            with self.assertRaises(TypeError):
+                self.editor.edit_many(ANN, [(0, 0, "x"), (0, 0, bad)])
+        with self.assertRaises(TypeError):
+            self.editor.edit_many(ANN, [5])
+        with self.assertRaises(ValueError):
+            self.editor.edit_many(ANN, [(0, 0)])
         # Half of a surrogate pair is no character.
         with self.assertRaises(ValueError):
             self.editor.edit(ANN, 0, 0, "\ud800")

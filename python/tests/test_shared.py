@@ -123,6 +123,17 @@ class Files(Folder):
         with self.assertRaises(textpeer.BadMagic):
             SharedEditor.open(self.folder / "other")
 
+    def test_many_splices_are_one_change(self):
+        notes = self.journal("a")
+        notes.edit(0, 0, "one two three")
+        made = notes.edit_many([(0, 3, "1"), (2, 3, "\u20ac"), (4, 0, "3 or ")], time=7, message="numbers")
+        self.assertEqual((notes.text(), notes.heads(), notes.change_count()), ("1 \u20ac 3 or three", [made], 2))
+        self.assertIsNone(notes.edit_many([]))
+        self.assertIsNone(notes.edit_many([(0, 0, ""), (3, 0, "")]))
+        notes.close()
+        with SharedEditor.open(self.folder / "a") as again:
+            self.assertEqual((again.text(), again.heads()), ("1 \u20ac 3 or three", [made]))
+
     def test_a_refused_edit_leaves_the_text(self):
         notes = self.journal("a")
         notes.edit(0, 0, "abc")
@@ -131,6 +142,8 @@ class Files(Folder):
             (lambda: notes.edit(2, 2, "x"), textpeer.OutOfRange),
             (lambda: notes.edit(0, 0, "x" * 65537), textpeer.TooManyOps),
             (lambda: notes.edit(0, 0, "x", message="m" * 65536), textpeer.TooLong),
+            (lambda: notes.edit_many([(0, 3, "x"), (2, 0, "y")]), textpeer.OutOfRange),
+            (lambda: notes.edit_many([(0, 0, "x" * 65535), (0, 2, "")]), textpeer.TooManyOps),
         ):
             with self.assertRaises(kind):
                 call()

@@ -2,9 +2,12 @@ pub mod Owned
 pub mod Lends
 pub mod Status
 pub mod Reading
+pub mod Flat
+pub mod EditMany
 pub mod Storing
 pub mod Receiving
 pub mod Linking
 pub mod SharedOwned
 pub mod SharedLends
 pub mod SharedStatus
+pub mod SharedEditMany

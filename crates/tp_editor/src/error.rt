@@ -24,6 +24,9 @@ pub enum EditorError {
     /// What should be a text isn't UTF-8.
     #[error("BadText")]
     BadText,
+    /// The lengths of the texts of an edit's splices don't add up to the bytes given.
+    #[error("BadLengths")]
+    BadLengths,
     /// The document refused.
     #[error("{0}")]
     Doc(DocError),
@@ -49,6 +52,7 @@ impl EditorError {
             EditorError::NoLink => 2,
             EditorError::NoChange => 3,
             EditorError::BadText => 4,
+            EditorError::BadLengths => 5,
             EditorError::Doc(error) => 100 + error.code() as u32,
             EditorError::Sync(error) => 200 + error.code() as u32,
             EditorError::Store(error) => 300 + error.code() as u32,

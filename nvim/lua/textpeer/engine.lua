@@ -28,7 +28,7 @@ void tp_shared_end(tp_shared *shared);
 -- The names of refusals, by their statuses.
 -- statuses: made of ffi/statuses.txt by tools/statuses
 local NAMES = {
-  [1] = 'OutOfMemory', [2] = 'NoLink', [3] = 'NoChange', [4] = 'BadText',
+  [1] = 'OutOfMemory', [2] = 'NoLink', [3] = 'NoChange', [4] = 'BadText', [5] = 'BadLengths',
   [101] = 'OutOfRange', [102] = 'CounterLimit', [103] = 'TooManyOps', [104] = 'TooManyHeads', [105] = 'UnknownHead',
   [106] = 'UnknownElement', [107] = 'PendingFull', [108] = 'HashTaken', [109] = 'OutOfMemory', [110] = 'OtherDocument',
   [111] = 'TooLong', [112] = 'Full', [113] = 'NotKept',

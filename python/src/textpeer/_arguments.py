@@ -3,10 +3,15 @@ from __future__ import annotations
 
 import operator
 import os
-from typing import SupportsIndex, Union
+from typing import Any, Iterable, SupportsIndex, Tuple, Union
+
+from ._library import Splice
 
 BytesLike = Union[bytes, bytearray, memoryview]
 """What is taken where bytes are asked for."""
+
+SpliceLike = Tuple[SupportsIndex, SupportsIndex, str]
+"""A position, how many characters are deleted from it on, and the text that is inserted there."""
 
 StrPath = Union[str, "os.PathLike[str]"]
 """What is taken for the path of a file."""
@@ -42,6 +47,13 @@ def utf8(value: str, what: str) -> bytes:
     if not isinstance(value, str):
         raise TypeError(f"{what} is a str, not {type(value).__name__}")
     return value.encode()
+
+
+def flat_splices(splices: Iterable[SpliceLike]) -> Tuple[Any, int, bytes]:
+    """The splices as an array of their numbers, how many there are, and the bytes of their texts, one after another."""
+    read = [(whole(at, "a position"), whole(delete, "a count"), utf8(text, "a text")) for at, delete, text in splices]
+    numbers = (Splice * max(1, len(read)))(*(Splice(at, delete, len(text)) for at, delete, text in read))
+    return numbers, len(read), b"".join(text for _, _, text in read)
 
 
 def path_bytes(path: StrPath) -> bytes:

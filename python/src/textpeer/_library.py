@@ -22,8 +22,15 @@ class Element(ctypes.Structure):
     _fields_ = [("counter", ctypes.c_uint64), ("actor", ctypes.c_uint8 * 16)]
 
 
+class Splice(ctypes.Structure):
+    """A ``tp_splice``."""
+
+    _fields_ = [("at", ctypes.c_size_t), ("del", ctypes.c_size_t), ("len", ctypes.c_size_t)]
+
+
 _STATUS, _SIZE, _NUMBER, _BYTES, _OUT = ctypes.c_uint32, ctypes.c_size_t, ctypes.c_uint64, ctypes.c_char_p, ctypes.c_void_p
 _HANDLE, _ELEMENT, _ADDRESS = ctypes.POINTER(Handle), ctypes.POINTER(Element), ctypes.POINTER(ctypes.c_void_p)
+_SPLICES = ctypes.POINTER(Splice)
 _STATUS_TO, _SIZE_TO, _NUMBER_TO = ctypes.POINTER(_STATUS), ctypes.POINTER(_SIZE), ctypes.POINTER(_NUMBER)
 
 # Of each function its name, what it answers, and what it takes.
@@ -38,6 +45,7 @@ _FUNCTIONS: Iterable[Tuple[str, Any, Tuple[Any, ...]]] = (
     ("tp_len", _SIZE, (_HANDLE,)),
     ("tp_text", _STATUS, (_HANDLE, _SIZE_TO)),
     ("tp_edit", _STATUS, (_HANDLE, _BYTES, _SIZE, _SIZE, _BYTES, _SIZE, _NUMBER, _BYTES, _SIZE, _SIZE_TO)),
+    ("tp_edit_many", _STATUS, (_HANDLE, _BYTES, _SPLICES, _SIZE, _BYTES, _SIZE, _NUMBER, _BYTES, _SIZE, _SIZE_TO)),
     ("tp_heads", _STATUS, (_HANDLE, _SIZE_TO)),
     ("tp_change_count", _SIZE, (_HANDLE,)),
     ("tp_change_at", _STATUS, (_HANDLE, _SIZE, _SIZE_TO)),
@@ -57,6 +65,7 @@ _FUNCTIONS: Iterable[Tuple[str, Any, Tuple[Any, ...]]] = (
     ("tp_shared_change_count", _SIZE, (_HANDLE,)),
     ("tp_shared_text", _STATUS, (_HANDLE, _SIZE_TO)),
     ("tp_shared_edit", _STATUS, (_HANDLE, _SIZE, _SIZE, _BYTES, _SIZE, _NUMBER, _BYTES, _SIZE, _SIZE_TO)),
+    ("tp_shared_edit_many", _STATUS, (_HANDLE, _SPLICES, _SIZE, _BYTES, _SIZE, _NUMBER, _BYTES, _SIZE, _SIZE_TO)),
     ("tp_shared_heads", _STATUS, (_HANDLE, _SIZE_TO)),
     ("tp_shared_cursor", _STATUS, (_HANDLE, _SIZE, _NUMBER_TO, _OUT)),
     ("tp_shared_cursor_position", _STATUS, (_HANDLE, _NUMBER, _BYTES, _SIZE_TO)),

@@ -2,9 +2,9 @@
 from __future__ import annotations
 
 import ctypes
-from typing import Any, Optional, SupportsIndex, Tuple, Union
+from typing import Any, Iterable, Optional, SupportsIndex, Tuple, Union
 
-from ._arguments import BytesLike, sixteen_bytes, some_bytes, utf8, whole
+from ._arguments import BytesLike, SpliceLike, flat_splices, sixteen_bytes, some_bytes, utf8, whole
 from ._library import Element, library
 from ._owner import Cursor, Owner
 from .refusals import refusal
@@ -106,6 +106,33 @@ class Editor(Owner):
                 whole(delete, "a count"),
                 inserted,
                 len(inserted),
+                whole(time, "a time"),
+                said,
+                len(said),
+            )
+            or None
+        )
+
+    def edit_many(
+        self, actor: BytesLike, splices: Iterable[SpliceLike], time: SupportsIndex = 0, message: str = ""
+    ) -> Optional[bytes]:
+        """Does each of the splices ``(at, delete, text)`` in turn, on the text that the ones before it leave, all as one
+        change by the actor. Its hash, 32 bytes; None where nothing was asked.
+
+        All else is as with `edit`: `TooManyOps` past 65,536 characters that come or go in all of them, and nothing was
+        done then. The time grows with the number of splices where these rise or fall in position.
+        """
+        actor = sixteen_bytes(actor, "an actor")
+        numbers, count, texts = flat_splices(splices)
+        said = utf8(message, "a message")
+        return (
+            self._answer(
+                library.tp_edit_many,
+                actor,
+                numbers,
+                count,
+                texts,
+                len(texts),
                 whole(time, "a time"),
                 said,
                 len(said),

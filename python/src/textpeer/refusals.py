@@ -46,7 +46,8 @@ _WORDS: Dict[int, str] = {
     1: "memory was refused, before a layer below was asked",
     2: "there is no link with this number",
     3: "there is no applied change with this number",
-    4: "what should be a text is no UTF-8",
+    4: "what should be a text isn't UTF-8",
+    5: "the lengths of the splices don't add up to the bytes that are given for their texts",
     101: "the text ends before the position, or before the end of what is to be deleted",
     102: "the last counter of the edit would be past 2^48 - 1",
     103: "the edit has more than 65,536 operations, one for each character that comes or goes",
@@ -79,7 +80,7 @@ _WORDS: Dict[int, str] = {
     402: "a field of the change is not whole",
     403: "bytes come after the last record of the change",
     404: "the sequence number or the start counter of the change is 0",
-    405: "the message or a text of the change is no UTF-8",
+    405: "the message or a text of the change isn't UTF-8",
     406: "the dependencies of the change don't rise strictly",
     407: "the change has no record",
     408: "the version of the change has no such record or reference",
@@ -123,7 +124,11 @@ class NoChange(Refused):
 
 
 class BadText(Refused):
-    """What should be a text is no UTF-8 (4)."""
+    """What should be a text isn't UTF-8 (4)."""
+
+
+class BadLengths(Refused):
+    """The lengths of the splices don't add up to the bytes that are given for their texts (5)."""
 
 
 class OutOfRange(Refused):
@@ -227,7 +232,7 @@ class ZeroSeqOrStart(Refused):
 
 
 class BadUtf8(Refused):
-    """The message or a text of the change is no UTF-8 (405)."""
+    """The message or a text of the change isn't UTF-8 (405)."""
 
 
 class DepsOrder(Refused):
@@ -304,6 +309,7 @@ STATUSES: Dict[int, Type[Refused]] = {
     2: NoLink,
     3: NoChange,
     4: BadText,
+    5: BadLengths,
     101: OutOfRange,
     102: CounterLimit,
     103: TooManyOps,
@@ -369,6 +375,7 @@ __all__ = [
     "ActorInUse",
     "BadChange",
     "BadDigest",
+    "BadLengths",
     "BadMagic",
     "BadMessage",
     "BadTag",

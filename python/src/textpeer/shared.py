@@ -5,9 +5,9 @@ import ctypes
 import os
 import socket
 import threading
-from typing import Any, Callable, Optional, SupportsIndex, Tuple, Union, overload
+from typing import Any, Callable, Iterable, Optional, SupportsIndex, Tuple, Union, overload
 
-from ._arguments import BytesLike, StrPath, path_bytes, sixteen_bytes, utf8, whole
+from ._arguments import BytesLike, SpliceLike, StrPath, flat_splices, path_bytes, sixteen_bytes, utf8, whole
 from ._library import library
 from ._owner import Cursor, Owner
 from ._streams import clock, hold_over_socket, hold_over_streams, one_timeout, place_of
@@ -140,6 +140,31 @@ class SharedEditor(Owner):
                 whole(delete, "a count"),
                 inserted,
                 len(inserted),
+                whole(time, "a time"),
+                said,
+                len(said),
+            )
+            or None
+        )
+
+    def edit_many(
+        self, splices: Iterable[SpliceLike], time: SupportsIndex = 0, message: str = ""
+    ) -> Optional[bytes]:
+        """Does each of the splices ``(at, delete, text)`` in turn, on the text that the ones before it leave, all as one
+        change, which is on the disk then. Its hash, 32 bytes; None where nothing was asked.
+
+        All else is as with `edit`: `TooManyOps` past 65,536 characters that come or go in all of them, and nothing was
+        done then. The time grows with the number of splices where these rise or fall in position.
+        """
+        numbers, count, texts = flat_splices(splices)
+        said = utf8(message, "a message")
+        return (
+            self._answer(
+                library.tp_shared_edit_many,
+                numbers,
+                count,
+                texts,
+                len(texts),
                 whole(time, "a time"),
                 said,
                 len(said),
