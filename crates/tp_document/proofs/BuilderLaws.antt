@@ -1,15 +1,17 @@
 -- What a builder of differences takes, step by step.
 use Rattle.std.proofs.lemmas.Str.{chars-append}
+use Rattle.std.proofs.lemmas.Option.{slice_get-get_or}
 use Rattle.std.specs.Str.{IsUtf8}
-use Rattle.tp_document.proofs.Common.{◌≡◌, ℕ, ◌+◌, ◌==◌, List, [], ◌∷◌, ◌++◌, length, drop, Bool, true, false, not, ◌&&◌, cond, Some, None, sym, ap, ◌∙◌, arith, nat_tests, append-nil, slice_get, option_map, chars, all_scalars, encode_utf8, chars-encodes, OpId, Insert, seen_of, seen_at}
+use Rattle.tp_document.proofs.Common.{◌≡◌, ℕ, zero, suc, ◌+◌, ◌-◌, ◌<◌, ◌≤◌, ◌==◌, take, shown, is_removed, List, [], ◌∷◌, ◌++◌, length, drop, Bool, true, false, not, ◌&&◌, cond, Some, sym, ap, ◌∙◌, arith, nat_tests, append-nil, slice_get, option_map, chars, all_scalars, encode_utf8, chars-encodes, OpId, Insert, seen_of, seen_at}
 use Rattle.tp_rga.specs.declared.walk.Seen.{Seen}
-use Rattle.tp_document.proofs.SnapshotLaws.{tested, test_is, left_from, none_left}
+use Rattle.tp_document.proofs.SnapshotLaws.{left_from}
 use Rattle.tp_document.proofs.DifferenceLaws.{difference}
 use Rattle.tp_document.specs.declared.differences.Difference.{Difference}
 use Rattle.tp_document.specs.declared.views.View.{View}
-use Rattle.tp_document.specs.declared.views.View.TheVariants.{Now, At}
-use Rattle.tp_document.specs.Views.{view_test, is_in_view, IsViewOf}
-use Rattle.tp_document.specs.Differences.{BuilderState, all_differences, difference_if_any, TakesElement}
+use Rattle.tp_document.specs.declared.window.Window.{Window}
+use Rattle.tp_document.specs.Windows.{TellsOf}
+use Rattle.tp_document.specs.Views.{view_test, is_in_view}
+use Rattle.tp_document.specs.Differences.{BuilderState, all_differences, count_up_to, difference_if_any, TakesElement}
 
 -- ---- its text
 
@@ -35,19 +37,38 @@ grows_into at del count text c some = ap (λ b. cond b [] (difference at del tex
 
 -- ---- a walk
 
-view_at : (v : View) (R : List (OpId × OpId)) (x : Seen) (e : Insert) (b : Bool) → IsViewOf v R → x ≡ seen_of R e → b ≡ view_test v x → is_in_view v R e ≡ b
-view_at Now R x e b of is h = sym (h ∙ ap (λ (y : Seen). not y.deleted) is)
-view_at (At s) R x e b of is h = sym (h ∙ ap (tested s.clock s.targets) is ∙ test_is s.clock R s.targets e of)
+view_at : (v : View) (R : List (OpId × OpId)) (L : List Insert) (w : Window) (k : ℕ) (x : Seen) (e : Insert) (b : Bool) → TellsOf v R L w → w.from ≤ k → k < w.to → slice_get L k ≡ Some e → x ≡ seen_of R e → b ≡ view_test v x → is_in_view v R e ≡ b
+view_at v R L w k x e b tells from to at is h = sym (h ∙ ap (view_test v) is ∙ tells k e from to at)
 
-pub builder_next : (v w : View) (R : List (OpId × OpId)) (L : List Insert) (k : ℕ) (x : Seen) (b b' : BuilderState) (shown shows : Bool) → IsViewOf v R → IsViewOf w R
-    → Some x ≡ option_map (seen_of R) (slice_get L k) → shown ≡ view_test v x → shows ≡ view_test w x → TakesElement b b' shown shows x.ch
-    → all_differences (is_in_view v R) (is_in_view w R) b' (drop (k + 1) L) ≡ all_differences (is_in_view v R) (is_in_view w R) b (drop k L)
-builder_next v w R L k x b b' shown shows of on h old new takes =
+-- an element of the window, and those that are left of it
+part_next : (L : List Insert) (k to : ℕ) (e : Insert) → k < to → drop k L ≡ e ∷ drop (k + 1) L → take (to - k) (drop k L) ≡ e ∷ take (to - (k + 1)) (drop (k + 1) L)
+part_next L k to e lt left =
+    let more : to - k ≡ suc (to - (k + 1)) = omega arith in
+    ap (take (to - k)) left ∙ ap (λ n. take n (e ∷ drop (k + 1) L)) more
+
+pub builder_next : (v u : View) (R : List (OpId × OpId)) (L : List Insert) (w : Window) (k : ℕ) (x : Seen) (b b' : BuilderState) (shown shows : Bool) → TellsOf v R L w → TellsOf u R L w → w.from ≤ k → k < w.to
+    → Some x ≡ option_map (seen_of R) (slice_get L k) → shown ≡ view_test v x → shows ≡ view_test u x → TakesElement b b' shown shows x.ch
+    → all_differences (is_in_view v R) (is_in_view u R) b' (take (w.to - (k + 1)) (drop (k + 1) L)) ≡ all_differences (is_in_view v R) (is_in_view u R) b (take (w.to - k) (drop k L))
+builder_next v u R L w k x b b' shown shows of on from to h old new takes =
     let p = seen_at R L k x h in
     let e = p.0 in
-    sym (ap (all_differences (is_in_view v R) (is_in_view w R) b) (left_from L k e p.1 p.2)
-    ∙ takes (is_in_view v R) (is_in_view w R) e (drop (k + 1) L) (view_at v R x e shown of p.3 old) (view_at w R x e shows on p.3 new) (sym (ap (λ (y : Seen). y.ch) p.3)))
+    let at : slice_get L k ≡ Some e = slice_get-get_or L k e p.1 ∙ ap Some p.2 in
+    sym (ap (all_differences (is_in_view v R) (is_in_view u R) b) (part_next L k w.to e to (left_from L k e p.1 p.2))
+    ∙ takes (is_in_view v R) (is_in_view u R) e (take (w.to - (k + 1)) (drop (k + 1) L)) (view_at v R L w k x e shown of from to at p.3 old) (view_at u R L w k x e shows on from to at p.3 new) (sym (ap (λ (y : Seen). y.ch) p.3)))
 
-pub builder_end : (was is : Insert → Bool) (R : List (OpId × OpId)) (L : List Insert) (k : ℕ) (b : BuilderState) (all : List Difference) → None ≡ option_map (seen_of R) (slice_get L k)
-    → all_differences was is b (drop k L) ≡ all → b.found ++ difference_if_any b.at b.del b.text ≡ all
-builder_end was is R L k b all end inv = sym (ap (all_differences was is b) (none_left R L k end)) ∙ inv
+-- so many are shown of the first elements at most
+pub shown_few : (R : List (OpId × OpId)) (L : List Insert) (n : ℕ) → length (shown R (take n L)) ≤ n
+shown_few R [] zero = omega arith
+shown_few R [] (suc n) = omega arith
+shown_few R (x ∷ L) zero = omega arith
+shown_few R (x ∷ L) (suc n) = one (not (is_removed R x.id)) (shown R (take n L)) (shown_few R L n) where
+  one : (b : Bool) (M : List Insert) → length M ≤ n → length (cond b (x ∷ M) M) ≤ suc n
+  one true M le = omega arith
+  one false M le = omega arith
+
+-- a builder where no element was taken yet
+pub builder_start : (b : BuilderState) (R : List (OpId × OpId)) (L : List Insert) (at from i : ℕ) → b ≡ state at 0 [] [] → at ≡ length (shown R (take from L)) → i ≡ from → count_up_to b ≤ i
+builder_start b R L at from i is size same =
+    let few = shown_few R L from in
+    let none : count_up_to b ≡ at + 0 + 0 = ap count_up_to is in
+    omega arith

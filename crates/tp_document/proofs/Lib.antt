@@ -14,6 +14,7 @@ pub mod SnapshotLaws
 pub mod DifferenceLaws
 pub mod VisibleLaws
 pub mod BuilderLaws
+pub mod WindowLaws
 pub mod TargetLaws
 pub mod TextLaws
 pub mod RepeatLaws

@@ -13,7 +13,7 @@ abbrev pub tested : List (Actor × ℕ) → List Stretch → Seen → Bool
 tested K T x = has_op K x.id && not (x.deleted && covers T x.id)
 
 -- what one of the kept deletes names, one of all names
-removed_before : (K : List (Actor × ℕ)) (R : List (OpId × OpId)) (x : OpId) → is_removed (deletes_by K R) x ≡ true → is_removed R x ≡ true
+pub removed_before : (K : List (Actor × ℕ)) (R : List (OpId × OpId)) (x : OpId) → is_removed (deletes_by K R) x ≡ true → is_removed R x ≡ true
 removed_before K [] x h = h
 removed_before K (r ∷ R) x h =
     elim (has_op K r.1) as (λ b. is_removed (cond b (r ∷ deletes_by K R) (deletes_by K R)) x ≡ true → (id_eq r.0 x || is_removed R x) ≡ true) [

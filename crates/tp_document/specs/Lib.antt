@@ -8,4 +8,5 @@ pub mod Merging
 pub mod Applying
 pub mod History
 pub mod Views
+pub mod Windows
 pub mod Differences

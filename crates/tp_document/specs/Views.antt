@@ -3,7 +3,7 @@ use Rattle.std.specs.Prelude.{◌&&◌, Bool, not, List}
 use Rattle.tp_graph.specs.Clocks.{has_op}
 use Rattle.tp_rga.specs.declared.walk.Seen.{Seen}
 use Rattle.tp_document.specs.Common.{OpId, Insert, is_removed}
-use Rattle.tp_document.specs.History.{AreTargets, IsAuthorOf, covers, deletes_by}
+use Rattle.tp_document.specs.History.{IsAuthorOf, covers, deletes_by}
 use Rattle.tp_document.specs.declared.history.Trail.{Trail}
 use Rattle.tp_document.specs.declared.views.View.{View}
 use Rattle.tp_document.specs.declared.views.View.TheVariants.{Now, At}
@@ -17,11 +17,6 @@ view_test (At s) x = has_op s.clock x.id && not (x.deleted && covers s.targets x
 abbrev pub is_in_view : View → List (OpId × OpId) → Insert → Bool
 is_in_view Now R e = not (is_removed R e.id)
 is_in_view (At s) R e = has_op s.clock e.id && not (is_removed (deletes_by s.clock R) e.id)
-
--- The view is one of a sequence to which these deletes came.
-abbrev pub IsViewOf : View → List (OpId × OpId) → Type 0
-IsViewOf Now R = Unit {0}
-IsViewOf (At s) R = AreTargets s.targets s.clock R
 
 -- What is kept from one element to the next is of this view.
 abbrev pub IsTrailOf : View → Trail → Type 0

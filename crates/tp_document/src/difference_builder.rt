@@ -44,13 +44,13 @@ impl Model for DifferenceBuilder {
 }
 
 impl DifferenceBuilder {
-    /// Where nothing was taken yet. No memory.
-    pub(crate) fn new(alloc: Global) -> DifferenceBuilder
-        ensures { result ≡ record { at = 0; del = 0; text = []; found = [] } }
+    /// Where no element was taken yet, and both texts show so many characters before the first. No memory.
+    pub(crate) fn new(alloc: Global, at: usize) -> DifferenceBuilder
+        ensures { result ≡ record { at = at; del = 0; text = []; found = [] } }
     {
         DifferenceBuilder {
             alloc,
-            at: 0,
+            at,
             del: 0,
             text: String::new(alloc),
             count: 0,

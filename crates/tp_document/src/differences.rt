@@ -4,21 +4,24 @@ ghost use Rattle.std.specs.Prelude.{◌≡◌, ◌↔◌, ◌⊎◌, [], true, f
 ghost use Rattle.tp_document.specs.Common.{past};
 ghost use Rattle.tp_edit.specs.Splices.{inserted};
 ghost use Rattle.tp_graph.specs.Named as named;
-ghost use Rattle.tp_document.specs.History.{AreTargets};
-ghost use Rattle.tp_document.specs.Views.{is_in_view, IsViewOf};
+ghost use Rattle.tp_document.specs.Views.{is_in_view};
+ghost use Rattle.tp_document.specs.Windows.{part_of, IsWindowOf, TellsOf};
 ghost use Rattle.tp_document.specs.declared.views.View.TheVariants.{At};
 ghost use Rattle.tp_document.specs.Differences.{differences_from, AreDifferences, LeadsTo};
 
 use crate::difference_builder::DifferenceBuilder;
 use crate::document::Document;
 use crate::error::DocError;
-use crate::history::{Snapshot, snapshot_at};
+use crate::history::{Snapshot, clock_of};
+use crate::targets::{Targets, targets_of};
 use crate::views::View;
+use crate::window::{Reach, Window};
 use std::alloc::{AllocError, Global};
 use tp_edit::Splice;
+use tp_graph::Clock;
 use tp_list::Text;
 use tp_opid::Hash;
-use tp_rga::{Sequence, Walk};
+use tp_rga::Sequence;
 
 /// One replacement in a text: some characters go, and others come in their place. Positions and lengths count
 /// characters (Unicode scalar values).
@@ -47,25 +50,52 @@ impl Difference {
     }
 }
 
-// The differences between what a past shows and what a view does: one walk over all elements.
+// What a past shows of the elements of a window. Its deletes are gone over only where some element there is deleted.
+fn snapshot_within<S: Sequence>(
+    alloc: Global,
+    sequence: &S,
+    clock: Clock,
+    window: &Window,
+) -> Result<Snapshot, AllocError>
+    ensures clock { IfOk result (λ s. s.clock ≡ clock) }
+    ensures tells { IfOk result
+        (λ s. TellsOf (At s) (S.removals sequence.now) (S.placed sequence.now) window.now) }
+{
+    if window.has_deleted(sequence) {
+        let targets = targets_of(alloc, &clock, sequence.deletes())?;
+        return Ok(Snapshot { clock, targets });
+    }
+    let targets = Targets::none(alloc);
+    Ok(Snapshot { clock, targets })
+}
+
+// The differences between what a past shows and what a view does, where they show the same of all elements outside the
+// window: one walk over the window.
 fn differences_between<S: Sequence>(
     alloc: Global,
     sequence: &S,
     old: &Snapshot,
     new: &View,
+    window: &Window,
 ) -> Result<Vec<Difference>, AllocError>
-    requires old { AreTargets old.now.targets old.now.clock (S.removals sequence.now) }
-    requires new { IsViewOf new.now (S.removals sequence.now) }
+    requires window { IsWindowOf window.now (S.placed sequence.now) (S.removals sequence.now) }
+    requires old { TellsOf (At old.now) (S.removals sequence.now) (S.placed sequence.now) window.now }
+    requires new { TellsOf new.now (S.removals sequence.now) (S.placed sequence.now) window.now }
     ensures { IfOk result (λ all. all.items
         ≡ differences_from (is_in_view (At old.now) (S.removals sequence.now))
-        (is_in_view new.now (S.removals sequence.now)) 0 0 [] (S.placed sequence.now)) }
+        (is_in_view new.now (S.removals sequence.now)) window.now.at 0 []
+        (part_of window.now (S.placed sequence.now))) }
 {
     let _all = sequence.all();
-    let mut builder = DifferenceBuilder::new(alloc);
-    let mut walk = Walk::start();
+    let mut builder = DifferenceBuilder::new(alloc, window.at);
+    let mut walk = window.walk();
     let mut old_trail = old.trail();
     let mut new_trail = new.trail(old_trail);
-    while let Some(element) = sequence.next_element(&mut walk) {
+    'elements: while walk.index < window.to {
+        let element = match sequence.next_element(&mut walk) {
+            Some(element) => element,
+            None => unreachable!(),
+        };
         let shown = old.shows(&element, &mut old_trail);
         let shows = new.shows(&element, &mut new_trail);
         builder.take(shown, shows, element.ch)?;
@@ -74,14 +104,19 @@ fn differences_between<S: Sequence>(
 }
 
 impl<S: Sequence> Document<S> {
-    /// The differences that lead from the text of the past of some hashes to that of others, which need be no later: the
-    /// hashes may come in any order and more than once, and no hash gives the empty text. Done one after another, as the
-    /// splices of one edit are, they make the new text of the old one. They are exact: no difference touches a character
-    /// that both texts show, each changes something, and between two stands a character at least that both show.
+    /// The differences that lead from the text of the past of some hashes to that of others, which need be no later.
+    /// The hashes may come in any order and more than once, and no hash gives the empty text. Done one after another,
+    /// as the splices of one edit are, they make the new text of the old one. They are exact: no difference touches a
+    /// character that both texts show, each changes something, and between two stands a character at least that both
+    /// show.
     ///
-    /// A hash that no applied change has is refused as `UnknownHead`, and the only other refusal is `OutOfMemory`. The
-    /// cost is that of [`text_at`](Document::text_at) for both, in one walk over the elements; memory is taken for the
-    /// differences alone.
+    /// A hash that no applied change has is refused as `UnknownHead`, and the only other refusal is `OutOfMemory`.
+    ///
+    /// The pasts are asked for the last change of each actor, as by [`text_at`](Document::text_at). Each element that a
+    /// change outside either past names is looked up; then comes one walk from the first to the last of these, deleted
+    /// ones among them. Only where one that it passes is deleted now, there is one walk over all deletes for each past.
+    /// Where the changes outside are so many that a look-up of each element would take longer, the walk goes over all
+    /// elements. Memory is taken for the differences, the actors and the deletes.
     pub fn differences(&self, from: &[Hash], to: &[Hash]) -> Result<Vec<Difference>, DocError>
         ensures each { IfOk result (λ all. AreDifferences self.now.applied
             (past self.now.applied from.now) (past self.now.applied to.now) all.items) }
@@ -95,14 +130,20 @@ impl<S: Sequence> Document<S> {
         ensures err { IfErr result
             (λ error. (error ≡ DocError.UnknownHead) ⊎ (error ≡ DocError.OutOfMemory)) }
     {
-        let old = snapshot_at(self.alloc, &self.graph, &self.sequence, from)?;
-        let new = snapshot_at(self.alloc, &self.graph, &self.sequence, to)?;
-        Ok(differences_between(self.alloc, &self.sequence, &old, &View::At(new))?)
+        let old_clock = clock_of(&self.graph, from)?;
+        let new_clock = clock_of(&self.graph, to)?;
+        let near = Reach::Nothing.with_outside(&self.graph, &self.sequence, from)?;
+        let reach = near.with_outside(&self.graph, &self.sequence, to)?;
+        let window = reach.window(&self.sequence);
+        let old = snapshot_within(self.alloc, &self.sequence, old_clock, &window)?;
+        let new = snapshot_within(self.alloc, &self.sequence, new_clock, &window)?;
+        let found = differences_between(self.alloc, &self.sequence, &old, &View::At(new), &window)?;
+        Ok(found)
     }
 
     /// The differences that lead from the text of the past of the hashes to the text now, as those of
-    /// [`differences`](Document::differences) do. A hash that no applied change has is refused as `UnknownHead`, and the
-    /// only other refusal is `OutOfMemory`.
+    /// [`differences`](Document::differences) do. A hash that no applied change has is refused as `UnknownHead`, and
+    /// the only other refusal is `OutOfMemory`.
     pub fn differences_since(&self, heads: &[Hash]) -> Result<Vec<Difference>, DocError>
         ensures each { IfOk result (λ all. AreDifferences self.now.applied
             (past self.now.applied heads.now) self.now.applied all.items) }
@@ -113,7 +154,11 @@ impl<S: Sequence> Document<S> {
         ensures err { IfErr result
             (λ error. (error ≡ DocError.UnknownHead) ⊎ (error ≡ DocError.OutOfMemory)) }
     {
-        let old = snapshot_at(self.alloc, &self.graph, &self.sequence, heads)?;
-        Ok(differences_between(self.alloc, &self.sequence, &old, &View::Now)?)
+        let clock = clock_of(&self.graph, heads)?;
+        let reach = Reach::Nothing.with_outside(&self.graph, &self.sequence, heads)?;
+        let window = reach.window(&self.sequence);
+        let old = snapshot_within(self.alloc, &self.sequence, clock, &window)?;
+        let found = differences_between(self.alloc, &self.sequence, &old, &View::Now, &window)?;
+        Ok(found)
     }
 }

@@ -20,8 +20,8 @@ use tp_rga::{Seen, Sequence, Walk};
 /// What a past shows of the elements: those that it inserts and doesn't delete.
 #[derive(Drop)]
 pub(crate) struct Snapshot {
-    clock: Clock,
-    targets: Targets,
+    pub(crate) clock: Clock,
+    pub(crate) targets: Targets,
 }
 
 /// What is kept from one element of a walk to the next, so that most take no look-up: who inserted it, and the place of
@@ -64,8 +64,8 @@ impl Snapshot {
     }
 }
 
-// The operations of the past of the hashes.
-fn clock_of(graph: &Graph, heads: &[Hash]) -> Result<Clock, DocError>
+/// The operations of the past of the hashes.
+pub(crate) fn clock_of(graph: &Graph, heads: &[Hash]) -> Result<Clock, DocError>
     ensures clock { IfOk result (λ clock. IsClockOf clock (past graph.now.applied heads.now)) }
     ensures unknown { (result ≡ Err DocError.UnknownHead)
         ↔ (named.has_all graph.now.applied heads.now ≡ false) }
@@ -79,8 +79,8 @@ fn clock_of(graph: &Graph, heads: &[Hash]) -> Result<Clock, DocError>
     }
 }
 
-/// What the past of the hashes shows: one walk over all deletes.
-pub(crate) fn snapshot_at<S: Sequence>(
+// What the past of the hashes shows: one walk over all deletes.
+fn snapshot_at<S: Sequence>(
     alloc: Global,
     graph: &Graph,
     sequence: &S,

@@ -21,6 +21,7 @@ mod merging;
 mod replica;
 mod targets;
 mod views;
+mod window;
 
 pub use cursor::Cursor;
 pub use differences::Difference;

@@ -1,6 +1,6 @@
 //! What a past deletes.
 
-ghost use Rattle.std.specs.Prelude.{◌≡◌, ◌||◌, List, length, IfOk, IfSome};
+ghost use Rattle.std.specs.Prelude.{◌≡◌, ◌||◌, List, [], length, IfOk, IfSome};
 ghost use Rattle.std.specs.List.{AllAdjacentBelow};
 ghost use Rattle.tp_opid.specs.Same.{id_eq};
 ghost use Rattle.tp_opid.specs.declared.op_id.OpId.{OpId as Id};
@@ -131,6 +131,15 @@ impl Model for Targets {
 }
 
 impl Targets {
+    /// No elements. No memory.
+    pub(crate) fn none(alloc: Global) -> Targets
+        ensures { result ≡ [] }
+    {
+        Targets {
+            stretches: Vec::new(alloc),
+        }
+    }
+
     /// The elements of these stretches, in whatever order they come. One that comes again is kept once.
     fn new(stretches: Vec<Stretch>) -> Targets
         ensures { (x : Id) → covers result x ≡ covers stretches.items x }

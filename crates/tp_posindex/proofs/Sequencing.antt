@@ -15,7 +15,7 @@ use Rattle.tp_opid.proofs.Orders.{id_eq-same, id_eq-flip}
 use Rattle.tp_rga.specs.declared.element.Element.{Element}
 use Rattle.tp_rga.specs.declared.walk.Seen.{Seen}
 use Rattle.tp_rga.specs.declared.walk.Spot.{Spot}
-use Rattle.tp_rga.specs.Shown.{is_removed, shown, shown_before, element_of, seen_of}
+use Rattle.tp_rga.specs.Shown.{index_in, is_removed, shown, shown_before, element_of, seen_of}
 use Rattle.tp_rga.specs.PlainState.{IsPlainState}
 use Rattle.tp_rga.proofs.Flagging.{map-insert, map_agree, length-left, take-map_lem, slice_get-past}
 use Rattle.tp_rga.proofs.Lookups.{IsFirst, IsFirst-position, position-first, IsThere-not_new, found-position}
@@ -164,6 +164,20 @@ position_placed E bs flags R left p offset k x kept at found =
     let G = index_at bs p offset in
     let here : get_or L G blank ≡ element_at E k = get_or-of_map (element_at E) (joined bs) G blank 0 whole.0 ∙ ap (element_at E) whole.1 in
     position_at L G blank x kept.kept.apart (let l = length-map (joined bs) (element_at E) in let w = whole.0 in omega arith) (ap (λ (w : Insert). id_eq w.id x) here ∙ (number_is E x k found).1)
+
+-- the index of an element that was found
+pub index_found : (E : List Insert) (bs : List (List ℕ)) (flags : List Bool) (R : List (OpId × OpId)) (left p offset k n : ℕ) (x : OpId) → IsBlocked E bs flags R left → StandsAt bs p offset k → position (λ (e : Insert). id_eq e.id x) E ≡ Some k → n ≡ index_at bs p offset → index_in (joined (pieces E bs)) x ≡ Some n
+index_found E bs flags R left p offset k n x kept at found is =
+    ap (λ z. index_in z x) (placed_is E bs) ∙ position_placed E bs flags R left p offset k x kept at found ∙ ap Some (sym is)
+
+-- how far a spot is behind its block's first index
+pub index_from_first : (bs : List (List ℕ)) (p offset n : ℕ) → n ≡ index_at bs p 0 → n + offset ≡ index_at bs p offset
+index_from_first bs p offset n e = omega arith
+
+-- what isn't there has none
+pub index_none : (E : List Insert) (bs : List (List ℕ)) (flags : List Bool) (R : List (OpId × OpId)) (left : ℕ) (x : OpId) → IsBlocked E bs flags R left → position (λ (e : Insert). id_eq e.id x) E ≡ None → index_in (joined (pieces E bs)) x ≡ None
+index_none E bs flags R left x kept none =
+    ap (λ z. index_in z x) (placed_is E bs) ∙ position_new (map (element_at E) (joined bs)) x (none_placed E (joined bs) x kept.numbered.below none)
 
 -- how many are shown before an element that was found
 pub position_shown : (E : List Insert) (bs : List (List ℕ)) (flags : List Bool) (R : List (OpId × OpId)) (left p offset k n : ℕ) (x : OpId) → IsBlocked E bs flags R left → StandsAt bs p offset k → position (λ (e : Insert). id_eq e.id x) E ≡ Some k → n ≡ count_of flags (take (index_at bs p offset) (joined bs)) → shown_before R (joined (pieces E bs)) x ≡ Some n

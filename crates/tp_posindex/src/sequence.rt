@@ -188,6 +188,18 @@ impl Sequence for BlockSequence {
         }
     }
 
+    fn index(&self, id: &OpId) -> Option<usize> {
+        match self.elements.number_of(id) {
+            Some(number) => {
+                let spot = self.blocks.spot_of(number);
+                // The index of the block's end fits, and so does this one.
+                let _block = self.blocks.block(spot.block);
+                Some(self.blocks.first_of(spot.block) + spot.offset)
+            }
+            None => None,
+        }
+    }
+
     fn all(&self) -> usize {
         self.elements.len()
     }

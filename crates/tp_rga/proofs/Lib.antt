@@ -9,3 +9,4 @@ pub mod OneOrder
 pub mod ByChains
 pub mod Edits
 pub mod Walking
+pub mod Indexing

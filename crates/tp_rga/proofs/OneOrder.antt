@@ -233,7 +233,7 @@ inserted_there old new x inserted = IsThere-member new x ((inserted_members old 
 -- ---- what is shown
 
 -- what is deleted some delete names
-is_removed-by : (R : List (OpId × OpId)) (x : OpId) → is_removed R x ≡ true → (r : OpId × OpId) × In r R × (id_eq r.0 x ≡ true)
+pub is_removed-by : (R : List (OpId × OpId)) (x : OpId) → is_removed R x ≡ true → (r : OpId × OpId) × In r R × (id_eq r.0 x ≡ true)
 is_removed-by [] x e = cc
 is_removed-by (r ∷ R) x e =
     elim (id_eq r.0 x) as (λ b. id_eq r.0 x ≡ b → (b || is_removed R x) ≡ true → (s : OpId × OpId) × In s (r ∷ R) × (id_eq s.0 x ≡ true)) [
@@ -242,7 +242,7 @@ is_removed-by (r ∷ R) x e =
     ] refl e
 
 -- what a delete names is deleted
-removed_by_member : (R : List (OpId × OpId)) (x : OpId) (r : OpId × OpId) → In r R → id_eq r.0 x ≡ true → is_removed R x ≡ true
+pub removed_by_member : (R : List (OpId × OpId)) (x : OpId) (r : OpId × OpId) → In r R → id_eq r.0 x ≡ true → is_removed R x ≡ true
 removed_by_member [] x r i e = absurd i
 removed_by_member (s ∷ R) x r (inl i) e = ap (λ b. b || is_removed R x) (ap (λ (w : OpId × OpId). id_eq w.0 x) (sym i) ∙ e)
 removed_by_member (s ∷ R) x r (inr i) e =

@@ -16,6 +16,10 @@ is_removed R x = list_any (λ r. id_eq r.0 x) R
 abbrev pub shown : List (OpId × OpId) → List Insert → List Insert
 shown R L = filter (λ e. not (is_removed R e.id)) L
 
+-- The index in L of the first element with the identifier x, or `None` where none has it.
+abbrev pub index_in : List Insert → OpId → Option ℕ
+index_in L x = position (λ e. id_eq e.id x) L
+
 -- How many shown elements stand before the element x of L, or `None` where L lacks it.
 abbrev pub shown_before : List (OpId × OpId) → List Insert → OpId → Option ℕ
 shown_before R L x = option_map (λ i. length (shown R (take i L))) (position (λ e. id_eq e.id x) L)

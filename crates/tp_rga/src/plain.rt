@@ -140,6 +140,10 @@ impl Sequence for PlainSequence {
         }
     }
 
+    fn index(&self, id: &OpId) -> Option<usize> {
+        index_of(&self.elements, id)
+    }
+
     fn all(&self) -> usize {
         self.elements.len()
     }

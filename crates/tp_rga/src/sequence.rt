@@ -6,7 +6,7 @@ ghost use Rattle.tp_opid.specs.declared.op_id.OpId.{OpId as Id};
 ghost use Rattle.tp_opid.specs.Insert.{Insert};
 ghost use Rattle.tp_opid.specs.Tree.{IsThere, CanInsert};
 ghost use Rattle.tp_rga.specs.Order.{IsInserted};
-ghost use Rattle.tp_rga.specs.Shown.{shown, shown_before, element_of, seen_of};
+ghost use Rattle.tp_rga.specs.Shown.{shown, shown_before, index_in, element_of, seen_of};
 ghost use Rattle.tp_rga.specs.declared.walk.Spot.{Spot as SpotOf};
 
 use crate::element::Element;
@@ -97,6 +97,20 @@ pub trait Sequence: Drop {
     /// that identifier.
     fn position(&self, id: &OpId) -> Option<usize>
         ensures { result ≡ shown_before (removals self.now) (placed self.now) id.now };
+
+    /// The index of an element in the list of all elements, deleted ones among them; `None` where no element has that
+    /// identifier. A sequence that doesn't know it goes over the elements before it.
+    fn index(&self, id: &OpId) -> Option<usize>
+        ensures { result ≡ index_in (placed self.now) id.now }
+    {
+        let mut walk = Walk::start();
+        while let Some(element) = self.next_element(&mut walk) {
+            if element.id.is(id) {
+                return Some(walk.index - 1);
+            }
+        }
+        None
+    }
 
     /// How many elements there are, with the deleted ones.
     fn all(&self) -> usize

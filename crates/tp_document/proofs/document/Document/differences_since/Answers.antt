@@ -1,22 +1,30 @@
 use Rattle.tp_document.proofs.Common.{subst, past, DocState}
 use Rattle.tp_document.specs.Differences.{AreDifferences, LeadsTo}
-use Rattle.tp_document.proofs.VisibleLaws.{since_are, since_leads}
+use Rattle.tp_document.proofs.VisibleLaws.{are_of, since_is, since_leads}
 use Rattle.tp_document.proofs.document.Document.differences_since.Goals as goal
 
 pub returns-clause-each : goal.returns-clause-each
 returns-clause-each g c =
     let S = g.S.Sequence in
     let d = c.self.inside in
+    let C = d.graph.applied in
+    let L = S.placed d.sequence in
     let H = c.args.heads.now in
-    let ds = c.in_ok-differences_between.field-0.items in
+    let ds = c.in_ok-found.found.items in
     subst (λ (d : DocState). AreDifferences d.applied (past d.applied H) d.applied ds) c.self.view_is
-    (since_are d.graph.applied (S.placed d.sequence) (S.removals d.sequence) H c.in_ok-old.old ds c.self.invariant c.in_ok-old.ensures.ends c.in_ok-differences_between.ensures)
+    (are_of C (past C H) C L ds c.self.invariant.order
+    (since_is C L (S.removals d.sequence) H c.in_ok-old.old c.in_ok-clock.clock c.in_ok-reach.reach c.window-window.result ds c.self.invariant
+    c.in_ok-old.ensures.clock c.in_ok-clock.ensures.clock c.in_ok-reach.ensures.has c.window-window.ensures.window c.window-window.ensures.has c.in_ok-found.ensures))
 
 pub returns-clause-leads : goal.returns-clause-leads
 returns-clause-leads g c =
     let S = g.S.Sequence in
     let d = c.self.inside in
+    let C = d.graph.applied in
+    let L = S.placed d.sequence in
     let H = c.args.heads.now in
-    let ds = c.in_ok-differences_between.field-0.items in
+    let ds = c.in_ok-found.found.items in
     subst (λ (d : DocState). LeadsTo (past d.applied H) d.applied ds) c.self.view_is
-    (since_leads d.graph.applied (S.placed d.sequence) (S.removals d.sequence) H c.in_ok-old.old ds c.self.invariant c.in_ok-old.ensures.ends c.in_ok-differences_between.ensures)
+    (since_leads C L (S.removals d.sequence) H c.in_ok-clock.clock ds c.self.invariant c.in_ok-clock.ensures.clock
+    (since_is C L (S.removals d.sequence) H c.in_ok-old.old c.in_ok-clock.clock c.in_ok-reach.reach c.window-window.result ds c.self.invariant
+    c.in_ok-old.ensures.clock c.in_ok-clock.ensures.clock c.in_ok-reach.ensures.has c.window-window.ensures.window c.window-window.ensures.has c.in_ok-found.ensures))
