@@ -38,12 +38,26 @@ function Fake:heads()
   return {}
 end
 
-function Fake:edit(at, delete, text)
+-- One change of splices, as the engine takes them.
+function Fake:edit(splices)
   assert(not self.closed, 'edit after close')
+  local operations, count = 0, self.count
+  for _, splice in ipairs(splices) do
+    operations = operations + splice.count + utf8.count(splice.text)
+  end
+  assert(operations <= 65536, 'TooManyOps')
+  assert(operations > 0, 'nothing is asked')
+  for _, splice in ipairs(splices) do
+    self:splice(splice.at, splice.count, splice.text)
+  end
+  self.count = count + 1
+end
+
+-- A change of one splice, as others make it too.
+function Fake:splice(at, delete, text)
   local _, replaced = utf8.clean(text)
   assert(replaced == 0, 'no UTF-8')
   assert(at >= 0 and delete >= 0 and at + delete <= #self.chars, 'OutOfRange')
-  assert(delete + utf8.count(text) <= 65536, 'TooManyOps')
   local new, added = {}, self:split(text)
   for i = 1, at do
     new[i] = self.chars[i]
@@ -73,6 +87,15 @@ end
 function Fake:cursor(at)
   assert(at >= 0 and at < #self.chars, 'OutOfRange')
   return self.chars[at + 1]
+end
+
+function Fake:element(at)
+  local char = self:cursor(at)
+  return char.counter, char.actor
+end
+
+function Fake:length()
+  return #self.chars
 end
 
 function Fake:position(cursor)

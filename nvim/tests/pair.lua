@@ -5,6 +5,7 @@ local uv = vim.loop
 local here = debug.getinfo(1, 'S').source:sub(2):match('(.*)/')
 package.path = here .. '/?.lua;' .. package.path
 local Editor = require('editor')
+local Server = require('server')
 local checks = require('checks')
 
 local check, run, wait = checks.check, checks.run, checks.wait
@@ -13,28 +14,6 @@ local folder = vim.fn.tempname()
 vim.fn.mkdir(folder, 'p')
 local seed = tonumber(vim.env.TEXTPEER_SEED or '1')
 math.randomseed(seed)
-
--- The server.
-local server = {}
-function server.start(port)
-  local listening
-  server.job = vim.fn.jobstart({ program, 'serve', folder .. '/server.journal', '127.0.0.1:' .. port, '--workers', '4' }, {
-    on_stdout = function(_, lines)
-      for _, line in ipairs(lines) do
-        listening = listening or line:match('^listening (%d+)')
-      end
-    end,
-  })
-  wait('a server that listens', function()
-    return listening
-  end)
-  server.port = listening
-end
-
-function server.kill()
-  uv.kill(vim.fn.jobpid(server.job), 'sigkill')
-  vim.fn.jobwait({ server.job })
-end
 
 -- An editor with the journal of that name.
 local function editor_of(name)
@@ -45,6 +24,7 @@ local function editor_of(name)
 end
 
 local ann, ben
+local server
 
 -- Waits until all three have equal heads, and compares their texts.
 local function meet(what)
@@ -145,7 +125,7 @@ local function main()
   for _, name in ipairs({ 'ann', 'ben' }) do
     uv.fs_copyfile(first, folder .. '/' .. name .. '.journal')
   end
-  server.start(0)
+  server = Server.start(first, 0)
   ann, ben = editor_of('ann'), editor_of('ben')
   check(ann:text() == 'Shopping\n\nbread\nmilk\n', 'what is opened')
   for _, editor in ipairs({ ann, ben }) do
@@ -208,7 +188,7 @@ local function main()
   meet('both at once')
 
   -- The server is killed; both go on; it comes again.
-  server.kill()
+  server:kill()
   both_type(30)
   wait('ann and ben see that there is no server', function()
     return ann:state() == 'offline' and ben:state() == 'offline'
@@ -216,16 +196,16 @@ local function main()
   ann:type('GoAnn, offline<Esc>')
   ben:type('ggOBen, offline<Esc>')
   vim.wait(300)
-  server.start(server.port)
+  server = Server.start(first, server.port)
   text = meet('offline and on again')
   check(text:find('Ann, offline', 1, true) and text:find('Ben, offline', 1, true), 'what was typed offline')
   check(ann:state() == 'online' and ben:state() == 'online', 'both are online')
 
   -- Killed while both type.
   both_type(10)
-  server.kill()
+  server:kill()
   both_type(10)
-  server.start(server.port)
+  server = Server.start(first, server.port)
   both_type(10)
   meet('killed amid')
 
@@ -274,7 +254,7 @@ local function main()
 
   ann:quit()
   ben:quit()
-  server.kill()
+  server:kill()
 end
 
 local ok, problem = pcall(main)
@@ -286,6 +266,8 @@ if checks.failed > 0 then
     end)
   end
 end
-pcall(server.kill)
+if server then
+  pcall(server.kill, server)
+end
 vim.fn.delete(folder, 'rf')
 checks.finish()

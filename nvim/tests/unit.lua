@@ -5,6 +5,7 @@ package.path = here .. '/?.lua;' .. package.path
 local Fake = require('fake')
 local Lines = require('textpeer.lines')
 local Spans = require('textpeer.spans')
+local Undo = require('textpeer.undo')
 local checks = require('checks')
 local pieces_of = require('textpeer.pieces')
 local utf8 = require('textpeer.utf8')
@@ -59,8 +60,9 @@ for _ = 1, 3000 do
   end
   local pieces = pieces_of.between(old, new)
   check(pieces_of.applied(pieces, old) == new, 'pieces of ' .. vim.inspect({ old, new, pieces }))
-  local fewer = pieces_of.at_most(pieces, old, 2)
-  check(#fewer <= 2 and pieces_of.applied(fewer, old) == new, 'fewer pieces of ' .. vim.inspect({ old, new }))
+  for i = 2, #pieces do
+    check(pieces[i].from > pieces[i - 1].to, 'pieces that touch of ' .. vim.inspect({ old, new, pieces }))
+  end
   local lines = Lines.of(Lines.split(old))
   local at = random(0, utf8.count(old))
   local row, column = lines:place_of_char(at)
@@ -80,13 +82,14 @@ for _ = 1, 3000 do
     spans:add(at, removed, #new)
   end
   local parts, at, rising = {}, 0, true
-  for _, span in ipairs(spans.list) do
-    rising = rising and span.os >= at and span.os <= span.oe and span.ns <= span.ne
+  local list, growth = spans:list(), 0
+  for i, span in ipairs(list) do
+    rising = rising and (i == 1 or span.os > at) and span.ns == span.os + growth and span.os <= span.oe and span.ns <= span.ne
     parts[#parts + 1] = old:sub(at + 1, span.os) .. now:sub(span.ns + 1, span.ne)
-    at = span.oe
+    at, growth = span.oe, span.ne - span.oe
   end
   parts[#parts + 1] = old:sub(at + 1)
-  check(rising and table.concat(parts) == now, 'spans of ' .. vim.inspect({ old, now, spans.list }))
+  check(rising and spans:growth() == growth and table.concat(parts) == now, 'spans of ' .. vim.inspect({ old, now, list }))
 end
 
 -- A buffer over the stand-in.
@@ -126,8 +129,8 @@ local COMMANDS = {
 -- Random commands: after each few of them the engine has the buffer's text. `mended` counts how often the events misled.
 local commands, compared = 0, 0
 local compare = Document.compare
-Document.compare = function(self)
-  local differed = compare(self)
+Document.compare = function(self, lines)
+  local differed = compare(self, lines)
   compared = compared + (differed and 1 or 0)
   return differed
 end
@@ -181,7 +184,7 @@ for round = 1, rounds do
       for _ = 1, random(1, 3) do
         fake.coming[#fake.coming + 1] = function()
           local at = random(0, #fake.chars)
-          fake:edit(at, random(0, math.min(5, #fake.chars - at)), text_of(6))
+          fake:splice(at, random(0, math.min(5, #fake.chars - at)), text_of(6))
         end
       end
       document:receive('')
@@ -218,7 +221,7 @@ for round = 1, rounds do
     if round % 2 == 0 then
       fake.coming[1] = function()
         others = others + 1
-        fake:edit(random(0, #fake.chars), 0, '\240\159\166\146')
+        fake:splice(random(0, #fake.chars), 0, '\240\159\166\146')
       end
       document:receive('')
     end
@@ -253,6 +256,136 @@ end
 
 vim.o.autoindent, vim.o.textwidth, vim.o.expandtab = false, 0, false
 
+-- Groups of several changes of many pieces, as of insert mode, are undone and made again whole; others' characters stay.
+for round = 1, 4 * rounds do
+  local first = text_of(30)
+  local fake = Fake.new(first)
+  local history = Undo.new(fake)
+  local groups = random(1, 3)
+  local others = 0
+  for _ = 1, groups do
+    for change = 1, random(1, 4) do
+      -- They don't touch.
+      local pieces, at = {}, -1
+      for _ = 1, random(1, 5) do
+        at = at + random(1, 4)
+        local count, text = random(0, 3), text_of(3)
+        if at + count <= #fake.chars and count + #text > 0 then
+          local old = {}
+          for i = 1, count do
+            old[i] = fake.chars[at + i].char
+          end
+          pieces[#pieces + 1] = { at = at, count = count, old = table.concat(old), added = utf8.count(text), text = text }
+          at = at + count
+        end
+      end
+      local expected, from = {}, 0
+      for _, piece in ipairs(pieces) do
+        for i = from + 1, piece.at do
+          expected[#expected + 1] = fake.chars[i].char
+        end
+        expected[#expected + 1] = piece.text
+        from = piece.at + piece.count
+      end
+      for i = from + 1, #fake.chars do
+        expected[#expected + 1] = fake.chars[i].char
+      end
+      history:begin(change > 1)
+      if #pieces > 0 then
+        history:make(pieces)
+      end
+      check(fake:text() == table.concat(expected), 'round ' .. round .. ': pieces')
+      if round % 2 == 0 then
+        others = others + 1
+        fake:splice(random(0, #fake.chars), 0, '\240\159\166\146')
+      end
+    end
+    history:finish()
+  end
+  local function without(text)
+    return (text:gsub('\240\159\166\146', ''))
+  end
+  local last, made = without(fake:text()), #history.done
+  for _ = 1, 2 do
+    for _ = 1, made do
+      history:undo(function() end)
+    end
+    local _, count = fake:text():gsub('\240\159\166\146', '')
+    check(without(fake:text()) == first and count >= others, 'round ' .. round .. ': groups that are undone: ' .. vim.inspect({ first, without(fake:text()), count, others }))
+    check(history:undo(function() end) == nil, 'round ' .. round .. ': nothing more to undo')
+    for _ = 1, made do
+      history:redo(function() end)
+    end
+    check(without(fake:text()) == last, 'round ' .. round .. ': groups that are made again: ' .. fake:text())
+  end
+end
+
+-- An undo and a redo beside what others did in the places of one command: by hand. Each is one change.
+for _, row in ipairs({
+  -- What is between two places is deleted.
+  { 'one two three', ':s/o/0/g<CR>', { 1, 5, '' }, '00 three', 'oo three' },
+  -- A place is deleted whole, with the characters around it: what the undo brings back is there.
+  { 'one two three', ':s/two/2/<CR>', { 3, 3, '' }, 'onethree', 'onetwothree' },
+  -- Something is written within what was inserted.
+  { 'one two three', ':s/two/2222/<CR>', { 6, 0, 'X' }, 'one 22X22 three', 'one twoX three' },
+  -- Lines that a command deleted come back beside others' lines.
+  { 'a\nfoo\nb\nfoo\nc', ':g/foo/d<CR>', { 2, 0, 'new\n' }, 'a\nnew\nb\nc', 'a\nfoo\nnew\nb\nfoo\nc' },
+  { 'ä€ä€', ':s/€/😀😀/g<CR>', { 2, 2, '' }, 'ä😀😀😀', 'ä€€' },
+}) do
+  local first, command, other, now, back = unpack(row)
+  local document, fake, buffer = buffer_of(first)
+  keys('gg' .. command)
+  document:flush()
+  check(fake.count == 1, command .. ' is one change')
+  fake.coming[1] = function()
+    fake:splice(unpack(other))
+  end
+  document:receive('')
+  check(fake:text() == now and text_of_buffer(buffer) == now, 'beside others: ' .. fake:text())
+  for turn, wanted in ipairs({ back, now, back }) do
+    document:turn_back(turn == 2)
+    check(fake:text() == wanted and text_of_buffer(buffer) == wanted and fake.count == 2 + turn,
+      ('turn %d of %s beside others: %s, %d changes'):format(turn, command, fake:text(), fake.count))
+  end
+  document:check()
+  check(document.mended == 0, command .. ' was mended')
+  document:close()
+end
+
+-- A command is a change as soon as Neovim is back in its loop; those within 100 ms after it are the next. What comes while one
+-- waits for that finds it made.
+do
+  local edited = 0
+  vim.cmd('silent! enew!')
+  local buffer, fake = api.nvim_get_current_buf(), Fake.new('a foo\nfoo b foo\n')
+  local document = Document.new(buffer, fake, 'a stand-in', {
+    edited = function()
+      edited = edited + 1
+    end,
+  })
+  keys(':%s/foo/xy/g<CR>')
+  check(fake.count == 0, 'a command that is not over')
+  vim.wait(50)
+  check(fake.count == 1 and edited == 1 and fake:text() == 'a xy\nxy b xy\n', 'a command that is over: ' .. fake:text())
+  keys('ggx')
+  keys('x')
+  vim.wait(30)
+  check(fake.count == 1, 'commands right after it')
+  vim.wait(200)
+  check(fake.count == 2 and edited == 2 and fake:text() == 'xy\nxy b xy\n', 'commands after it: ' .. fake:text())
+  keys('Go<Esc>iend<Esc>')
+  fake.coming[1] = function()
+    fake:splice(3, 2, '')
+    fake:splice(0, 0, 'first ')
+  end
+  document:receive('')
+  check(fake.count == 5 and edited == 3 and fake:text() == 'first xy\n b xy\n\nend', 'what comes: ' .. fake:text())
+  check(fake:text() == text_of_buffer(buffer), 'the buffer after what came')
+  vim.wait(200)
+  check(fake.count == 5 and edited == 3 and document:check() and document.mended == 0, 'nothing is made twice')
+  document:close()
+end
+
 -- Bytes that are no UTF-8, and what is too much for one change.
 do
   told = {}
@@ -279,7 +412,7 @@ do
     api.nvim_buf_set_lines(buffer, 0, 1, true, { 'other' })
   end)
   check(not document:check() and fake:text() == 'other\ndef' and #told == 1, 'a difference is mended')
-  fake:edit(0, 1, 'X')
+  fake:splice(0, 1, 'X')
   check(not document:check() and fake:text() == 'other\ndef' and #told == 2, 'a difference of the engine is mended')
   check(document:check(), 'once mended it is the same')
   fake.edit = function()

@@ -1,7 +1,10 @@
 -- A buffer and the engine's document that it shows.
 --
--- What the engine has is kept as lines (`shown`). Neovim's events say where the buffer has become another since; at rest
--- that is read and becomes edits. What comes from others becomes changes of the buffer, between commands alone.
+-- What the engine has is kept as lines (`shown`). Neovim's events say where the buffer has become another since; once the
+-- command is done that is read and becomes one change of the document. What comes from others becomes changes of the buffer,
+-- between commands alone.
+--
+-- Pieces are as `pieces` makes them, of what is shown, by bytes.
 local Lines = require('textpeer.lines')
 local Spans = require('textpeer.spans')
 local Undo = require('textpeer.undo')
@@ -15,16 +18,21 @@ local api = vim.api
 local Document = {}
 Document.__index = Document
 
--- A change has at most 65,536 operations, each a character that comes or goes, and 4,194,304 bytes.
-local MOST_OPERATIONS = 60000
--- How many edits are made of one command at most; a change has some hundred bytes beside its text.
-local MOST_EDITS = 500
 -- The modes in which what others did is shown: not while a command is half typed, or something is selected or completed.
 local MAY_CHANGE = { n = true, i = true, niI = true, nt = true, t = true }
--- How long an edit may wait for the next, in milliseconds: keys that follow one another make one change.
+-- How long after a change another may wait, in milliseconds: keys that follow one another within that time make one.
 local REST = 100
+-- How many places of a row become changes of the buffer by themselves.
+local MOST_IN_ROW = 16
+-- How many spans may be passed by the events of one command; to compare the whole is quicker then.
+local MOST_PASSED = 2000000
 -- After how long without an edit the whole buffer is compared, in milliseconds.
 local CHECK = 1000
+
+-- The time in milliseconds.
+local function now()
+  return vim.loop.hrtime() / 1e6
+end
 
 local function lines_of(buffer)
   return api.nvim_buf_get_lines(buffer, 0, -1, true)
@@ -53,7 +61,6 @@ function Document.new(buffer, engine, path, calls, kept)
     calls = calls,
     spans = Spans.new(),
     history = Undo.new(engine),
-    edits = 0,
     entered = 0,
     mended = 0,
   }, Document)
@@ -125,12 +132,11 @@ function Document:attach()
       if self.applying then
         return
       end
-      -- A line that is joined with the one after the last has no such numbers; and of very many places it is quicker to
-      -- compare the whole.
-      if removed < 0 or added < 0 or self.spans:count() >= MOST_EDITS then
+      -- The newline after the last line counts where a line is joined with one after it: the text has none there.
+      if self.spans.passed > MOST_PASSED then
         self.unsure = true
       else
-        self.spans:add(at, removed, added)
+        self.spans:add(at, math.max(removed, 0), added)
       end
       self:wait()
     end,
@@ -145,80 +151,48 @@ function Document:attach()
   })
 end
 
--- Makes the edits at rest.
+-- Makes the edits once the command is done: as soon as Neovim is back in its loop, but so long after the last change.
 function Document:wait()
-  if not self.waiting then
-    self.waiting = true
-    vim.defer_fn(function()
-      self.waiting = false
-      if Document.is_settled() then
-        self:flush()
-      else
-        self:wait()
-      end
-    end, REST)
+  if self.waiting then
+    return
   end
-end
-
--- The row and the column of a place by bytes of the buffer.
-local function place_in(buffer, at)
-  local low, high = 0, api.nvim_buf_line_count(buffer)
-  while low < high do
-    local middle = math.floor((low + high + 1) / 2)
-    if api.nvim_buf_get_offset(buffer, middle) <= at then
-      low = middle
+  self.waiting = true
+  local function attempt()
+    if Document.is_settled() then
+      self.waiting = false
+      self:flush()
     else
-      high = middle - 1
+      vim.defer_fn(attempt, REST)
     end
   end
-  return low, at - api.nvim_buf_get_offset(buffer, low)
+  local rested = now() - (self.changed or -REST)
+  if rested >= REST then
+    vim.schedule(attempt)
+  else
+    vim.defer_fn(attempt, math.ceil(REST - rested))
+  end
 end
 
--- The text of the buffer between two places by bytes, which sees a newline after the last line.
-local function text_in(buffer, from, to)
-  if from == to then
-    return ''
+-- The places of the pieces, of what is shown: each with rows and columns, and as `undo` takes them.
+function Document:places_of(pieces)
+  local places, shown = {}, self.shown
+  for i, piece in ipairs(pieces) do
+    local row, column = shown:place_of_byte(piece.from)
+    local at = shown:char_of(row, column)
+    local to_row, to_column = shown:place_of_byte(piece.to)
+    places[i] = {
+      row = row,
+      column = column,
+      to_row = to_row,
+      to_column = to_column,
+      at = at,
+      count = shown:char_of(to_row, to_column) - at,
+      old = shown:between(row, column, to_row, to_column),
+      added = utf8.count(piece.text),
+      text = piece.text,
+    }
   end
-  local row, column = place_in(buffer, from)
-  local to_row, to_column = place_in(buffer, to)
-  local lines = api.nvim_buf_get_lines(buffer, row, to_row + 1, false)
-  if to_row > row + #lines - 1 then
-    lines[#lines + 1] = ''
-  end
-  lines[#lines] = lines[#lines]:sub(1, to_column)
-  lines[1] = lines[1]:sub(column + 1)
-  return table.concat(lines, '\n')
-end
-
--- Deletes the text that is at a place, by characters, and inserts another, in as many changes as it takes.
-function Document:edit(at, deleted, text)
-  while utf8.count(deleted) + utf8.count(text) > MOST_OPERATIONS do
-    local cut = utf8.bytes(deleted, MOST_OPERATIONS)
-    local room = MOST_OPERATIONS - utf8.count(deleted:sub(1, cut))
-    local part = utf8.bytes(text, cut < #deleted and 0 or room)
-    self.history:make(at, deleted:sub(1, cut), text:sub(1, part))
-    at = at + utf8.count(text:sub(1, part))
-    deleted, text = deleted:sub(cut + 1), text:sub(part + 1)
-  end
-  if deleted ~= text then
-    self.history:make(at, deleted, text)
-  end
-  self.edits = self.edits + 1
-end
-
--- Makes edits of the pieces by which the text between two places of what is shown becomes another.
-function Document:edit_pieces(at_byte, old, new)
-  local pieces = pieces_of.at_most(pieces_of.between(old, new), old, MOST_EDITS)
-  local growth = 0
-  for _, piece in ipairs(pieces) do
-    local row, column = self.shown:place_of_byte(at_byte + piece.from + growth)
-    local to_row, to_column = self.shown:place_of_byte(at_byte + piece.to + growth)
-    local from = self.shown:char_of(row, column)
-    self:edit(from, old:sub(piece.from + 1, piece.to), piece.text)
-    self.shown:replace(row, column, to_row, to_column, piece.text)
-    growth = growth + #piece.text - (piece.to - piece.from)
-  end
-  return #pieces
+  return places
 end
 
 -- Puts U+FFFD into the buffer for each byte that is no UTF-8, and says so. The engine's texts have no such bytes.
@@ -239,50 +213,101 @@ function Document:clean(lines)
   return count
 end
 
--- Makes edits of what the events named, as far as they can be right.
-function Document:flush_spans()
-  local spans, buffer = self.spans, self.buffer
-  if api.nvim_buf_get_offset(buffer, api.nvim_buf_line_count(buffer)) ~= self.shown:size() + spans:growth() then
-    return
+-- The text of the lines between two places by bytes, which rise from one call to the next: `mark` has the row of the last
+-- one, and the bytes before it. A newline is seen after the last line.
+local function text_in(lines, mark, from, to)
+  if from == to then
+    return ''
   end
-  for _, span in ipairs(spans.list) do
-    local from, removed, to = span.ns, span.oe - span.os, span.ne
-    local row, column = self.shown:place_of_byte(from)
-    local to_row, to_column = self.shown:place_of_byte(from + removed)
-    if not row or not to_row then
-      return
+  local function seek(at)
+    while mark.row < #lines and mark.bytes + #lines[mark.row + 1] < at do
+      mark.bytes = mark.bytes + #lines[mark.row + 1] + 1
+      mark.row = mark.row + 1
     end
-    -- Bytes that are half a character: the whole characters.
-    if row < #self.shown.list then
-      while not utf8.is_boundary(self.shown.list[row + 1], column) do
-        column, from, removed = column - 1, from - 1, removed + 1
-      end
-    end
-    if to_row < #self.shown.list then
-      while not utf8.is_boundary(self.shown.list[to_row + 1], to_column) do
-        to_column, removed, to = to_column + 1, removed + 1, to + 1
-      end
-    end
-    local old = self.shown:between(row, column, to_row, to_column)
-    local new = text_in(buffer, from, to)
-    -- The text has no newline after its last line: whole lines that come or go at the end do so with the one before them.
-    if to_row == #self.shown.list then
-      if old == '' or new == '' then
-        from = from - 1
-        old, new = '\n' .. old, '\n' .. new
-      end
-      old, new = old:sub(1, -2), new:sub(1, -2)
-    end
-    local _, replaced = utf8.clean(new)
-    if from < 0 or replaced > 0 then
-      return
-    end
-    self:edit_pieces(from, old, new)
+    return mark.row, at - mark.bytes
   end
+  local row, column = seek(from)
+  local to_row, to_column = seek(to)
+  if row == to_row then
+    return (lines[row + 1] or ''):sub(column + 1, to_column)
+  end
+  return lines[row + 1]:sub(column + 1) .. '\n' .. table.concat(lines, '\n', row + 2, to_row)
+    .. (to_row > row + 1 and '\n' or '') .. (lines[to_row + 1] or ''):sub(1, to_column)
 end
 
--- Makes edits of all that the buffer has and the engine hasn't: after this both have one text. Where the events misled, it
--- is found by comparing the whole.
+-- How one span of the old text has become another text: where it is from and what was and is there; nil where the events
+-- misled. `mark` is as `text_in` takes it.
+function Document:span_of(span, lines, mark)
+  local shown, list = self.shown, self.shown.list
+  local from, to, new_from, new_to = span.os, span.oe, span.ns, span.ne
+  local row, column = shown:place_of_byte(from)
+  local to_row, to_column = shown:place_of_byte(to)
+  if not row or not to_row then
+    return nil
+  end
+  -- Bytes that are half a character: the whole characters.
+  while list[row + 1] and not utf8.is_boundary(list[row + 1], column) do
+    column, from, new_from = column - 1, from - 1, new_from - 1
+  end
+  while list[to_row + 1] and not utf8.is_boundary(list[to_row + 1], to_column) do
+    to_column, to, new_to = to_column + 1, to + 1, new_to + 1
+  end
+  local old = shown:between(row, column, to_row, to_column)
+  local new = text_in(lines, mark, new_from, new_to)
+  -- The text has no newline after its last line: whole lines that come or go at the end do so with the one before them.
+  if to_row == #list then
+    if old == '' or new == '' then
+      from, old, new = from - 1, '\n' .. old, '\n' .. new
+    end
+    old, new = old:sub(1, -2), new:sub(1, -2)
+  end
+  local _, replaced = utf8.clean(new)
+  if from < 0 or replaced > 0 then
+    return nil
+  end
+  return from, old, new
+end
+
+-- The pieces that the events named; nil where they misled.
+function Document:named_pieces(lines)
+  local buffer, pieces, mark, last = self.buffer, {}, { row = 0, bytes = 0 }, 0
+  if api.nvim_buf_get_offset(buffer, #lines) ~= self.shown:size() + self.spans:growth() then
+    return nil
+  end
+  for _, span in ipairs(self.spans:list()) do
+    local from, old, new = self:span_of(span, lines, mark)
+    if not from or from < last then
+      return nil
+    end
+    pieces_of.add(pieces, from, old, new)
+    last = from + #old
+  end
+  return pieces
+end
+
+-- Makes edits of the pieces, if what is shown becomes these lines by them; whether it does.
+function Document:edit(pieces, lines)
+  if #pieces == 0 then
+    return self.shown:equals(lines)
+  end
+  local places = self:places_of(pieces)
+  local was = self.shown:replace(places)
+  if not self.shown:equals(lines) then
+    self.shown:restore(was)
+    return false
+  end
+  local ok, problem = pcall(self.history.make, self.history, places)
+  if not ok then
+    -- Of several changes the first ones may be made.
+    self.shown = Lines.of(Lines.split(self.engine:text()))
+    error(problem, 0)
+  end
+  self.changed = now()
+  return true
+end
+
+-- Makes edits of all that the buffer has and the engine hasn't, all as one change: after this both have one text. Where the
+-- events misled, it is found by comparing the whole.
 function Document:flush()
   if not self:is_over() then
     self:take()
@@ -293,15 +318,15 @@ function Document:take()
   if self.spans:is_empty() and not self.unsure then
     return
   end
-  local before = self.edits
-  local unsure = self.unsure
+  local before = self.changed
   local inserting = api.nvim_get_mode().mode:sub(1, 1) == 'i'
   self.history:begin(self.inserting)
   local ok, problem = pcall(function()
-    if not unsure then
-      self:flush_spans()
+    local lines = lines_of(self.buffer)
+    local pieces = not self.unsure and self:named_pieces(lines)
+    if not (pieces and self:edit(pieces, lines)) then
+      self:compare(lines)
     end
-    self:compare()
   end)
   self.spans = Spans.new()
   self.unsure = false
@@ -314,20 +339,23 @@ function Document:take()
   end
   vim.bo[self.buffer].modified = false
   self:check_later()
-  if self.edits ~= before and self.calls.edited then
+  if self.changed ~= before and self.calls.edited then
     self.calls.edited()
   end
 end
 
--- Makes edits of all by which the buffer differs from what is kept; whether it did.
-function Document:compare()
-  local lines = lines_of(self.buffer)
+-- Makes edits of all by which the buffer, which has these lines, differs from what is kept; whether it did.
+function Document:compare(lines)
   if self.shown:equals(lines) then
     return false
   end
-  self:clean(lines)
-  lines = lines_of(self.buffer)
-  self:edit_pieces(0, self.shown:text(), table.concat(lines, '\n'))
+  if self:clean(lines) > 0 then
+    lines = lines_of(self.buffer)
+  end
+  local pieces = pieces_of.between(self.shown:text(), table.concat(lines, '\n'))
+  if not self:edit(pieces, lines) then
+    error('the buffer has lines that are no text', 0)
+  end
   return true
 end
 
@@ -360,10 +388,11 @@ function Document:check()
     if not same then
       self.shown = Lines.of(Lines.split(text))
     end
-    if not self.shown:equals(lines_of(self.buffer)) then
+    local lines = lines_of(self.buffer)
+    if not self.shown:equals(lines) then
       same = false
       self.history:begin(false)
-      self:compare()
+      self:compare(lines)
       self.history:finish()
     end
   end)
@@ -381,27 +410,71 @@ function Document:check()
   return same
 end
 
--- Puts the pieces into the buffer.
-function Document:put(pieces)
-  self:change(function()
-    for i = #pieces, 1, -1 do
-      local piece = pieces[i]
-      local row, column = self.shown:place_of_byte(piece.from)
-      local to_row, to_column = self.shown:place_of_byte(piece.to)
-      api.nvim_buf_set_text(self.buffer, row, column, to_row, to_column, Lines.split(piece.text))
+-- The places as Neovim is given them: those of a row with very many as one, since it keeps the whole row for each.
+local function few_in_a_row(places, shown)
+  local few, i = {}, 1
+  while places[i] do
+    local first, last = i, i
+    while places[last + 1] and places[last + 1].row == places[last].to_row do
+      last = last + 1
     end
-  end)
+    i = last + 1
+    if last - first < MOST_IN_ROW then
+      for k = first, last do
+        few[#few + 1] = places[k]
+      end
+    else
+      local parts, from, to = { places[first].text }, places[first], places[last]
+      for k = first + 1, last do
+        local before = places[k - 1]
+        parts[#parts + 1] = shown:between(before.to_row, before.to_column, places[k].row, places[k].column)
+        parts[#parts + 1] = places[k].text
+      end
+      local text = table.concat(parts)
+      few[#few + 1] = { row = from.row, column = from.column, to_row = to.to_row, to_column = to.to_column, text = text }
+    end
+  end
+  return few
 end
 
--- Shows the engine's text where it isn't what the buffer has.
-function Document:show(held)
-  local text = self.engine:text()
-  local was = self.shown:text()
-  if text == was then
-    return
+-- Puts the texts of places, as `places_of` makes them, into what is shown and into the buffer.
+function Document:put(places)
+  local few = few_in_a_row(places, self.shown)
+  self:change(function()
+    for i = #few, 1, -1 do
+      local place = few[i]
+      api.nvim_buf_set_text(self.buffer, place.row, place.column, place.to_row, place.to_column, Lines.split(place.text))
+    end
+  end)
+  self.shown:replace(places)
+end
+
+-- The pieces by which what is shown becomes what the engine has. The engine tells no differences to C yet: once it does, they
+-- are to be had here, and nothing else compares whole texts when something comes.
+function Document:arrived()
+  local list, new = self.shown.list, Lines.split(self.engine:text())
+  local first, least = 1, math.min(#list, #new)
+  while first <= least and list[first] == new[first] do
+    first = first + 1
   end
-  self:put(pieces_of.between(was, text))
-  self.shown = Lines.of(Lines.split(text))
+  if first > #list and first > #new then
+    return {}
+  end
+  local same = 0
+  while same <= least - first and list[#list - same] == new[#new - same] do
+    same = same + 1
+  end
+  -- A line on each side where there is one, so that none of both texts is without a line.
+  first, same = math.max(first - 1, 1), math.max(same - 1, 0)
+  local pieces = {}
+  pieces_of.add(pieces, self.shown:byte_of(first - 1), table.concat(list, '\n', first, #list - same),
+    table.concat(new, '\n', first, #new - same))
+  return pieces
+end
+
+-- What was put into the buffer is all that differs from what is shown: else it is shown anew. Shows in the windows what they
+-- held.
+function Document:settle(held)
   if not self.shown:equals(lines_of(self.buffer)) then
     self.mended = self.mended + 1
     say.error('the buffer had another text than the engine; it is shown anew')
@@ -411,6 +484,24 @@ function Document:show(held)
   end
   windows.release(held, self.shown, self.engine)
   vim.bo[self.buffer].modified = false
+end
+
+-- Shows what came.
+function Document:show(held)
+  local pieces = self:arrived()
+  if #pieces > 0 then
+    self:put(self:places_of(pieces))
+    self:settle(held)
+  end
+end
+
+-- Puts pieces that `undo` made into the buffer.
+function Document:put_back(pieces)
+  for _, piece in ipairs(pieces) do
+    piece.row, piece.column = self.shown:place_of_char(piece.at)
+    piece.to_row, piece.to_column = self.shown:place_of_char(piece.at + piece.count)
+  end
+  self:put(pieces)
 end
 
 -- Insert mode was left: what is typed next is undone apart from what was typed before.
@@ -429,7 +520,9 @@ function Document:turn_back(again)
     return false
   end
   local held = windows.hold(self.buffer, self.shown, self.engine)
-  local ok, place = pcall(again and self.history.redo or self.history.undo, self.history)
+  local ok, place = pcall(again and self.history.redo or self.history.undo, self.history, function(pieces)
+    self:put_back(pieces)
+  end)
   if not ok then
     self:stop(tostring(place))
     return false
@@ -437,7 +530,8 @@ function Document:turn_back(again)
   if not place then
     return false
   end
-  self:show(held)
+  self.changed = now()
+  self:settle(held)
   local row, column = self.shown:place_of_char(place)
   api.nvim_win_set_cursor(0, { row + 1, column })
   self:check_later()

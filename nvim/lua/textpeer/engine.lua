@@ -13,8 +13,9 @@ size_t tp_shared_answer(tp_shared *shared, uint8_t *out, size_t room);
 void tp_shared_id(tp_shared *shared, uint8_t *id);
 size_t tp_shared_length(tp_shared *shared);
 size_t tp_shared_change_count(tp_shared *shared);
-uint32_t tp_shared_edit(tp_shared *shared, size_t at, size_t del, const char *text, size_t text_len, uint64_t time,
-                        const char *message, size_t message_len, size_t *len);
+typedef struct tp_splice { size_t at; size_t del; size_t len; } tp_splice;
+uint32_t tp_shared_edit_many(tp_shared *shared, const tp_splice *splices, size_t count, const char *texts,
+                             size_t texts_len, uint64_t time, const char *message, size_t message_len, size_t *len);
 uint32_t tp_shared_text(tp_shared *shared, size_t *len);
 uint32_t tp_shared_heads(tp_shared *shared, size_t *len);
 uint32_t tp_shared_cursor(tp_shared *shared, size_t at, uint64_t *counter, uint8_t *actor);
@@ -90,6 +91,9 @@ local function loaded()
     if not ok then
       error(('the engine is not at %s, where ffi/build makes it (%s)'):format(place(), found), 0)
     end
+    if not pcall(function() return found.tp_shared_edit_many end) then
+      error(('the engine at %s is older than the plugin; ffi/build makes it anew'):format(place()), 0)
+    end
     library = found
   end
   return library
@@ -140,14 +144,28 @@ function Engine:id()
   return ffi.string(id, 16)
 end
 
+-- How many characters the text has.
+function Engine:length()
+  return tonumber(self.lib.tp_shared_length(self.handle))
+end
+
 -- How many changes there are.
 function Engine:change_count()
   return tonumber(self.lib.tp_shared_change_count(self.handle))
 end
 
--- Deletes `delete` characters from `at` on, and inserts a text there. The change is on the disk then.
-function Engine:edit(at, delete, text)
-  done(self.lib.tp_shared_edit(self.handle, at, delete, text, #text, os.time(), '', 0, length))
+-- Makes one change of splices { at, count, text }: each deletes `count` characters from `at` on, and inserts a text there, by
+-- the places of the text that those before it leave. Its time grows with their number where they rise. The change is on the
+-- disk then. Past 65,536 characters that come or go it is refused as TooManyOps.
+function Engine:edit(splices)
+  local list, texts = ffi.new('tp_splice[?]', math.max(#splices, 1)), {}
+  for i, splice in ipairs(splices) do
+    local one = list[i - 1]
+    one.at, one.del, one.len = splice.at, splice.count, #splice.text
+    texts[i] = splice.text
+  end
+  local text = table.concat(texts)
+  done(self.lib.tp_shared_edit_many(self.handle, list, #splices, text, #text, os.time(), '', 0, length))
 end
 
 function Engine:text()
@@ -167,11 +185,17 @@ end
 
 local actor = ffi.new('uint8_t[16]')
 
--- A cursor at the character at a place: its counter, which is below 2^48, and its actor. The characters that one edit inserts
--- have consecutive counters.
-function Engine:cursor(at)
+-- The character at a place: its counter, which is below 2^48, and its actor. The characters of one text that is inserted have
+-- consecutive counters.
+function Engine:element(at)
   done(self.lib.tp_shared_cursor(self.handle, at, number, actor))
-  return { counter = tonumber(number[0]), actor = ffi.string(actor, 16) }
+  return tonumber(number[0]), ffi.string(actor, 16)
+end
+
+-- A cursor at the character at a place.
+function Engine:cursor(at)
+  local counter, of = self:element(at)
+  return { counter = counter, actor = of }
 end
 
 -- Whether the cursor's character is at the place.

@@ -3,6 +3,9 @@
 -- The text is the lines with a newline between each two: an empty last line is a newline at its end. Rows, columns and
 -- places count from 0, columns and `byte` in bytes. Places by bytes may also be one past the text, as Neovim's events
 -- have them: these see a newline after the last line too.
+--
+-- The row of the last place that was looked for is marked, with the bytes and characters before it, and how many
+-- characters are before the last column there. The next one is counted from there, so that places that rise take one walk.
 local utf8 = require('textpeer.utf8')
 
 local Lines = {}
@@ -10,16 +13,28 @@ Lines.__index = Lines
 
 -- The lines of a text.
 function Lines.split(text)
-  return vim.split(text, '\n', { plain = true })
+  local lines, from = {}, 1
+  while true do
+    local at = text:find('\n', from, true)
+    if not at then
+      lines[#lines + 1] = text:sub(from)
+      return lines
+    end
+    lines[#lines + 1] = text:sub(from, at - 1)
+    from = at + 1
+  end
 end
 
 -- Of a list of lines, which it takes.
 function Lines.of(list)
-  local sizes = {}
+  local sizes, bytes, chars = {}, 0, -1
   for i = 1, #list do
     sizes[i] = utf8.count(list[i])
+    bytes = bytes + #list[i] + 1
+    chars = chars + sizes[i] + 1
   end
-  return setmetatable({ list = list, sizes = sizes }, Lines)
+  local mark = { row = 0, bytes = 0, chars = 0, column = 0, count = 0 }
+  return setmetatable({ list = list, sizes = sizes, bytes = bytes, chars = chars, mark = mark }, Lines)
 end
 
 function Lines:text()
@@ -28,64 +43,106 @@ end
 
 -- How many characters the text has.
 function Lines:length()
-  local length = #self.sizes - 1
-  for i = 1, #self.sizes do
-    length = length + self.sizes[i]
-  end
-  return length
+  return self.chars
 end
 
 -- How many bytes the text has, with a newline after its last line.
 function Lines:size()
-  local size = 0
-  for i = 1, #self.list do
-    size = size + #self.list[i] + 1
+  return self.bytes
+end
+
+-- Marks another row, up to the one after the last.
+local function mark_row(self, row)
+  local mark, list, sizes = self.mark, self.list, self.sizes
+  local at, bytes, chars = mark.row, mark.bytes, mark.chars
+  if at == row then
+    return mark
   end
-  return size
+  while at > row do
+    bytes, chars = bytes - #list[at] - 1, chars - sizes[at] - 1
+    at = at - 1
+  end
+  while at < row do
+    at = at + 1
+    bytes, chars = bytes + #list[at] + 1, chars + sizes[at] + 1
+  end
+  mark.row, mark.bytes, mark.chars, mark.column, mark.count = row, bytes, chars, 0, 0
+  return mark
 end
 
 -- The row and the column of a place by bytes; nil where the text ends before.
 function Lines:place_of_byte(at)
-  for i = 1, #self.list do
-    local size = #self.list[i] + 1
-    if at < size then
-      return i - 1, at
-    end
-    at = at - size
+  if at < 0 or at > self.bytes then
+    return nil
   end
-  if at == 0 then
-    return #self.list, 0
+  local mark, list = self.mark, self.list
+  local row, bytes = mark.row, mark.bytes
+  while bytes > at do
+    bytes = bytes - #list[row] - 1
+    row = row - 1
   end
+  while row < #list and bytes + #list[row + 1] < at do
+    row = row + 1
+    bytes = bytes + #list[row] + 1
+  end
+  mark_row(self, row)
+  return row, at - bytes
+end
+
+-- The place by bytes at which a row begins.
+function Lines:byte_of(row)
+  return mark_row(self, row).bytes
 end
 
 -- The row and the column of a place by characters; the end of the text where that comes before.
 function Lines:place_of_char(at)
-  for i = 1, #self.list do
-    local size = self.sizes[i] + 1
-    if at < size then
-      return i - 1, utf8.bytes(self.list[i], at)
-    end
-    at = at - size
+  local mark, list, sizes = self.mark, self.list, self.sizes
+  if at >= self.chars then
+    return #list - 1, #list[#list]
   end
-  return #self.list - 1, #self.list[#self.list]
+  local row, chars = mark.row, mark.chars
+  while chars > at do
+    chars = chars - sizes[row] - 1
+    row = row - 1
+  end
+  while chars + sizes[row + 1] < at do
+    row = row + 1
+    chars = chars + sizes[row] + 1
+  end
+  mark = mark_row(self, row)
+  local line = list[row + 1]
+  if sizes[row + 1] == #line then
+    return row, at - chars
+  end
+  if at - chars < mark.count then
+    mark.column, mark.count = 0, 0
+  end
+  mark.column = utf8.bytes(line, at - chars - mark.count, mark.column)
+  mark.count = at - chars
+  return row, mark.column
 end
 
 -- The place by characters of a row and a column; a column within a character is its beginning. A row past the last one is
 -- past the text.
 function Lines:char_of(row, column)
-  local at = 0
-  for i = 1, math.min(row, #self.sizes) do
-    at = at + self.sizes[i] + 1
-  end
+  local mark = mark_row(self, math.min(row, #self.list))
   local line = self.list[row + 1]
   if not line then
-    return at
+    return mark.chars
   end
   column = math.min(column, #line)
+  if self.sizes[row + 1] == #line then
+    return mark.chars + column
+  end
   while not utf8.is_boundary(line, column) do
     column = column - 1
   end
-  return at + utf8.count(line:sub(1, column))
+  if column < mark.column then
+    mark.column, mark.count = 0, 0
+  end
+  mark.count = mark.count + utf8.count(line:sub(mark.column + 1, column))
+  mark.column = column
+  return mark.chars + mark.count
 end
 
 -- The text between two places.
@@ -128,16 +185,68 @@ local function splice(list, row, count, new)
   end
 end
 
--- Replaces the text between two places.
-function Lines:replace(row, column, to_row, to_column, text)
-  local before = self.list[row + 1]:sub(1, column)
-  local after = self.list[to_row + 1]:sub(to_column + 1)
-  local new, sizes = Lines.split(before .. text .. after), {}
-  for i = 1, #new do
-    sizes[i] = utf8.count(new[i])
+-- Takes the place of `count` rows from `row` on: the lines, with their sizes in characters, bytes and characters together.
+-- What is there then to have all as before.
+local function put_rows(self, row, count, list, sizes)
+  local was, was_sizes, bytes, chars = {}, {}, 0, 0
+  for i = 1, count do
+    was[i], was_sizes[i] = self.list[row + i], self.sizes[row + i]
+    bytes, chars = bytes - #was[i], chars - was_sizes[i]
   end
-  splice(self.list, row, to_row - row + 1, new)
-  splice(self.sizes, row, to_row - row + 1, sizes)
+  for i = 1, #list do
+    bytes, chars = bytes + #list[i], chars + sizes[i]
+  end
+  local grown = #list - count
+  mark_row(self, row)
+  splice(self.list, row, count, list)
+  splice(self.sizes, row, count, sizes)
+  self.bytes, self.chars = self.bytes + bytes + grown, self.chars + chars + grown
+  self.mark.column, self.mark.count = 0, 0
+  return { row = row, count = #list, list = was, sizes = was_sizes }
+end
+
+-- Adds the lines of a text to a list of lines and one of their sizes.
+local function add_lines(list, sizes, text)
+  for _, line in ipairs(Lines.split(text)) do
+    list[#list + 1], sizes[#sizes + 1] = line, utf8.count(line)
+  end
+end
+
+-- Puts a text in the place of each piece { row, column, to_row, to_column, count, added, text }, which replaces `count`
+-- characters by `added` ones. Pieces rise and don't overlap, and all their places are of the text before them. What
+-- `restore` takes to have it as before.
+function Lines:replace(pieces)
+  local old, list, sizes, first = self.list, {}, {}, pieces[1].row
+  local row, i, piece = first, 1, pieces[1]
+  while piece do
+    while row < piece.row do
+      row = row + 1
+      list[#list + 1], sizes[#sizes + 1] = old[row], self.sizes[row]
+    end
+    -- Each piece that begins in the row in which the one before it ends.
+    local parts, column, size, one_line = {}, 0, self.sizes[row + 1], true
+    while piece and piece.row == row do
+      parts[#parts + 1] = old[row + 1]:sub(column + 1, piece.column)
+      parts[#parts + 1] = piece.text
+      one_line = one_line and piece.to_row == row and not piece.text:find('\n', 1, true)
+      size = size + piece.added - piece.count
+      row, column, i = piece.to_row, piece.to_column, i + 1
+      piece = pieces[i]
+    end
+    row = row + 1
+    parts[#parts + 1] = old[row]:sub(column + 1)
+    if one_line then
+      list[#list + 1], sizes[#sizes + 1] = table.concat(parts), size
+    else
+      add_lines(list, sizes, table.concat(parts))
+    end
+  end
+  return put_rows(self, first, row - first, list, sizes)
+end
+
+-- Takes back the last `replace`.
+function Lines:restore(was)
+  put_rows(self, was.row, was.count, was.list, was.sizes)
 end
 
 -- Whether these are the lines.

@@ -90,12 +90,10 @@ function M.count(text)
   return count
 end
 
--- How many bytes the first `count` characters have; all of them where there are fewer.
-function M.bytes(text, count)
-  if not text:find('[\128-\255]') then
-    return math.min(count, #text)
-  end
-  for i = 1, #text do
+-- How many bytes come before the character that is `count` after the one at `from` bytes (0); all of them where there are
+-- fewer.
+function M.bytes(text, count, from)
+  for i = (from or 0) + 1, #text do
     if not continues(byte(text, i)) then
       if count == 0 then
         return i - 1
