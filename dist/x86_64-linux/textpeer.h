@@ -21,59 +21,258 @@ typedef struct tp_handle {
     void *at; /* the engine's; neither read nor changed by the caller */
 } tp_handle;
 
-/* The refusals: those of an editor, then 100 and the number of a document's, 200 and of a message's, 300 and of a saved file's,
- * 400 and of a change's. */
+/* The version of this header, as in pkg-config's textpeer.pc. */
+#define TP_VERSION "0.1"
+
+static inline const char *tp_version(void)
+{
+    return TP_VERSION;
+}
+
+/* ---- statuses ----
+ *
+ * A hundred for each layer and the number of its refusal: up to 99 those of an editor, from 101 on of a document, 201
+ * of a message, 301 of a saved file or a journal, 401 of the bytes of a change, 501 of a peer on its journal, 601 of
+ * a session, 701 what the other side of a session refused, 801 why a file wasn't opened. The other side tells its
+ * number in one byte: from one that keeps to no rule tp_shared_feed may answer up to 955, and whatever it answers
+ * from 700 on is the other side's. */
+
+/* statuses: made of ffi/statuses.txt by tools/statuses */
 enum tp_status {
-    TP_DONE = 0,
-    TP_OUT_OF_MEMORY = 1, /* a growth was refused, before the layer below was asked */
-    TP_NO_LINK = 2,
-    TP_NO_CHANGE = 3,
-    TP_BAD_TEXT = 4, /* bytes that should be a text aren't UTF-8 */
+    /* of an editor */
+    TP_DONE = 0, /* done */
+    TP_OUT_OF_MEMORY = 1, /* memory was refused, before a layer below was asked */
+    TP_NO_LINK = 2, /* there is no link with this number */
+    TP_NO_CHANGE = 3, /* there is no applied change with this number */
+    TP_BAD_TEXT = 4, /* what should be a text isn't UTF-8 */
+    TP_BAD_LENGTHS = 5, /* the lengths of the splices don't add up to the bytes that are given for their texts */
 
-    TP_DOC_OUT_OF_RANGE = 101,
-    TP_DOC_COUNTER_LIMIT,
-    TP_DOC_TOO_MANY_OPS,
-    TP_DOC_TOO_MANY_HEADS,
-    TP_DOC_UNKNOWN_HEAD,
-    TP_DOC_UNKNOWN_ELEMENT,
-    TP_DOC_PENDING_FULL,
-    TP_DOC_HASH_TAKEN,
-    TP_DOC_OUT_OF_MEMORY,
-    TP_DOC_OTHER_DOCUMENT,
-    TP_DOC_TOO_LONG,
-    TP_DOC_FULL,
-    TP_DOC_NOT_KEPT,
+    /* of a document */
+    TP_DOC_OUT_OF_RANGE = 101, /* the text ends before the position, or before the end of what is to be deleted */
+    TP_DOC_COUNTER_LIMIT = 102, /* the last counter of the edit would be past 2^48 - 1 */
+    TP_DOC_TOO_MANY_OPS = 103, /* the edit has more than 65,536 operations, one for each character that comes or goes */
+    TP_DOC_TOO_MANY_HEADS = 104, /* the document has more than 65,535 heads */
+    TP_DOC_UNKNOWN_HEAD = 105, /* a hash that was named as a head is of no applied change */
+    TP_DOC_UNKNOWN_ELEMENT = 106, /* the document has no such element */
+    TP_DOC_PENDING_FULL = 107, /* more than 1,024 changes would wait for others */
+    TP_DOC_HASH_TAKEN = 108, /* another change has the hash of the new one */
+    TP_DOC_OUT_OF_MEMORY = 109, /* memory was refused */
+    TP_DOC_OTHER_DOCUMENT = 110, /* what came is of another document */
+    TP_DOC_TOO_LONG = 111, /* the message has more than 65,535 bytes, or the change more than 4,194,304 */
+    TP_DOC_FULL = 112, /* the document has 4,294,967,295 changes */
+    TP_DOC_NOT_KEPT = 113, /* the change was not kept */
 
-    TP_SYNC_BAD_MESSAGE = 201,
-    TP_SYNC_BAD_CHANGE,
-    TP_SYNC_TOO_MANY_HEADS,
-    TP_SYNC_PENDING_FULL,
-    TP_SYNC_OUT_OF_MEMORY,
-    TP_SYNC_OTHER_DOCUMENT,
-    TP_SYNC_NOT_KEPT,
+    /* of a message */
+    TP_SYNC_BAD_MESSAGE = 201, /* the bytes are not laid out as a message */
+    TP_SYNC_BAD_CHANGE = 202, /* the bytes of a change within the message are no change */
+    TP_SYNC_TOO_MANY_HEADS = 203, /* the document has more than 65,535 heads, which no message can name */
+    TP_SYNC_PENDING_FULL = 204, /* more than 1,024 changes would wait for others */
+    TP_SYNC_OUT_OF_MEMORY = 205, /* memory was refused */
+    TP_SYNC_OTHER_DOCUMENT = 206, /* the message is of another document */
+    TP_SYNC_NOT_KEPT = 207, /* a change of the message was not kept */
 
-    TP_STORE_BAD_MAGIC = 301,
-    TP_STORE_TRUNCATED,
-    TP_STORE_BAD_DIGEST,
-    TP_STORE_DAMAGED,
-    TP_STORE_REFUSED,
-    TP_STORE_IO,
-    TP_STORE_OUT_OF_MEMORY,
-    TP_STORE_NO_HEADER,
+    /* of a saved file or a journal */
+    TP_STORE_BAD_MAGIC = 301, /* the bytes don't begin as those of such a file do */
+    TP_STORE_TRUNCATED = 302, /* the saved file is not whole */
+    TP_STORE_BAD_DIGEST = 303, /* the digest at the end of the saved file is not that of the bytes before it */
+    TP_STORE_DAMAGED = 304, /* a change is damaged, or bytes come after the last one */
+    TP_STORE_REFUSED = 305, /* a change doesn't fit the changes before it */
+    TP_STORE_IO = 306, /* the file could not be read or written */
+    TP_STORE_OUT_OF_MEMORY = 307, /* memory was refused */
+    TP_STORE_NO_HEADER = 308, /* the journal has fewer bytes than its header */
 
-    TP_CHANGE_VERSION = 401,
-    TP_CHANGE_SHORT,
-    TP_CHANGE_TRAILING,
-    TP_CHANGE_ZERO_SEQ_OR_START,
-    TP_CHANGE_BAD_UTF8,
-    TP_CHANGE_DEPS_ORDER,
-    TP_CHANGE_NO_RECORDS,
-    TP_CHANGE_BAD_TAG,
-    TP_CHANGE_EMPTY_RUN,
-    TP_CHANGE_LIMIT,
-    TP_CHANGE_OUT_OF_MEMORY,
-    TP_CHANGE_NO_RUN
+    /* of the bytes of a change */
+    TP_CHANGE_VERSION = 401, /* the version of the change is neither 1 nor 2 */
+    TP_CHANGE_SHORT = 402, /* a field of the change is not whole */
+    TP_CHANGE_TRAILING = 403, /* bytes come after the last record of the change */
+    TP_CHANGE_ZERO_SEQ_OR_START = 404, /* the sequence number or the start counter of the change is 0 */
+    TP_CHANGE_BAD_UTF8 = 405, /* the message or a text of the change isn't UTF-8 */
+    TP_CHANGE_DEPS_ORDER = 406, /* the dependencies of the change don't rise strictly */
+    TP_CHANGE_NO_RECORDS = 407, /* the change has no record */
+    TP_CHANGE_BAD_TAG = 408, /* the version of the change has no such record or reference */
+    TP_CHANGE_EMPTY_RUN = 409, /* an insert run of the change is empty, or a run of deletes has fewer than two */
+    /* the change is past a limit of bytes, operations, counters, dependencies or message bytes: */
+    TP_CHANGE_LIMIT = 410,
+    TP_CHANGE_OUT_OF_MEMORY = 411, /* memory was refused */
+    TP_CHANGE_NO_RUN = 412, /* the version of the change is 2, and it has no run of deletes */
+
+    /* of a peer on its journal */
+    TP_PEER_ACTOR_IN_USE = 501, /* the journal has a change of this actor: draw another one */
+    /* the journal's device failed in this call, and the editor has stopped: close it and open the file again: */
+    TP_PEER_JOURNAL_FAILED = 502,
+    TP_PEER_STOPPED = 503, /* the editor has stopped since its journal failed: close it and open the file again */
+    TP_PEER_TOO_MANY_LINKS = 504, /* there are 1,024 links */
+    TP_PEER_JOURNAL_NOT_EMPTY = 505, /* the file has a journal or other bytes already */
+    TP_PEER_OUT_OF_MEMORY = 509, /* memory was refused */
+
+    /* of a session */
+    /* the other side sent bytes that are no frame, or a message of this side is too long for one: */
+    TP_SESSION_FRAME = 602,
+    TP_SESSION_OTHER_DOCUMENT = 603, /* the other side has another document */
+    TP_SESSION_VERSION = 604, /* the other side speaks another version of the protocol */
+    TP_SESSION_UNEXPECTED = 605, /* the other side sent a frame out of its turn, or no session is going on */
+    TP_SESSION_OUT_OF_MEMORY = 608, /* memory was refused */
+
+    /* of the other side of a session, which sent it */
+    TP_REMOTE_OTHER_DOCUMENT = 701, /* the other side refused: it has another document */
+    TP_REMOTE_VERSION = 702, /* the other side refused: it speaks another version of the protocol */
+    TP_REMOTE_MALFORMED = 703, /* the other side refused: what it was sent is malformed, or out of its turn */
+    /* the other side refused: more than 1,024 changes would wait there, or it has more than 65,535 heads: */
+    TP_REMOTE_TOO_MANY = 704,
+    TP_REMOTE_OTHER = 705, /* the other side refused, and said no more */
+
+    /* of a file that is to be opened */
+    TP_FILE_BUSY = 801, /* another editor or command has the file open */
+    TP_FILE_IO = 802, /* the file is not there, or can't be opened, locked or read */
+    TP_FILE_OUT_OF_MEMORY = 803 /* memory was refused */
 };
+
+/* The name of a status, as "OutOfRange"; NULL for another number. */
+static inline const char *tp_status_name(uint32_t status)
+{
+    switch (status) {
+    case TP_DONE: return "Done";
+    case TP_OUT_OF_MEMORY: return "OutOfMemory";
+    case TP_NO_LINK: return "NoLink";
+    case TP_NO_CHANGE: return "NoChange";
+    case TP_BAD_TEXT: return "BadText";
+    case TP_BAD_LENGTHS: return "BadLengths";
+    case TP_DOC_OUT_OF_RANGE: return "OutOfRange";
+    case TP_DOC_COUNTER_LIMIT: return "CounterLimit";
+    case TP_DOC_TOO_MANY_OPS: return "TooManyOps";
+    case TP_DOC_TOO_MANY_HEADS: return "TooManyHeads";
+    case TP_DOC_UNKNOWN_HEAD: return "UnknownHead";
+    case TP_DOC_UNKNOWN_ELEMENT: return "UnknownElement";
+    case TP_DOC_PENDING_FULL: return "PendingFull";
+    case TP_DOC_HASH_TAKEN: return "HashTaken";
+    case TP_DOC_OUT_OF_MEMORY: return "OutOfMemory";
+    case TP_DOC_OTHER_DOCUMENT: return "OtherDocument";
+    case TP_DOC_TOO_LONG: return "TooLong";
+    case TP_DOC_FULL: return "Full";
+    case TP_DOC_NOT_KEPT: return "NotKept";
+    case TP_SYNC_BAD_MESSAGE: return "BadMessage";
+    case TP_SYNC_BAD_CHANGE: return "BadChange";
+    case TP_SYNC_TOO_MANY_HEADS: return "TooManyHeads";
+    case TP_SYNC_PENDING_FULL: return "PendingFull";
+    case TP_SYNC_OUT_OF_MEMORY: return "OutOfMemory";
+    case TP_SYNC_OTHER_DOCUMENT: return "OtherDocument";
+    case TP_SYNC_NOT_KEPT: return "NotKept";
+    case TP_STORE_BAD_MAGIC: return "BadMagic";
+    case TP_STORE_TRUNCATED: return "Truncated";
+    case TP_STORE_BAD_DIGEST: return "BadDigest";
+    case TP_STORE_DAMAGED: return "Damaged";
+    case TP_STORE_REFUSED: return "Refused";
+    case TP_STORE_IO: return "Io";
+    case TP_STORE_OUT_OF_MEMORY: return "OutOfMemory";
+    case TP_STORE_NO_HEADER: return "NoHeader";
+    case TP_CHANGE_VERSION: return "Version";
+    case TP_CHANGE_SHORT: return "Short";
+    case TP_CHANGE_TRAILING: return "Trailing";
+    case TP_CHANGE_ZERO_SEQ_OR_START: return "ZeroSeqOrStart";
+    case TP_CHANGE_BAD_UTF8: return "BadUtf8";
+    case TP_CHANGE_DEPS_ORDER: return "DepsOrder";
+    case TP_CHANGE_NO_RECORDS: return "NoRecords";
+    case TP_CHANGE_BAD_TAG: return "BadTag";
+    case TP_CHANGE_EMPTY_RUN: return "EmptyRun";
+    case TP_CHANGE_LIMIT: return "Limit";
+    case TP_CHANGE_OUT_OF_MEMORY: return "OutOfMemory";
+    case TP_CHANGE_NO_RUN: return "NoRun";
+    case TP_PEER_ACTOR_IN_USE: return "ActorInUse";
+    case TP_PEER_JOURNAL_FAILED: return "JournalFailed";
+    case TP_PEER_STOPPED: return "Stopped";
+    case TP_PEER_TOO_MANY_LINKS: return "TooManyLinks";
+    case TP_PEER_JOURNAL_NOT_EMPTY: return "JournalNotEmpty";
+    case TP_PEER_OUT_OF_MEMORY: return "OutOfMemory";
+    case TP_SESSION_FRAME: return "Frame";
+    case TP_SESSION_OTHER_DOCUMENT: return "OtherDocument";
+    case TP_SESSION_VERSION: return "Version";
+    case TP_SESSION_UNEXPECTED: return "Unexpected";
+    case TP_SESSION_OUT_OF_MEMORY: return "OutOfMemory";
+    case TP_REMOTE_OTHER_DOCUMENT: return "OtherDocument";
+    case TP_REMOTE_VERSION: return "Version";
+    case TP_REMOTE_MALFORMED: return "Malformed";
+    case TP_REMOTE_TOO_MANY: return "TooMany";
+    case TP_REMOTE_OTHER: return "Other";
+    case TP_FILE_BUSY: return "Busy";
+    case TP_FILE_IO: return "Io";
+    case TP_FILE_OUT_OF_MEMORY: return "OutOfMemory";
+    default: return NULL;
+    }
+}
+
+/* What a status says, in a few words; NULL for another number. */
+static inline const char *tp_status_words(uint32_t status)
+{
+    switch (status) {
+    case TP_DONE: return "done";
+    case TP_OUT_OF_MEMORY: return "memory was refused, before a layer below was asked";
+    case TP_NO_LINK: return "there is no link with this number";
+    case TP_NO_CHANGE: return "there is no applied change with this number";
+    case TP_BAD_TEXT: return "what should be a text isn't UTF-8";
+    case TP_BAD_LENGTHS: return "the lengths of the splices don't add up to the bytes that are given for their texts";
+    case TP_DOC_OUT_OF_RANGE: return "the text ends before the position, or before the end of what is to be deleted";
+    case TP_DOC_COUNTER_LIMIT: return "the last counter of the edit would be past 2^48 - 1";
+    case TP_DOC_TOO_MANY_OPS: return "the edit has more than 65,536 operations, one for each character that comes or goes";
+    case TP_DOC_TOO_MANY_HEADS: return "the document has more than 65,535 heads";
+    case TP_DOC_UNKNOWN_HEAD: return "a hash that was named as a head is of no applied change";
+    case TP_DOC_UNKNOWN_ELEMENT: return "the document has no such element";
+    case TP_DOC_PENDING_FULL: return "more than 1,024 changes would wait for others";
+    case TP_DOC_HASH_TAKEN: return "another change has the hash of the new one";
+    case TP_DOC_OUT_OF_MEMORY: return "memory was refused";
+    case TP_DOC_OTHER_DOCUMENT: return "what came is of another document";
+    case TP_DOC_TOO_LONG: return "the message has more than 65,535 bytes, or the change more than 4,194,304";
+    case TP_DOC_FULL: return "the document has 4,294,967,295 changes";
+    case TP_DOC_NOT_KEPT: return "the change was not kept";
+    case TP_SYNC_BAD_MESSAGE: return "the bytes are not laid out as a message";
+    case TP_SYNC_BAD_CHANGE: return "the bytes of a change within the message are no change";
+    case TP_SYNC_TOO_MANY_HEADS: return "the document has more than 65,535 heads, which no message can name";
+    case TP_SYNC_PENDING_FULL: return "more than 1,024 changes would wait for others";
+    case TP_SYNC_OUT_OF_MEMORY: return "memory was refused";
+    case TP_SYNC_OTHER_DOCUMENT: return "the message is of another document";
+    case TP_SYNC_NOT_KEPT: return "a change of the message was not kept";
+    case TP_STORE_BAD_MAGIC: return "the bytes don't begin as those of such a file do";
+    case TP_STORE_TRUNCATED: return "the saved file is not whole";
+    case TP_STORE_BAD_DIGEST: return "the digest at the end of the saved file is not that of the bytes before it";
+    case TP_STORE_DAMAGED: return "a change is damaged, or bytes come after the last one";
+    case TP_STORE_REFUSED: return "a change doesn't fit the changes before it";
+    case TP_STORE_IO: return "the file could not be read or written";
+    case TP_STORE_OUT_OF_MEMORY: return "memory was refused";
+    case TP_STORE_NO_HEADER: return "the journal has fewer bytes than its header";
+    case TP_CHANGE_VERSION: return "the version of the change is neither 1 nor 2";
+    case TP_CHANGE_SHORT: return "a field of the change is not whole";
+    case TP_CHANGE_TRAILING: return "bytes come after the last record of the change";
+    case TP_CHANGE_ZERO_SEQ_OR_START: return "the sequence number or the start counter of the change is 0";
+    case TP_CHANGE_BAD_UTF8: return "the message or a text of the change isn't UTF-8";
+    case TP_CHANGE_DEPS_ORDER: return "the dependencies of the change don't rise strictly";
+    case TP_CHANGE_NO_RECORDS: return "the change has no record";
+    case TP_CHANGE_BAD_TAG: return "the version of the change has no such record or reference";
+    case TP_CHANGE_EMPTY_RUN: return "an insert run of the change is empty, or a run of deletes has fewer than two";
+    case TP_CHANGE_LIMIT: return "the change is past a limit of bytes, operations, counters, dependencies or message bytes";
+    case TP_CHANGE_OUT_OF_MEMORY: return "memory was refused";
+    case TP_CHANGE_NO_RUN: return "the version of the change is 2, and it has no run of deletes";
+    case TP_PEER_ACTOR_IN_USE: return "the journal has a change of this actor: draw another one";
+    case TP_PEER_JOURNAL_FAILED: return "the journal's device failed in this call, and the editor has stopped: close it and open the file again";
+    case TP_PEER_STOPPED: return "the editor has stopped since its journal failed: close it and open the file again";
+    case TP_PEER_TOO_MANY_LINKS: return "there are 1,024 links";
+    case TP_PEER_JOURNAL_NOT_EMPTY: return "the file has a journal or other bytes already";
+    case TP_PEER_OUT_OF_MEMORY: return "memory was refused";
+    case TP_SESSION_FRAME: return "the other side sent bytes that are no frame, or a message of this side is too long for one";
+    case TP_SESSION_OTHER_DOCUMENT: return "the other side has another document";
+    case TP_SESSION_VERSION: return "the other side speaks another version of the protocol";
+    case TP_SESSION_UNEXPECTED: return "the other side sent a frame out of its turn, or no session is going on";
+    case TP_SESSION_OUT_OF_MEMORY: return "memory was refused";
+    case TP_REMOTE_OTHER_DOCUMENT: return "the other side refused: it has another document";
+    case TP_REMOTE_VERSION: return "the other side refused: it speaks another version of the protocol";
+    case TP_REMOTE_MALFORMED: return "the other side refused: what it was sent is malformed, or out of its turn";
+    case TP_REMOTE_TOO_MANY: return "the other side refused: more than 1,024 changes would wait there, or it has more than 65,535 heads";
+    case TP_REMOTE_OTHER: return "the other side refused, and said no more";
+    case TP_FILE_BUSY: return "another editor or command has the file open";
+    case TP_FILE_IO: return "the file is not there, or can't be opened, locked or read";
+    case TP_FILE_OUT_OF_MEMORY: return "memory was refused";
+    default: return NULL;
+    }
+}
+/* end of statuses */
 
 /* ---- handles ---- */
 
@@ -113,6 +312,20 @@ uint32_t tp_text(tp_handle *handle, size_t *len);
  * 100. */
 uint32_t tp_edit(tp_handle *handle, const uint8_t actor[16], size_t at, size_t del, const char *text, size_t text_len,
                  uint64_t time, const char *message, size_t message_len, size_t *len);
+
+/* One splice of an edit: deletes del characters from at on, and inserts the next len bytes of the edit's texts there. */
+typedef struct tp_splice {
+    size_t at; /* on the text that the splices before it leave */
+    size_t del;
+    size_t len; /* counts bytes */
+} tp_splice;
+
+/* As tp_edit, but does each of the count splices in turn, all as one change. Their texts are the bytes of texts, one after
+ * another. Refused as 4 where the message isn't UTF-8; else as 5 where the splices' len together aren't texts_len; else as 4
+ * where one of the texts isn't UTF-8 or as 1, and as tp_edit: as 103 where the splices delete and insert more than 65,536
+ * characters together. */
+uint32_t tp_edit_many(tp_handle *handle, const uint8_t actor[16], const tp_splice *splices, size_t count, const char *texts,
+                      size_t texts_len, uint64_t time, const char *message, size_t message_len, size_t *len);
 
 /* The answer is the hashes of the heads, 32 bytes each, rising. Refused as 109. */
 uint32_t tp_heads(tp_handle *handle, size_t *len);
@@ -167,13 +380,8 @@ uint32_t tp_receive(tp_handle *handle, size_t link, const uint8_t *bytes, size_t
  * done, and before a session answers for it. The answer of a shared editor is copied by tp_shared_answer, as tp_answer copies
  * that of a handle, and stays until the next call that says it makes one.
  *
- * Statuses, beside those above: 500 and the number of a peer's refusal (501 ActorInUse, 502 JournalFailed, 503 Stopped,
- * 504 TooManyLinks, 505 JournalNotEmpty, 509 OutOfMemory; where the peer tells a refusal of the document, of a message or of
- * the journal's bytes, it is 100, 200 or 300 and that number); 600 and the number of an error of a session (602 Frame,
- * 603 OtherDocument, 604 Version, 605 Unexpected, 608 OutOfMemory); 700 and the number that the other side's refusal told
- * (701 OtherDocument, 702 Version, 703 Malformed, 704 TooMany, 705 Other); 800 and why a file wasn't opened (801 Busy,
- * 802 Io, 803 OutOfMemory). After 502 an editor edits and exchanges no more: such calls are refused as 503. What it has is
- * still read; close it, and open it under another actor.
+ * After TP_PEER_JOURNAL_FAILED (502) an editor edits and exchanges no more: such calls are refused as 503. What it
+ * has is still read; close it, and open it under another actor.
  */
 
 typedef struct tp_shared {
@@ -209,6 +417,11 @@ size_t tp_shared_change_count(tp_shared *shared);
  * nothing was asked. *len is the answer's length, also after a refusal, which makes it empty. */
 uint32_t tp_shared_edit(tp_shared *shared, size_t at, size_t del, const char *text, size_t text_len, uint64_t time,
                         const char *message, size_t message_len, size_t *len);
+
+/* As tp_edit_many, under the editor's actor and with the answer, the length and the refusals of tp_shared_edit. Where it is
+ * refused as 4, 5 or 1, the answer stays. */
+uint32_t tp_shared_edit_many(tp_shared *shared, const tp_splice *splices, size_t count, const char *texts, size_t texts_len,
+                             uint64_t time, const char *message, size_t message_len, size_t *len);
 
 /* The answer is the text, as UTF-8 without a zero at its end. A refusal leaves the answer. */
 uint32_t tp_shared_text(tp_shared *shared, size_t *len);
@@ -276,6 +489,25 @@ static inline uint32_t tp_edit_some(tp_handle *handle, const uint8_t actor[16], 
                    message_len, len ? len : &unused);
 }
 
+static inline uint32_t tp_edit_many_some(tp_handle *handle, const uint8_t actor[16], const tp_splice *splices, size_t count,
+                                         const char *texts, size_t texts_len, uint64_t time, const char *message,
+                                         size_t message_len, size_t *len)
+{
+    tp_splice none;
+    size_t unused;
+    return tp_edit_many(handle, actor, splices ? splices : &none, count, (const char *)tp_some(texts), texts_len, time,
+                        (const char *)tp_some(message), message_len, len ? len : &unused);
+}
+
+static inline uint32_t tp_shared_edit_many_some(tp_shared *shared, const tp_splice *splices, size_t count, const char *texts,
+                                                size_t texts_len, uint64_t time, const char *message, size_t message_len,
+                                                size_t *len)
+{
+    tp_splice none;
+    return tp_shared_edit_many(shared, splices ? splices : &none, count, (const char *)tp_some(texts), texts_len, time,
+                               (const char *)tp_some(message), message_len, len);
+}
+
 static inline uint32_t tp_apply_some(tp_handle *handle, const uint8_t *bytes, size_t bytes_len)
 {
     return tp_apply(handle, (const uint8_t *)tp_some(bytes), bytes_len);
@@ -290,6 +522,8 @@ static inline uint32_t tp_receive_some(tp_handle *handle, size_t link, const uin
 #define tp_answer tp_answer_some
 #define tp_load tp_load_some
 #define tp_edit tp_edit_some
+#define tp_edit_many tp_edit_many_some
+#define tp_shared_edit_many tp_shared_edit_many_some
 #define tp_apply tp_apply_some
 #define tp_receive tp_receive_some
 
