@@ -43,4 +43,3 @@ index_later L k R x id h t inv =
 pub index_end : (L : List Insert) (k : ℕ) (R : List (OpId × OpId)) (id : OpId) → None ≡ option_map (seen_of R) (slice_get L k)
     → option_map (λ n. k + n) (index_in (drop k L) id) ≡ index_in L id → None ≡ index_in L id
 index_end L k R id end inv = sym (ap (λ l. option_map (λ n. k + n) (index_in l id)) (drop_all k L (seen_end R L k end))) ∙ inv
-

@@ -11,7 +11,7 @@ use std::test::Fail;
 use std::thread::{Threads, join};
 use std::time::Clock;
 use tp_online::run_words_on;
-use tp_shell::Disk;
+use tp_shell::{Disk, Folders, Found};
 
 // The key of each journal that is begun.
 const DOCUMENT: &str = "0000000000000000000000000000000000000000000000000000000000000000";
@@ -103,14 +103,19 @@ where
     run(rt, &words)
 }
 
-/// Copies a file. Whether that was done.
+// Makes a copy of a file, where nothing is. Whether that was done.
+fn copy<R: Disk>(rt: &R, file: &str, copy: &str) -> bool {
+    match (rt.find(file), rt.read(file)) {
+        (Ok(Found::File(mode)), Ok(bytes)) => rt.write_new(copy, mode, bytes.as_slice()).is_ok(),
+        _ => false,
+    }
+}
+
+/// Copies a file to paths where nothing is. Whether that was done.
 pub fn copy_all<R: Disk>(rt: &R, file: &str, copies: &[&str]) -> bool {
-    let Ok(bytes) = rt.read(file) else {
-        return false;
-    };
     let mut is_done = true;
-    for copy in copies {
-        is_done = is_done && rt.replace(copy, file, bytes.as_slice()).is_ok();
+    for path in copies {
+        is_done = is_done && copy(rt, file, path);
     }
     is_done
 }
