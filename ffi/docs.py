@@ -42,11 +42,7 @@ class Docs(unittest.TestCase):
         self.addCleanup(folder.cleanup)
         self.folder = pathlib.Path(folder.name)
         release = self.folder / RELEASE
-        shutil.copytree(os.environ["TEXTPEER_FOLDER"], release, symlinks=True)
-        if not (release / "libtextpeer.so.0").exists():
-            # (a release from before the library had that name)
-            (release / "libtextpeer.so").rename(release / "libtextpeer.so.0")
-            (release / "libtextpeer.so").symlink_to("libtextpeer.so.0")
+        shutil.copytree(os.environ["TEXTPEER_FOLDER"], release)
         (self.folder / "ffi").mkdir()
         for name in ("example.c", "install", "textpeer.h", "textpeer.pc"):
             shutil.copy(TOP / "ffi" / name, self.folder / "ffi")

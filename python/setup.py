@@ -10,7 +10,7 @@ from setuptools import setup
 from setuptools.command.build_py import build_py
 from setuptools.dist import Distribution
 
-NAME = "libtextpeer.so"
+NAME = "libtextpeer.so.0"
 TOP = Path(__file__).resolve().parent.parent
 PLACES = [TOP / "ffi/out" / NAME, TOP / "dist" / f"{platform.machine()}-{platform.system().lower()}" / NAME]
 

@@ -76,12 +76,12 @@ local library
 local function place()
   local here = debug.getinfo(1, 'S').source:sub(2)
   local top = vim.fn.fnamemodify(here, ':p:h:h:h:h')
-  local made = top .. '/ffi/out/libtextpeer.so'
+  local made = top .. '/ffi/out/libtextpeer.so.0'
   local told = vim.env.TEXTPEER_LIB or vim.g.textpeer_library
   if told or vim.fn.filereadable(made) == 1 then
     return told or made
   end
-  local released = top .. '/dist/x86_64-linux/libtextpeer.so'
+  local released = top .. '/dist/x86_64-linux/libtextpeer.so.0'
   return vim.fn.filereadable(released) == 1 and released or made
 end
 

@@ -7,7 +7,7 @@ import platform
 from pathlib import Path
 from typing import Any, Iterable, Iterator, Tuple
 
-NAME = "libtextpeer.so"
+NAME = "libtextpeer.so.0"
 
 
 class Handle(ctypes.Structure):
