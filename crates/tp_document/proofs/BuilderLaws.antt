@@ -4,7 +4,7 @@ use Rattle.std.proofs.lemmas.Option.{slice_get-get_or}
 use Rattle.std.specs.Str.{IsUtf8}
 use Rattle.tp_document.proofs.Common.{◌≡◌, ℕ, zero, suc, ◌+◌, ◌-◌, ◌<◌, ◌≤◌, ◌==◌, take, shown, is_removed, List, [], ◌∷◌, ◌++◌, length, drop, Bool, true, false, not, ◌&&◌, cond, Some, sym, ap, ◌∙◌, arith, nat_tests, append-nil, slice_get, option_map, chars, all_scalars, encode_utf8, chars-encodes, OpId, Insert, seen_of, seen_at}
 use Rattle.tp_rga.specs.declared.walk.Seen.{Seen}
-use Rattle.tp_document.proofs.SnapshotLaws.{left_from}
+use Rattle.tp_rga.proofs.Indexing.{left_from}
 use Rattle.tp_document.proofs.DifferenceLaws.{difference}
 use Rattle.tp_document.specs.declared.differences.Difference.{Difference}
 use Rattle.tp_document.specs.declared.views.View.{View}

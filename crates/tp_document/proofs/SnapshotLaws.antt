@@ -1,7 +1,8 @@
 -- What a snapshot shows, element by element.
-use Rattle.tp_document.proofs.Common.{◌≡◌, ℕ, suc, zero, ◌+◌, ◌-◌, ◌<◌, List, [], ◌∷◌, ◌++◌, length, take, drop, get_or, Bool, true, false, not, ◌||◌, ◌&&◌, cond, Option, Some, None, position, refl, sym, ap, ◌∙◌, arith, append-nil, drop-cons, slice_get, option_map, take_more, length-append, Actor, OpId, Insert, id_eq, is_removed, shown, shown_before, chars_of, shown_by, id_eq-same, has_op, AreTargets, covers, inserts_by, deletes_by, map-append, or_right, encode_utf8, encode_utf8_all, encodes-append, filter-append, seen_of, seen_at, seen_end, take_all, drop_all}
+use Rattle.tp_document.proofs.Common.{◌≡◌, ℕ, suc, zero, ◌+◌, ◌-◌, ◌<◌, List, [], ◌∷◌, ◌++◌, length, take, drop, get_or, Bool, true, false, not, ◌||◌, ◌&&◌, cond, Option, Some, None, position, refl, sym, ap, ◌∙◌, arith, append-nil, slice_get, option_map, take_more, length-append, Actor, OpId, Insert, id_eq, is_removed, shown, shown_before, chars_of, shown_by, id_eq-same, has_op, AreTargets, covers, inserts_by, deletes_by, map-append, or_right, encode_utf8, encode_utf8_all, encodes-append, filter-append, seen_of, seen_at, seen_end, take_all, drop_all}
 use Rattle.tp_document.specs.declared.targets.Stretch.{Stretch}
 use Rattle.tp_rga.specs.declared.walk.Seen.{Seen}
+use Rattle.tp_rga.proofs.Indexing.{left_from}
 use Rattle.tp_rga.proofs.Lookups.{position-cons}
 
 -- whether an element is shown
@@ -128,11 +129,6 @@ before_none K R (e ∷ L) x out = by_test (id_eq e.id x) refl (before_none K R L
       let hidden : has_op K e.id ≡ false = ap (has_op K) (id_eq-same e.id x same) ∙ out in
       ap (λ b. shown_before (deletes_by K R) (cond b (e ∷ inserts_by K L) (inserts_by K L)) x) hidden ∙ rest
 
-pub left_from : (L : List Insert) (k : ℕ) (e : Insert) → k < length L → get_or L k e ≡ e → drop k L ≡ e ∷ drop (k + 1) L
-left_from L k e lt is =
-    let next : suc k ≡ k + 1 = omega arith in
-    drop-cons L k e lt ∙ ap (λ x. x ∷ drop (suc k) L) is ∙ ap (λ n. e ∷ drop n L) next
-
 -- the element itself
 pub before_here : (K : List (Actor × ℕ)) (R : List (OpId × OpId)) (L : List Insert) (k n : ℕ) (x : Seen) (id : OpId) → has_op K id ≡ true → Some x ≡ option_map (seen_of R) (slice_get L k) → id_eq x.id id ≡ true
     → option_map (λ m. n + m) (before_by K R (drop k L) id) ≡ before_by K R L id → Some n ≡ before_by K R L id
@@ -220,7 +216,7 @@ pub shown_all : (K : List (Actor × ℕ)) (R : List (OpId × OpId)) (L : List In
 shown_all K R L k end = ap (shown_by K R) (take_all k L (seen_end R L k end))
 
 -- none is left
-pub none_left : (R : List (OpId × OpId)) (L : List Insert) (k : ℕ) → None ≡ option_map (seen_of R) (slice_get L k) → drop k L ≡ []
+none_left : (R : List (OpId × OpId)) (L : List Insert) (k : ℕ) → None ≡ option_map (seen_of R) (slice_get L k) → drop k L ≡ []
 none_left R L k end = drop_all k L (seen_end R L k end)
 
 -- so the element that is asked for isn't there
