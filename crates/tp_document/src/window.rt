@@ -126,6 +126,9 @@ impl Reach {
             heads.now (length graph.now.applied)) }
         ensures err { IsOkUnless result OutOfMemory }
     {
+        if let Reach::Everything = self {
+            return Ok(Reach::Everything);
+        }
         match graph.outside(heads, &[]) {
             Ok(outside) => Ok(self.with_each(graph, sequence, &outside)),
             Err(_) => Err(DocError::OutOfMemory),
