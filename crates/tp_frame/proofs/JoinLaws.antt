@@ -1,7 +1,6 @@
 -- Joining parts to frames.
-use Rattle.std.proofs.Common.{◌≡◌, ℕ, ◌+◌, ◌<◌, ◌≤◌, ◌⊎◌, inl, inr, List, [], ◌∷◌, ◌++◌, length, drop, Option, Some, None, Result, Ok, Err, IfOk, IfSome, refl, sym, ap, subst, ◌∙◌, arith, length-append}
+use Rattle.std.proofs.Common.{◌≡◌, ℕ, ◌+◌, ◌<◌, ◌≤◌, ◌⊎◌, inl, inr, List, [], ◌∷◌, ◌++◌, length, Option, Some, None, Result, Ok, Err, IfOk, IfSome, refl, sym, ap, subst, ◌∙◌, arith, length-append}
 use Rattle.std.specs.Int.{w32, to_be_bytes}
-use Rattle.std.proofs.lemmas.List.{drop_at}
 use Rattle.tp_codec.proofs.Fields.{AreBytes, AreBytes-rest}
 use Rattle.tp_frame.specs.declared.error.FrameError.{FrameError}
 use Rattle.tp_frame.specs.declared.error.FrameError.TheVariants.{TooLong, BadKind, BadHello, OutOfMemory}
@@ -15,22 +14,17 @@ use Rattle.tp_frame.specs.Frame.{spelling, IsFrame}
 use Rattle.tp_frame.specs.Joining.{with_given, between, led_by, Follows, EndAnswers, BodyAnswers}
 use Rattle.tp_frame.specs.PartState.{PartState}
 use Rattle.tp_frame.specs.Parts.{Opened, Led, IsInside, StandsIn, Stands, PartAnswers}
-use Rattle.tp_frame.specs.Reading.{frame_at, IsRest}
+use Rattle.tp_frame.specs.Reading.{behind_frame, behind_read, frame_at, IsRest}
 use Rattle.tp_frame.specs.Stream.{Answers}
 use Rattle.tp_frame.proofs.FrameFields.{frame_field}
 use Rattle.tp_frame.proofs.PartLaws.{inside_waits, inside_there, inside_ends, none_some}
 
 -- ---- a frame is given
 
-behind_frame : (came : List ℕ) (f : Frame) (rest : List ℕ) → AreBytes came → frame_at came ≡ Ok (f, rest) → drop (length (spelling f)) came ≡ rest
-behind_frame came f rest fits e =
-    let t = frame_field.takes came f rest fits e in
-    ap (λ (b : List ℕ). drop (length (spelling f)) b) t.0 ∙ drop_at (spelling f) rest (length (spelling f)) refl
-
-pub follows_frame : (came : List ℕ) (f : Frame) (rest left : List ℕ) (s : PartState) → AreBytes came → frame_at came ≡ Ok (f, rest) → left ≡ drop (length (spelling f)) came → Stands (between rest) s
+pub follows_frame : (came : List ℕ) (f : Frame) (rest left : List ℕ) (s : PartState) → AreBytes came → frame_at came ≡ Ok (f, rest) → left ≡ behind_frame came → Stands (between rest) s
     → Follows None left s × (frame_at came ≡ Ok (f, left))
 follows_frame came f rest left s fits e left-is stands =
-    let same : left ≡ rest = left-is ∙ behind_frame came f rest fits e in
+    let same : left ≡ rest = left-is ∙ ap (behind_read came) e in
     let t = frame_field.takes came f rest fits e in
     subst (λ (b : List ℕ). Follows None b s × (frame_at came ≡ Ok (f, b))) (sym same)
     (record { stands = stands; bytes = AreBytes-rest (spelling f) came rest t.0 fits }, e)
@@ -42,7 +36,7 @@ framed old (Err e) new fits answers = tt
 
 -- ---- what parts answer between frames
 
-answers_whole : (came : List ℕ) (f : Frame) (left : List ℕ) (s : PartState) → AreBytes came → left ≡ drop (length (spelling f)) came → PartAnswers (between came) (Ok (Some (Whole f))) s → Follows None left s × (frame_at came ≡ Ok (f, left))
+answers_whole : (came : List ℕ) (f : Frame) (left : List ℕ) (s : PartState) → AreBytes came → left ≡ behind_frame came → PartAnswers (between came) (Ok (Some (Whole f))) s → Follows None left s × (frame_at came ≡ Ok (f, left))
 answers_whole came f left s fits left-is answers =
     let none = answers.1.3 in
     follows_frame came f answers.0.came left s fits answers.1.2 left-is
@@ -172,6 +166,6 @@ end_any came body (Ok (Some End)) old new stands answers = end_given came body n
 end_any came body (Ok (Some (Whole f))) old new stands answers = absurd (never_whole came (length body) body f new answers)
 end_any came body (Err e) old new stands answers = absurd (end_never_err came body e new answers)
 
-pub whole_joined : (begun : Option ℕ) (came : List ℕ) (f : Frame) (left : List ℕ) (s : PartState) → AreBytes came → left ≡ drop (length (spelling f)) came → PartAnswers (led_by begun came) (Ok (Some (Whole f))) s → Follows begun left s × (frame_at came ≡ Ok (f, left))
+pub whole_joined : (begun : Option ℕ) (came : List ℕ) (f : Frame) (left : List ℕ) (s : PartState) → AreBytes came → left ≡ behind_frame came → PartAnswers (led_by begun came) (Ok (Some (Whole f))) s → Follows begun left s × (frame_at came ≡ Ok (f, left))
 whole_joined None came f left s fits left-is answers = answers_whole came f left s fits left-is answers
 whole_joined (Some len) came f left s fits left-is answers = absurd (never_whole came len [] f s answers)

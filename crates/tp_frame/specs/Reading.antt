@@ -66,6 +66,15 @@ frame_at = do
   body ← body_at
   judged (frame_behind body.kind body.content)
 
+-- the bytes behind what was read; all, where no frame was
+abbrev pub behind_read : List ℕ → Result (Frame × List ℕ) NoFrame → List ℕ
+behind_read bytes (Ok front) = front.1
+behind_read bytes (Err e) = bytes
+
+-- the bytes behind the frame at the front
+abbrev pub behind_frame : List ℕ → List ℕ
+behind_frame bytes = behind_read bytes (frame_at bytes)
+
 -- The bytes are no whole frame, and show no fault: more have to come.
 abbrev pub IsRest : List ℕ → Type 0
 IsRest bytes = frame_at bytes ≡ Err Missing

@@ -67,7 +67,7 @@ impl Joiner {
                 self.sync(len)
             }
             Some(Part::Whole(frame)) => {
-                self.came = History::without(&self.came, &frame);
+                self.came = History::behind(&self.came);
                 Ok(Some(frame))
             }
             Some(Part::Piece(_)) => unreachable!(),
@@ -87,7 +87,7 @@ impl Joiner {
             Some(body) => {
                 self.begun = None;
                 let frame = Frame::Sync(body);
-                self.came = History::without(&self.came, &frame);
+                self.came = History::behind(&self.came);
                 Ok(Some(frame))
             }
         }

@@ -19,6 +19,7 @@ mod writing;
 pub use error::FrameError;
 pub use frame::Frame;
 pub use framer::Framer;
+pub use history::History;
 pub use limits::MAX_BODY;
 pub use parts::{Part, PartFramer};
 pub use writing::write_frame;
