@@ -1,11 +1,7 @@
--- What is sent where bytes stay, and frames behind frames.
-use Rattle.tp_net.proofs.Common.{ℕ, List, [], ◌++◌, sym, subst, Option, Appends, Keeps, flat_map, Appends-nil, Appends-kept, Appends-trans, spelling}
+-- What is sent by frames behind frames.
+use Rattle.tp_net.proofs.Common.{ℕ, List, ◌++◌, sym, subst, Option, Appends, flat_map, Appends-trans, spelling}
 use Rattle.std.proofs.lemmas.List.Concat.{flat_map-append}
 use Rattle.tp_frame.specs.declared.frame.Frame.{Frame as FrameOf}
-
--- known bytes that stay gain none
-pub kept_gains_nothing : (a b : Option (List ℕ)) → Keeps a b → Appends a b []
-kept_gains_nothing a b kept = Appends-kept a a b [] (Appends-nil a) kept
 
 -- frames behind frames
 pub sends_more : (a b c : Option (List ℕ)) (xs ys : List FrameOf) → Appends a b (flat_map spelling xs) → Appends b c (flat_map spelling ys) → Appends a c (flat_map spelling (xs ++ ys))

@@ -70,7 +70,7 @@ held_enters : (role : Role) (id : DocId) (t : SeatState) (w : Traffic) (n : ℕ)
 held_enters role id t w n t' (inl never) = let e = never.told in absurd (cc)
 held_enters role id t w n t' (inr f) =
     let ended = f.session in
-    let c = transcript_counts (begun role id, f.start) ended.comes.transcript (ended.session, f.left) ended.comes.trace in
+    let c = transcript_counts (begun role id, f.start) ended.comes.takes.transcript (ended.session, f.left) ended.comes.takes.trace in
     let before : length f.start.mine ≡ length t.mine = forgotten_stays t f.start t.number Forgotten f.forgot in
     let after : length t'.mine ≡ length f.left.mine = forgotten_stays f.left t' f.left.number f.reply f.forgot_again in
     let grown : length f.left.mine ≡ length f.start.mine + c.more = c.grown in

@@ -1,8 +1,6 @@
 pub mod Common
 pub mod Bytes
-pub mod Transcripts
 pub mod Endings
-pub mod Hearing
 pub mod SeatLists
 pub mod Entering
 pub mod Counting

@@ -1,10 +1,34 @@
 -- A session over a stream, from its begin to its end.
-use Rattle.std.specs.Prelude.{◌≡◌, ◌⊎◌, ℕ, List, [], ◌++◌, Option, Result, Ok, Err, option_to_list}
+use Rattle.std.specs.Prelude.{◌≡◌, ◌⊎◌, ℕ, List, [], ◌++◌, Option, Some, None, Result, Ok, Err, option_to_list}
+use Rattle.std.specs.Io.KnownBytes.{Appends}
+use Rattle.std.specs.List.{flat_map}
 use Rattle.tp_net.specs.Common.{Frame, Reply, Forgotten, Refused, NetError, Io, Peer, HostCall, Forget, refusal_of, SessionData}
+use Rattle.tp_frame.specs.Frame.{spelling}
 use Rattle.tp_peer.specs.declared.error.PeerError.{PeerError}
+use Rattle.tp_session.specs.Conversation.{EndsBy, HasNoBytes, IsNoFrame, LeavesUnsent}
 use Rattle.tp_session.specs.declared.session.Phase.TheVariants.{Over}
-use Rattle.tp_net.specs.Transcript.{Comes, Traffic}
-use Rattle.tp_net.specs.Stops.{Stops}
+use Rattle.tp_session.specs.Transcript.{Comes, Traffic}
+
+-- A writer took frames, each whole.
+abbrev pub TakesFrames : Option (List ℕ) → Option (List ℕ) → Type 0
+TakesFrames before after = (sent : List Frame) × Appends before after (flat_map spelling sent)
+
+-- No frame comes: the stream failed or ended, memory was refused for what came, or what came is no frame.
+abbrev pub GivesNoFrame : List ℕ → NetError → Type 0
+GivesNoFrame held e = (e ≡ Io) ⊎ IsNoFrame held e
+
+-- A frame can't be sent: the stream failed, memory was refused for its bytes, or it is too long.
+abbrev pub CantSend : NetError → Type 0
+CantSend e = (e ≡ Io) ⊎ HasNoBytes e
+
+-- Why a side that has come to a, holds the bytes and has a frame to send, or none, stops there.
+abbrev pub Stops : {H : Type 0} → (H → HostCall → Reply → H → Type 0) → Option Frame → SessionData × H → List ℕ → NetError → H → Type 0
+Stops steps None a held e h' = (GivesNoFrame held e × (h' ≡ a.1)) ⊎ EndsBy steps a held e h'
+Stops steps (Some f) a held e h' = CantSend e × (h' ≡ a.1)
+
+-- Why it stops at the next frame, or at what answers that.
+abbrev pub StopsAtTurn : {H : Type 0} → (H → HostCall → Reply → H → Type 0) → SessionData × H → List ℕ → NetError → H → Type 0
+StopsAtTurn steps a held e h' = (GivesNoFrame held e × (h' ≡ a.1)) ⊎ (EndsBy steps a held e h' ⊎ (LeavesUnsent steps a held h' × CantSend e))
 
 -- It ended well: both sides have said done, and so many changes were applied here.
 pub record EndsWell {H : Type 0} (steps : H → HostCall → Reply → H → Type 0) (a : SessionData × H) (w : Traffic) (applied : ℕ) (h' : H) : Type 0 where

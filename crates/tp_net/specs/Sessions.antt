@@ -5,7 +5,7 @@ use Rattle.tp_opid.specs.declared.doc_id.DocId.{DocId}
 use Rattle.tp_served.specs.Seats.{SeatData, SeatState, Shows}
 use Rattle.tp_session.specs.declared.session.Role.{Role}
 use Rattle.tp_session.specs.declared.session.Role.TheVariants.{Server}
-use Rattle.tp_net.specs.Transcript.{Traffic}
+use Rattle.tp_session.specs.Transcript.{Traffic}
 use Rattle.tp_net.specs.RunSession.{IsHeld}
 
 -- A call of a session was one turn of the seat, on the link with the seat's number.

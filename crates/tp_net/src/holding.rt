@@ -3,7 +3,7 @@
 ghost use Rattle.std.specs.Prelude.{◌≡◌, ◌⊎◌, Err};
 ghost use Rattle.tp_session.specs.declared.error.NetError.TheVariants.{Io};
 ghost use Rattle.tp_net.specs.Sessions.{Meets};
-ghost use Rattle.tp_net.specs.Transcript.{TakesFrames};
+ghost use Rattle.tp_net.specs.RunSession.{TakesFrames};
 
 use crate::run::run_session;
 use crate::seated::SeatedHost;

@@ -1,95 +1,53 @@
 //! One session over a reader and a writer.
 
-ghost use Rattle.std.specs.Prelude.{◌≡◌, ◌⊎◌, ℕ, List, ◌++◌, false, Err, IfOk, IfErr, MatchResult, option_to_list};
+ghost use Rattle.std.specs.Prelude.{◌≡◌, ◌⊎◌, ℕ, List, ◌++◌, false, Err, IfOk, IfErr, MatchResult};
 ghost use Rattle.std.specs.List.{flat_map};
 ghost use Rattle.std.specs.Io.KnownBytes.{Appends, Consumes, Keeps};
 ghost use Rattle.tp_frame.specs.Frame.{spelling};
-ghost use Rattle.tp_frame.specs.Joining.{between};
+ghost use Rattle.tp_session.specs.Conversation.{Goes};
 ghost use Rattle.tp_session.specs.declared.error.NetError.TheVariants.{Io};
-ghost use Rattle.tp_session.specs.declared.turn.Turn.{Turn as TurnOf};
 ghost use Rattle.tp_session.specs.Laws.{is_over};
 ghost use Rattle.tp_session.specs.SessionData.{begun};
-ghost use Rattle.tp_net.specs.Transcript.{Traffic};
-ghost use Rattle.tp_net.specs.Stops.{GivesNoFrame, EndsBy, IsAmid, Takes, TakesAndStops};
-ghost use Rattle.tp_net.specs.RunSession.{EndsWell, StopsFor, Ends, IsHeld};
+ghost use Rattle.tp_session.specs.Transcript.{Traffic};
+ghost use Rattle.tp_net.specs.RunSession.{EndsWell, StopsAtTurn, StopsFor, Ends, IsHeld};
 
-use crate::reading::{is_last, next_part};
-use crate::writing::{send, send_refusal};
+use crate::reading::read_more;
+use crate::writing::{put, send_refusal};
 use std::alloc::Global;
 use std::io::{Read, Write};
-use tp_frame::PartFramer;
 use tp_opid::DocId;
-use tp_session::{Host, NetError, Role, Session, Turn};
+use tp_session::{Conversation, Host, NetError, Next, Output, Role};
 
-// The session's turn about the next frame, whose parts it takes as they come.
-fn hear<R: Read, H: Host>(
-    alloc: Global,
-    reader: &mut R,
-    framer: &mut PartFramer,
-    session: &mut Session,
-    host: &mut H,
-) -> Result<Turn, NetError>
-    ensures ok { (came : List ℕ) → IsAmid session.old (between came) session.old framer.old
-        → IfOk result (λ turn. (more : List ℕ) × (rest : List ℕ)
-        × Consumes (R.remaining reader.old) (R.remaining reader.new) more
-        × Takes H.steps (session.old, H.seen host.old) (came ++ more) turn
-        rest (session.new, H.seen host.new)
-        × IsAmid session.new (between rest) session.new framer.new) }
-    ensures err { (came : List ℕ) → IsAmid session.old (between came) session.old framer.old
-        → IfErr result (λ e. (more : List ℕ)
-        × Consumes (R.remaining reader.old) (R.remaining reader.new) more
-        × (is_over session.old.phase ≡ false
-        → (GivesNoFrame (came ++ more) e × (H.seen host.new ≡ H.seen host.old))
-        ⊎ EndsBy H.steps (session.old, H.seen host.old) (came ++ more) e (H.seen host.new))) }
-    ensures host { H.goes_on host.old host.new }
-{
-    for _ in 0..u64::MAX {
-        let part = next_part(reader, framer)?;
-        let last = is_last(&part);
-        let turn = session.on_part(alloc, part, host)?;
-        if last {
-            return Ok(turn);
-        }
-    }
-    Err(NetError::Io)
-}
+/// The most bytes that are read at once.
+const CHUNK: usize = 8192;
 
-// Takes the next frame and sends the answer. Whether the session has ended then.
+// Reads more bytes where the session waits for them, feeds these, and sends what comes of that. How it goes on.
 fn take_turn<R: Read, W: Write, H: Host>(
-    alloc: Global,
     reader: &mut R,
     writer: &mut W,
-    framer: &mut PartFramer,
-    session: &mut Session,
+    conversation: &mut Conversation,
+    before: Next,
     host: &mut H,
-) -> Result<bool, NetError>
-    ensures ok { (came : List ℕ) → IsAmid session.old (between came) session.old framer.old
-        → IfOk result (λ ended. (more : List ℕ) × (rest : List ℕ) × (turn : TurnOf)
+) -> Result<Next, NetError>
+    ensures ok { IfOk result (λ next. (more : List ℕ) × (sent : List ℕ)
         × Consumes (R.remaining reader.old) (R.remaining reader.new) more
-        × Appends (W.contents writer.old) (W.contents writer.new)
-        (flat_map spelling (option_to_list turn.send))
-        × Takes H.steps (session.old, H.seen host.old) (came ++ more) turn
-        rest (session.new, H.seen host.new)
-        × IsAmid session.new (between rest) session.new framer.new
-        × (turn.ended ≡ ended)) }
-    ensures err { (came : List ℕ) → IsAmid session.old (between came) session.old framer.old
-        → IfErr result (λ e. (more : List ℕ)
-        × Consumes (R.remaining reader.old) (R.remaining reader.new) more
-        × (is_over session.old.phase ≡ false
-        → (GivesNoFrame (came ++ more) e × (H.seen host.new ≡ H.seen host.old))
-        ⊎ (EndsBy H.steps (session.old, H.seen host.old) (came ++ more) e (H.seen host.new)
-        ⊎ TakesAndStops H.steps (session.old, H.seen host.old) (came ++ more) e
-        (H.seen host.new)))) }
+        × Appends (W.contents writer.old) (W.contents writer.new) sent
+        × Goes H.steps (conversation.old.session, H.seen host.old)
+        (conversation.old.bytes ++ more) next sent
+        (conversation.new.session, H.seen host.new) conversation.new.bytes) }
+    ensures err { is_over conversation.old.session.phase ≡ false → IfErr result
+        (λ e. (more : List ℕ) × Consumes (R.remaining reader.old) (R.remaining reader.new) more
+        × StopsAtTurn H.steps (conversation.old.session, H.seen host.old)
+        (conversation.old.bytes ++ more) e (H.seen host.new)) }
     ensures kept { IfErr result
         (λ e. (e ≡ Io) ⊎ Keeps (W.contents writer.old) (W.contents writer.new)) }
     ensures host { H.goes_on host.old host.new }
 {
-    let Turn {
-        send: answer,
-        ended,
-    } = hear(alloc, reader, framer, session, host)?;
-    send(alloc, writer, answer)?;
-    Ok(ended)
+    let mut chunk = [0u8; CHUNK];
+    let len = read_more(reader, &mut chunk, before)?;
+    let Output { send, next } = conversation.feed(&chunk[..len], host)?;
+    put(writer, send.as_slice())?;
+    Ok(next)
 }
 
 // The session to its end, with no refusal where it stops for an error.
@@ -110,12 +68,14 @@ fn converse<R: Read, W: Write, H: Host>(
         (λ e. StopsFor H.steps (begun role id, H.seen host.old) w e (H.seen host.new)) }
     ensures host { H.goes_on host.old host.new }
 {
-    let mut session = Session::new(role, id);
-    let mut framer = PartFramer::new(alloc);
-    send(alloc, writer, session.first())?;
+    let mut conversation = Conversation::new(alloc, role, id);
+    let first = conversation.first()?;
+    put(writer, first.as_slice())?;
+    let mut next = Next::Waits;
     for _ in 0..u64::MAX {
-        if take_turn(alloc, reader, writer, &mut framer, &mut session, host)? {
-            return Ok(session.applied());
+        next = take_turn(reader, writer, &mut conversation, next, host)?;
+        if let Next::Ended = next {
+            return Ok(conversation.applied());
         }
     }
     Err(NetError::Io)
@@ -161,8 +121,8 @@ fn hold<R: Read, W: Write, H: Host>(
 /// answer is `Io`.
 ///
 /// It waits for bytes as long as the reader does, so the other side can hold it for ever. At most 8,192 bytes are read at
-/// once and copied into the framer, which keeps them no longer than it takes to give them to the session: of a message
-/// those of one change at most are held, and what was decoded. Bytes behind the last frame may have been read. An answer's bytes are written once. All else is the cost of the host's calls.
+/// once and fed to a [`Conversation`]: of a message those of one change at most are held, and what was decoded. Bytes
+/// behind the last frame may have been read. All else is the cost of the host's calls.
 pub fn run_session<R: Read, W: Write, H: Host>(
     alloc: Global,
     reader: &mut R,

@@ -2,7 +2,7 @@
 use Rattle.std.proofs.Common.{◌≡◌, ◌⊎◌, ⊎_elim, inl, inr, ap, refl, ℕ, List, Option, Result, Ok, Err, sym, ◌∙◌}
 use Rattle.std.specs.List.{flat_map}
 use Rattle.tp_frame.specs.Frame.{spelling}
-use Rattle.tp_net.specs.Transcript.{TakesFrames}
+use Rattle.tp_net.specs.RunSession.{TakesFrames}
 use Rattle.tp_session.specs.declared.error.NetError.{NetError}
 use Rattle.tp_session.specs.declared.error.NetError.TheVariants.{Io}
 use Rattle.tp_shell.specs.declared.error.JobError.{JobError}

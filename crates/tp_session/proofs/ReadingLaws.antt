@@ -1,35 +1,16 @@
 -- What the pieces of a sync frame make of a reader, and of the session that reads.
-use Rattle.std.proofs.Common.{◌≡◌, inl, inr, ℕ, ◌+◌, ◌-◌, ◌<◌, ◌≤◌, List, ◌++◌, length, take, drop, Option, Some, None, Result, Ok, Err, refl, sym, ap, subst, ◌∙◌, append_assoc, length-append, arith}
-use Rattle.std.specs.Prelude.{◌↔◌, IfOk, IsOkUnless}
-use Rattle.std.proofs.lemmas.List.{drop-drop, length-drop, take-append-drop}
-use Rattle.tp_codec.proofs.Fields.{AreBytes}
-use Rattle.tp_frame.specs.declared.frame.Frame.{Frame}
-use Rattle.tp_frame.specs.declared.frame.Frame.TheVariants.{Sync}
-use Rattle.tp_frame.specs.declared.parts.Part.TheVariants.{Begin, Piece, End, Whole}
-use Rattle.tp_frame.specs.Parts.{Opened}
+use Rattle.tp_session.proofs.Common.{◌≡◌, inl, inr, ℕ, ◌+◌, ◌-◌, ◌<◌, ◌≤◌, List, ◌++◌, length, take, drop, Option, Some, None, Result, Ok, Err, refl, sym, ap, subst, ◌∙◌, append_assoc, length-append, arith, ◌↔◌, IfOk, IsOkUnless, drop-drop, length-drop, take-append-drop, AreBytes, Frame, Sync, Begin, Piece, End, Whole, Opened, ReaderState, reads, Reply, NetError, Peer, Unexpected, refusal_of, Phase, AwaitsHello, Exchanges, SaidDone, Over, Turn, Ended, Awaits, GoesOn, IsAt, IsReading, OnBegin, PartStep, Reads, and_given, none_of, SessionData, HostCall, Receive, Fails, Heard, Hears, OnFrame, SessionStep}
 use Rattle.tp_sync.specs.declared.error.SyncError.{SyncError}
 use Rattle.tp_sync.specs.declared.error.SyncError.TheVariants.{BadMessage, OutOfMemory}
 use Rattle.tp_sync.specs.Gives.{FailsWith}
 use Rattle.tp_sync.specs.Message.{MessageParts}
 use Rattle.tp_sync.specs.Reading.{message_at}
-use Rattle.tp_sync.specs.ReaderState.{Answers, ReaderState, Takes, reads}
+use Rattle.tp_sync.specs.ReaderState.{Answers, Takes}
 use Rattle.tp_sync.specs.Spelling.{message_spelling}
 use Rattle.tp_sync.proofs.ShortLaws.{message_short}
 use Rattle.tp_sync.proofs.WholeMessage.{message_takes}
 use Rattle.tp_peer.specs.PeerError.{refusal_of_sync}
-use Rattle.tp_peer.specs.PeerStep.{Reply}
 use Rattle.tp_peer.proofs.ReceivingLaws.{decoding_refused}
-use Rattle.tp_session.specs.declared.error.NetError.{NetError}
-use Rattle.tp_session.specs.declared.error.NetError.TheVariants.{Peer, Unexpected}
-use Rattle.tp_session.specs.NetError.{refusal_of}
-use Rattle.tp_session.specs.declared.session.Phase.{Phase}
-use Rattle.tp_session.specs.declared.session.Phase.TheVariants.{AwaitsHello, Exchanges, SaidDone, Over}
-use Rattle.tp_session.specs.declared.turn.Turn.{Turn}
-use Rattle.tp_session.specs.declared.turn.Ended.{Ended}
-use Rattle.tp_session.specs.PartStep.{Awaits, GoesOn, IsAt, IsReading, OnBegin, PartStep, Reads, and_given, none_of}
-use Rattle.tp_session.specs.SessionData.{SessionData}
-use Rattle.tp_session.specs.HostCalls.{HostCall, Receive}
-use Rattle.tp_session.specs.SessionStep.{Fails, Heard, Hears, OnFrame, SessionStep}
 
 -- ---- the reader
 

@@ -1,19 +1,5 @@
 -- What follows of a step of a session.
-use Rattle.std.proofs.Common.{◌≡◌, None, Result, refl, sym, ap, subst}
-use Rattle.tp_frame.specs.declared.frame.Frame.{Frame}
-use Rattle.tp_frame.specs.declared.frame.Frame.TheVariants.{Hello, Sync, Done, Refusal}
-use Rattle.tp_peer.specs.PeerStep.{Reply}
-use Rattle.tp_session.specs.declared.error.NetError.{NetError}
-use Rattle.tp_session.specs.declared.error.NetError.TheVariants.{Unexpected, RefusedByOther}
-use Rattle.tp_session.specs.declared.session.Phase.{Phase}
-use Rattle.tp_session.specs.declared.session.Phase.TheVariants.{SaidDone, Over}
-use Rattle.tp_session.specs.declared.turn.Turn.{Turn}
-use Rattle.tp_session.specs.declared.turn.Ended.{Ended}
-use Rattle.tp_session.specs.HostCalls.{HostCall}
-use Rattle.tp_session.specs.Laws.{IsRefusalAtMost, SaysNoMore}
-use Rattle.tp_session.specs.NetError.{refusal_of}
-use Rattle.tp_session.specs.SessionData.{SessionData}
-use Rattle.tp_session.specs.SessionStep.{Closes, Fails, OnFrame, SessionStep}
+use Rattle.tp_session.proofs.Common.{◌≡◌, None, Result, refl, sym, ap, subst, Frame, Hello, Sync, Done, Refusal, Reply, NetError, Unexpected, RefusedByOther, Phase, SaidDone, Over, Turn, Ended, HostCall, IsRefusalAtMost, SaysNoMore, refusal_of, SessionData, Closes, Fails, OnFrame, SessionStep}
 
 -- a session that fails is over, and sends a refusal at most
 failed : (s : SessionData) (error : NetError) (answer : Result Turn Ended) (s' : SessionData) → IsRefusalAtMost (refusal_of error) → Fails s error answer s' → (s'.phase ≡ Over) × SaysNoMore answer

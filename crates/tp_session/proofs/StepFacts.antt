@@ -1,23 +1,9 @@
 -- What every step of a session keeps, and what its answer tells.
-use Rattle.std.proofs.Common.{◌≡◌, ◌⊎◌, ℕ, List, Bool, true, false, ◌&&◌, ◌==◌, Some, None, Result, Ok, Err, inl, inr, refl, sym, ap, subst, ◌∙◌, Option, MatchBool, length}
+use Rattle.tp_session.proofs.Common.{◌≡◌, ◌⊎◌, ℕ, List, Bool, true, false, ◌&&◌, ◌==◌, Some, None, Result, Ok, Err, inl, inr, refl, sym, ap, subst, ◌∙◌, Option, MatchBool, length, Frame, Hello, Sync, Done, Refusal, Reply, Received, Generated, Refused, NetError, OtherDocument, Version, Unexpected, RefusedByOther, Peer, OutOfMemory, Phase, AwaitsHello, Exchanges, SaidDone, Over, Turn, Ended, HostCall, is_over, refusal_of, SessionData, counting, greeting, Says, Closes, Fails, IsLate, is_stale, Answers, Tells, Heard, Hears, Welcomes, OnFrame, SessionStep}
 use Rattle.tp_opid.specs.Same.{same_doc}
-use Rattle.tp_frame.specs.declared.frame.Frame.{Frame}
-use Rattle.tp_frame.specs.declared.frame.Frame.TheVariants.{Hello, Sync, Done, Refusal}
-use Rattle.tp_peer.specs.PeerStep.{Reply, Received, Generated, Refused}
-use Rattle.tp_session.specs.declared.error.NetError.{NetError}
-use Rattle.tp_session.specs.declared.error.NetError.TheVariants.{OtherDocument, Version, Unexpected, RefusedByOther, Peer, OutOfMemory}
 use Rattle.tp_session.specs.declared.session.Role.{Role}
 use Rattle.tp_session.specs.declared.session.Role.TheVariants.{Client, Server}
-use Rattle.tp_session.specs.declared.session.Phase.{Phase}
-use Rattle.tp_session.specs.declared.session.Phase.TheVariants.{AwaitsHello, Exchanges, SaidDone, Over}
 use Rattle.tp_session.specs.declared.session.TheConstants.{VERSION}
-use Rattle.tp_session.specs.declared.turn.Turn.{Turn}
-use Rattle.tp_session.specs.declared.turn.Ended.{Ended}
-use Rattle.tp_session.specs.HostCalls.{HostCall}
-use Rattle.tp_session.specs.Laws.{is_over}
-use Rattle.tp_session.specs.NetError.{refusal_of}
-use Rattle.tp_session.specs.SessionData.{SessionData, counting, greeting}
-use Rattle.tp_session.specs.SessionStep.{Says, Closes, Fails, IsLate, is_stale, Answers, Tells, Heard, Hears, Welcomes, OnFrame, SessionStep}
 
 -- what the answer tells, where the session was in the phase before and is s' then
 abbrev Told : Phase → Result Turn Ended → SessionData → Type 0

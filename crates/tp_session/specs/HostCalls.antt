@@ -1,6 +1,6 @@
 -- What a session asks of its host, and which call of a peer that is on a link.
 use Rattle.std.specs.Prelude.{ℕ, List}
-use Rattle.tp_peer.specs.PeerStep.{Call}
+use Rattle.tp_session.specs.Common.{Call}
 use Rattle.tp_peer.specs.PeerStep as peer
 
 -- To receive a message by its bytes, to make the next one, and to forget what the messages so far told.

@@ -1,7 +1,6 @@
 -- What the laws of sessions say.
 use Rattle.std.specs.Prelude.{◌≡◌, Bool, true, false, Option, Some, None, Result, Ok, Err}
-use Rattle.tp_frame.specs.declared.frame.Frame.{Frame}
-use Rattle.tp_frame.specs.declared.frame.Frame.TheVariants.{Refusal}
+use Rattle.tp_session.specs.Common.{Frame, Refusal}
 use Rattle.tp_session.specs.declared.session.Phase.{Phase}
 use Rattle.tp_session.specs.declared.session.Phase.TheVariants.{AwaitsHello, Exchanges, SaidDone, Over}
 use Rattle.tp_session.specs.declared.turn.Turn.{Turn}

@@ -1,3 +1,4 @@
+pub mod Common
 pub mod Reason
 pub mod NetError
 pub mod SessionData
@@ -5,3 +6,5 @@ pub mod SessionStep
 pub mod PartStep
 pub mod HostCalls
 pub mod Laws
+pub mod Transcript
+pub mod Conversation

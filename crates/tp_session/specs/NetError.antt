@@ -1,9 +1,8 @@
 -- The numbers of the errors, and the refusal that is due for each.
 use Rattle.std.specs.Prelude.{ℕ, Option, Some, None}
-use Rattle.tp_frame.specs.declared.error.FrameError.{FrameError}
+use Rattle.tp_session.specs.Common.{FrameError, Refusal}
 use Rattle.tp_frame.specs.declared.error.FrameError.TheVariants as fault
 use Rattle.tp_frame.specs.declared.frame.Frame.{Frame as FrameOf}
-use Rattle.tp_frame.specs.declared.frame.Frame.TheVariants.{Refusal}
 use Rattle.tp_session.specs.declared.error.NetError.{NetError}
 use Rattle.tp_session.specs.declared.error.NetError.TheVariants.{Io, Frame, OtherDocument, Version, Unexpected, RefusedByOther, Peer, OutOfMemory}
 use Rattle.tp_session.specs.declared.reason.Reason.{Reason}

@@ -1,15 +1,9 @@
 -- What a side answers to the parts of a frame, and how it stands between them.
 use Rattle.std.specs.Prelude.{◌≡◌, ℕ, ◌+◌, ◌<◌, ◌≤◌, List, [], ◌++◌, length, slice_index, false, Option, Some, None, Result, Ok, Err}
-use Rattle.tp_frame.specs.declared.frame.Frame.TheVariants.{Sync}
-use Rattle.tp_frame.specs.declared.parts.Part.{Part}
-use Rattle.tp_frame.specs.declared.parts.Part.TheVariants.{Begin, Piece, End, Whole}
-use Rattle.tp_frame.specs.Parts.{Opened}
-use Rattle.tp_sync.specs.declared.error.SyncError.{SyncError}
+use Rattle.tp_session.specs.Common.{Sync, Part, Begin, Piece, End, Whole, Opened, SyncError, ReaderState, reads, Reply}
 use Rattle.tp_sync.specs.Gives.{FailsWith}
 use Rattle.tp_sync.specs.Reading.{message_at}
-use Rattle.tp_sync.specs.ReaderState.{ReaderState, reads}
 use Rattle.tp_peer.specs.PeerError.{refusal_of_sync}
-use Rattle.tp_peer.specs.PeerStep.{Reply}
 use Rattle.tp_session.specs.HostCalls.{HostCall}
 use Rattle.tp_session.specs.declared.error.NetError.TheVariants.{Unexpected, Peer}
 use Rattle.tp_session.specs.declared.session.Phase.{Phase}

@@ -1,10 +1,9 @@
 -- The numbers that refusal frames tell, and which is told for a refusal of a peer.
 use Rattle.std.specs.Prelude.{ℕ}
+use Rattle.tp_session.specs.Common.{SyncError, PeerError}
 use Rattle.tp_document.specs.declared.error.DocError.{DocError}
 use Rattle.tp_document.specs.declared.error.DocError.TheVariants as doc
-use Rattle.tp_sync.specs.declared.error.SyncError.{SyncError}
 use Rattle.tp_sync.specs.declared.error.SyncError.TheVariants as sync
-use Rattle.tp_peer.specs.declared.error.PeerError.{PeerError}
 use Rattle.tp_peer.specs.declared.error.PeerError.TheVariants as peer
 use Rattle.tp_session.specs.declared.reason.Reason.{Reason}
 use Rattle.tp_session.specs.declared.reason.Reason.TheVariants.{OtherDocument, Version, Malformed, TooMany, Other}

@@ -1,9 +1,6 @@
 -- What contracts see of a session.
 use Rattle.std.specs.Prelude.{ℕ, ◌+◌, ◌-◌, ◌^◌, min, Option, Some, None}
-use Rattle.tp_opid.specs.declared.doc_id.DocId.{DocId}
-use Rattle.tp_frame.specs.declared.frame.Frame.{Frame}
-use Rattle.tp_frame.specs.declared.frame.Frame.TheVariants.{Hello}
-use Rattle.tp_sync.specs.ReaderState.{ReaderState}
+use Rattle.tp_session.specs.Common.{DocId, Frame, Hello, ReaderState}
 use Rattle.tp_session.specs.declared.session.Role.{Role}
 use Rattle.tp_session.specs.declared.session.Role.TheVariants.{Client, Server}
 use Rattle.tp_session.specs.declared.session.Phase.{Phase}

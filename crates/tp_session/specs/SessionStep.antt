@@ -1,12 +1,8 @@
 -- The session as a machine: what a side answers to a frame, and how it and its host are then. A side is a session with
 -- what is seen of its host, whose calls go by the relation `steps`.
 use Rattle.std.specs.Prelude.{◌≡◌, ◌⊎◌, ℕ, ◌==◌, List, length, Bool, false, true, ◌&&◌, Option, Some, None, Result, Ok, Err, MatchBool}
-use Rattle.tp_opid.specs.declared.doc_id.DocId.{DocId}
+use Rattle.tp_session.specs.Common.{DocId, Frame, Hello, Sync, Done, Refusal, PeerError, Reply, Received, Generated, Refused, RefusesDecoding}
 use Rattle.tp_opid.specs.Same.{same_doc}
-use Rattle.tp_frame.specs.declared.frame.Frame.{Frame}
-use Rattle.tp_frame.specs.declared.frame.Frame.TheVariants.{Hello, Sync, Done, Refusal}
-use Rattle.tp_peer.specs.declared.error.PeerError.{PeerError}
-use Rattle.tp_peer.specs.PeerStep.{Reply, Received, Generated, Refused, RefusesDecoding}
 use Rattle.tp_peer.specs.Taking.{Report}
 use Rattle.tp_session.specs.declared.error.NetError.{NetError}
 use Rattle.tp_session.specs.declared.error.NetError.TheVariants.{OtherDocument, Version, Unexpected, RefusedByOther, Peer, OutOfMemory}

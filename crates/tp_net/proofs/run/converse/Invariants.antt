@@ -1,13 +1,12 @@
-use Rattle.tp_net.proofs.Common.{◌≡◌, ℕ, List, false, flat_map, Appends, Consumes, spelling, between, is_over, begun, IsAmid, Comes, Traffic}
+use Rattle.tp_net.proofs.Common.{◌≡◌, false, flat_map, Appends, Consumes, spelling, is_over, begun, Comes, Traffic}
 use Rattle.tp_net.proofs.run.converse.Given as goal
 
--- the session has come so far, is between two frames and hasn't ended, and its answers were sent
+-- the session has come so far and hasn't ended, and its answers were sent
 abbrev pub invariant-loop : goal.invariant-loop
 invariant-loop g l =
-    (w : Traffic) × (came : List ℕ)
+    (w : Traffic)
     × Consumes (g.R.Read.remaining l.fn.reader) (g.R.Read.remaining l.reader) w.read
     × Appends (g.W.Write.contents l.fn.writer) (g.W.Write.contents l.writer) (flat_map spelling w.sent)
-    × Comes g.H.Host.steps (begun l.fn.role l.fn.id, g.H.Host.seen l.fn.host) w came (l.session, g.H.Host.seen l.host)
-    × IsAmid l.session (between came) l.session l.framer
-    × (is_over l.session.phase ≡ false)
+    × Comes g.H.Host.steps (begun l.fn.role l.fn.id, g.H.Host.seen l.fn.host) w l.conversation.bytes (l.conversation.session, g.H.Host.seen l.host)
+    × (is_over l.conversation.session.phase ≡ false)
     × g.H.Host.goes_on l.fn.host l.host

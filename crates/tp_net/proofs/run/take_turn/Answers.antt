@@ -1,27 +1,23 @@
-use Rattle.tp_net.proofs.Common.{inl, inr, err_from_is_err_and}
+use Rattle.tp_net.proofs.Common.{◌++◌, inl, inr, refl, sym, subst, ◌∙◌, take, err_from_is_err_and, NetError, SessionData, StopsAtTurn}
+use Rattle.tp_net.proofs.Endings.{breaks_turn}
+use Rattle.tp_session.proofs.Transcripts.{unsent}
 use Rattle.tp_net.proofs.run.take_turn.Goals as goal
 
-pub returns-in_err-answer-clause-err : goal.returns-in_err-answer-clause-err
-returns-in_err-answer-clause-err g c = λ came is.
-    let p = err_from_is_err_and c.from_residual.result c.from_residual.ensures.1 in
-    let none = c.in_err-answer.ensures.err came is in
-    rw (p.1, p.2) (none.0, none.1, λ going. elim (none.2 going) [ inl no_frame ↦ inl no_frame | inr ends ↦ inr (inl ends) ])
-
 pub returns-in_err-send-clause-err : goal.returns-in_err-send-clause-err
-returns-in_err-send-clause-err g c = λ came is.
+returns-in_err-send-clause-err g c = λ going.
     let p = err_from_is_err_and c.from_residual-in_err-send.result c.from_residual-in_err-send.ensures.1 in
-    let heard = c.in_ok-answer.ensures.ok came is in
-    let unsent = c.in_err-send.ensures.some in
-    rw (p.1, p.2) (
-      heard.0,
-      heard.2,
-      λ going. inr (inr (record {
-        turn = c.in_ok-answer.field-0;
-        rest = heard.1;
-        session = c.hear.new.session;
-        answer = unsent.0;
-        takes = heard.3;
-        to_send = cc unsent.1;
-        cant_send = c.in_err-send.ensures.err;
-      })),
-    )
+    let more = take c.in_ok-len.len c.read_more.new.chunk in
+    let held = c.args.conversation.now.bytes ++ more in
+    let a : SessionData × g.H.Host.Seen = (c.args.conversation.now.session, g.H.Host.seen c.args.host.now) in
+    let h' = g.H.Host.seen c.feed.new.host in
+    rw p.1 (more, c.in_ok-len.ensures.bytes, subst (λ (e : NetError). StopsAtTurn g.H.Host.steps a held e h') (sym p.2) (breaks_turn g.H.Host.steps a held c.in_err-send.field-0.0.error h' (c.in_err-send.ensures.err going).0))
+
+pub returns-in_err-put-clause-err : goal.returns-in_err-put-clause-err
+returns-in_err-put-clause-err g c = λ going.
+    let p = err_from_is_err_and c.from_residual-in_err-put.result c.from_residual-in_err-put.ensures.1 in
+    let more = take c.in_ok-len.len c.read_more.new.chunk in
+    let held = c.args.conversation.now.bytes ++ more in
+    let a : SessionData × g.H.Host.Seen = (c.args.conversation.now.session, g.H.Host.seen c.args.host.now) in
+    let b : SessionData × g.H.Host.Seen = (c.feed.new.self.session, g.H.Host.seen c.feed.new.host) in
+    let some = rw c.as_slice.ensures.value at c.in_err-put.ensures.err.1 in
+    rw (p.1, p.2 ∙ c.in_err-put.ensures.err.0) (more, c.in_ok-len.ensures.bytes, inr (inr (unsent g.H.Host.steps a held c.in_ok-send.field-0.next c.in_ok-send.field-0.send.items b c.feed.new.self.bytes c.in_ok-send.ensures.output some, inl refl)))

@@ -1,6 +1,4 @@
-use Rattle.std.proofs.Common.{◌-◌, length, take, drop}
-use Rattle.std.proofs.lemmas.Result.{err_from_is_err_and}
-use Rattle.std.proofs.lemmas.List.{take_rest}
+use Rattle.tp_session.proofs.Common.{◌-◌, length, take, drop, err_from_is_err_and, take_rest}
 use Rattle.tp_session.proofs.ReadingLaws.{reads_refused, reads_step}
 use Rattle.tp_session.proofs.parts.read_on.Goals as goal
 

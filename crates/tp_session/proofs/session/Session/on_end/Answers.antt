@@ -1,10 +1,6 @@
-use Rattle.std.proofs.Common.{ap, sym, subst, ◌∙◌}
+use Rattle.tp_session.proofs.Common.{ap, sym, subst, ◌∙◌, Received, Reply, replied, Peer, SessionData, Fails, Heard}
 use Rattle.tp_peer.specs.declared.error.PeerError.{PeerError}
-use Rattle.tp_peer.specs.PeerStep.{Received, Reply, replied}
 use Rattle.tp_peer.specs.Taking.{report_of}
-use Rattle.tp_session.specs.declared.error.NetError.TheVariants.{Peer}
-use Rattle.tp_session.specs.SessionData.{SessionData}
-use Rattle.tp_session.specs.SessionStep.{Fails, Heard}
 use Rattle.tp_session.proofs.ReadingLaws.{hears_message, hears_none, idle_now, taken}
 use Rattle.tp_session.proofs.session.Session.on_end.Goals as goal
 

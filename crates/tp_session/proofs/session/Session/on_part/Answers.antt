@@ -1,7 +1,4 @@
-use Rattle.std.proofs.Common.{List, ℕ, sym, subst}
-use Rattle.tp_frame.specs.declared.parts.Part.{Part}
-use Rattle.tp_frame.specs.declared.parts.Part.TheVariants.{Piece}
-use Rattle.tp_session.specs.PartStep.{PartStep}
+use Rattle.tp_session.proofs.Common.{List, ℕ, sym, subst, Part, Piece, PartStep}
 use Rattle.tp_session.proofs.ReadingLaws.{part_begins, part_ends, part_goes_on, part_is_whole}
 use Rattle.tp_session.proofs.session.Session.on_part.Goals as goal
 

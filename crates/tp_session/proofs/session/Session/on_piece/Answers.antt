@@ -1,6 +1,4 @@
-use Rattle.std.proofs.Common.{ap, sym, subst, ◌∙◌}
-use Rattle.tp_session.specs.PartStep.{GoesOn}
-use Rattle.tp_session.specs.SessionData.{SessionData}
+use Rattle.tp_session.proofs.Common.{ap, sym, subst, ◌∙◌, GoesOn, SessionData}
 use Rattle.tp_session.proofs.ReadingLaws.{idle_now, taken}
 use Rattle.tp_session.proofs.session.Session.on_piece.Goals as goal
 

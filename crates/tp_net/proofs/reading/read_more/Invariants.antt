@@ -1,5 +1,5 @@
 use Rattle.tp_net.proofs.Common.{◌≡◌, length, Keeps}
-use Rattle.tp_net.proofs.reading.read_some.Given as goal
+use Rattle.tp_net.proofs.reading.read_more.Given as goal
 
 -- an interrupted read took nothing
 abbrev pub invariant-loop : goal.invariant-loop
