@@ -191,6 +191,7 @@ static void fuzz_edit(fuzzer *f, size_t document)
         keep_answer(f, handle, "tp_edit", len);
     } else {
         check(tp_len(handle) == before && tp_change_count(handle) == changes, "tp_edit", "a refusal changed the document");
+        check(len == 0 && tp_answer(handle, text, 1) == 0, "tp_edit", "a refusal has an answer");
     }
 }
 
@@ -326,7 +327,7 @@ static void fuzz_link(fuzzer *f, size_t document)
     tp_handle *handle = &f->documents[document];
     size_t link = 77, len = 77;
     if (f->links[document] < LINKS && below(2)) {
-        if (STATUS("tp_link", tp_link(handle, &link), 109) == 0)
+        if (STATUS("tp_link", tp_link(handle, &link)) == 0)
             check(link == f->links[document]++, "tp_link", "another number");
         return;
     }

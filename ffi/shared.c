@@ -180,6 +180,32 @@ static void print_damage(const char *path, const char *copy, size_t place)
     free(after);
 }
 
+/* The calls of a handle in memory take one of a file, and a session goes between both. */
+static void print_both(tp_shared *shared)
+{
+    static const uint8_t CHLOE[16] = {4};
+    tp_handle memory;
+    size_t len, link;
+    must(tp_save(shared, &len), "save");
+    uint8_t *saved = answer(shared, len);
+    must(tp_open(&memory.at), "open in memory");
+    must(tp_load(&memory, saved, len), "load");
+    free(saved);
+    must(tp_edit(&memory, CHLOE, tp_len(&memory), 0, "!", 1, 0, NULL, 0, NULL), "edit in memory");
+    meet(&memory, shared);
+    print_text(shared);
+    edit(shared, 0, 1, "");
+    must(tp_merge(&memory, shared), "merge");
+    print_heads(&memory, shared);
+    must(tp_link(shared, &link), "link");
+    must(tp_generate(shared, link, &len), "generate");
+    printf("link %u, a message is there: %u\n", (unsigned)link, len != 0);
+    while (tp_link(&memory, &link) == 0)
+        continue;
+    printf("%u links\n", (unsigned)link + 1);
+    tp_free(memory);
+}
+
 int main(int count, char **arguments)
 {
     const char *folder = count > 1 ? arguments[1] : ".";
@@ -206,6 +232,7 @@ int main(int count, char **arguments)
     must(tp_shared_open(first, strlen(first), LATER, &ann.at), "open");
     print_text(&ann);
     printf("%u changes\n", (unsigned)tp_shared_change_count(&ann));
+    print_both(&ann);
     tp_shared_close(ann);
     free(first);
     free(second);

@@ -540,9 +540,9 @@ class Network(Folder):
 
     def test_a_byte_now_and_then(self):
         def drip(connection):
-            for byte in bytes.fromhex("01000000" "01") + bytes(1000):
+            for byte in HELLO:
                 connection.sendall(bytes([byte]))
-                time.sleep(0.02)
+                time.sleep(0.05)
 
         stranger = Stranger(drip)
         start = time.monotonic()

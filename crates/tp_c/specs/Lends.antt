@@ -3,7 +3,7 @@ use base.Fml.{Fml}
 use denote.Ref.{MutBor}
 use denote.Follow.{follows}
 use Rattle.tp_editor.specs.EditorState.{EditorState}
-use Rattle.tp_editor.specs.contracts.editor.Editor.{the_row as editor_row}
+use Rattle.tp_c.specs.Owned.{editor_row}
 use Rattle.tp_c.specs.declared.handle.Handle.{Handle}
 use Rattle.tp_c.specs.contracts.handle.Handle.{the_row as handle_row}
 

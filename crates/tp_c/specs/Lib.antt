@@ -1,13 +1,11 @@
 pub mod Owned
 pub mod Lends
 pub mod Status
-pub mod Reading
 pub mod Flat
-pub mod EditMany
+pub mod Editing
+pub mod Reading
 pub mod Storing
+pub mod Opening
 pub mod Receiving
 pub mod Linking
-pub mod SharedOwned
-pub mod SharedLends
-pub mod SharedStatus
-pub mod SharedEditMany
+pub mod Meeting

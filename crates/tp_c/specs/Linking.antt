@@ -1,22 +1,22 @@
 -- What messages on a link do to an editor, by the status.
-use Rattle.std.specs.Prelude.{◌≡◌, ◌⊎◌, ℕ, ◌+◌, List, [], ◌∷◌, ◌++◌, length, Bool, true, false, Result, Ok, Err}
+use Rattle.std.specs.Prelude.{◌≡◌, ◌⊎◌, ℕ, ◌+◌, ◌<◌, ◌≤◌, List, length, Bool, true, false, Result, Ok, Err}
 use Rattle.tp_receive.specs.declared.intake.Applied.{Applied}
 use Rattle.tp_sync.specs.Gives.{FailsWith}
 use Rattle.tp_sync.specs.Message.{MessageParts}
 use Rattle.tp_sync.specs.Reading.{message_at}
-use Rattle.tp_sync.specs.State.{SyncParts, fresh}
 use Rattle.tp_sync.specs.SyncError as sync
 use Rattle.tp_sync.specs.declared.error.SyncError.{SyncError}
-use Rattle.tp_editor.specs.EditorState.{EditorState}
+use Rattle.tp_editor.specs.EditorState.{EditorState, KeepsAnswer, KeepsRest}
 use Rattle.tp_editor.specs.Exchanging.{Generates, Receives, RefusesGenerate, RefusesReceive}
 use Rattle.tp_editor.specs.declared.error.EditorError.{EditorError}
+use Rattle.tp_editor.specs.declared.hosting.TheConstants.{MOST_LINKS}
 use Rattle.tp_c.specs.Status.{editor_status}
 
--- A link was opened, and its number written; or a growth was refused, and nothing was done.
-abbrev pub Opens : List SyncParts → ℕ → ℕ → ℕ → List SyncParts → Type 0
-Opens links status i i' links' =
-    ((status ≡ 0) × (i' ≡ length links) × (links' ≡ links ++ fresh ∷ []))
-    ⊎ ((status ≡ 109) × (i' ≡ i) × (links' ≡ links))
+-- A link was opened, and its number written; or there are as many as an editor opens, and nothing was done.
+abbrev pub Opens : EditorState → ℕ → ℕ → ℕ → EditorState → Type 0
+Opens e status i i' e' =
+    ((status ≡ 0) × (e.links < MOST_LINKS) × (i' ≡ e.links) × (e' ≡ record e { links = e.links + 1 }))
+    ⊎ ((status ≡ 504) × (MOST_LINKS ≤ e.links) × (i' ≡ i) × (e' ≡ e))
 
 -- what making a message for a link answered
 abbrev pub HasMade : EditorState → ℕ → Result Bool EditorError → EditorState → Type 0
@@ -32,9 +32,10 @@ sent_len (Err refusal) answer = 0
 -- A message was asked for on the link, with this status and this length.
 pub record Asks (e : EditorState) (i status len : ℕ) (e' : EditorState) : Type 0 where
   pub answered : Result Bool EditorError
-  pub status_is : status ≡ editor_status answered
+  pub status_is : status ≡ editor_status 1 answered
   pub len_is : len ≡ sent_len answered e'.answer
   pub outcome : HasMade e i answered e'
+  pub rest : KeepsRest e e'
 
 -- what receiving a message on a link answered
 abbrev pub HasReceived : EditorState → ℕ → MessageParts → Result Applied EditorError → EditorState → Type 0
@@ -44,10 +45,9 @@ HasReceived e i m (Err refusal) e' = RefusesReceive e i m refusal e'
 -- The message was received on the link, with this status.
 pub record ReceivesMessage (e : EditorState) (i : ℕ) (m : MessageParts) (status : ℕ) (e' : EditorState) : Type 0 where
   pub answered : Result Applied EditorError
-  pub status_is : status ≡ editor_status answered
+  pub status_is : status ≡ editor_status 205 answered
   pub outcome : HasReceived e i m answered e'
-  pub id : e'.document.id ≡ e.document.id
-  pub answer : e'.answer ≡ e.answer
+  pub rest : KeepsAnswer e e'
 
 -- The bytes are no message, by their first fault, or a growth was refused while they were read; nothing was done.
 pub record IsNoMessage (e : EditorState) (bytes : List ℕ) (status : ℕ) (e' : EditorState) : Type 0 where

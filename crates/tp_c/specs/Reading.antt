@@ -3,17 +3,18 @@ use Rattle.std.specs.Prelude.{◌≡◌, ◌⊎◌, ℕ, ◌≤◌, List, length
 use Rattle.tp_opid.specs.declared.op_id.OpId.{OpId}
 use Rattle.tp_change.specs.declared.parts.ChangeParts.{ChangeParts}
 use Rattle.tp_document.specs.Showing.{HasElementAt, HasPosition}
-use Rattle.tp_editor.specs.EditorState.{EditorState, IsChangeAt}
+use Rattle.tp_editor.specs.EditorState.{EditorState, IsChangeAt, KeepsRest}
 use Rattle.tp_c.specs.declared.cursors.Element.{Element}
 
 -- Only the answer may be another one, and where the call was refused that is as it was too. The length is the answer's.
 pub record OnlyAnswers (e : EditorState) (status len : ℕ) (e' : EditorState) : Type 0 where
-  pub document : e'.document ≡ e.document
-  pub links : e'.links ≡ e.links
+  pub peer : e'.peer ≡ e.peer
+  pub rest : KeepsRest e e'
   pub same : (status ≡ 0 → ⊥) → e'.answer ≡ e.answer
   pub tells : len ≡ length e'.answer
 
--- The bytes of the change with this number were asked for: they are the answer, or there is none, or a growth was refused.
+-- The bytes of the change with this number were asked for: they are the answer, or there is none, or a growth was
+-- refused.
 abbrev pub AnswersChange : List ChangeParts → ℕ → ℕ → List ℕ → Type 0
 AnswersChange C place status bytes =
     ((status ≡ 0) × IsChangeAt C place bytes)
@@ -34,3 +35,14 @@ abbrev pub Locates : List ChangeParts → Element → ℕ → ℕ → ℕ → Ty
 Locates C x status at at' =
     ((status ≡ 0) × HasPosition C (id_of x) (Some at'))
     ⊎ ((status ≡ 106) × HasPosition C (id_of x) None × (at' ≡ at))
+
+-- the element of these parts
+abbrev pub of_parts : ℕ → List ℕ → Element
+of_parts counter actor = record { counter = counter; actor = actor }
+
+-- the same, where the element is written and given in parts
+abbrev pub FindsParts : List ChangeParts → ℕ → ℕ → ℕ → List ℕ → ℕ → List ℕ → Type 0
+FindsParts C at status counter actor counter' actor' = Finds C at status (of_parts counter actor) (of_parts counter' actor')
+
+abbrev pub LocatesParts : List ChangeParts → ℕ → List ℕ → ℕ → ℕ → ℕ → Type 0
+LocatesParts C counter actor status at at' = Locates C (of_parts counter actor) status at at'

@@ -17,11 +17,11 @@ pub struct Element {
     pub actor: [u8; 16],
 }
 
-/// Writes the visible element at a position of the text, from 0, to `element`. Answers 101 where the text ends before it:
-/// nothing is written then.
+/// Writes the visible element at a position of the text, from 0, to `element`. Answers 101 where the text ends before
+/// it: nothing is written then.
 #[unsafe(no_mangle)]
 pub extern "C" fn tp_cursor(handle: &mut Handle, at: usize, element: &mut Element) -> u32
-    ensures found { Finds handle.old.editor.document.applied at result element.old element.new }
+    ensures found { Finds handle.old.editor.peer.applied at result element.old element.new }
     ensures same { handle.new.editor ≡ handle.old.editor }
 {
     match handle.editor_mut().cursor(at) {
@@ -41,7 +41,7 @@ pub extern "C" fn tp_cursor(handle: &mut Handle, at: usize, element: &mut Elemen
 /// where the document hasn't the element: nothing is written then.
 #[unsafe(no_mangle)]
 pub extern "C" fn tp_cursor_position(handle: &mut Handle, element: &Element, at: &mut usize) -> u32
-    ensures found { Locates handle.old.editor.document.applied element.now result at.old at.new }
+    ensures found { Locates handle.old.editor.peer.applied element.now result at.old at.new }
     ensures same { handle.new.editor ≡ handle.old.editor }
 {
     let cursor = Cursor {

@@ -8,11 +8,12 @@ use crate::loose::Loose;
 use std::alloc::Global;
 use std::marker::Model;
 use tp_editor::Editor;
+use tp_journal::OptionalJournal;
 
 /// An editor as C holds it: its address, which C neither reads nor changes.
 ///
-/// Contracts see the editor at the address. It lies in a block of the C library's heap, which [`tp_free`](crate::tp_free)
-/// gives back.
+/// Contracts see the editor at the address. It lies in a block of the C library's heap, which
+/// [`tp_free`](crate::tp_free) gives back.
 #[repr(C)]
 pub struct Handle {
     pub(crate) at: *mut u8,
@@ -26,20 +27,14 @@ impl Model for Handle {
     ghost also_owns = { λ h. owned h.alloc h.at h.editor };
 }
 
-// The address of the editor, which is the caller's from now on.
-pub(crate) fn address_of(loose: Loose<Editor, Global>) -> *mut u8 {
-    let Loose { at, alloc: _ } = loose;
-    at as *mut u8
-}
-
 impl Handle {
     // The editor's box as its pointer.
-    pub(crate) fn into_loose(self, alloc: Global) -> Loose<Editor, Global>
+    pub(crate) fn into_loose(self, alloc: Global) -> Loose<Editor<OptionalJournal>, Global>
         ensures { result.value ≡ self.editor }
     {
         let Handle { at } = self;
         Loose {
-            at: at as *mut Editor,
+            at: at as *mut Editor<OptionalJournal>,
             alloc,
         }
     }

@@ -1,6 +1,7 @@
-//! What is read of a document.
+//! What is read of a document, and of the last answer.
 
-ghost use Rattle.std.specs.Prelude.{◌≡◌, length};
+ghost use Rattle.std.specs.Prelude.{◌≡◌, ◌++◌, length, min, take, drop};
+ghost use Rattle.tp_document.specs.Common.{chars, IsTextOf};
 ghost use Rattle.tp_document.specs.Showing.{HasLength};
 ghost use Rattle.tp_graph.specs.Heads as head;
 ghost use Rattle.tp_editor.specs.EditorState.{hash_bytes};
@@ -8,12 +9,12 @@ ghost use Rattle.tp_c.specs.Reading.{AnswersChange, OnlyAnswers};
 ghost use Rattle.tp_c.specs.Status.{IsDoneUnless};
 
 use crate::handle::Handle;
-use crate::status::{doc_status, editor_status};
+use crate::status::{OUT_OF_MEMORY, doc_status, editor_status};
 
 /// Writes the identifier of the document to `id`.
 #[unsafe(no_mangle)]
 pub extern "C" fn tp_id(handle: &mut Handle, id: &mut [u8; 16])
-    ensures id { id.new ≡ handle.old.editor.document.id.0 }
+    ensures id { id.new ≡ handle.old.editor.peer.id.0 }
     ensures same { handle.new.editor ≡ handle.old.editor }
 {
     let bytes = handle.editor_mut().id().0;
@@ -23,18 +24,33 @@ pub extern "C" fn tp_id(handle: &mut Handle, id: &mut [u8; 16])
 /// How many characters (Unicode scalar values) the text has.
 #[unsafe(no_mangle)]
 pub extern "C" fn tp_len(handle: &mut Handle) -> usize
-    ensures len { HasLength handle.old.editor.document.applied result }
+    ensures len { HasLength handle.old.editor.peer.applied result }
     ensures same { handle.new.editor ≡ handle.old.editor }
 {
     handle.editor_mut().len()
 }
 
-/// The answer is the hashes of the heads, 32 bytes each, rising; its length is written to `len`. Answers 109 where a growth
-/// was refused, which leaves the answer.
+/// The answer is the text as UTF-8; its length is written to `len`. Answers 109 where a growth was refused, which
+/// leaves the answer.
+#[unsafe(no_mangle)]
+pub extern "C" fn tp_text(handle: &mut Handle, len: &mut usize) -> u32
+    ensures text { result ≡ 0
+        → IsTextOf handle.old.editor.peer.applied (chars handle.new.editor.answer) }
+    ensures err { IsDoneUnless 109 result }
+    ensures around { OnlyAnswers handle.old.editor result len.new handle.new.editor }
+{
+    let editor = handle.editor_mut();
+    let answered = editor.text();
+    *len = editor.answer().len();
+    doc_status(&answered)
+}
+
+/// The answer is the hashes of the heads, 32 bytes each, rising; its length is written to `len`. Answers 109 where a
+/// growth was refused, which leaves the answer.
 #[unsafe(no_mangle)]
 pub extern "C" fn tp_heads(handle: &mut Handle, len: &mut usize) -> u32
     ensures heads { result ≡ 0 → handle.new.editor.answer
-        ≡ hash_bytes (head.heads handle.old.editor.document.applied) }
+        ≡ hash_bytes (head.heads handle.old.editor.peer.applied) }
     ensures err { IsDoneUnless 109 result }
     ensures around { OnlyAnswers handle.old.editor result len.new handle.new.editor }
 {
@@ -47,22 +63,44 @@ pub extern "C" fn tp_heads(handle: &mut Handle, len: &mut usize) -> u32
 /// How many changes are applied.
 #[unsafe(no_mangle)]
 pub extern "C" fn tp_change_count(handle: &mut Handle) -> usize
-    ensures count { result ≡ length handle.old.editor.document.applied }
+    ensures count { result ≡ length handle.old.editor.peer.applied }
     ensures same { handle.new.editor ≡ handle.old.editor }
 {
     handle.editor_mut().change_count()
 }
 
-/// The answer is the bytes of the applied change with this number, from 0 in the order in which they entered; its length is
-/// written to `len`. Answers 3 where there are fewer, and 1 where a growth was refused; both leave the answer.
+/// The answer is the bytes of the applied change with this number, from 0 in the order in which they entered; its
+/// length is written to `len`. Answers 3 where there are fewer, and 1 where a growth was refused; both leave the
+/// answer.
 #[unsafe(no_mangle)]
-pub extern "C" fn tp_change_at(handle: &mut Handle, place: usize, len: &mut usize) -> u32
-    ensures bytes { AnswersChange handle.old.editor.document.applied place result
+pub extern "C" fn tp_change_at(handle: &mut Handle, number: usize, len: &mut usize) -> u32
+    ensures bytes { AnswersChange handle.old.editor.peer.applied number result
         handle.new.editor.answer }
     ensures around { OnlyAnswers handle.old.editor result len.new handle.new.editor }
 {
     let editor = handle.editor_mut();
-    let answered = editor.change(place);
+    let answered = editor.change(number);
     *len = editor.answer().len();
-    editor_status(&answered)
+    editor_status(&answered, OUT_OF_MEMORY)
+}
+
+// Copies as many bytes as there are in both to the beginning of `out`.
+fn copy_to(out: &mut [u8], bytes: &[u8]) -> usize
+    ensures count { result ≡ min (length out.old) (length bytes.now) }
+    ensures bytes { out.new ≡ take result bytes.now ++ drop result out.old }
+{
+    let count = out.len().min(bytes.len());
+    out[..count].copy_from_slice(&bytes[..count]);
+    count
+}
+
+/// Copies the last answer to `out`, as much of it as `out` has room for, and tells how many bytes these are. The answer
+/// stays.
+#[unsafe(no_mangle)]
+pub extern "C" fn tp_answer(handle: &mut Handle, out: &mut [u8]) -> usize
+    ensures count { result ≡ min (length out.old) (length handle.old.editor.answer) }
+    ensures bytes { out.new ≡ take result handle.old.editor.answer ++ drop result out.old }
+    ensures same { handle.new.editor ≡ handle.old.editor }
+{
+    copy_to(out, handle.editor_mut().answer())
 }

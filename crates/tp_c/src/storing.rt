@@ -10,22 +10,23 @@ use crate::handle::Handle;
 use crate::status::store_status;
 use std::alloc::Global;
 use tp_editor::Editor;
-use tp_opid::DocId;
+use tp_opid::{Actor, DocId};
 
-/// Puts a document with this identifier and no changes in the place of the handle's, whose links and answer are gone then.
+/// Puts a document with this identifier and no changes, in memory alone, in the place of the handle's. Its links, its
+/// session and its answer are gone then, and a journal in a file is closed. The actor is one of zeros.
 #[unsafe(no_mangle)]
 pub extern "C" fn tp_new(alloc: Global, handle: &mut Handle, id: &[u8; 16])
     ensures { IsBlank id.now handle.new.editor }
 {
-    *handle.editor_mut() = Editor::new(alloc, DocId(*id));
+    *handle.editor_mut() = Editor::new(alloc, DocId(*id), Actor([0; 16]));
 }
 
-/// The answer is the saved file of the document; its length is written to `len`. Changes that wait aren't saved. Answers 307
-/// where a growth was refused, which leaves the answer.
+/// The answer is the saved file of the document; its length is written to `len`. Changes that wait aren't saved.
+/// Answers 307 where a growth was refused, which leaves the answer.
 #[unsafe(no_mangle)]
 pub extern "C" fn tp_save(handle: &mut Handle, len: &mut usize) -> u32
     ensures bytes { result ≡ 0 → IsSaved handle.new.editor.answer
-        handle.old.editor.document.id handle.old.editor.document.applied }
+        handle.old.editor.peer.id handle.old.editor.peer.applied }
     ensures err { IsDoneUnless 307 result }
     ensures around { OnlyAnswers handle.old.editor result len.new handle.new.editor }
 {
@@ -35,8 +36,9 @@ pub extern "C" fn tp_save(handle: &mut Handle, len: &mut usize) -> u32
     store_status(&answered)
 }
 
-/// Puts the document whose saved file the bytes are in the place of the handle's; the links are gone then. Answers 300 and
-/// the number of the refusal where they are none, and then all is as it was.
+/// Puts the document whose saved file the bytes are, in memory alone, in the place of the handle's; the links and the
+/// session are gone then, and a journal in a file is closed. Answers 300 and the number of the refusal where they are
+/// none, and then all is as it was.
 #[unsafe(no_mangle)]
 pub extern "C" fn tp_load(handle: &mut Handle, bytes: &[u8]) -> u32
     ensures { Loads handle.old.editor bytes.now result handle.new.editor }

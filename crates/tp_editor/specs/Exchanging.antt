@@ -1,71 +1,78 @@
--- What messages on a link do to an editor.
-use Rattle.std.specs.Prelude.{◌≡◌, ℕ, ◌<◌, ◌≤◌, List, length, slice_set, Bool, true, false, IsSomeAnd}
-use Rattle.tp_receive.specs.Outcome.{Outcome, Done, Stopped, ReceivesAlone, report_of}
+-- What changes of others, and messages on links, do to an editor.
+use Rattle.std.specs.Prelude.{◌≡◌, ◌⊎◌, ℕ, ◌<◌, ◌≤◌, [], ◌∷◌, Bool, true, false, Some, None, Result, Ok, Err}
+use Rattle.tp_change.specs.declared.parts.ChangeParts.{ChangeParts}
+use Rattle.tp_document.specs.declared.error.DocError.TheVariants as doc
+use Rattle.tp_peer.specs.PeerData.{PeerData}
+use Rattle.tp_peer.specs.PeerStep.{Forget, Generate, Generated, PeerStep, Receive, Received, Refused, Reply}
+use Rattle.tp_peer.specs.Taking.{report_of}
+use Rattle.tp_peer.specs.declared.error.PeerError.{PeerError}
+use Rattle.tp_peer.specs.declared.error.PeerError.TheVariants as peer
 use Rattle.tp_receive.specs.declared.intake.Applied.{Applied}
-use Rattle.tp_graph.specs.Heads as head
-use Rattle.tp_document.specs.Applying.{kept_by_none}
-use Rattle.tp_document.specs.DocState.{DocState}
-use Rattle.tp_sync.specs.Answer.{IsQuiet, Says}
+use Rattle.tp_sync.specs.declared.error.SyncError.TheVariants as sync
 use Rattle.tp_sync.specs.Message.{MessageParts}
 use Rattle.tp_sync.specs.Spelling.{message_spelling}
-use Rattle.tp_sync.specs.State.{SyncParts, heard}
-use Rattle.tp_sync.specs.SyncError.{receiving}
-use Rattle.tp_sync.specs.declared.error.SyncError.TheVariants as sync
-use Rattle.tp_sync.specs.declared.limits.TheConstants.{MAX_HASHES}
-use Rattle.tp_editor.specs.EditorState.{EditorState, Known}
+use Rattle.tp_editor.specs.EditorState.{EditorState}
 use Rattle.tp_editor.specs.declared.error.EditorError.{EditorError}
-use Rattle.tp_editor.specs.declared.error.EditorError.TheVariants.{OutOfMemory, NoLink, Sync}
+use Rattle.tp_editor.specs.declared.error.EditorError.TheVariants as refused
+use Rattle.tp_editor.specs.declared.hosting.TheConstants.{APPLYING}
 
--- why there is no copy of what is known on the link
-abbrev pub RefusesLink : List SyncParts → ℕ → EditorError → Type 0
-RefusesLink links i NoLink = length links ≤ i
-RefusesLink links i OutOfMemory = i < length links
-RefusesLink links i _ = ⊥
+-- ---- a single change
+
+-- The message has the change and nothing else.
+pub record HasOnly (m : MessageParts) (c : ChangeParts) : Type 0 where
+  pub changes : m.changes ≡ c ∷ []
+  pub heads : m.heads ≡ []
+  pub wants : m.wants ≡ []
+  pub known : m.known ≡ []
+
+-- the refusal of a message with a single change, as that of the change
+abbrev pub refusal_of_change : PeerError → PeerError
+refusal_of_change (peer.Sync sync.PendingFull) = peer.Doc doc.PendingFull
+refusal_of_change e = e
+
+-- what the message with a single change was replied, by what is answered for the change
+abbrev pub Tells : Result Applied PeerError → Reply → Type 0
+Tells (Ok applied) reply = (same_heads : Bool) × (reply ≡ Received (report_of applied) same_heads)
+Tells (Err e) reply = (why : PeerError) × (reply ≡ Refused why) × (e ≡ refusal_of_change why)
+
+-- The change came in a message of its own on the link for these, which was forgotten then.
+pub record ComesAlone (p : PeerData) (c : ChangeParts) (answered : Result Applied PeerError) (p' : PeerData) : Type 0 where
+  pub message : MessageParts
+  pub only : HasOnly message c
+  pub reply : Reply
+  pub tells : Tells answered reply
+  pub between : PeerData
+  pub receives : PeerStep p (Receive APPLYING (message_spelling message)) reply between
+  pub forgets : (then : Reply) × PeerStep between (Forget APPLYING) then p'
+
+-- what applying a change did: it came, or there was no memory for the message, and nothing was done
+abbrev pub TakesChange : PeerData → ChangeParts → Result Applied PeerError → PeerData → Type 0
+TakesChange p c answered p' = ComesAlone p c answered p' ⊎ ((answered ≡ Err peer.OutOfMemory) × (p' ≡ p))
+
+-- ---- messages on a link
 
 -- A message was made for the other of the link, whose bytes are the answer.
 pub record Sends (e : EditorState) (i : ℕ) (e' : EditorState) : Type 0 where
-  pub known : SyncParts
-  pub there : Known e.links i known
-  pub document : e'.document ≡ e.document
-  pub message : MessageParts
-  pub after : SyncParts
-  pub says : Says e.document.applied e.document.waiting known message after
-  pub links : e'.links ≡ slice_set e.links i after
-  pub answer : e'.answer ≡ message_spelling message
-
--- Nothing is to be said on the link.
-pub record IsSilent (e : EditorState) (i : ℕ) (e' : EditorState) : Type 0 where
-  pub known : SyncParts
-  pub there : Known e.links i known
-  pub quiet : IsQuiet e.document.applied known
-  pub same : e' ≡ e
+  pub again : Bool
+  pub step : PeerStep e.peer (Generate i) (Generated (Some (e'.answer, again))) e'.peer
 
 -- what generating did, by whether it made a message
 abbrev pub Generates : EditorState → ℕ → Bool → EditorState → Type 0
-Generates e i true e' = Sends e i e'
-Generates e i false e' = IsSilent e i e'
+Generates e i true e' = (i < e.links) × Sends e i e'
+Generates e i false e' = (i < e.links) × PeerStep e.peer (Generate i) (Generated None) e'.peer × (e'.answer ≡ e.answer)
 
--- Why no message was made; the editor is as it was.
+-- why no message was made
 abbrev pub RefusesGenerate : EditorState → ℕ → EditorError → EditorState → Type 0
-RefusesGenerate e i NoLink e' = (length e.links ≤ i) × (e' ≡ e)
-RefusesGenerate e i OutOfMemory e' = (i < length e.links) × (e' ≡ e)
-RefusesGenerate e i (Sync s) e' = (i < length e.links) × (s ≡ sync.TooManyHeads) × (MAX_HASHES < length (head.heads e.document.applied)) × (e' ≡ e)
+RefusesGenerate e i refused.NoLink e' = (e.links ≤ i) × (e' ≡ e)
+RefusesGenerate e i (refused.Peer error) e' = (i < e.links) × PeerStep e.peer (Generate i) (Refused error) e'.peer × (e'.answer ≡ e.answer)
 RefusesGenerate e i _ e' = ⊥
 
--- The changes of the message were received by the document, with that outcome.
-abbrev pub TakesChanges : DocState → MessageParts → Outcome → DocState → Type 0
-TakesChanges d m outcome d' = ReceivesAlone (kept_by_none d) m.changes (kept_by_none d') outcome
-
 -- The message was received on the link, as is reported.
-pub record Receives (e : EditorState) (i : ℕ) (m : MessageParts) (applied : Applied) (e' : EditorState) : Type 0 where
-  pub known : SyncParts
-  pub there : Known e.links i known
-  pub changes : TakesChanges e.document m (Done (report_of applied)) e'.document
-  pub links : e'.links ≡ slice_set e.links i (heard known m)
+abbrev pub Receives : EditorState → ℕ → MessageParts → Applied → EditorState → Type 0
+Receives e i m applied e' = (i < e.links) × (same_heads : Bool) × PeerStep e.peer (Receive i (message_spelling m)) (Received (report_of applied) same_heads) e'.peer
 
--- Why the message wasn't received, or not to its end; what is known on the links is as it was.
+-- why the message wasn't received, or not to its end
 abbrev pub RefusesReceive : EditorState → ℕ → MessageParts → EditorError → EditorState → Type 0
-RefusesReceive e i m NoLink e' = (length e.links ≤ i) × (e' ≡ e)
-RefusesReceive e i m OutOfMemory e' = (i < length e.links) × (e' ≡ e)
-RefusesReceive e i m (Sync s) e' = (i < length e.links) × IsSomeAnd (receiving s) (λ why. TakesChanges e.document m (Stopped why) e'.document) × (e'.links ≡ e.links)
+RefusesReceive e i m refused.NoLink e' = (e.links ≤ i) × (e' ≡ e)
+RefusesReceive e i m (refused.Peer error) e' = (i < e.links) × PeerStep e.peer (Receive i (message_spelling m)) (Refused error) e'.peer
 RefusesReceive e i m _ e' = ⊥

@@ -1,3 +1,4 @@
 pub mod EditorState
-pub mod EditorError
 pub mod Exchanging
+pub mod Meeting
+pub mod Opening

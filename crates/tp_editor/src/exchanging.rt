@@ -1,63 +1,57 @@
-//! Changes and messages of others.
+//! Changes of others.
 
-ghost use Rattle.std.specs.Prelude.{◌≡◌, ◌∷◌, ◌++◌, [], false, length, IfOk, OnErr, IsOkUnless};
-ghost use Rattle.tp_document.specs.Common.{Sound};
-ghost use Rattle.tp_document.specs.Applying.{HasMergeOutcome, kept_by_none};
-ghost use Rattle.tp_document.specs.DocError.{receiving};
-ghost use Rattle.tp_document.specs.Merging as merging;
-ghost use Rattle.tp_document.specs.declared.error.DocError.TheVariants.{OutOfMemory};
-ghost use Rattle.tp_receive.specs.Delivery as delivery;
-ghost use Rattle.tp_receive.specs.Outcome.{HasOutcome, ReceivesAlone};
-ghost use Rattle.tp_sync.specs.State.{fresh};
+ghost use Rattle.std.specs.Prelude.{◌≡◌};
+ghost use Rattle.tp_peer.specs.PeerStep.{PeerStep, Merge, Merged, replied};
+ghost use Rattle.tp_peer.specs.Taking.{report_of};
+ghost use Rattle.tp_editor.specs.EditorState.{KeepsAnswer};
+ghost use Rattle.tp_editor.specs.Exchanging.{TakesChange, refusal_of_change};
 
 use crate::editor::Editor;
+use crate::hosting::APPLYING;
 use tp_change::Change;
 use tp_document::{Applied, DocError};
-use tp_sync::SyncState;
+use tp_journal::Journal;
+use tp_peer::{Link, PeerError};
+use tp_sync::{Message, SyncError};
 
-impl Editor {
-    /// Receives changes in any order, as [`Document::apply`](tp_document::Document::apply) does and with its refusals.
-    pub fn apply(&mut self, changes: Vec<Change>) -> Result<Applied, DocError>
-        ensures id { self.new.document.id ≡ self.old.document.id }
-        ensures sound { Sound self.old.document.applied }
-        ensures outcome { HasOutcome receiving result (ReceivesAlone
-            (kept_by_none self.old.document) changes.items (kept_by_none self.new.document)) }
-        ensures links { self.new.links ≡ self.old.links }
-        ensures answer { self.new.answer ≡ self.old.answer }
+// The refusal of a message with one change, as that of the change.
+fn of_change(error: PeerError) -> PeerError
+    ensures { result ≡ refusal_of_change error }
+{
+    match error {
+        PeerError::Sync(SyncError::PendingFull) => PeerError::Doc(DocError::PendingFull),
+        error => error,
+    }
+}
+
+impl<J: Journal> Editor<J> {
+    /// Receives a change: it enters, waits for what it depends on, or is refused for good, as one that is there
+    /// already. It is received as a message with nothing else, on a link of its own that is forgotten behind it, and
+    /// with the refusals of [`Peer::receive_message`](tp_peer::Peer::receive_message), but `PendingFull` of the
+    /// document for that of the message. In a file it is on the disk with the next edit or message.
+    pub fn apply(&mut self, change: Change) -> Result<Applied, PeerError>
+        ensures done { TakesChange self.old.peer change result self.new.peer }
+        ensures rest { KeepsAnswer self.old self.new }
     {
-        self.document.apply(changes)
+        let message = match Message::of_change(self.alloc, change) {
+            Ok(message) => message,
+            Err(_) => return Err(PeerError::OutOfMemory),
+        };
+        let received = self.host.peer.receive_message(Link(APPLYING), message);
+        let _ = self.host.peer.forget_link(Link(APPLYING));
+        match received {
+            Ok(received) => Ok(received.applied),
+            Err(error) => Err(of_change(error)),
+        }
     }
 
-    /// Receives the other's applied changes that are absent here, as [`Document::merge`](tp_document::Document::merge) does
-    /// and with its refusals.
-    pub fn merge(&mut self, other: &Editor) -> Result<Applied, DocError>
-        ensures id { self.new.document.id ≡ self.old.document.id }
-        ensures sound { Sound self.old.document.applied }
-        ensures space { delivery.is_full self.old.document.applied self.old.document.waiting
-            (merging.absent self.old.document.applied other.now.document.applied) ≡ false }
-        ensures outcome { HasMergeOutcome self.old.document.id other.now.document.id
-            (kept_by_none self.old.document) (kept_by_none self.new.document) result
-            (ReceivesAlone (kept_by_none self.old.document)
-            (merging.absent self.old.document.applied other.now.document.applied)
-            (kept_by_none self.new.document)) }
-        ensures links { self.new.links ≡ self.old.links }
-        ensures answer { self.new.answer ≡ self.old.answer }
+    /// Receives the other editor's applied changes that are absent here, as [`Peer::merge`](tp_peer::Peer::merge) does
+    /// and with its refusals. In a file they are on the disk with the next edit or message.
+    pub fn merge<K: Journal>(&mut self, other: &Editor<K>) -> Result<Applied, PeerError>
+        ensures step { PeerStep self.old.peer (Merge other.now.peer)
+            (replied (λ a. Merged (report_of a)) result) self.new.peer }
+        ensures rest { KeepsAnswer self.old self.new }
     {
-        self.document.merge(&other.document)
-    }
-
-    /// Opens a link to another peer, of which nothing is known yet. Answers its number, from 0 in the order in which links
-    /// were opened. The only refusal is `OutOfMemory`, which changes nothing.
-    pub fn open_link(&mut self) -> Result<usize, DocError>
-        ensures opened { IfOk result (λ i. (i ≡ length self.old.links)
-            × (self.new.links ≡ self.old.links ++ fresh ∷ [])) }
-        ensures err { IsOkUnless result OutOfMemory }
-        ensures same { OnErr result (self.new.links ≡ self.old.links) }
-        ensures document { self.new.document ≡ self.old.document }
-        ensures answer { self.new.answer ≡ self.old.answer }
-    {
-        let link = self.links.len();
-        self.links.push(SyncState::new(self.alloc))?;
-        Ok(link)
+        self.host.peer.merge(&other.host.peer)
     }
 }

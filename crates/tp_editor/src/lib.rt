@@ -1,15 +1,23 @@
-//! What an editor holds: a document with what is known on its links to others, and the bytes of its last answer.
+//! What an editor holds of a text: a peer on its journal, links to others, one session at a time by bytes, and the
+//! bytes of its last answer.
 //!
-//! It is the document of the layers below for a host that takes bytes and numbers alone. Each call has the clauses of the
-//! layer's call whole. A call whose result is bytes keeps them as the answer, until the next such call.
+//! It is for a host that takes bytes and numbers alone and has an event loop of its own: no call waits for another
+//! side. Its journal is in a file, where each change is on the disk before the call that made it is done and before a
+//! session answers for it; or its changes are in memory alone. A call whose result is bytes keeps them as the answer,
+//! until the next such call.
 #![tactic(auto)]
 
+mod conversing;
 mod editing;
 mod editor;
 mod error;
 mod exchanging;
+mod hosting;
 mod linking;
-mod storing;
+mod meeting;
+mod opening;
+mod reading;
 
 pub use editor::Editor;
-pub use error::EditorError;
+pub use error::{EditorError, EditorOpenError};
+pub use hosting::{APPLYING, MOST_LINKS, SESSION};

@@ -1,86 +1,73 @@
-//! Messages on a link.
+//! Links to other peers, and messages on them.
 
-ghost use Rattle.std.specs.Prelude.{◌≡◌, ◌<◌, length, slice_set, IfOk, IfErr};
-ghost use Rattle.tp_editor.specs.EditorState.{Known};
-ghost use Rattle.tp_editor.specs.Exchanging.{RefusesLink, Generates, RefusesGenerate, Receives, RefusesReceive};
+ghost use Rattle.std.specs.Prelude.{◌≡◌, ◌↔◌, ◌+◌, ◌≤◌, Err, IfOk, IfErr, OnErr, IsOkUnless};
+ghost use Rattle.tp_peer.specs.declared.error.PeerError.TheVariants.{TooManyLinks};
+ghost use Rattle.tp_editor.specs.EditorState.{KeepsAnswer, KeepsRest};
+ghost use Rattle.tp_editor.specs.Exchanging.{Generates, Receives, RefusesGenerate, RefusesReceive};
 
 use crate::editor::Editor;
 use crate::error::EditorError;
+use crate::hosting::MOST_LINKS;
 use tp_document::Applied;
-use tp_sync::{Message, SyncError, SyncState, generate_bytes, receive};
+use tp_journal::Journal;
+use tp_peer::{Link, PeerError};
+use tp_sync::Message;
 
-impl Editor {
-    // The state of the link, copied.
-    fn state_of(&self, link: usize) -> Result<SyncState, EditorError>
-        ensures ok { IfOk result (λ s. Known self.now.links link s) }
-        ensures err { IfErr result (λ e. RefusesLink self.now.links link e) }
+impl<J: Journal> Editor<J> {
+    /// Opens a link to another peer, of which nothing is known yet. Answers its number, from 0 in the order in which
+    /// links were opened. The only refusal is `TooManyLinks`, exactly where 1,022 were. No memory.
+    pub fn open_link(&mut self) -> Result<usize, PeerError>
+        ensures opened { IfOk result (λ i. (i ≡ self.old.links)
+            × (self.new ≡ record self.old { links = self.old.links + 1 })) }
+        ensures full { (result ≡ Err TooManyLinks) ↔ (MOST_LINKS ≤ self.old.links) }
+        ensures err { IsOkUnless result TooManyLinks }
+        ensures same { OnErr result (self.new ≡ self.old) }
     {
-        if link >= self.links.len() {
-            return Err(EditorError::NoLink);
+        if self.links >= MOST_LINKS {
+            return Err(PeerError::TooManyLinks);
         }
-        match self.links[link].copy(self.alloc) {
-            Ok(state) => Ok(state),
-            Err(_) => Err(EditorError::OutOfMemory),
-        }
+        let link = self.links;
+        self.links = link + 1;
+        Ok(link)
     }
 
-    // Keeps the bytes of a message as the answer, and the state on the link.
-    fn keep_sent(&mut self, link: usize, state: SyncState, bytes: Vec<u8>)
-        requires { link < length self.old.links }
-        ensures { self.new ≡ record self.old {
-          links = slice_set self.old.links link state;
-          answer = bytes.items;
-        } }
-    {
-        self.answer = bytes;
-        self.links[link] = state;
-    }
-
-    /// Makes the next message to the other of the link, as [`generate_bytes`] does, and keeps its bytes as the answer. Answers
-    /// whether there is one. Where nothing is to be said nothing changes.
+    /// Makes the next message to the other of the link, as [`Peer::generate_bytes`](tp_peer::Peer::generate_bytes) does
+    /// and with its refusals, and keeps its bytes as the answer. Answers whether there is one. Where nothing is to be
+    /// said the answer stays.
     ///
-    /// `NoLink` where there is no such link; of `generate_bytes`'s refusals `TooManyHeads`; and `OutOfMemory`. A refusal leaves the
-    /// editor as it was.
+    /// `NoLink` where there is no such link. A refusal leaves the answer.
     pub fn generate(&mut self, link: usize) -> Result<bool, EditorError>
         ensures ok { IfOk result (λ made. Generates self.old link made self.new) }
         ensures err { IfErr result (λ e. RefusesGenerate self.old link e self.new) }
+        ensures rest { KeepsRest self.old self.new }
     {
-        let mut state = match self.state_of(link) {
-            Ok(state) => state,
-            Err(error) => return Err(error),
-        };
-        match generate_bytes(self.alloc, &self.document, &mut state) {
-            Ok(Some(bytes)) => {
-                self.keep_sent(link, state, bytes);
+        if link >= self.links {
+            return Err(EditorError::NoLink);
+        }
+        match self.host.peer.generate_bytes(Link(link as u64)) {
+            Ok(Some(sent)) => {
+                self.answer = sent.bytes;
                 Ok(true)
             }
             Ok(None) => Ok(false),
-            Err(SyncError::TooManyHeads) => Err(EditorError::Sync(SyncError::TooManyHeads)),
-            Err(_) => Err(EditorError::OutOfMemory),
+            Err(error) => Err(EditorError::Peer(error)),
         }
     }
 
-    /// Receives a message of the other of the link, as [`receive`] does.
-    ///
-    /// `NoLink` where there is no such link, and `OutOfMemory`, which leave the editor as it was; and the refusals of
-    /// `receive`, which leave it as they do there.
+    /// Receives a message of the other of the link, as [`Peer::receive_message`](tp_peer::Peer::receive_message) does
+    /// and with its refusals. `NoLink` where there is no such link.
     pub fn receive(&mut self, link: usize, message: Message) -> Result<Applied, EditorError>
-        ensures id { self.new.document.id ≡ self.old.document.id }
         ensures ok { IfOk result
             (λ applied. Receives self.old link message applied self.new) }
         ensures err { IfErr result (λ e. RefusesReceive self.old link message e self.new) }
-        ensures answer { self.new.answer ≡ self.old.answer }
+        ensures rest { KeepsAnswer self.old self.new }
     {
-        let mut state = match self.state_of(link) {
-            Ok(state) => state,
-            Err(error) => return Err(error),
-        };
-        match receive(&mut self.document, &mut state, message) {
-            Ok(applied) => {
-                self.links[link] = state;
-                Ok(applied)
-            }
-            Err(error) => Err(EditorError::Sync(error)),
+        if link >= self.links {
+            return Err(EditorError::NoLink);
+        }
+        match self.host.peer.receive_message(Link(link as u64), message) {
+            Ok(received) => Ok(received.applied),
+            Err(error) => Err(EditorError::Peer(error)),
         }
     }
 }

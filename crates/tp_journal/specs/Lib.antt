@@ -3,6 +3,7 @@ pub mod Reading
 pub mod Recovery
 pub mod Refusals
 pub mod Whole
+pub mod Optional
 pub mod Pieces
 pub mod Laws
 pub mod Journal

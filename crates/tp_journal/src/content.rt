@@ -2,8 +2,11 @@
 
 ghost use Rattle.std.specs.Prelude.{◌≡◌, List, ℕ, [], ◌++◌, take};
 ghost use Rattle.std.specs.Borrow.{ftrue};
+ghost use Rattle.tp_journal.specs.Layout.{journal};
 
 use std::marker::Model;
+use tp_change::Change;
+use tp_opid::DocId;
 
 /// Bytes that contracts see and that no memory holds. It takes none, and its functions do nothing at run time: what is
 /// said of it is tied to what is held by the invariant of whoever has it.
@@ -44,6 +47,13 @@ impl Content {
     /// So many of the bytes before, from the first on.
     pub(crate) fn first(_before: &Content, _len: &u64) -> Content
         ensures { result.bytes ≡ take _len.now _before.now.bytes }
+    {
+        Content {}
+    }
+
+    /// Those of the journal of a document with the identifier and the changes.
+    pub(crate) fn journal(_id: &DocId, _changes: &[Change]) -> Content
+        ensures { result.bytes ≡ journal _id.now _changes.now }
     {
         Content {}
     }

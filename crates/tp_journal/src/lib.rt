@@ -18,12 +18,15 @@ mod laws;
 mod layout;
 mod lock;
 mod memory;
+mod null;
 mod opening;
+mod optional;
 mod pieces;
 mod read;
 mod reading;
 mod recovering;
 mod rescuing;
+mod system;
 mod writing;
 
 pub use durable::DurableJournal;
@@ -38,9 +41,12 @@ pub use laws::{
 pub use layout::{DIGEST_BYTES, HEADER_BYTES, MAGIC};
 pub use lock::Lockable;
 pub use memory::MemJournal;
+pub use null::NullJournal;
 pub use opening::OpenError;
+pub use optional::OptionalJournal;
 pub use pieces::Recovering;
 pub use read::ReadJournal;
 pub use recovering::{Recovered, recover};
 pub use rescuing::{Inspection, WholeRecord, holds_record, inspect, rescue};
+pub use system::{SystemFile, SystemFiles};
 pub use writing::{header, put_record, record};

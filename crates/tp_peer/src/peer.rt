@@ -60,13 +60,9 @@ impl<J: Journal> Model for Peer<J> {
 }
 
 impl<J: Journal> Peer<J> {
-    /// A peer that runs, with no links, on a journal that is the document's.
-    pub(crate) fn new(
-        alloc: Global,
-        journal: J,
-        document: Document<PeerSequence>,
-        actor: Actor,
-    ) -> Peer<J>
+    /// A peer that runs, with no links, on a journal that is the document's, of which nothing waits. Each of its edits is its
+    /// actor's, of which a change may be there already. No memory.
+    pub fn new(alloc: Global, journal: J, document: Document<PeerSequence>, actor: Actor) -> Peer<J>
         requires kept { J.content journal ≡ journal_bytes document.id document.applied }
         requires waiting { document.waiting ≡ [] }
         ensures { result ≡ opened document.id actor document.applied (J.device journal) }
@@ -137,6 +133,14 @@ impl<J: Journal> Peer<J> {
         ensures { result ≡ self.now.actor }
     {
         self.actor
+    }
+
+    /// Makes the edits from now on those of another actor, of which a change may be there already. No two peers may edit under
+    /// one actor at a time.
+    pub fn set_actor(&mut self, actor: Actor)
+        ensures { self.new ≡ record self.old { actor = actor } }
+    {
+        self.actor = actor;
     }
 
     /// Whether the journal's device failed, since when the peer answers `Stopped`.

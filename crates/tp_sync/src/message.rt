@@ -1,9 +1,10 @@
 //! Messages.
 
-ghost use Rattle.std.specs.Prelude.{◌≡◌, ◌≤◌, length};
+ghost use Rattle.std.specs.Prelude.{◌≡◌, ◌≤◌, ◌∷◌, [], length, IfOk};
 ghost use Rattle.tp_sync.specs.Common.{AllByRecursion, IsRising, hash_cmp, IsHash, AllChanges};
 
 use crate::limits::{MAX_CHANGES, MAX_HASHES, MAX_KNOWN};
+use std::alloc::{AllocError, Global};
 use std::marker::Model;
 use tp_change::Change;
 use tp_list::array_len;
@@ -16,8 +17,8 @@ pub(crate) const VERSION: u8 = 2;
 /// changes that it sends. Automerge's sync messages have a filter in place of the few.
 ///
 /// It is within its limits: at most 65,535 heads, as many wants and 32 known changes, each strictly rising, and at most
-/// 1,024 changes. It has version 2, or version 1, which has no known changes. It is made by [`decode`](Message::decode) and
-/// by [`generate`](crate::generate) alone.
+/// 1,024 changes. It has version 2, or version 1, which has no known changes. It is made by [`decode`](Message::decode),
+/// by [`generate`](crate::generate) and by [`of_change`](Message::of_change) alone.
 #[derive(Drop)]
 pub struct Message {
     pub(crate) version: u8,
@@ -76,6 +77,19 @@ impl Message {
             known,
             changes,
         }
+    }
+
+    /// A message of version 2 with one change, and nothing else. The only refusal is of memory.
+    pub fn of_change(alloc: Global, change: Change) -> Result<Message, AllocError>
+        ensures version { IfOk result (λ m. m.version ≡ 2) }
+        ensures changes { IfOk result (λ m. m.changes ≡ change ∷ []) }
+        ensures none { IfOk result
+            (λ m. (m.heads ≡ []) × (m.wants ≡ []) × (m.known ≡ [])) }
+    {
+        let _hash = change.hash();
+        let mut changes = Vec::new(alloc);
+        changes.push(change)?;
+        Ok(Message::new(Vec::new(alloc), Vec::new(alloc), Vec::new(alloc), changes))
     }
 
     /// The version of its layout: 2, or 1 in a message that was read.

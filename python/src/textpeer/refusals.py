@@ -91,7 +91,7 @@ _WORDS: Dict[int, str] = {
     501: "the journal has a change of this actor: draw another one",
     502: "the journal's device failed in this call, and the editor has stopped: close it and open the file again",
     503: "the editor has stopped since its journal failed: close it and open the file again",
-    504: "there are 1,024 links",
+    504: "there are as many links as there may be",
     505: "the file has a journal or other bytes already",
     509: "memory was refused",
     602: "the other side sent bytes that are no frame, or a message of this side is too long for one",
@@ -273,7 +273,7 @@ class Stopped(Refused):
 
 
 class TooManyLinks(Refused):
-    """There are 1,024 links (504)."""
+    """There are as many links as there may be (504)."""
 
 
 class JournalNotEmpty(Refused):

@@ -28,8 +28,7 @@ use Rattle.std.proofs.raw_atomic.Walks.{proved}
 use Rattle.std.proofs.VecSteps.Shapes.{after}
 use Rattle.std.specs.contracts.impls.GlobalAllocator.TheImpl.{ghosts}
 use Rattle.tp_editor.specs.EditorState.{EditorState}
-use Rattle.tp_editor.specs.contracts.editor.Editor.{the_row as T}
-use Rattle.tp_c.specs.Owned.{owned}
+use Rattle.tp_c.specs.Owned.{owned, editor_row as T}
 use Rattle.tp_c.specs.Lends.{with_editor}
 use Rattle.tp_c.specs.declared.handle.Handle.{Handle}
 use Rattle.tp_c.specs.contracts.handle.Handle.{the_row as R, the_type as handle_type}

@@ -22,8 +22,8 @@ use Rattle.std.specs.contracts.alloc.Global as heap
 use Rattle.std.proofs.alloc.Global.TheLaws as heap_laws
 use Rattle.std.specs.contracts.impls.GlobalAllocator.TheImpl.{ghosts}
 use Rattle.std.proofs.raw_atomic.Walks.{proved_at, leaves}
+use Rattle.tp_c.specs.Owned.{editor_row}
 use Rattle.tp_c.proofs.Values.{both, single, Hand, hand_out, loose_good, loose_in}
-use Rattle.tp_editor.specs.contracts.editor.Editor as ed
 use Rattle.tp_c.specs.contracts.handle.Handle.into_loose.{ended, clauses}
 use Rattle.tp_c.specs.contracts.handle.Handle.into_loose.Key.{name as #self}
 use Rattle.tp_c.proofs.handle.Handle.into_loose.Statement.{statement}
@@ -32,7 +32,7 @@ use Rattle.tp_c.proofs.handle.Handle.into_loose.Code as code
 pub into_loose_spec : {M : Type 1} → statement M
 into_loose_spec 𝓤 𝓛 𝓜 𝓡 wired =
     let H = 𝓛.H in let 𝓣 = tables 𝓤 H 𝓜 𝓡 𝓡.env in let En = ended in let c = clauses 𝓛 𝓜.mem 𝓡.returns in let fn = code.function in
-    let R : RattleType = ed.the_row in let Z : RattleType = heap.the_row in let LZ = heap_laws.the_row_laws in
+    let R : RattleType = editor_row in let Z : RattleType = heap.the_row in let LZ = heap_laws.the_row_laws in
     let al : Al = record { row = Z; laws = LZ; g = ghosts; d = impl [] tnil dnil; drops = impl [] tnil dnil } in
     let hs : Stays En.signature.params En.kept = (stay_dropped (plain (λ _. Hand)) yes, (stay_dropped (plain (λ _. Z)) yes, tt)) in
     proved_at 𝓛 En hs c 𝓜 𝓡 (Goes-dropped 𝓛 0 (plain (λ _. Hand)) yes (λ κs x f. refl), (Goes-dropped 𝓛 0 (plain (λ _. Z)) yes (λ κs x f. refl), tt)) #self fn (code.unfolded 𝓤 H 𝓜 𝓡 wired) (λ z are.

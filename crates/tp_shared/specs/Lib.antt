@@ -1,4 +1,0 @@
-pub mod SharedState
-pub mod Conversation
-pub mod Opening
-pub mod Exchanging
