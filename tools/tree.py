@@ -1,10 +1,34 @@
-"""What the tools of this folder share: the crates of a tree, and libraries that are proved, for another tree."""
+"""What the tools of this folder share: the crates of a tree, libraries that are proved, for another tree, and the files of
+the release."""
 import fcntl
 import os
+import platform
 import shutil
 from pathlib import Path
 
 TOP = Path(__file__).resolve().parent.parent
+DIST = TOP / "dist"
+PLACE = Path(f"{platform.machine()}-{platform.system().lower()}")
+# What a tree has of the release once it was built there, each as a pattern that one file has.
+MADE = ["crates/textpeer/out/textpeer", "ffi/out/libtextpeer.a", "ffi/out/libtextpeer.so.0", "ffi/out/textpeer.h",
+        "ffi/out/textpeer.pc", "python/out/textpeer-*.whl"]
+
+
+def one_file(folder, pattern):
+    """The file of the folder that has the pattern; the pattern itself, which no file has, where there isn't just
+    one."""
+    found = list(folder.glob(pattern))
+    return found[0] if len(found) == 1 else folder / pattern
+
+
+def in_tree(tree):
+    """The files of the release in a tree that was built."""
+    return [one_file(tree, made) for made in MADE]
+
+
+def in_release():
+    """The files of the release."""
+    return [one_file(DIST / PLACE, Path(made).name) for made in MADE]
 
 
 def read_uses(tree):

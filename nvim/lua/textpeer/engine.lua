@@ -71,25 +71,29 @@ end
 
 local library
 
+local NAME = 'libtextpeer.so.0'
+
 -- Where the library is, unless it is told by $TEXTPEER_LIB or g:textpeer_library: in the plugin's clone, as `ffi/build` makes it,
--- or else in the release.
+-- or else in the release; where there is neither, as where the plugin is installed, the system finds it by its name.
 local function place()
-  local here = debug.getinfo(1, 'S').source:sub(2)
-  local top = vim.fn.fnamemodify(here, ':p:h:h:h:h')
-  local made = top .. '/ffi/out/libtextpeer.so.0'
   local told = vim.env.TEXTPEER_LIB or vim.g.textpeer_library
-  if told or vim.fn.filereadable(made) == 1 then
-    return told or made
+  if told then
+    return told
   end
-  local released = top .. '/dist/x86_64-linux/libtextpeer.so.0'
-  return vim.fn.filereadable(released) == 1 and released or made
+  local top = vim.fn.fnamemodify(debug.getinfo(1, 'S').source:sub(2), ':p:h:h:h:h')
+  for _, folder in ipairs({ '/ffi/out/', '/dist/x86_64-linux/' }) do
+    if vim.fn.filereadable(top .. folder .. NAME) == 1 then
+      return top .. folder .. NAME
+    end
+  end
+  return NAME
 end
 
 local function loaded()
   if not library then
     local ok, found = pcall(ffi.load, place())
     if not ok then
-      error(('the engine is not at %s, where ffi/build makes it (%s)'):format(place(), found), 0)
+      error(('the engine, which ffi/build makes, is not there (%s)'):format(found), 0)
     end
     if not pcall(function() return found.tp_shared_edit_many end) then
       error(('the engine at %s is older than the plugin; ffi/build makes it anew'):format(place()), 0)

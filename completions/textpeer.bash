@@ -1,0 +1,68 @@
+# Completions of textpeer for bash. Made by tools/completions of what the program prints as its help.
+
+_textpeer() {
+    local line=${COMP_LINE:0:COMP_POINT} words=() i
+    COMPREPLY=()
+    # The words as they were typed: bash cuts them at = and : too.
+    for ((i = 0; i <= COMP_CWORD; i++)); do
+        if ((i == 0)) || [[ $line == [[:space:]]* ]]; then
+            words+=("${COMP_WORDS[i]}")
+        else
+            words[-1]+=${COMP_WORDS[i]}
+        fi
+        line=${line#"${line%%[![:space:]]*}"}
+        line=${line#"${COMP_WORDS[i]}"}
+    done
+    local last=$((${#words[@]} - 1)) word=${words[-1]} options
+    if ((last == 1)); then
+        options='new edit text heads log graph cursor check merge save load recover show simulate serve sync session'
+        [[ $word != -* ]] || options='-h --help -V --version'
+        mapfile -t COMPREPLY < <(compgen -W "$options" -- "$word")
+        return
+    fi
+    # Of the command: its values, those that come after them, its options, and which of these take a value.
+    local values rest='' takes='' place=0 name journal=''
+    case ${words[1]} in
+    new) values=(file) options='--key -h --help' takes='--key' ;;
+    edit) values=(file) options='--at --del --text --time --message --key -h --help' takes='--at --del --text --time --message --key' ;;
+    text) values=(file hash) rest=hash options='-h --help' ;;
+    heads) values=(file) options='-h --help' ;;
+    log) values=(file) options='-h --help' ;;
+    graph) values=(file) options='-h --help' ;;
+    cursor) values=(file other hash) rest=hash options='-h --help' ;;
+    check) values=(file) options='-h --help' ;;
+    merge) values=(file file) options='--key -h --help' takes='--key' ;;
+    save) values=(file file) options='-h --help' ;;
+    load) values=(file file) options='-h --help' ;;
+    recover) values=(file file) options='-h --help' ;;
+    show) values=(file) options='-h --help' ;;
+    simulate) values=(file) options='-h --help' ;;
+    serve) values=(file other) options='--sessions --workers --key -h --help' takes='--sessions --workers --key' ;;
+    sync) values=(file other) options='--key -h --help' takes='--key' ;;
+    session) values=(file) options='--client --key -h --help' takes='--key' ;;
+    *) return ;;
+    esac
+    options=" $options "
+    for ((i = 2; i < last; i++)); do
+        name=${words[i]%%=*}
+        if [[ " $takes " == *" ${words[i]} "* ]]; then
+            ((++i < last)) || return
+        elif [[ $name != -* ]]; then
+            ((place > 0)) || journal=${words[i]}
+            ((++place))
+        fi
+        options=${options/ "$name" / }
+    done
+    local value=${values[place]-$rest}
+    if [[ $word == -* || -z $value ]]; then
+        mapfile -t COMPREPLY < <(compgen -W "$options" -- "$word")
+    elif [[ $value == file ]]; then
+        compopt -o default
+    elif [[ $value == hash ]]; then
+        # (xargs takes quotes and backslashes away, and runs nothing that the word says)
+        journal=$(xargs printf %s <<<"${journal/#\~\//$HOME/}" 2>/dev/null)
+        mapfile -t COMPREPLY < <(compgen -W "$("${words[0]}" log "$journal" 2>/dev/null | cut -d ' ' -f 1)" -- "$word")
+    fi
+}
+
+complete -F _textpeer textpeer

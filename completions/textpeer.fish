@@ -1,0 +1,104 @@
+# Completions of textpeer for fish. Made by tools/completions of what the program prints as its help.
+
+# Whether this is the command.
+function __textpeer_does --argument-names command
+    set -l words (commandline -opc)
+    test "$words[2]" = $command
+end
+
+# Which of its values is the next one, from 1; 0 after an option that takes a value.
+function __textpeer_place
+    set -l words (commandline -opc)[3..]
+    set -l place 1
+    while set -q words[1]
+        if contains -- $words[1] --at --del --key --message --sessions --text --time --workers
+            set -e words[1]
+            set -q words[1]; or set place 0
+        else if not string match -q -- '-*' $words[1]
+            set place (math $place + 1)
+        end
+        set -e words[1]
+    end
+    echo $place
+end
+
+# The changes of the journal that is the first value.
+function __textpeer_changes
+    set -l words (commandline -opc)
+    command $words[1] log (string replace -r '^~/' $HOME/ -- $words[3]) 2>/dev/null | string replace ' ' \t
+end
+
+complete -c textpeer -f
+complete -c textpeer -n __fish_use_subcommand -s h -l help -d 'Print help'
+complete -c textpeer -n __fish_use_subcommand -s V -l version -d 'Print version'
+complete -c textpeer -n __fish_use_subcommand -a new -d 'Begins a journal, and prints the identifier of its document'
+complete -c textpeer -n '__textpeer_does new; and test (__textpeer_place) -eq 1' -F
+complete -c textpeer -n '__textpeer_does new; and not __fish_contains_opt key' -l key -x -d 'the key of the random numbers, in 64 hexadecimal digits; from /dev/urandom if left out'
+complete -c textpeer -n '__textpeer_does new; and not __fish_contains_opt -s h help' -s h -l help -d 'Print help'
+complete -c textpeer -n __fish_use_subcommand -a edit -d 'Makes one change, and prints its hash, or `nothing` where it changes nothing'
+complete -c textpeer -n '__textpeer_does edit; and test (__textpeer_place) -eq 1' -F
+complete -c textpeer -n '__textpeer_does edit; and not __fish_contains_opt at' -l at -x -d 'the position, in characters from 0'
+complete -c textpeer -n '__textpeer_does edit; and not __fish_contains_opt del' -l del -x -d 'how many characters are deleted from the position on'
+complete -c textpeer -n '__textpeer_does edit; and not __fish_contains_opt text' -l text -x -d 'the text that is inserted there; one that begins with - as in --text=-x'
+complete -c textpeer -n '__textpeer_does edit; and not __fish_contains_opt time' -l time -x -d 'the time of the change [default: 0]'
+complete -c textpeer -n '__textpeer_does edit; and not __fish_contains_opt message' -l message -x -d 'the message of the change; empty if left out'
+complete -c textpeer -n '__textpeer_does edit; and not __fish_contains_opt key' -l key -x -d 'the key of the random numbers, in 64 hexadecimal digits; from /dev/urandom if left out'
+complete -c textpeer -n '__textpeer_does edit; and not __fish_contains_opt -s h help' -s h -l help -d 'Print help'
+complete -c textpeer -n __fish_use_subcommand -a text -d 'Prints the text, as it is now or at earlier heads'
+complete -c textpeer -n '__textpeer_does text; and test (__textpeer_place) -eq 1' -F
+complete -c textpeer -n '__textpeer_does text; and test (__textpeer_place) -ge 2' -k -a '(__textpeer_changes)'
+complete -c textpeer -n '__textpeer_does text; and not __fish_contains_opt -s h help' -s h -l help -d 'Print help'
+complete -c textpeer -n __fish_use_subcommand -a heads -d 'Prints the hashes of the changes on which no other depends'
+complete -c textpeer -n '__textpeer_does heads; and test (__textpeer_place) -eq 1' -F
+complete -c textpeer -n '__textpeer_does heads; and not __fish_contains_opt -s h help' -s h -l help -d 'Print help'
+complete -c textpeer -n __fish_use_subcommand -a log -d 'Prints a line for each change: hash, actor, sequence number, time, inserted and deleted characters, message'
+complete -c textpeer -n '__textpeer_does log; and test (__textpeer_place) -eq 1' -F
+complete -c textpeer -n '__textpeer_does log; and not __fish_contains_opt -s h help' -s h -l help -d 'Print help'
+complete -c textpeer -n __fish_use_subcommand -a graph -d 'Prints the changes as a graph in DOT, for Graphviz: an edge to each dependency, heads with a thick border'
+complete -c textpeer -n '__textpeer_does graph; and test (__textpeer_place) -eq 1' -F
+complete -c textpeer -n '__textpeer_does graph; and not __fish_contains_opt -s h help' -s h -l help -d 'Print help'
+complete -c textpeer -n __fish_use_subcommand -a cursor -d 'Prints where a character of the text at earlier heads stands now'
+complete -c textpeer -n '__textpeer_does cursor; and test (__textpeer_place) -eq 1' -F
+complete -c textpeer -n '__textpeer_does cursor; and test (__textpeer_place) -ge 3' -k -a '(__textpeer_changes)'
+complete -c textpeer -n '__textpeer_does cursor; and not __fish_contains_opt -s h help' -s h -l help -d 'Print help'
+complete -c textpeer -n __fish_use_subcommand -a check -d 'Says how much of a journal is kept, and what stands behind that: a fault with its place, and whole changes'
+complete -c textpeer -n '__textpeer_does check; and test (__textpeer_place) -eq 1' -F
+complete -c textpeer -n '__textpeer_does check; and not __fish_contains_opt -s h help' -s h -l help -d 'Print help'
+complete -c textpeer -n __fish_use_subcommand -a merge -d 'Takes the changes of another journal of the document, and prints how many entered'
+complete -c textpeer -n '__textpeer_does merge; and test (__textpeer_place) -eq 1' -F
+complete -c textpeer -n '__textpeer_does merge; and test (__textpeer_place) -eq 2' -F
+complete -c textpeer -n '__textpeer_does merge; and not __fish_contains_opt key' -l key -x -d 'the key of the random numbers, in 64 hexadecimal digits; from /dev/urandom if left out'
+complete -c textpeer -n '__textpeer_does merge; and not __fish_contains_opt -s h help' -s h -l help -d 'Print help'
+complete -c textpeer -n __fish_use_subcommand -a save -d 'Writes the document of a journal as a saved file'
+complete -c textpeer -n '__textpeer_does save; and test (__textpeer_place) -eq 1' -F
+complete -c textpeer -n '__textpeer_does save; and test (__textpeer_place) -eq 2' -F
+complete -c textpeer -n '__textpeer_does save; and not __fish_contains_opt -s h help' -s h -l help -d 'Print help'
+complete -c textpeer -n __fish_use_subcommand -a load -d 'Makes a journal of a saved file'
+complete -c textpeer -n '__textpeer_does load; and test (__textpeer_place) -eq 1' -F
+complete -c textpeer -n '__textpeer_does load; and test (__textpeer_place) -eq 2' -F
+complete -c textpeer -n '__textpeer_does load; and not __fish_contains_opt -s h help' -s h -l help -d 'Print help'
+complete -c textpeer -n __fish_use_subcommand -a recover -d 'Makes a journal of all that can be had of a damaged one, and says how many changes came and from which bytes none did'
+complete -c textpeer -n '__textpeer_does recover; and test (__textpeer_place) -eq 1' -F
+complete -c textpeer -n '__textpeer_does recover; and test (__textpeer_place) -eq 2' -F
+complete -c textpeer -n '__textpeer_does recover; and not __fish_contains_opt -s h help' -s h -l help -d 'Print help'
+complete -c textpeer -n __fish_use_subcommand -a show -d 'Prints the text that a log of changes makes'
+complete -c textpeer -n '__textpeer_does show; and test (__textpeer_place) -eq 1' -F
+complete -c textpeer -n '__textpeer_does show; and not __fish_contains_opt -s h help' -s h -l help -d 'Print help'
+complete -c textpeer -n __fish_use_subcommand -a simulate -d 'Runs a script of peers that edit, exchange and crash, and prints a line for each line of it'
+complete -c textpeer -n '__textpeer_does simulate; and test (__textpeer_place) -eq 1' -F
+complete -c textpeer -n '__textpeer_does simulate; and not __fish_contains_opt -s h help' -s h -l help -d 'Print help'
+complete -c textpeer -n __fish_use_subcommand -a serve -d 'Serves a journal: prints the port once it listens, then holds sessions until it is ended'
+complete -c textpeer -n '__textpeer_does serve; and test (__textpeer_place) -eq 1' -F
+complete -c textpeer -n '__textpeer_does serve; and not __fish_contains_opt sessions' -l sessions -x -d 'how many sessions are held; then it ends. If left out it serves until it is ended'
+complete -c textpeer -n '__textpeer_does serve; and not __fish_contains_opt workers' -l workers -x -d 'how many sessions are held at once, 1 to 64 [default: 2]'
+complete -c textpeer -n '__textpeer_does serve; and not __fish_contains_opt key' -l key -x -d 'the key of the random numbers, in 64 hexadecimal digits; from /dev/urandom if left out'
+complete -c textpeer -n '__textpeer_does serve; and not __fish_contains_opt -s h help' -s h -l help -d 'Print help'
+complete -c textpeer -n __fish_use_subcommand -a sync -d 'Exchanges changes with a server of the document, and prints how many entered here'
+complete -c textpeer -n '__textpeer_does sync; and test (__textpeer_place) -eq 1' -F
+complete -c textpeer -n '__textpeer_does sync; and not __fish_contains_opt key' -l key -x -d 'the key of the random numbers, in 64 hexadecimal digits; from /dev/urandom if left out'
+complete -c textpeer -n '__textpeer_does sync; and not __fish_contains_opt -s h help' -s h -l help -d 'Print help'
+complete -c textpeer -n __fish_use_subcommand -a session -d 'Holds one session over the standard input and output, and says on the standard error how many changes entered here'
+complete -c textpeer -n '__textpeer_does session; and test (__textpeer_place) -eq 1' -F
+complete -c textpeer -n '__textpeer_does session; and not __fish_contains_opt client' -l client -d 'holds the client'\''s side; the server'\''s if left out'
+complete -c textpeer -n '__textpeer_does session; and not __fish_contains_opt key' -l key -x -d 'the key of the random numbers, in 64 hexadecimal digits; from /dev/urandom if left out'
+complete -c textpeer -n '__textpeer_does session; and not __fish_contains_opt -s h help' -s h -l help -d 'Print help'
