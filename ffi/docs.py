@@ -1,4 +1,5 @@
-"""What docs/C.md says, done: its example is ffi/example.c, its lines compile it, and its session prints what it says.
+"""What docs/C.md says, done: its example is ffi/example.c, its lines compile it, its session prints what it says, and
+its function that shows what came does that.
 Run by ffi/test; $TEXTPEER_FOLDER is the folder with the libraries, as `ffi/build` makes it or the release has it."""
 import os
 import pathlib
@@ -13,6 +14,66 @@ import unittest
 TOP = pathlib.Path(__file__).resolve().parent.parent
 PAGE = (TOP / "docs/C.md").read_text(encoding="utf-8")
 RELEASE = f"dist/{platform.machine()}-{platform.system().lower()}"
+# Around the function of the page that shows what a message brought: the functions of the example, and a program in which
+# Ben writes in two places while Ann writes too, then a line, and then in forty places of it; Ann shows what comes to her.
+SHOWS = r"""
+#define main example
+#include "ffi/example.c"
+#undef main
+
+static void show_splice(size_t at, size_t del, const char *text, size_t len)
+{
+    printf("%u -%u +%.*s\n", (unsigned)at, (unsigned)del, (int)len, text);
+}
+
+FUNCTION
+static tp_handle ann, ben;
+static size_t to_ben, to_ann;
+
+static void exchange_all(void)
+{
+    size_t ben_len, ann_len;
+    do {
+        check(tp_generate(&ben, to_ann, &ben_len), "generate");
+        uint8_t *message = answer(&ben, ben_len);
+        if (ben_len)
+            show_message(&ann, to_ben, message, ben_len);
+        free(message);
+        check(tp_generate(&ann, to_ben, &ann_len), "generate");
+        message = answer(&ann, ann_len);
+        if (ann_len)
+            check(tp_receive(&ben, to_ann, message, ann_len), "receive");
+        free(message);
+    } while (ben_len || ann_len);
+}
+
+int main(void)
+{
+    static const uint8_t ANN[16] = {1}, BEN[16] = {2};
+    static const tp_splice TWO[] = {{0, 3, 1}, {5, 0, 3}};
+    tp_splice forty[40];
+    char line[80], texts[40];
+    check(tp_open(&ann.at), "open");
+    check(tp_edit(&ann, ANN, 0, 0, "one two", 7, 0, NULL, 0, NULL), "edit");
+    check(tp_fork(&ann, BEN, &ben.at), "fork");
+    check(tp_link(&ann, &to_ben), "link");
+    check(tp_link(&ben, &to_ann), "link");
+    check(tp_edit(&ann, ANN, 7, 0, "!", 1, 0, NULL, 0, NULL), "edit");
+    check(tp_edit_many(&ben, BEN, TWO, 2, "1\xe2\x82\xac", 4, 0, NULL, 0, NULL), "edit_many");
+    exchange_all();
+    memset(line, 'a', sizeof line);
+    check(tp_edit(&ben, BEN, 0, 0, line, sizeof line, 0, NULL, 0, NULL), "edit");
+    exchange_all();
+    memset(texts, 'b', sizeof texts);
+    for (size_t i = 0; i < 40; i++)
+        forty[i] = (tp_splice){.at = 2 * i, .del = 1, .len = 1};
+    check(tp_edit_many(&ben, BEN, forty, 40, texts, sizeof texts, 0, NULL, 0, NULL), "edit_many");
+    exchange_all();
+    tp_free(ann);
+    tp_free(ben);
+    return 0;
+}
+"""
 
 
 def blocks(heading):
@@ -87,6 +148,13 @@ class Docs(unittest.TestCase):
             self.assertEqual((server.stdout.read().splitlines(), server.wait(60)), (served[1:], 0))
         self.assertEqual(self.shell(second[1][0]), second[1][1])
         self.assertEqual(len(second), 2)
+
+    def test_what_came_is_shown(self):
+        section = PAGE.split("\n## What changed\n", 1)[1].split("\n## ", 1)[0]
+        function = re.search(r"```c\n(.*?)```\n", section, re.S)[1]
+        (self.folder / "shows.c").write_text(SHOWS.replace("FUNCTION\n", function), encoding="utf-8")
+        printed = self.shell(f"cc -Wall -Wextra -Werror -Wno-unused-function -o shows shows.c -I{RELEASE} {RELEASE}/libtextpeer.a", "./shows")
+        self.assertEqual(printed, ["0 -3 +1", "5 -0 +\u20ac", "0 -0 +" + 80 * "a", *(f"{2 * i} -1 +b" for i in range(40))])
 
     def test_a_refusal_is_said(self):
         self.shell(blocks("Compile and link")[0][0][0])

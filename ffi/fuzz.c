@@ -13,7 +13,7 @@
 #include <stdlib.h>
 #include <string.h>
 
-enum { THREADS = 2, DOCUMENTS = 2, ROUND = 500, ROOM = 1 << 16, LINKS = 4, STATUSES = 512 };
+enum { THREADS = 2, DOCUMENTS = 2, ROUND = 500, ROOM = 1 << 16, LINKS = 4, STATUSES = 1024 };
 
 /* ---- growths that are refused */
 
@@ -275,6 +275,297 @@ static void fuzz_cursor(fuzzer *f, tp_handle *handle)
     }
 }
 
+/* ---- earlier texts */
+
+/* The answer, which the caller frees. */
+static uint8_t *answer_of(tp_handle *handle, const char *call, size_t len)
+{
+    uint8_t *out = __real_malloc(len + 1);
+    if (out == NULL)
+        fail(call, "no memory");
+    check(tp_answer(handle, out, len) == len, call, "the answer has another length");
+    return out;
+}
+
+static size_t scalars_of(const uint8_t *text, size_t len)
+{
+    size_t count = 0;
+    for (size_t i = 0; i < len; i++)
+        count += (text[i] & 0xc0) != 0x80;
+    return count;
+}
+
+/* Heads: how many bytes they have, and what is wrong with them. */
+typedef struct {
+    uint8_t bytes[32 * 8];
+    size_t len;
+    bool ends_within, is_unknown;
+} some_heads;
+
+/* Hashes of changes, none or one twice among them, or the heads of now; rarely cut or changed. */
+static void draw_heads(tp_handle *handle, some_heads *heads)
+{
+    size_t changes = tp_change_count(handle), count = below(4);
+    tp_change change;
+    memset(heads, 0, sizeof *heads);
+    if (changes && below(4) == 0 && tp_heads(handle, &heads->len) == 0 && heads->len <= 32 * 7) {
+        tp_answer(handle, heads->bytes, heads->len);
+    } else {
+        heads->len = 0;
+        for (size_t unused; changes && count--; heads->len += 32)
+            if (tp_change_describe(handle, below(changes), &change, &unused) == 0)
+                memcpy(heads->bytes + heads->len, change.hash, 32);
+    }
+    if (below(16) == 0) {
+        heads->bytes[heads->len ? below(heads->len) : 0] ^= 1 << below(8);
+        heads->is_unknown = heads->len != 0;
+    }
+    if (below(16) == 0) {
+        heads->len += 1 + below(31);
+        heads->ends_within = true;
+    }
+}
+
+/* A refusal is one that the heads are due, and no other call was done. */
+static void check_heads(const char *call, uint32_t status, bool ends_within, bool is_unknown)
+{
+    check(status != 5 || ends_within, call, "refused whole hashes");
+    check(status != 105 || is_unknown, call, "refused hashes of changes");
+    check(status != 109 || growths_refused_in, call, "refused for want of memory");
+    check(status != 0 || !(ends_within || is_unknown), call, "done at such heads");
+}
+
+/* The text at the heads, which the caller frees; *len is its length. */
+static uint8_t *text_at(tp_handle *handle, const some_heads *heads, size_t *len)
+{
+    check(tp_text_at(handle, heads->bytes, heads->len, len) == 0, "tp_text_at", "refused");
+    return answer_of(handle, "tp_text_at", *len);
+}
+
+static void fuzz_text_at(fuzzer *f, tp_handle *handle)
+{
+    some_heads heads;
+    size_t len = 77, count = 77;
+    unsigned refuse = growths_refused_in;
+    growths_refused_in = 0;
+    draw_heads(handle, &heads);
+    growths_refused_in = refuse;
+    const uint8_t *bytes = heads.len ? heads.bytes : NULL;
+    uint32_t status = STATUS("tp_len_at", tp_len_at(handle, bytes, heads.len, &count), 5, 105, 109);
+    check_heads("tp_len_at", status, heads.ends_within, heads.is_unknown);
+    check(status == 0 || count == 77, "tp_len_at", "a refusal wrote a number");
+    bool is_counted = status == 0;
+    status = STATUS("tp_text_at", tp_text_at(handle, bytes, heads.len, &len), 5, 105, 109);
+    check_heads("tp_text_at", status, heads.ends_within, heads.is_unknown);
+    keep_answer(f, handle, "tp_text_at", len);
+    if (status == 0 && is_counted) {
+        uint8_t *text = answer_of(handle, "tp_text_at", len);
+        check(scalars_of(text, len) == count, "tp_len_at", "another length than the text's");
+        free(text);
+    }
+}
+
+/* The splices, of which each has the next bytes of the texts, lead from the one text to the other: they rise, none is empty or
+ * touches another, and no bytes are left over. */
+static void check_leads(const uint8_t *from, size_t from_len, const uint8_t *to, size_t to_len, const tp_splice *splices,
+                        size_t count, const uint8_t *texts, size_t texts_len)
+{
+    static const char CALL[] = "tp_differences";
+    size_t read = 0, written = 0, at = 0, used = 0, end_of_last = 0;
+    for (size_t i = 0; i <= count; i++) {
+        /* What stays, up to the next splice or the end. */
+        for (size_t end = i < count ? splices[i].at : SIZE_MAX; at < end && read < from_len; at++)
+            do {
+                check(written < to_len && from[read] == to[written], CALL, "what stays is another text");
+                read++, written++;
+            } while (read < from_len && (from[read] & 0xc0) == 0x80);
+        if (i == count)
+            break;
+        tp_splice splice = splices[i];
+        check(at == splice.at && (i == 0 || at > end_of_last), CALL, "splices don't rise, or touch");
+        check(splice.del + splice.len != 0, CALL, "a splice that does nothing");
+        check(splice.len <= texts_len - used && splice.len <= to_len - written, CALL, "a splice of more text than there is");
+        for (size_t left = splice.del; left; left--) {
+            check(read < from_len, CALL, "more is deleted than is there");
+            do
+                read++;
+            while (read < from_len && (from[read] & 0xc0) == 0x80);
+        }
+        check(memcmp(texts + used, to + written, splice.len) == 0, CALL, "what comes is another text");
+        end_of_last = at += scalars_of(texts + used, splice.len);
+        used += splice.len;
+        written += splice.len;
+    }
+    check(read == from_len && written == to_len && used == texts_len, CALL, "something is left over");
+}
+
+/* The differences from some heads to others, or to the text now where there are none. */
+static uint32_t differences_of(tp_handle *handle, const some_heads *from, const some_heads *to, tp_splice *splices, size_t room,
+                               size_t *count, size_t *len)
+{
+    return to ? tp_differences(handle, from->bytes, from->len, to->bytes, to->len, splices, room, count, len)
+              : tp_differences_since(handle, from->bytes, from->len, splices, room, count, len);
+}
+
+static void fuzz_differences(fuzzer *f, tp_handle *handle)
+{
+    some_heads from, others, *to = below(2) ? &others : NULL;
+    tp_splice first[8];
+    size_t room = below(8), count = 77, len = 77;
+    unsigned refuse = growths_refused_in;
+    growths_refused_in = 0;
+    draw_heads(handle, &from);
+    draw_heads(handle, &others);
+    growths_refused_in = refuse;
+    memset(first, 0x5a, sizeof first);
+    uint32_t status = STATUS("tp_differences", differences_of(handle, &from, to, room ? first : NULL, room, &count, &len), 5, 105, 109);
+    check_heads("tp_differences", status, from.ends_within || (to && to->ends_within), from.is_unknown || (to && to->is_unknown));
+    keep_answer(f, handle, "tp_differences", len);
+    size_t written = status != 0 ? 0 : count < room ? count : room;
+    for (size_t i = written; i < 8; i++)
+        check(first[i].at == 0x5a5a5a5a5a5a5a5a && first[i].len == first[i].at, "tp_differences", "more was written than there is, or is room for");
+    if (status != 0) {
+        check(count == 77, "tp_differences", "a refusal wrote a number");
+        return;
+    }
+    growths_refused_in = 0;
+    tp_splice *splices = __real_malloc((count + 1) * sizeof *splices);
+    if (splices == NULL)
+        fail("tp_differences", "no memory");
+    size_t again = 0, texts_len = 0, from_len, to_len = 0;
+    check(differences_of(handle, &from, to, splices, count, &again, &texts_len) == 0, "tp_differences", "refused");
+    check(again == count && texts_len == len, "tp_differences", "other differences the second time");
+    check(memcmp(first, splices, written * sizeof *splices) == 0, "tp_differences", "other splices the second time");
+    uint8_t *texts = answer_of(handle, "tp_differences", texts_len), *text = text_at(handle, &from, &from_len), *then;
+    if (to) {
+        then = text_at(handle, to, &to_len);
+    } else {
+        check(tp_text(handle, &to_len) == 0, "tp_text", "refused");
+        then = answer_of(handle, "tp_text", to_len);
+    }
+    check_leads(text, from_len, then, to_len, splices, count, texts, texts_len);
+    free(splices);
+    free(texts);
+    free(text);
+    free(then);
+}
+
+/* ---- what changes say, and forks */
+
+/* The number in the next bytes, with the most significant byte first. */
+static uint64_t read_number(const uint8_t **bytes, size_t size)
+{
+    uint64_t number = 0;
+    while (size--)
+        number = number << 8 | *(*bytes)++;
+    return number;
+}
+
+/* A change says what its bytes do (docs/FORMATS.md); named are the hashes that it depends on, and its message. */
+static void check_change(const tp_change *change, const uint8_t *named, size_t named_len, const uint8_t *bytes, size_t len)
+{
+    static const char CALL[] = "tp_change_describe";
+    const uint8_t *at = bytes + 1;
+    check(memcmp(at, change->actor, 16) == 0, CALL, "another actor");
+    at += 16;
+    check(read_number(&at, 8) == change->seq, CALL, "another sequence number");
+    at += 8;
+    check(read_number(&at, 8) == change->time, CALL, "another time");
+    size_t message_len = read_number(&at, 2);
+    const uint8_t *message = at;
+    at += message_len;
+    check(read_number(&at, 2) == change->deps && named_len == 32 * change->deps + message_len, CALL, "another number of dependencies");
+    check(memcmp(named, at, 32 * change->deps) == 0, CALL, "other dependencies");
+    check(memcmp(named + 32 * change->deps, message, message_len) == 0, CALL, "another message");
+    at += 32 * change->deps;
+    size_t inserted = 0, deleted = 0;
+    for (size_t records = read_number(&at, 4); records; records--) {
+        uint64_t tag = read_number(&at, 1);
+        if (tag == 1) {
+            at += *at ? 25 : 1;
+            size_t text_len = read_number(&at, 4);
+            inserted += scalars_of(at, text_len);
+            at += text_len;
+        } else {
+            at += 24;
+            deleted += tag == 3 ? read_number(&at, 4) : 1;
+        }
+    }
+    check(at == bytes + len && inserted == change->inserted && deleted == change->deleted, CALL, "other counts");
+}
+
+static void fuzz_describe(fuzzer *f, tp_handle *handle)
+{
+    size_t count = tp_change_count(handle), place = below(8) ? below(count + 1) : (size_t)draw(), len = 77, bytes_len = 0;
+    tp_change change, before;
+    memset(&before, 0x5a, sizeof before);
+    change = before;
+    uint32_t status = STATUS("tp_change_describe", tp_change_describe(handle, place, &change, &len), 3, 1);
+    check((status == 3) == (place >= count), "tp_change_describe", "refused otherwise");
+    keep_answer(f, handle, "tp_change_describe", len);
+    if (status != 0) {
+        check(memcmp(&change, &before, sizeof change) == 0, "tp_change_describe", "a refusal wrote a change");
+        return;
+    }
+    growths_refused_in = 0;
+    uint8_t *named = answer_of(handle, "tp_change_describe", len);
+    check(tp_change_at(handle, place, &bytes_len) == 0, "tp_change_at", "refused");
+    uint8_t *bytes = answer_of(handle, "tp_change_at", bytes_len);
+    check_change(&change, named, len, bytes, bytes_len);
+    free(named);
+    free(bytes);
+}
+
+/* The answers of a call on two handles are the same. */
+static void check_same(tp_handle *handle, tp_handle *other, const char *call, uint32_t (*answers)(tp_handle *, size_t *))
+{
+    size_t len = 0, other_len = 0;
+    check(answers(handle, &len) == 0 && answers(other, &other_len) == 0, call, "refused");
+    uint8_t *out = answer_of(handle, call, len), *other_out = answer_of(other, call, other_len);
+    check(len == other_len && memcmp(out, other_out, len) == 0, call, "two documents that are equal differ");
+    free(out);
+    free(other_out);
+}
+
+/* A fork has what the document has, and what is done to either is no change of the other. */
+static void fuzz_fork(fuzzer *f, tp_handle *handle)
+{
+    static const uint8_t ACTOR[16] = {0xff};
+    tp_handle fork = {NULL};
+    size_t count = tp_change_count(handle), len;
+    if (STATUS("tp_fork", tp_fork(handle, ACTOR, &fork.at), 1, 109) != 0) {
+        check(fork.at == NULL && growths_refused_in, "tp_fork", "a refusal wrote a handle");
+        return;
+    }
+    growths_refused_in = 0;
+    check(tp_change_count(&fork) == count && tp_answer(&fork, f->bytes, 1) == 0, "tp_fork", "not a copy");
+    check_same(handle, &fork, "tp_heads", tp_heads);
+    check_same(handle, &fork, "tp_text", tp_text);
+    check_same(handle, &fork, "tp_save", tp_save);
+    check(tp_shared_edit(&fork, 0, 0, "x", 1, 0, NULL, 0, &len) == 0 && tp_change_count(&fork) == count + 1, "tp_fork", "no edit");
+    check(tp_change_count(handle) == count, "tp_fork", "an edit of a copy changed the document");
+    tp_free(fork);
+}
+
+static void fuzz_earlier(fuzzer *f, tp_handle *handle)
+{
+    switch (below(8)) {
+    case 0: case 1:
+        fuzz_text_at(f, handle);
+        break;
+    case 2: case 3: case 4:
+        fuzz_differences(f, handle);
+        break;
+    case 5: case 6:
+        fuzz_describe(f, handle);
+        break;
+    default:
+        fuzz_fork(f, handle);
+    }
+}
+
+/* ---- what others have */
+
 /* Bytes for tp_load, tp_apply or tp_receive: of the other document, or any. */
 static size_t bytes_for(fuzzer *f, tp_handle *other, unsigned call, size_t link)
 {
@@ -352,6 +643,85 @@ static void fuzz_merge(fuzzer *f, size_t document)
     check(tp_change_count(other) == others, "tp_merge", "the other one changed");
 }
 
+/* ---- sessions */
+
+/* One side of a session: what it has to send, and what it was told last. */
+typedef struct {
+    tp_handle *handle;
+    uint8_t *due;
+    size_t due_len;
+    size_t changes; /* that were there before */
+    uint32_t status, going;
+    uint64_t entered;
+} side;
+
+static side begin_side(fuzzer *f, tp_handle *handle, uint32_t role)
+{
+    side side = {.handle = handle, .changes = tp_change_count(handle)};
+    side.status = STATUS("tp_shared_begin", tp_shared_begin(handle, role, &side.due_len), 608);
+    side.going = side.status == 0;
+    side.due = answer_of(handle, "tp_shared_begin", side.due_len);
+    check(side.status == 0 ? side.due_len != 0 || role == 1 : side.due_len == 0, "tp_shared_begin", "another answer");
+    return side;
+}
+
+/* What one side has to send goes to the other, in pieces of any lengths; *is_harmed is set where bytes were changed. */
+static void carry(fuzzer *f, side *from, side *to, bool *is_harmed)
+{
+    uint8_t *bytes = from->due;
+    size_t left = from->due_len, len;
+    for (; left && !f->honest && below(64) == 0; *is_harmed = true)
+        bytes[below(left)] ^= 1 << below(8);
+    from->due = NULL;
+    from->due_len = 0;
+    for (size_t at = 0; at < left;) {
+        size_t piece = below(4) ? left - at : 1 + below(left - at);
+        bool was_going = to->going;
+        uint32_t status = tp_shared_feed(to->handle, bytes + at, piece, &len, &to->going, &to->entered);
+        check(status < 706 || (status < 956 && *is_harmed), "tp_shared_feed", "another status");
+        if (status < 700)
+            STATUS("tp_shared_feed", status, 201, 202, 203, 204, 205, 509, 602, 603, 604, 605, 608);
+        check(status == 0 || !to->going, "tp_shared_feed", "goes on after a refusal");
+        check(was_going || !to->going, "tp_shared_feed", "goes on after its end");
+        to->status = to->status ? to->status : status;
+        to->due = __real_realloc(to->due, to->due_len + len + 1);
+        if (to->due == NULL)
+            fail("tp_shared_feed", "no memory");
+        to->due_len += tp_answer(to->handle, to->due + to->due_len, len);
+        at += piece;
+    }
+    free(bytes);
+}
+
+/* A session between the two documents: it ends, where no bytes were harmed on their way and memory was there; and both have the
+ * same changes then, where none was harmed before. */
+static void fuzz_session(fuzzer *f)
+{
+    uint8_t id[16], other_id[16];
+    bool is_harmed = false;
+    side client = begin_side(f, &f->documents[0], 0), server = begin_side(f, &f->documents[1], 1);
+    tp_id(client.handle, id);
+    tp_id(server.handle, other_id);
+    for (int turns = 0; (client.due_len || server.due_len) && turns < 100; turns++) {
+        carry(f, &client, &server, &is_harmed);
+        carry(f, &server, &client, &is_harmed);
+    }
+    if (!is_harmed && !growths_refused_in)
+        check(!client.going && !server.going, "tp_shared_feed", "a session has no end");
+    if (f->honest && !growths_refused_in) {
+        bool is_same = memcmp(id, other_id, sizeof id) == 0;
+        check(is_same == (client.status == 0 && server.status == 0), "tp_shared_feed", "refused otherwise");
+        check(tp_change_count(client.handle) == client.changes + client.entered, "tp_shared_feed", "another number of changes entered");
+        check(tp_change_count(server.handle) == server.changes + server.entered, "tp_shared_feed", "another number of changes entered");
+        if (is_same)
+            check_same(client.handle, server.handle, "tp_shared_feed", tp_heads);
+    }
+    tp_shared_end(client.handle);
+    tp_shared_end(server.handle);
+    free(client.due);
+    free(server.due);
+}
+
 static void begin_anew(fuzzer *f, size_t document)
 {
     const uint8_t *id = some_id();
@@ -374,7 +744,7 @@ static void fuzz_call(fuzzer *f)
     size_t document = below(DOCUMENTS);
     growths_refused_in = below(4) ? 0 : 1 + below(20);
     f->calls++;
-    switch (below(16)) {
+    switch (below(20)) {
     case 0: case 1: case 2: case 3:
         fuzz_edit(f, document);
         break;
@@ -396,6 +766,12 @@ static void fuzz_call(fuzzer *f)
     case 14:
         fuzz_merge(f, document);
         break;
+    case 15: case 16: case 17:
+        fuzz_earlier(f, &f->documents[document]);
+        break;
+    case 18:
+        fuzz_session(f);
+        break;
     default:
         if (below(12) == 0)
             begin_anew(f, document);
@@ -406,20 +782,6 @@ static void fuzz_call(fuzzer *f)
 }
 
 /* ---- rounds */
-
-/* The answers of a call on both documents are the same. */
-static void check_same(fuzzer *f, const char *call, uint32_t (*answers)(tp_handle *, size_t *))
-{
-    size_t len = 0, other_len = 0;
-    check(answers(&f->documents[0], &len) == 0 && answers(&f->documents[1], &other_len) == 0, call, "refused");
-    uint8_t *out = __real_malloc(len + 1), *other_out = __real_malloc(len + 1);
-    if (out == NULL || other_out == NULL)
-        fail(call, "no memory");
-    check(len == other_len && tp_answer(&f->documents[0], out, len) == tp_answer(&f->documents[1], other_out, len)
-          && memcmp(out, other_out, len) == 0, call, "two documents that were merged differ");
-    free(out);
-    free(other_out);
-}
 
 /* Both have new documents, of one identifier; then random calls, and a merge both ways where nothing was changed. */
 static void fuzz_round(fuzzer *f, size_t calls)
@@ -439,8 +801,8 @@ static void fuzz_round(fuzzer *f, size_t calls)
     if (!f->honest || memcmp(id, other_id, sizeof id) != 0)
         return;
     check(tp_merge(&f->documents[0], &f->documents[1]) == 0 && tp_merge(&f->documents[1], &f->documents[0]) == 0, "tp_merge", "refused");
-    check_same(f, "tp_heads", tp_heads);
-    check_same(f, "tp_text", tp_text);
+    check_same(&f->documents[0], &f->documents[1], "tp_heads", tp_heads);
+    check_same(&f->documents[0], &f->documents[1], "tp_text", tp_text);
     f->agreed++;
 }
 

@@ -1,5 +1,5 @@
-/* Two shared editors on journals in files: each writes, one session makes them even, and both are opened again. Prints what is
- * there. The folder of the files is the first argument. */
+/* Two shared editors on journals in files: each writes, one session makes them even, and both are opened again; then what was
+ * there earlier. Prints what is there. The folder of the files is the first argument. */
 #include "textpeer.h"
 
 #include <stdio.h>
@@ -206,6 +206,65 @@ static void print_both(tp_shared *shared)
     tp_free(memory);
 }
 
+/* Prints what changed since the heads, first with room for one splice, and then all: each with its text. */
+static void print_differences(tp_shared *shared, const uint8_t *heads, size_t heads_len)
+{
+    tp_splice splices[4];
+    size_t count, len;
+    must(tp_differences_since(shared, heads, heads_len, splices, 1, &count, &len), "differences_since");
+    printf("%u differences, with %u bytes; the first is %u -%u\n", (unsigned)count, (unsigned)len, (unsigned)splices[0].at,
+           (unsigned)splices[0].del);
+    must(tp_differences_since(shared, heads, heads_len, splices, 4, &count, &len), "differences_since");
+    uint8_t *texts = answer(shared, len);
+    for (size_t i = 0, at = 0; i < count; at += splices[i++].len)
+        printf("%u -%u +%.*s.\n", (unsigned)splices[i].at, (unsigned)splices[i].del, (int)splices[i].len, (char *)texts + at);
+    free(texts);
+}
+
+/* The text at heads, and what became of it; heads that are none; and what the last change says. */
+static void print_earlier(tp_shared *shared)
+{
+    size_t len, heads_len, count, last;
+    tp_change change;
+    must(tp_heads(shared, &heads_len), "heads");
+    uint8_t *heads = answer(shared, heads_len);
+    edit(shared, 0, 5, "Dear");
+    must(tp_shared_edit(shared, 5, 0, "old ", 4, 7, "to Ben", 6, &len), "edit");
+    print_differences(shared, heads, heads_len);
+    must(tp_differences(shared, NULL, 0, heads, heads_len, NULL, 0, &count, &len), "differences");
+    printf("from nothing %u, ", (unsigned)count);
+    must(tp_len_at(shared, heads, heads_len, &count), "len_at");
+    must(tp_text_at(shared, heads, heads_len, &len), "text_at");
+    uint8_t *text = answer(shared, len);
+    printf("%u characters: %s\n", (unsigned)count, (char *)text);
+    free(text);
+    last = tp_change_count(shared);
+    printf("refused %u ", (unsigned)tp_text_at(shared, heads, heads_len - 1, &len));
+    heads[0] ^= 1;
+    printf("%u ", (unsigned)tp_len_at(shared, heads, heads_len, &count));
+    printf("%u\n", (unsigned)tp_change_describe(shared, last, &change, &len));
+    must(tp_change_describe(shared, last - 1, &change, &len), "change_describe");
+    uint8_t *named = answer(shared, len);
+    printf("change %u of %u, at %u: +%u -%u, %s\n", (unsigned)change.seq, change.actor[0], (unsigned)change.time,
+           (unsigned)change.inserted, (unsigned)change.deleted, (char *)named + 32 * change.deps);
+    free(named);
+    free(heads);
+}
+
+/* A copy in memory is edited by itself, and merged. */
+static void print_fork(tp_shared *shared)
+{
+    static const uint8_t DORA[16] = {5};
+    tp_handle copy;
+    must(tp_fork(shared, DORA, &copy.at), "fork");
+    edit(&copy, 0, 0, "> ");
+    print_text(&copy);
+    print_text(shared);
+    must(tp_merge(shared, &copy), "merge");
+    print_text(shared);
+    tp_free(copy);
+}
+
 int main(int count, char **arguments)
 {
     const char *folder = count > 1 ? arguments[1] : ".";
@@ -233,6 +292,8 @@ int main(int count, char **arguments)
     print_text(&ann);
     printf("%u changes\n", (unsigned)tp_shared_change_count(&ann));
     print_both(&ann);
+    print_earlier(&ann);
+    print_fork(&ann);
     tp_shared_close(ann);
     free(first);
     free(second);

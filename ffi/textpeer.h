@@ -47,7 +47,8 @@ enum tp_status {
     TP_NO_LINK = 2, /* there is no link with this number */
     TP_NO_CHANGE = 3, /* there is no applied change with this number */
     TP_BAD_TEXT = 4, /* what should be a text isn't UTF-8 */
-    TP_BAD_LENGTHS = 5, /* the lengths of the splices don't add up to the bytes that are given for their texts */
+    /* the lengths of splices don't add up to the bytes of their texts, or bytes end within a hash: */
+    TP_BAD_LENGTHS = 5,
 
     /* of a document */
     TP_DOC_OUT_OF_RANGE = 101, /* the text ends before the position, or before the end of what is to be deleted */
@@ -211,7 +212,7 @@ static inline const char *tp_status_words(uint32_t status)
     case TP_NO_LINK: return "there is no link with this number";
     case TP_NO_CHANGE: return "there is no applied change with this number";
     case TP_BAD_TEXT: return "what should be a text isn't UTF-8";
-    case TP_BAD_LENGTHS: return "the lengths of the splices don't add up to the bytes that are given for their texts";
+    case TP_BAD_LENGTHS: return "the lengths of splices don't add up to the bytes of their texts, or bytes end within a hash";
     case TP_DOC_OUT_OF_RANGE: return "the text ends before the position, or before the end of what is to be deleted";
     case TP_DOC_COUNTER_LIMIT: return "the last counter of the edit would be past 2^48 - 1";
     case TP_DOC_TOO_MANY_OPS: return "the edit has more than 65,536 operations, one for each character that comes or goes";
@@ -341,6 +342,21 @@ size_t tp_change_count(tp_handle *handle);
  * where there are fewer, and as 1. */
 uint32_t tp_change_at(tp_handle *handle, size_t number, size_t *len);
 
+/* What a change says. */
+typedef struct tp_change {
+    uint8_t hash[32];
+    uint8_t actor[16];
+    uint64_t seq;    /* its number among the actor's changes, from 1 */
+    uint64_t time;   /* when it was made, as whoever made it counts time */
+    size_t deps;     /* how many changes it depends on */
+    size_t inserted; /* how many characters it inserts */
+    size_t deleted;  /* how many it deletes, also those that another change deletes too */
+} tp_change;
+
+/* Writes what the applied change with this number says to change. The answer is the hashes of the changes that it depends on,
+ * 32 bytes each, rising, and behind them its message as UTF-8. Refused as tp_change_at; nothing is written to change then. */
+uint32_t tp_change_describe(tp_handle *handle, size_t number, tp_change *change, size_t *len);
+
 /* An element of the text, which stays the same whatever is written before it. */
 typedef struct tp_element {
     uint64_t counter; /* from 1 to 2^48 - 1 */
@@ -354,6 +370,35 @@ uint32_t tp_cursor(tp_handle *handle, size_t at, tp_element *element);
 /* Writes how many characters stand before the element to at; it may have been deleted since. Refused as 106 where the document
  * hasn't the element; nothing is written then. */
 uint32_t tp_cursor_position(tp_handle *handle, const tp_element *element, size_t *at);
+
+/* ---- earlier texts, and what changed ----
+ *
+ * Heads are given as tp_heads answers them: hashes of applied changes, 32 bytes each, in any order, repeats allowed. Their text
+ * is that of these changes and of all that they depend on; no hash gives the empty text. Refused as 5 where a part of a hash is
+ * left over, as 105 where one is of no applied change, as 109. */
+
+/* The answer is the text at the heads, as UTF-8 without a zero at its end. */
+uint32_t tp_text_at(tp_handle *handle, const uint8_t *heads, size_t heads_len, size_t *len);
+
+/* Writes how many characters the text at the heads has to count; nothing where it is refused. */
+uint32_t tp_len_at(tp_handle *handle, const uint8_t *heads, size_t heads_len, size_t *count);
+
+/* What changed from the text at the heads to the text now: writes splices that lead from one to the other, rising, each on the
+ * text that those before it leave, and how many they are to count. Room is for so many splices; where there are more, the first
+ * are written, and the same call with more room writes all. The answer is the texts of all of them, one after another, of which
+ * each has the next len bytes. They are exact by elements: what both texts show is left as it is, and no two could be one. What
+ * came since heads near the end is found without going over the whole text. Nothing is written where it is refused. */
+uint32_t tp_differences_since(tp_handle *handle, const uint8_t *heads, size_t heads_len, tp_splice *splices, size_t room,
+                              size_t *count, size_t *len);
+
+/* The same, from the text at some heads to that at others. */
+uint32_t tp_differences(tp_handle *handle, const uint8_t *from, size_t from_len, const uint8_t *to, size_t to_len,
+                        tp_splice *splices, size_t room, size_t *count, size_t *len);
+
+/* Makes an editor of a copy of the document, with all changes that entered, in memory alone, without links and a session:
+ * tp_fork(&handle, actor, &other.at). Its edits by the shared calls are the actor's; no two editors may edit under one actor at
+ * a time. Refused as 109 or 1; nothing is written then. */
+uint32_t tp_fork(tp_handle *handle, const uint8_t actor[16], void **at);
 
 /* ---- what others have ---- */
 
@@ -376,8 +421,8 @@ uint32_t tp_link(tp_handle *handle, size_t *link);
  * there is no such link, as 203, 1, 502 or 503; *len is 0 then. */
 uint32_t tp_generate(tp_handle *handle, size_t link, size_t *len);
 
-/* Receives the message that the bytes are from the other of the link. Refused as 201 or 202 where they are none, as 2 where there
- * is no such link, as 204 where more than 1,024 changes would wait, as 205, 502 or 503. */
+/* Receives the message that the bytes are from the other of the link. Refused as 2 where there is no such link, as 503 where the
+ * editor has stopped, as 201 or 202 where they are no message, as 204 where more than 1,024 changes would wait, as 205 or 502. */
 uint32_t tp_receive(tp_handle *handle, size_t link, const uint8_t *bytes, size_t bytes_len);
 
 /* ---- A text that is shared: a journal in a file, and one session at a time by bytes ----
@@ -511,6 +556,31 @@ static inline uint32_t tp_receive_some(tp_handle *handle, size_t link, const uin
     return tp_receive(handle, link, (const uint8_t *)tp_some(bytes), bytes_len);
 }
 
+static inline uint32_t tp_text_at_some(tp_handle *handle, const uint8_t *heads, size_t heads_len, size_t *len)
+{
+    return tp_text_at(handle, (const uint8_t *)tp_some(heads), heads_len, len);
+}
+
+static inline uint32_t tp_len_at_some(tp_handle *handle, const uint8_t *heads, size_t heads_len, size_t *count)
+{
+    return tp_len_at(handle, (const uint8_t *)tp_some(heads), heads_len, count);
+}
+
+static inline uint32_t tp_differences_since_some(tp_handle *handle, const uint8_t *heads, size_t heads_len, tp_splice *splices,
+                                                 size_t room, size_t *count, size_t *len)
+{
+    tp_splice none;
+    return tp_differences_since(handle, (const uint8_t *)tp_some(heads), heads_len, splices ? splices : &none, room, count, len);
+}
+
+static inline uint32_t tp_differences_some(tp_handle *handle, const uint8_t *from, size_t from_len, const uint8_t *to,
+                                           size_t to_len, tp_splice *splices, size_t room, size_t *count, size_t *len)
+{
+    tp_splice none;
+    return tp_differences(handle, (const uint8_t *)tp_some(from), from_len, (const uint8_t *)tp_some(to), to_len,
+                          splices ? splices : &none, room, count, len);
+}
+
 #define tp_free tp_free_some
 #define tp_answer tp_answer_some
 #define tp_load tp_load_some
@@ -519,6 +589,10 @@ static inline uint32_t tp_receive_some(tp_handle *handle, size_t link, const uin
 #define tp_shared_edit_many tp_shared_edit_many_some
 #define tp_apply tp_apply_some
 #define tp_receive tp_receive_some
+#define tp_text_at tp_text_at_some
+#define tp_len_at tp_len_at_some
+#define tp_differences_since tp_differences_since_some
+#define tp_differences tp_differences_some
 
 #define tp_shared_edit(shared, at, del, text, text_len, time, message, message_len, len) \
     (tp_shared_edit)(shared, at, del, (const char *)tp_some(text), text_len, time, (const char *)tp_some(message), message_len, len)

@@ -6,7 +6,7 @@ local Fake = {}
 Fake.__index = Fake
 
 function Fake.new(text)
-  local fake = setmetatable({ count = 0, all = {}, gone = {}, coming = {} }, Fake)
+  local fake = setmetatable({ count = 0, all = {}, gone = {}, coming = {}, versions = {} }, Fake)
   fake.chars = fake:split(text)
   return fake
 end
@@ -34,8 +34,47 @@ function Fake:change_count()
   return self.count
 end
 
+-- The name of what is there now, of as many bytes as a hash.
 function Fake:heads()
-  return {}
+  local name = ('%032d'):format(self.count)
+  self.versions[name] = self.chars
+  return { name }
+end
+
+local function set_of(chars)
+  local set = {}
+  for _, char in ipairs(chars) do
+    set[char] = true
+  end
+  return set
+end
+
+-- As the engine's, by the identities of the characters.
+function Fake:differences_since(heads)
+  local was, pieces, open, i = self.versions[heads[1]], {}, nil, 1
+  local before, now = set_of(was), set_of(self.chars)
+  local function piece_at(at)
+    if not open then
+      open = { at = at, count = 0, added = 0, text = '' }
+      pieces[#pieces + 1] = open
+    end
+    return open
+  end
+  for at = 0, #was do
+    while self.chars[i] and not before[self.chars[i]] do
+      local piece = piece_at(at)
+      piece.added, piece.text = piece.added + 1, piece.text .. self.chars[i].char
+      i = i + 1
+    end
+    local char = was[at + 1]
+    if char and now[char] then
+      open, i = nil, i + 1
+    elseif char then
+      local piece = piece_at(at)
+      piece.count = piece.count + 1
+    end
+  end
+  return pieces
 end
 
 -- One change of splices, as the engine takes them.

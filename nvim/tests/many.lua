@@ -1,7 +1,8 @@
 -- One command is one change: `:%s` at 11,794 places of a text of 1 MB and its undo, what another deleted meanwhile, other
 -- commands at many places, and what takes more than a change has room for. Texts are compared with those that plain Lua makes
--- of the same lines. Prints what each took; TEXTPEER_MOST_MS (5000) is the most that a command may take, in milliseconds. It
--- needs the engine's library and the program `textpeer` ($TEXTPEER_PROGRAM), and exits 1 at a difference.
+-- of the same lines. Prints what each took; TEXTPEER_MOST_MS (5000) is the most that a command may take, in milliseconds; what
+-- comes may take a tenth of that of the processor's time. It needs the engine's library and the program `textpeer`
+-- ($TEXTPEER_PROGRAM), and exits 1 at a difference.
 local uv = vim.loop
 local here = debug.getinfo(1, 'S').source:sub(2):match('(.*)/')
 package.path = here .. '/?.lua;' .. package.path
@@ -166,14 +167,17 @@ local function at_all_places()
     has(ann, wanted, what)
     has(ben, wanted, what)
     local longest = ben:lua('local longest = _G.longest _G.longest = { 0, 0 } return longest')
-    check(longest[1] < most, what .. ': it took Ben ' .. time_of(longest))
+    check(longest[1] < most and longest[2] < most / 10, what .. ': it took Ben ' .. time_of(longest))
     return time_of(longest)
   end
   connect()
   meet(lines, 'at first')
 
+  lines[10000] = 'x' .. lines[10000]
+  local took, grown = makes(ann, '10000Gix<Esc>', 1, lines, 'a character')
+  tell('a character: %s, %s where it comes', took, meet(lines, 'a character'))
   local wanted = replaced(lines, 'xy')
-  local took, grown = makes(ann, ':%s/foo/xy/g<CR>', 1, wanted, ':%s')
+  took, grown = makes(ann, ':%s/foo/xy/g<CR>', 1, wanted, ':%s')
   tell('%d bytes, :%%s at %d places: %s, %s where it comes, %.2f times the bytes of the places', #text_of(lines), PLACES, took,
     meet(wanted, ':%s'), grown / bytes_of(PLACES, 'xy'))
   check(grown < 1.5 * bytes_of(PLACES, 'xy'), 'the journal grew by ' .. grown)

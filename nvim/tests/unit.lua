@@ -163,8 +163,25 @@ for round = 1, rounds do
   document:close()
 end
 
--- Others' edits come between: both texts agree, and cursors keep their characters.
-local arrivals, cursors = 0, 0
+-- What comes to a document is shown without reading its text or the buffer's.
+local function receive(document, fake)
+  local read = api.nvim_buf_get_lines
+  document:flush()
+  fake.text = function()
+    error('the engine\'s text is read', 0)
+  end
+  api.nvim_buf_get_lines = function()
+    error('the buffer is read', 0)
+  end
+  document:receive('')
+  fake.text, api.nvim_buf_get_lines = nil, read
+  check(not document.stopped, 'what comes: ' .. tostring(document.stopped))
+end
+
+-- Others' edits come between: both texts agree, cursors keep their characters, and so do marks within the text, of which only
+-- what came or went is changed.
+local arrivals, cursors, marks = 0, 0, 0
+local namespace = api.nvim_create_namespace('textpeer-test')
 for round = 1, rounds do
   local document, fake, buffer = buffer_of(text_of(60))
   vim.cmd('silent! only | split')
@@ -181,17 +198,30 @@ for round = 1, rounds do
         api.nvim_win_set_cursor(window, { row, column })
         windows[window] = fake.chars[document.shown:char_of(row - 1, column) + 1]
       end
+      local marked = {}
+      for i = 1, #fake.chars do
+        local row, column = document.shown:place_of_char(i - 1)
+        marked[api.nvim_buf_set_extmark(buffer, namespace, row, column, {})] = fake.chars[i]
+      end
       for _ = 1, random(1, 3) do
         fake.coming[#fake.coming + 1] = function()
           local at = random(0, #fake.chars)
           fake:splice(at, random(0, math.min(5, #fake.chars - at)), text_of(6))
         end
       end
-      document:receive('')
+      receive(document, fake)
       arrivals = arrivals + 1
       if not check(fake:text() == text_of_buffer(buffer), 'round ' .. round .. ': an arrival') then
         break
       end
+      for mark, char in pairs(marked) do
+        if not fake.gone[char] then
+          local row, column = unpack(api.nvim_buf_get_extmark_by_id(buffer, namespace, mark, {}))
+          marks = marks + 1
+          check(fake.chars[document.shown:char_of(row, column) + 1] == char, 'round ' .. round .. ': a mark left its character')
+        end
+      end
+      api.nvim_buf_clear_namespace(buffer, namespace, 0, -1)
       for window, char in pairs(windows) do
         if api.nvim_win_is_valid(window) and not fake.gone[char] then
           local place = api.nvim_win_get_cursor(window)
@@ -320,6 +350,53 @@ for round = 1, 4 * rounds do
   end
 end
 
+-- Somebody deletes 2,000 characters meanwhile: none of them comes back, and what was typed among them stays, as one's own to
+-- undo and to make again.
+do
+  local document, fake, buffer = buffer_of('begin\n' .. ('0123456789abcdefghi\n'):rep(100) .. 'end')
+  vim.bo.fixendofline, vim.bo.endofline = false, false
+  local mine = {}
+  local function is(text, what)
+    check(fake:text() == text and text_of_buffer(buffer) == text, what .. ': ' .. vim.inspect({ fake:text(), text_of_buffer(buffer) }))
+  end
+  keys('51Gi€mine\n<Esc>')
+  keys('Go!<Esc>')
+  document:flush()
+  for i = 1, #fake.chars do
+    if fake.chars[i].char == '€' then
+      mine[1] = i - 1
+    end
+  end
+  fake.coming = {
+    function()
+      fake:splice(mine[1] + 6, 2006 - mine[1], '')
+      fake:splice(6, mine[1] - 6, '')
+    end,
+  }
+  receive(document, fake)
+  is('begin\n€mine\nend\n!', 'what is left')
+  document:turn_back(false)
+  is('begin\nend', 'the undo')
+  document:turn_back(true)
+  is('begin\n€mine\nend\n!', 'the redo')
+  check(document:check() and document.mended == 0, 'it was mended')
+  document:close()
+end
+
+-- Very many places of one line: the buffer is given them as one, and has the text.
+do
+  local document, fake, buffer = buffer_of(('aä'):rep(300))
+  fake.coming[1] = function()
+    for i = 0, 299 do
+      fake:splice(2 * i, 1, i % 3 == 0 and '' or '€')
+      fake:splice(2 * i, 0, i % 3 == 0 and 'b' or '')
+    end
+  end
+  receive(document, fake)
+  check(fake:text() == ('bä€ä€ä'):rep(100) and text_of_buffer(buffer) == fake:text(), 'very many places of one line')
+  document:close()
+end
+
 -- An undo and a redo beside what others did in the places of one command: by hand. Each is one change.
 for _, row in ipairs({
   -- What is between two places is deleted.
@@ -423,6 +500,21 @@ do
   check(document.stopped == 'no more' and fake.closed and vim.bo[buffer].modified and #told == 3, 'an edit that is refused')
 end
 
+-- The same where something comes: it is shown anew.
+do
+  told = {}
+  local document, fake, buffer = buffer_of('abc\ndef')
+  document:change(function()
+    api.nvim_buf_set_lines(buffer, 0, 1, true, { 'other' })
+  end)
+  fake.coming[1] = function()
+    fake:splice(7, 0, '!')
+  end
+  document:receive('')
+  check(text_of_buffer(buffer) == 'abc\ndef!' and document.mended == 1 and #told == 1, 'a difference is mended where something comes')
+  document:close()
+end
+
 -- A buffer that is unloaded with no word is no empty text.
 do
   told = {}
@@ -495,8 +587,8 @@ do
   check(engines[path].closed, 'the end of a buffer frees its journal')
 end
 
-io.stdout:write(('seed %d: %d commands, in %d of which the events misled; %d arrivals, %d cursors, %d undone\n'):format(seed, commands,
-  compared, arrivals, cursors, undone))
+io.stdout:write(('seed %d: %d commands, in %d of which the events misled; %d arrivals, %d cursors, %d marks, %d undone\n'):format(seed,
+  commands, compared, arrivals, cursors, marks, undone))
 if vim.env.TEXTPEER_MISLED then
   for row in pairs(misled) do
     io.stdout:write('  ' .. row .. '\n')

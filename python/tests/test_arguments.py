@@ -20,14 +20,18 @@ class Bytes(unittest.TestCase):
         self.addCleanup(self.notes.close)
 
     def test_other_types_are_refused(self):
-        editor, path = Editor(ZEROS), Path(self.folder.name) / "other.journal"
-        editor.edit(ANN, 0, 0, "a")
+        editor, path = Editor(ZEROS, ANN), Path(self.folder.name) / "other.journal"
+        editor.edit(0, 0, "a")
         counter, _ = editor.cursor(0)
         session = self.notes.begin("server")
         calls = {
             "Editor": Editor,
             "load": Editor.load,
-            "edit": lambda value: editor.edit(value, 0, 0, "x"),
+            "text_at": lambda value: editor.text_at([value]),
+            "len_at": lambda value: editor.len_at([value]),
+            "differences from": lambda value: editor.differences([value], []),
+            "differences to": lambda value: editor.differences([], [value]),
+            "differences_since": lambda value: editor.differences_since([value]),
             "apply": editor.apply,
             "receive": editor.link().receive,
             "position": lambda value: editor.position((counter, value)),
@@ -43,24 +47,49 @@ class Bytes(unittest.TestCase):
                     call(value)
         self.assertEqual((editor.text(), path.exists(), session.is_over), ("a", False, False))
 
+    def test_other_types_are_no_actor(self):
+        saved = Editor(ZEROS).save()
+        for value in NO_BYTES:
+            for call in (
+                lambda: Editor(ZEROS, value),
+                lambda: Editor.load(saved, value),
+                lambda: self.notes.fork(value),
+            ):
+                with self.assertRaises(TypeError):
+                    call()
+
+    def test_one_hash_is_no_list_of_them(self):
+        with Editor(ZEROS) as editor:
+            head = editor.edit(0, 0, "a")
+            for call in editor.text_at, editor.len_at, editor.differences_since, lambda value: editor.differences([], value):
+                for bad in head, bytearray(head), memoryview(head), b"", "", 5, None:
+                    with self.assertRaises(TypeError):
+                        call(bad)
+                for length in 0, 31, 33:
+                    with self.assertRaises(ValueError):
+                        call([head, bytes(length)])
+                for kind in bytes, bytearray, memoryview:
+                    call([kind(head)])
+                    call((kind(head),))
+
     def test_none_is_no_identifier(self):
         with self.assertRaises(TypeError):
             Editor(None)
 
     def test_a_bytearray_and_a_memoryview_are_taken(self):
         for kind in bytes, bytearray, memoryview:
-            with Editor(kind(ANN)) as editor:
-                editor.edit(kind(ANN), 0, 0, "a")
-                self.assertEqual(editor.identifier, ANN)
+            with Editor(kind(ANN), kind(ANN)) as editor:
+                editor.edit(0, 0, "a")
+                self.assertEqual((editor.identifier, editor.actor, editor.fork(kind(ZEROS)).actor), (ANN, ANN, ZEROS))
                 self.assertEqual(editor.cursor(0), Cursor(1, ANN))
                 self.assertEqual(editor.position((1, kind(ANN))), 0)
                 self.assertEqual(Editor.load(kind(editor.save())).text(), "a")
                 with Editor(ANN) as other:
-                    self.assertEqual(other.apply(kind(editor.change(0))), 1)
+                    self.assertEqual(other.apply(kind(editor.change_bytes(0))), 1)
 
     def test_sixteen_of_them(self):
         for length in 0, 15, 17:
-            for call in Editor, lambda value: self.notes.position((1, value)):
+            for call in Editor, lambda value: Editor(ZEROS, value), self.notes.fork, lambda value: self.notes.position((1, value)):
                 with self.assertRaises(ValueError):
                     call(bytes(length))
 
@@ -72,42 +101,47 @@ class Others(unittest.TestCase):
     def test_numbers(self):
         for bad in -1, 2**64:
             for call in (
-                lambda number: self.editor.edit(ANN, number, 0, "x"),
-                lambda number: self.editor.edit(ANN, 0, number, "x"),
-                lambda number: self.editor.edit(ANN, 0, 0, "x", time=number),
-                lambda number: self.editor.edit_many(ANN, [(0, 0, "x"), (number, 0, "y")]),
-                lambda number: self.editor.edit_many(ANN, [(0, 0, "x"), (0, number, "y")]),
+                lambda number: self.editor.edit(number, 0, "x"),
+                lambda number: self.editor.edit(0, number, "x"),
+                lambda number: self.editor.edit(0, 0, "x", time=number),
+                lambda number: self.editor.edit_many([(0, 0, "x"), (number, 0, "y")]),
+                lambda number: self.editor.edit_many([(0, 0, "x"), (0, number, "y")]),
                 self.editor.change,
+                self.editor.change_bytes,
+                lambda number: next(self.editor.changes(number)),
                 self.editor.cursor,
             ):
                 with self.assertRaises(ValueError):
                     call(bad)
         for bad in 0.0, "0", None:
             with self.assertRaises(TypeError):
-                self.editor.edit(ANN, bad, 0, "x")
+                self.editor.edit(bad, 0, "x")
         self.assertEqual(self.editor.text(), "")
 
     def test_texts(self):
         for bad in b"x", 5, None:
             with self.assertRaises(TypeError):
-                self.editor.edit(ANN, 0, 0, bad)
+                self.editor.edit(0, 0, bad)
             with self.assertRaises(TypeError):
-                self.editor.edit(ANN, 0, 0, "x", message=bad)
+                self.editor.edit(0, 0, "x", message=bad)
             with self.assertRaises(TypeError):
-                self.editor.edit_many(ANN, [(0, 0, "x"), (0, 0, bad)])
+                self.editor.edit_many([(0, 0, "x"), (0, 0, bad)])
         with self.assertRaises(TypeError):
-            self.editor.edit_many(ANN, [5])
+            self.editor.edit_many([5])
         with self.assertRaises(ValueError):
-            self.editor.edit_many(ANN, [(0, 0)])
+            self.editor.edit_many([(0, 0)])
         # Half of a surrogate pair is no character.
         with self.assertRaises(ValueError):
-            self.editor.edit(ANN, 0, 0, "\ud800")
+            self.editor.edit(0, 0, "\ud800")
         self.assertEqual(self.editor.text(), "")
 
     def test_editors(self):
         for bad in None, ZEROS, self.editor.link():
             with self.assertRaises(TypeError):
                 self.editor.merge(bad)
+        for call in SharedEditor, lambda: SharedEditor(ZEROS), lambda: SharedEditor.load(self.editor.save()):
+            with self.assertRaises(TypeError):
+                call()
 
     def test_paths(self):
         with self.assertRaises(ValueError):
@@ -121,7 +155,7 @@ class Others(unittest.TestCase):
         self.editor.close()
         self.assertTrue(self.editor.closed)
         self.assertEqual(repr(self.editor), "<textpeer.Editor, closed>")
-        for call in self.editor.text, self.editor.heads, self.editor.save, lambda: len(self.editor), lambda: self.editor.edit(ANN, 0, 0, "x"):
+        for call in self.editor.text, self.editor.heads, self.editor.save, lambda: len(self.editor), lambda: self.editor.edit(0, 0, "x"):
             with self.assertRaises(ValueError):
                 call()
         with self.assertRaises(ValueError), Editor(ZEROS) as other:
@@ -131,7 +165,7 @@ class Others(unittest.TestCase):
 class Refusals(unittest.TestCase):
     def test_words(self):
         with Editor(ZEROS) as editor, self.assertRaises(textpeer.OutOfRange) as caught:
-            editor.edit(ANN, 1, 0, "x")
+            editor.edit(1, 0, "x")
         refused = caught.exception
         self.assertIsInstance(refused, textpeer.Refused)
         self.assertEqual(refused.status, 101)

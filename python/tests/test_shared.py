@@ -6,6 +6,7 @@ $TEXTPEER_PROGRAM names the program; without it it is the clone's.
 import errno
 import gc
 import io
+import itertools
 import os
 import pathlib
 import resource
@@ -17,7 +18,7 @@ import time
 import unittest
 
 import textpeer
-from textpeer import Cursor, SharedEditor
+from textpeer import Cursor, Editor, SharedEditor
 from textpeer._streams import place_of
 
 TEXT, ANN, BEN = bytes([7]) * 16, bytes(15) + b"\1", bytes(15) + b"\2"
@@ -161,7 +162,8 @@ class Files(Folder):
         finally:
             resource.setrlimit(resource.RLIMIT_FSIZE, (soft, hard))
         self.assertIsInstance(caught.exception, OSError)
-        for call in (lambda: notes.edit(3, 0, "def"), notes.begin):
+        link = notes.link()
+        for call in (lambda: notes.edit(3, 0, "def"), notes.begin, link.generate, lambda: Editor(TEXT).merge(notes)):
             with self.assertRaises(textpeer.Stopped):
                 call()
         self.assertEqual((notes.text(), session.is_over), ("abc", True))
@@ -424,6 +426,85 @@ class Streams(Folder):
                 self.ann.exchange(5)
 
 
+class Kinds(Folder):
+    """What an editor in memory has one on a file has too, and each meets the other."""
+
+    def each_pair(self, call):
+        """Calls it with an editor of each kind and one of each kind, of one document, each with a change of its own."""
+        for kinds in itertools.product(("memory", "file"), repeat=2):
+            editors = []
+            for number, (kind, actor) in enumerate(zip(kinds, (ANN, BEN))):
+                editor = Editor(TEXT, actor) if kind == "memory" else self.journal("-".join(kinds) + str(number), actor)
+                editor.edit(0, 0, "ab"[number])
+                editors.append(editor)
+            with self.subTest(kinds=kinds), editors[0], editors[1]:
+                call(*editors)
+                self.same(*editors)
+
+    def same(self, ann, ben):
+        self.assertEqual((ann.text(), ben.text(), ann.change_count(), ben.change_count()), ("ba", "ba", 2, 2))
+        self.assertEqual(ann.heads(), ben.heads())
+        self.assertEqual(ann.save(), Editor.load(ann.save()).save())
+
+    def test_merges(self):
+        def merge(ann, ben):
+            self.assertEqual((ann.merge(ben), ben.merge(ann), ann.merge(ben), ann.merge(ann)), (1, 1, 0, 0))
+            with Editor(ANN) as other:
+                for one, two in (ann, other), (other, ann):
+                    with self.assertRaises(textpeer.OtherDocument):
+                        one.merge(two)
+
+        self.each_pair(merge)
+
+    def test_changes(self):
+        def apply(ann, ben):
+            entered = ann.apply(ben.change_bytes(0)), ben.apply(ann.change_bytes(0)), ann.apply(ben.change_bytes(0))
+            self.assertEqual(entered, (1, 1, 0))
+
+        self.each_pair(apply)
+
+    def test_links(self):
+        def exchange(ann, ben):
+            to_ben, to_ann = ann.link(), ben.link()
+            entered = sent = 0
+            while messages := [(link, message) for link in (to_ben, to_ann) if (message := link.generate())]:
+                for link, message in messages:
+                    entered += (to_ann if link is to_ben else to_ben).receive(message)
+                sent += len(messages)
+                self.assertLess(sent, 12)
+            self.assertEqual(entered, 2)
+
+        self.each_pair(exchange)
+
+    def test_sessions(self):
+        def exchange(ann, ben):
+            one, other = socket.socketpair()
+            with one, other:
+                one.settimeout(30)
+                other.settimeout(30)
+                thread = threading.Thread(target=ben.exchange, args=(other,), kwargs={"role": "server"})
+                thread.start()
+                self.assertEqual(ann.exchange(one), 1)
+                thread.join(60)
+
+        self.each_pair(exchange)
+
+    def test_what_came_is_on_the_disk_with_the_next_edit(self):
+        ann, notes = Editor(TEXT, ANN), self.journal("notes", BEN)
+        ann.edit(0, 0, "abc")
+        self.assertEqual((notes.apply(ann.change_bytes(0)), notes.text()), (1, "abc"))
+        notes.edit(3, 0, "d")
+        notes.close()
+        self.assertEqual(self.program("text", "notes"), "abcd\n")
+
+    def test_the_most_links(self):
+        for editor in Editor(TEXT), self.journal("notes"):
+            for number in range(1022):
+                self.assertEqual(editor.link().number, number)
+            with self.assertRaises(textpeer.TooManyLinks):
+                editor.link()
+
+
 class Stranger:
     """A server on this machine that does one thing to whoever connects."""
 
@@ -477,6 +558,16 @@ class Network(Folder):
                 self.assertEqual((server.stdout.read(), server.wait(30)), ("served 1\n", 0))
                 self.assertEqual(notes.text(), "qabc")
             self.assertEqual(self.program("text", name), "qabc\n")
+
+    def test_the_program_serves_an_editor_in_memory(self):
+        with SharedEditor.create(self.folder / "server", TEXT, BEN) as ben:
+            ben.edit(0, 0, "q")
+        serve = [PROGRAM, "serve", "server", "127.0.0.1:0", "--sessions", "1"]
+        with Editor(TEXT, ANN) as notes, subprocess.Popen(serve, cwd=self.folder, stdout=subprocess.PIPE, text=True) as server:
+            notes.edit(0, 0, "abc")
+            self.assertEqual(notes.sync(f"127.0.0.1:{server.stdout.readline().split()[1]}", timeout=30), 1)
+            self.assertEqual((server.stdout.read(), server.wait(30), notes.text()), ("served 1\n", 0, "qabc"))
+        self.assertEqual(self.program("text", "server"), "qabc\n")
 
     def test_the_program_over_pipes(self):
         self.program("new", "other")

@@ -1,2 +1,4 @@
 pub mod Values
 pub mod FlatLaws
+pub mod NumberLaws
+pub mod FoundLaws

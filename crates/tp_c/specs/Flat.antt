@@ -1,10 +1,8 @@
 -- Splices as C holds them: numbers, beside one run of bytes for all their texts.
-use Rattle.std.specs.Prelude.{◌≡◌, ◌≢◌, ℕ, List, length, map, take, drop, slice_get, Some}
+use Rattle.std.specs.Prelude.{◌≡◌, ◌≢◌, ◌⊎◌, ℕ, List, length, map, take, drop, slice_get, Some}
 use Rattle.std.specs.List.{All, flat_map, sum_by}
 use Rattle.std.specs.Str.{IsUtf8}
 use Rattle.tp_edit.specs.declared.splice.Splice.{Splice}
-use Rattle.tp_editor.specs.declared.error.EditorError.{EditorError}
-use Rattle.tp_editor.specs.declared.error.EditorError.TheVariants.{OutOfMemory, BadText, BadLengths}
 use Rattle.tp_c.specs.declared.splices.FlatSplice.{FlatSplice}
 
 -- the numbers of a splice; the length of its text counts bytes
@@ -29,10 +27,9 @@ pub record HasBrokenText (flat : List FlatSplice) (texts : List ℕ) : Type 0 wh
   pub there : slice_get flat number ≡ Some numbers
   pub unread : IsUtf8 (take numbers.len (drop (texts_len (take number flat)) texts)) → ⊥
 
--- Why there are no such splices: the first that holds, in the order of this list. Memory can be short once the
--- lengths add up.
-abbrev pub RefusesSplices : List FlatSplice → List ℕ → EditorError → Type 0
-RefusesSplices flat texts BadLengths = texts_len flat ≢ length texts
-RefusesSplices flat texts BadText = (texts_len flat ≡ length texts) × HasBrokenText flat texts
-RefusesSplices flat texts OutOfMemory = texts_len flat ≡ length texts
-RefusesSplices flat texts _ = ⊥
+-- Why there are no such splices, by the status: 5 where the lengths don't add up, else 4 where one of the texts isn't
+-- UTF-8, and `memory` where that was short.
+abbrev pub RefusesSplices : ℕ → List FlatSplice → List ℕ → ℕ → Type 0
+RefusesSplices memory flat texts status =
+    ((status ≡ 5) × (texts_len flat ≢ length texts))
+    ⊎ ((texts_len flat ≡ length texts) × (((status ≡ 4) × HasBrokenText flat texts) ⊎ (status ≡ memory)))

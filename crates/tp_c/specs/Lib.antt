@@ -1,6 +1,9 @@
 pub mod Owned
 pub mod Lends
 pub mod Status
+pub mod Heads
+pub mod Changes
+pub mod Earlier
 pub mod Flat
 pub mod Editing
 pub mod Reading

@@ -1,9 +1,9 @@
 -- What is read of an editor.
-use Rattle.std.specs.Prelude.{◌≡◌, ◌⊎◌, ℕ, ◌≤◌, List, length, Some, None}
+use Rattle.std.specs.Prelude.{◌≡◌, ◌⊎◌, ℕ, List, length, Some, None}
 use Rattle.tp_opid.specs.declared.op_id.OpId.{OpId}
 use Rattle.tp_change.specs.declared.parts.ChangeParts.{ChangeParts}
 use Rattle.tp_document.specs.Showing.{HasElementAt, HasPosition}
-use Rattle.tp_editor.specs.EditorState.{EditorState, IsChangeAt, KeepsRest}
+use Rattle.tp_editor.specs.EditorState.{EditorState, KeepsRest}
 use Rattle.tp_c.specs.declared.cursors.Element.{Element}
 
 -- Only the answer may be another one, and where the call was refused that is as it was too. The length is the answer's.
@@ -12,13 +12,6 @@ pub record OnlyAnswers (e : EditorState) (status len : ℕ) (e' : EditorState) :
   pub rest : KeepsRest e e'
   pub same : (status ≡ 0 → ⊥) → e'.answer ≡ e.answer
   pub tells : len ≡ length e'.answer
-
--- The bytes of the change with this number were asked for: they are the answer, or there is none, or a growth was
--- refused.
-abbrev pub AnswersChange : List ChangeParts → ℕ → ℕ → List ℕ → Type 0
-AnswersChange C place status bytes =
-    ((status ≡ 0) × IsChangeAt C place bytes)
-    ⊎ (((status ≡ 3) × (length C ≤ place)) ⊎ (status ≡ 1))
 
 -- the identifier that C holds as this element
 abbrev pub id_of : Element → OpId

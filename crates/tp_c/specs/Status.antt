@@ -17,22 +17,20 @@ use Rattle.tp_store.specs.StoreError as store
 use Rattle.tp_store.specs.declared.error.StoreError.{StoreError}
 use Rattle.tp_sync.specs.SyncError as sync
 
--- the status of a call on a document
-abbrev pub doc_status : {X : Type 0} → Result X DocError → ℕ
-doc_status (Ok x) = 0
-doc_status (Err e) = 100 + document.code_of e
+-- the number of a document's refusal
+abbrev pub number_of_doc : DocError → ℕ
+number_of_doc e = 100 + document.code_of e
 
--- the status of a call on a saved file
-abbrev pub store_status : {X : Type 0} → Result X StoreError → ℕ
-store_status (Ok x) = 0
-store_status (Err e) = 300 + store.code_of e
+-- that of a saved file
+abbrev pub number_of_store : StoreError → ℕ
+number_of_store e = 300 + store.code_of e
 
 -- the number of a peer's refusal, where `memory` is that of want of memory; where it is one of the layers below, that
 -- of the layer
 abbrev pub number_of_peer : ℕ → PeerError → ℕ
-number_of_peer memory (peer.Doc e) = 100 + document.code_of e
+number_of_peer memory (peer.Doc e) = number_of_doc e
 number_of_peer memory (peer.Sync e) = 200 + sync.code_of e
-number_of_peer memory (peer.Store e) = 300 + store.code_of e
+number_of_peer memory (peer.Store e) = number_of_store e
 number_of_peer memory peer.OutOfMemory = memory
 number_of_peer memory e = 500 + peers.code_of e
 
@@ -43,11 +41,7 @@ peer_status memory (Err e) = number_of_peer memory e
 
 -- the number of an editor's refusal
 abbrev pub number_of_editor : ℕ → EditorError → ℕ
-number_of_editor memory editor.OutOfMemory = 1
 number_of_editor memory editor.NoLink = 2
-number_of_editor memory editor.NoChange = 3
-number_of_editor memory editor.BadText = 4
-number_of_editor memory editor.BadLengths = 5
 number_of_editor memory (editor.Peer e) = number_of_peer memory e
 
 -- the status of a call on an editor

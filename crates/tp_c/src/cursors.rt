@@ -1,9 +1,10 @@
 //! Positions that stay where they are in a text that changes.
 
 ghost use Rattle.std.specs.Prelude.{◌≡◌};
-ghost use Rattle.tp_c.specs.Reading.{Finds, Locates};
+ghost use Rattle.tp_c.specs.Reading.{Finds, FindsParts, Locates, LocatesParts};
 
 use crate::handle::Handle;
+use crate::status::number_of_doc;
 use tp_document::Cursor;
 use tp_opid::{Actor, OpId};
 
@@ -24,7 +25,7 @@ pub extern "C" fn tp_cursor(handle: &mut Handle, at: usize, element: &mut Elemen
     ensures found { Finds handle.old.editor.peer.applied at result element.old element.new }
     ensures same { handle.new.editor ≡ handle.old.editor }
 {
-    match handle.editor_mut().cursor(at) {
+    match handle.editor_mut().document().cursor(at) {
         Ok(cursor) => {
             let actor = cursor.element.actor.0;
             *element = Element {
@@ -33,7 +34,7 @@ pub extern "C" fn tp_cursor(handle: &mut Handle, at: usize, element: &mut Elemen
             };
             0
         }
-        Err(error) => 100 + error.code() as u32,
+        Err(error) => number_of_doc(&error),
     }
 }
 
@@ -50,11 +51,53 @@ pub extern "C" fn tp_cursor_position(handle: &mut Handle, element: &Element, at:
             actor: Actor(element.actor),
         },
     };
-    match handle.editor_mut().cursor_position(&cursor) {
+    match handle.editor_mut().document().cursor_position(&cursor) {
         Ok(position) => {
             *at = position;
             0
         }
-        Err(error) => 100 + error.code() as u32,
+        Err(error) => number_of_doc(&error),
     }
+}
+
+/// Writes the visible element at a position of the text, from 0, as [`tp_cursor`] does, in parts.
+#[unsafe(no_mangle)]
+pub extern "C" fn tp_shared_cursor(
+    handle: &mut Handle,
+    at: usize,
+    counter: &mut u64,
+    actor: &mut [u8; 16],
+) -> u32
+    ensures found { FindsParts handle.old.editor.peer.applied at result counter.old actor.old
+        counter.new actor.new }
+    ensures same { handle.new.editor ≡ handle.old.editor }
+{
+    let mut element = Element {
+        counter: *counter,
+        actor: *actor,
+    };
+    let status = tp_cursor(handle, at, &mut element);
+    *counter = element.counter;
+    *actor = element.actor;
+    status
+}
+
+/// Writes how many visible characters stand before the element, which is given in parts, as [`tp_cursor_position`]
+/// does.
+#[unsafe(no_mangle)]
+pub extern "C" fn tp_shared_cursor_position(
+    handle: &mut Handle,
+    counter: u64,
+    actor: &[u8; 16],
+    position: &mut usize,
+) -> u32
+    ensures found { LocatesParts handle.old.editor.peer.applied counter actor.now result
+        position.old position.new }
+    ensures same { handle.new.editor ≡ handle.old.editor }
+{
+    let element = Element {
+        counter,
+        actor: *actor,
+    };
+    tp_cursor_position(handle, &element, position)
 }

@@ -1,16 +1,13 @@
 //! Links to other peers, and messages on them.
 
-ghost use Rattle.std.specs.Prelude.{◌≡◌};
-ghost use Rattle.tp_c.specs.Linking.{Asks, Opens, ReceivesBytes, ReceivesMessage};
+ghost use Rattle.tp_c.specs.Linking.{Asks, Opens, ReceivesBytes};
 
 use crate::handle::Handle;
 use crate::status::{
     OUT_OF_MEMORY, PEER_OUT_OF_MEMORY, SYNC_OUT_OF_MEMORY, editor_status, number_of_peer,
 };
-use std::alloc::Global;
 use tp_editor::Editor;
 use tp_journal::OptionalJournal;
-use tp_sync::Message;
 
 /// Opens a link to another peer, of which nothing is known yet, and writes its number to `link`: from 0 in the order in
 /// which links are opened. Answers 504 where 1,022 are: nothing is written then.
@@ -51,37 +48,22 @@ pub extern "C" fn tp_generate(handle: &mut Handle, link: usize, len: &mut usize)
     generate_on(handle.editor_mut(), link, len)
 }
 
-// Receives the message on the link, and gives the status.
-fn receive_on(editor: &mut Editor<OptionalJournal>, link: usize, message: Message) -> u32
-    ensures { ReceivesMessage editor.old link message result editor.new }
-{
-    let answered = editor.receive(link, message);
-    editor_status(&answered, SYNC_OUT_OF_MEMORY)
-}
-
-// Receives the message that the bytes are.
-fn receive_bytes(
-    alloc: Global,
-    editor: &mut Editor<OptionalJournal>,
-    link: usize,
-    bytes: &[u8],
-) -> u32
+// Receives the bytes on the link, and gives the status.
+fn receive_on(editor: &mut Editor<OptionalJournal>, link: usize, bytes: &[u8]) -> u32
     ensures { ReceivesBytes editor.old link bytes.now result editor.new }
 {
-    match Message::decode(alloc, bytes) {
-        Ok(message) => receive_on(editor, link, message),
-        Err(error) => 200 + error.code() as u32,
-    }
+    let answered = editor.receive(link, bytes);
+    editor_status(&answered, SYNC_OUT_OF_MEMORY)
 }
 
 /// Receives the message that the bytes are from the other of the link. In a file its changes are on the disk with the
 /// next edit or message.
 ///
-/// Answers 201 or 202 where the bytes are no message, 2 where there is no such link, 204 where more than 1,024 changes
-/// would wait, 205 where a growth was refused, 502 where the journal's device failed and 503 where it had.
+/// Answers 2 where there is no such link, 503 where the journal's device had failed, 201 or 202 where the bytes are no
+/// message, 204 where more than 1,024 changes would wait, 205 where a growth was refused, and 502 where the device failed.
 #[unsafe(no_mangle)]
-pub extern "C" fn tp_receive(alloc: Global, handle: &mut Handle, link: usize, bytes: &[u8]) -> u32
+pub extern "C" fn tp_receive(handle: &mut Handle, link: usize, bytes: &[u8]) -> u32
     ensures { ReceivesBytes handle.old.editor link bytes.now result handle.new.editor }
 {
-    receive_bytes(alloc, handle.editor_mut(), link, bytes)
+    receive_on(handle.editor_mut(), link, bytes)
 }

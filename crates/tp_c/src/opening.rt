@@ -1,25 +1,24 @@
 //! Handles come and go.
 
-ghost use Rattle.std.specs.Prelude.{◌≡◌, ◌⊎◌, Some};
-ghost use Rattle.tp_editor.specs.EditorState.{EditorState};
+ghost use Rattle.std.specs.Prelude.{◌≡◌, ◌⊎◌};
 ghost use Rattle.tp_editor.specs.Opening as editor;
-ghost use Rattle.tp_c.specs.Opening.{PutsEditor, PutsBy, PutsOpened, RefusesPath};
-ghost use Rattle.tp_c.specs.Storing.{IsBlank};
+ghost use Rattle.tp_c.specs.Opening.{PutsEditor, PutsBy, PutsFork, PutsOpened, RefusesPath};
+ghost use Rattle.tp_c.specs.Storing.{empty_editor};
 
 use crate::handle::Handle;
 use crate::loose::Loose;
 use crate::slot::{Slot, slot_of};
-use crate::status::{BAD_TEXT, OUT_OF_MEMORY, number_of_opening};
+use crate::status::{BAD_TEXT, OUT_OF_MEMORY, number_of_doc, number_of_opening};
 use std::alloc::Global;
 use std::str::from_utf8;
 use tp_editor::{Editor, EditorOpenError};
 use tp_journal::OptionalJournal;
 use tp_opid::{Actor, DocId};
 
-// The identifier of a document that was given none.
-const NO_ID: [u8; 16] = [0; 16];
+/// The identifier of a document, and the actor of its edits, where none was given.
+pub(crate) const NO_ID: [u8; 16] = [0; 16];
 
-// PutsEditor the editor into the slot.
+// Puts the editor into the slot.
 fn put_editor(alloc: Global, editor: Editor<OptionalJournal>, slot: &mut Slot) -> u32
     ensures { PutsEditor editor result slot.old slot.new }
 {
@@ -32,7 +31,7 @@ fn put_editor(alloc: Global, editor: Editor<OptionalJournal>, slot: &mut Slot) -
     }
 }
 
-// PutsEditor the editor that was opened into the slot, or answers why there is none.
+// Puts the editor that was opened into the slot, or answers why there is none.
 fn put_opened(
     alloc: Global,
     opened: Result<Editor<OptionalJournal>, EditorOpenError>,
@@ -52,7 +51,7 @@ fn put_opened(
 /// Answers 1 where a growth was refused: nothing is written then.
 #[unsafe(no_mangle)]
 pub extern "C" fn tp_open(alloc: Global, slot: &mut Slot) -> u32
-    ensures { (e : EditorState) × IsBlank NO_ID e × PutsEditor e result slot.old slot.new }
+    ensures { PutsEditor (empty_editor NO_ID) result slot.old slot.new }
 {
     put_editor(alloc, Editor::new(alloc, DocId(NO_ID), Actor(NO_ID)), slot)
 }
@@ -103,15 +102,30 @@ pub extern "C" fn tp_shared_create(
     }
 }
 
+/// Makes an editor of a copy of the document with the changes that entered, in memory alone, edited under the actor, and
+/// puts it into `slot`, which becomes a handle. No two editors may edit under one actor at a time.
+///
+/// Answers 109 or 1 where a growth was refused: nothing is written then.
+#[unsafe(no_mangle)]
+pub extern "C" fn tp_fork(
+    alloc: Global,
+    handle: &mut Handle,
+    actor: &[u8; 16],
+    slot: &mut Slot,
+) -> u32
+    ensures forked { PutsFork handle.old.editor.peer (record { 0 = actor.now }) result slot.old
+        slot.new }
+    ensures same { handle.new.editor ≡ handle.old.editor }
+{
+    match handle.editor_mut().fork(Actor(*actor)) {
+        Ok(editor) => put_editor(alloc, editor, slot),
+        Err(error) => number_of_doc(&error),
+    }
+}
+
 /// Ends the editor and its session, frees its file's lock, and gives back all its memory. The handle must not be used
 /// again.
 #[unsafe(no_mangle)]
 pub extern "C" fn tp_free(alloc: Global, handle: Handle) {
     drop(handle.into_loose(alloc).into_box());
-}
-
-/// [`tp_free`] by another name.
-#[unsafe(no_mangle)]
-pub extern "C" fn tp_shared_close(alloc: Global, handle: Handle) {
-    tp_free(alloc, handle);
 }

@@ -4,12 +4,15 @@ ghost use Rattle.std.specs.Prelude.{◌≡◌, ◌++◌, length, min, take, drop
 ghost use Rattle.tp_document.specs.Common.{chars, IsTextOf};
 ghost use Rattle.tp_document.specs.Showing.{HasLength};
 ghost use Rattle.tp_graph.specs.Heads as head;
-ghost use Rattle.tp_editor.specs.EditorState.{hash_bytes};
-ghost use Rattle.tp_c.specs.Reading.{AnswersChange, OnlyAnswers};
+ghost use Rattle.tp_c.specs.Heads.{hash_bytes};
+ghost use Rattle.tp_c.specs.Reading.{OnlyAnswers};
 ghost use Rattle.tp_c.specs.Status.{IsDoneUnless};
 
+use crate::answering::answer_with;
 use crate::handle::Handle;
-use crate::status::{OUT_OF_MEMORY, doc_status, editor_status};
+use crate::hashes::bytes_of;
+use crate::status::{DOC_OUT_OF_MEMORY, number_of_doc};
+use std::alloc::Global;
 
 /// Writes the identifier of the document to `id`.
 #[unsafe(no_mangle)]
@@ -17,7 +20,7 @@ pub extern "C" fn tp_id(handle: &mut Handle, id: &mut [u8; 16])
     ensures id { id.new ≡ handle.old.editor.peer.id.0 }
     ensures same { handle.new.editor ≡ handle.old.editor }
 {
-    let bytes = handle.editor_mut().id().0;
+    let bytes = handle.editor_mut().document().id().0;
     *id = bytes;
 }
 
@@ -27,7 +30,7 @@ pub extern "C" fn tp_len(handle: &mut Handle) -> usize
     ensures len { HasLength handle.old.editor.peer.applied result }
     ensures same { handle.new.editor ≡ handle.old.editor }
 {
-    handle.editor_mut().len()
+    handle.editor_mut().document().len()
 }
 
 /// The answer is the text as UTF-8; its length is written to `len`. Answers 109 where a growth was refused, which
@@ -40,48 +43,28 @@ pub extern "C" fn tp_text(handle: &mut Handle, len: &mut usize) -> u32
     ensures around { OnlyAnswers handle.old.editor result len.new handle.new.editor }
 {
     let editor = handle.editor_mut();
-    let answered = editor.text();
-    *len = editor.answer().len();
-    doc_status(&answered)
+    let bytes = match editor.document().text() {
+        Ok(text) => Ok(text.into_bytes()),
+        Err(error) => Err(number_of_doc(&error)),
+    };
+    answer_with(editor, bytes, len)
 }
 
 /// The answer is the hashes of the heads, 32 bytes each, rising; its length is written to `len`. Answers 109 where a
 /// growth was refused, which leaves the answer.
 #[unsafe(no_mangle)]
-pub extern "C" fn tp_heads(handle: &mut Handle, len: &mut usize) -> u32
+pub extern "C" fn tp_heads(alloc: Global, handle: &mut Handle, len: &mut usize) -> u32
     ensures heads { result ≡ 0 → handle.new.editor.answer
         ≡ hash_bytes (head.heads handle.old.editor.peer.applied) }
     ensures err { IsDoneUnless 109 result }
     ensures around { OnlyAnswers handle.old.editor result len.new handle.new.editor }
 {
     let editor = handle.editor_mut();
-    let answered = editor.heads();
-    *len = editor.answer().len();
-    doc_status(&answered)
-}
-
-/// How many changes are applied.
-#[unsafe(no_mangle)]
-pub extern "C" fn tp_change_count(handle: &mut Handle) -> usize
-    ensures count { result ≡ length handle.old.editor.peer.applied }
-    ensures same { handle.new.editor ≡ handle.old.editor }
-{
-    handle.editor_mut().change_count()
-}
-
-/// The answer is the bytes of the applied change with this number, from 0 in the order in which they entered; its
-/// length is written to `len`. Answers 3 where there are fewer, and 1 where a growth was refused; both leave the
-/// answer.
-#[unsafe(no_mangle)]
-pub extern "C" fn tp_change_at(handle: &mut Handle, number: usize, len: &mut usize) -> u32
-    ensures bytes { AnswersChange handle.old.editor.peer.applied number result
-        handle.new.editor.answer }
-    ensures around { OnlyAnswers handle.old.editor result len.new handle.new.editor }
-{
-    let editor = handle.editor_mut();
-    let answered = editor.change(number);
-    *len = editor.answer().len();
-    editor_status(&answered, OUT_OF_MEMORY)
+    let bytes = match bytes_of(alloc, editor.document().heads()) {
+        Ok(bytes) => Ok(bytes),
+        Err(_) => Err(DOC_OUT_OF_MEMORY),
+    };
+    answer_with(editor, bytes, len)
 }
 
 // Copies as many bytes as there are in both to the beginning of `out`.

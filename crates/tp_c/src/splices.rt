@@ -3,10 +3,10 @@
 ghost use Rattle.std.specs.Prelude.{◌≡◌, ◌↔◌, IsTrue, MatchResult};
 ghost use Rattle.tp_c.specs.Flat.{AreSplices, RefusesSplices, texts_len};
 
+use crate::status::{BAD_LENGTHS, BAD_TEXT};
 use std::alloc::Global;
 use std::str::from_utf8;
 use tp_edit::Splice;
-use tp_editor::EditorError;
 
 /// One splice of an edit as C holds it: the `del` characters from `at` on go, and the next `len` bytes of the edit's
 /// texts come in their place.
@@ -37,29 +37,30 @@ fn adds_up(flat: &[FlatSplice], len: usize) -> bool
 
 /// The splices with these numbers, whose texts are the bytes, one after another.
 ///
-/// `BadLengths` where the texts have more or fewer bytes together, else `BadText` where one of them isn't UTF-8; and
-/// `OutOfMemory`. One pass over the bytes, which aren't copied; memory is for the list.
+/// Else the status: 5 where the texts have more or fewer bytes together, else 4 where one of them isn't UTF-8; and
+/// `memory` where that is short. One pass over the bytes, which aren't copied; memory is for the list.
 pub(crate) fn splices_of<'a>(
     alloc: Global,
     flat: &[FlatSplice],
     texts: &'a [u8],
-) -> Result<Vec<Splice<'a>>, EditorError>
+    memory: u32,
+) -> Result<Vec<Splice<'a>>, u32>
     ensures { MatchResult result (λ splices. AreSplices flat.now texts.now splices.items)
-        (RefusesSplices flat.now texts.now) }
+        (RefusesSplices memory flat.now texts.now) }
 {
     if !adds_up(flat, texts.len()) {
-        return Err(EditorError::BadLengths);
+        return Err(BAD_LENGTHS);
     }
     let mut splices = match Vec::with_capacity(alloc, flat.len()) {
         Ok(splices) => splices,
-        Err(_) => return Err(EditorError::OutOfMemory),
+        Err(_) => return Err(memory),
     };
     let mut rest = texts;
     for numbers in flat {
         let (bytes, left) = rest.split_at(numbers.len);
         let text = match from_utf8(bytes) {
             Ok(text) => text,
-            Err(_) => return Err(EditorError::BadText),
+            Err(_) => return Err(BAD_TEXT),
         };
         let splice = Splice {
             at: numbers.at,
@@ -68,7 +69,7 @@ pub(crate) fn splices_of<'a>(
         };
         match splices.push(splice) {
             Ok(()) => {}
-            Err(_) => return Err(EditorError::OutOfMemory),
+            Err(_) => return Err(memory),
         }
         rest = left;
     }

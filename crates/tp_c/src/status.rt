@@ -13,8 +13,14 @@ use tp_store::StoreError;
 /// The status where a growth was refused, before the layer below was asked.
 pub(crate) const OUT_OF_MEMORY: u32 = 1;
 
+/// The status where there is no change with a number.
+pub(crate) const NO_CHANGE: u32 = 3;
+
 /// The status where a text isn't UTF-8.
 pub(crate) const BAD_TEXT: u32 = 4;
+
+/// The status where lengths don't add up to the bytes that are given.
+pub(crate) const BAD_LENGTHS: u32 = 5;
 
 /// The status where memory was refused to an edit of a document, to a change of others or to a merge.
 pub(crate) const DOC_OUT_OF_MEMORY: u32 = 109;
@@ -25,24 +31,18 @@ pub(crate) const SYNC_OUT_OF_MEMORY: u32 = 205;
 /// The status where memory was refused to a peer.
 pub(crate) const PEER_OUT_OF_MEMORY: u32 = 509;
 
-/// The status of a call on a document.
-pub(crate) fn doc_status<T>(answered: &Result<T, DocError>) -> u32
-    ensures { result ≡ status.doc_status answered.now }
+/// The number of a document's refusal.
+pub(crate) fn number_of_doc(error: &DocError) -> u32
+    ensures { result ≡ status.number_of_doc error.now }
 {
-    match answered {
-        Ok(_) => 0,
-        Err(error) => 100 + error.code() as u32,
-    }
+    100 + error.code() as u32
 }
 
-/// The status of a call on a saved file.
-pub(crate) fn store_status<T>(answered: &Result<T, StoreError>) -> u32
-    ensures { result ≡ status.store_status answered.now }
+/// The number of a saved file's refusal.
+pub(crate) fn number_of_store(error: &StoreError) -> u32
+    ensures { result ≡ status.number_of_store error.now }
 {
-    match answered {
-        Ok(_) => 0,
-        Err(error) => 300 + error.code() as u32,
-    }
+    300 + error.code() as u32
 }
 
 /// The number of a peer's refusal, by that of want of memory in the call.
@@ -50,9 +50,9 @@ pub(crate) fn number_of_peer(error: &PeerError, memory: u32) -> u32
     ensures { result ≡ status.number_of_peer memory error.now }
 {
     match error {
-        PeerError::Doc(error) => 100 + error.code() as u32,
+        PeerError::Doc(error) => number_of_doc(error),
         PeerError::Sync(error) => 200 + error.code() as u32,
-        PeerError::Store(error) => 300 + error.code() as u32,
+        PeerError::Store(error) => number_of_store(error),
         PeerError::OutOfMemory => memory,
         error => 500 + error.code() as u32,
     }
@@ -73,11 +73,7 @@ pub(crate) fn number_of_editor(error: &EditorError, memory: u32) -> u32
     ensures { result ≡ status.number_of_editor memory error.now }
 {
     match error {
-        EditorError::OutOfMemory => 1,
         EditorError::NoLink => 2,
-        EditorError::NoChange => 3,
-        EditorError::BadText => 4,
-        EditorError::BadLengths => 5,
         EditorError::Peer(error) => number_of_peer(error, memory),
     }
 }

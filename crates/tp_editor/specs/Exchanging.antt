@@ -1,5 +1,5 @@
 -- What changes of others, and messages on links, do to an editor.
-use Rattle.std.specs.Prelude.{◌≡◌, ◌⊎◌, ℕ, ◌<◌, ◌≤◌, [], ◌∷◌, Bool, true, false, Some, None, Result, Ok, Err}
+use Rattle.std.specs.Prelude.{◌≡◌, ◌⊎◌, ℕ, ◌<◌, ◌≤◌, List, [], ◌∷◌, Bool, true, false, Some, None, Result, Ok, Err}
 use Rattle.tp_change.specs.declared.parts.ChangeParts.{ChangeParts}
 use Rattle.tp_document.specs.declared.error.DocError.TheVariants as doc
 use Rattle.tp_peer.specs.PeerData.{PeerData}
@@ -56,23 +56,15 @@ pub record Sends (e : EditorState) (i : ℕ) (e' : EditorState) : Type 0 where
   pub again : Bool
   pub step : PeerStep e.peer (Generate i) (Generated (Some (e'.answer, again))) e'.peer
 
--- what generating did, by whether it made a message
-abbrev pub Generates : EditorState → ℕ → Bool → EditorState → Type 0
-Generates e i true e' = (i < e.links) × Sends e i e'
-Generates e i false e' = (i < e.links) × PeerStep e.peer (Generate i) (Generated None) e'.peer × (e'.answer ≡ e.answer)
+-- What making the next message on a link did: its bytes are the answer; or nothing is to be said; or why none was made.
+abbrev pub Generates : EditorState → ℕ → Result Bool EditorError → EditorState → Type 0
+Generates e i (Ok true) e' = (i < e.links) × Sends e i e'
+Generates e i (Ok false) e' = (i < e.links) × PeerStep e.peer (Generate i) (Generated None) e'.peer × (e'.answer ≡ e.answer)
+Generates e i (Err refused.NoLink) e' = (e.links ≤ i) × (e' ≡ e)
+Generates e i (Err (refused.Peer error)) e' = (i < e.links) × PeerStep e.peer (Generate i) (Refused error) e'.peer × (e'.answer ≡ e.answer)
 
--- why no message was made
-abbrev pub RefusesGenerate : EditorState → ℕ → EditorError → EditorState → Type 0
-RefusesGenerate e i refused.NoLink e' = (e.links ≤ i) × (e' ≡ e)
-RefusesGenerate e i (refused.Peer error) e' = (i < e.links) × PeerStep e.peer (Generate i) (Refused error) e'.peer × (e'.answer ≡ e.answer)
-RefusesGenerate e i _ e' = ⊥
-
--- The message was received on the link, as is reported.
-abbrev pub Receives : EditorState → ℕ → MessageParts → Applied → EditorState → Type 0
-Receives e i m applied e' = (i < e.links) × (same_heads : Bool) × PeerStep e.peer (Receive i (message_spelling m)) (Received (report_of applied) same_heads) e'.peer
-
--- why the message wasn't received, or not to its end
-abbrev pub RefusesReceive : EditorState → ℕ → MessageParts → EditorError → EditorState → Type 0
-RefusesReceive e i m refused.NoLink e' = (e.links ≤ i) × (e' ≡ e)
-RefusesReceive e i m (refused.Peer error) e' = (i < e.links) × PeerStep e.peer (Receive i (message_spelling m)) (Refused error) e'.peer
-RefusesReceive e i m _ e' = ⊥
+-- What receiving the bytes of a message on a link did: it was received, as is reported; or why not, or not to its end.
+abbrev pub Receives : EditorState → ℕ → List ℕ → Result Applied EditorError → EditorState → Type 0
+Receives e i bytes (Ok applied) e' = (i < e.links) × (same_heads : Bool) × PeerStep e.peer (Receive i bytes) (Received (report_of applied) same_heads) e'.peer
+Receives e i bytes (Err refused.NoLink) e' = (e.links ≤ i) × (e' ≡ e)
+Receives e i bytes (Err (refused.Peer error)) e' = (i < e.links) × PeerStep e.peer (Receive i bytes) (Refused error) e'.peer

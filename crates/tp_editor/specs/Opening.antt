@@ -1,4 +1,4 @@
--- Opening a editor on the journal in a file. What bytes a file has is the system's matter: some journal was in it.
+-- Opening an editor on the journal in a file. What bytes a file has is the system's matter: some journal was in it.
 use Rattle.std.specs.Prelude.{◌≡◌, ◌⊎◌, ℕ, List, []}
 use Rattle.tp_opid.specs.declared.actor.Actor.{Actor}
 use Rattle.tp_opid.specs.declared.doc_id.DocId.{DocId}

@@ -1,17 +1,15 @@
-//! The editor, and what is read from it without an answer.
+//! The editor.
 
-ghost use Rattle.std.specs.Prelude.{◌≡◌, [], length, Some, None, MatchResult};
-ghost use Rattle.tp_document.specs.Showing.{HasElementAt, HasLength, HasPosition};
-ghost use Rattle.tp_document.specs.declared.error.DocError.TheVariants.{OutOfRange, UnknownElement};
+ghost use Rattle.std.specs.Prelude.{◌≡◌, []};
 ghost use Rattle.tp_editor.specs.EditorState.{alone};
 
 use crate::hosting::Hosted;
 use std::alloc::Global;
 use std::marker::Model;
-use tp_document::{Cursor, DocError};
+use tp_document::Document;
 use tp_journal::Journal;
-use tp_opid::{Actor, DocId};
-use tp_peer::Peer;
+use tp_opid::Actor;
+use tp_peer::{Peer, PeerSequence};
 use tp_session::Conversation;
 
 /// A session that goes on.
@@ -82,11 +80,12 @@ impl<J: Journal> Editor<J> {
         }
     }
 
-    /// The identifier of the document.
-    pub fn id(&self) -> DocId
-        ensures { result ≡ self.now.peer.id }
+    /// The document, to be read: all changes that entered, also where the peer has stopped.
+    pub fn document(&self) -> &Document<PeerSequence>
+        ensures id { result.now.id ≡ self.now.peer.id }
+        ensures applied { result.now.applied ≡ self.now.peer.applied }
     {
-        self.host.peer.document().id()
+        self.host.peer.document()
     }
 
     /// The actor of its edits.
@@ -101,20 +100,6 @@ impl<J: Journal> Editor<J> {
         ensures { result ≡ self.now.peer.stopped }
     {
         self.host.peer.is_stopped()
-    }
-
-    /// How many characters (Unicode scalar values) the text has.
-    pub fn len(&self) -> usize
-        ensures { HasLength self.now.peer.applied result }
-    {
-        self.host.peer.document().len()
-    }
-
-    /// How many changes are applied.
-    pub fn change_count(&self) -> usize
-        ensures { result ≡ length self.now.peer.applied }
-    {
-        self.host.peer.change_count()
     }
 
     /// How many changes entered in the session that goes on, or in the last one.
@@ -138,23 +123,10 @@ impl<J: Journal> Editor<J> {
         self.answer.clear();
     }
 
-    /// A cursor at the visible character at a position, from 0. `OutOfRange` where the text ends before it.
-    pub fn cursor(&self, at: usize) -> Result<Cursor, DocError>
-        ensures { MatchResult result
-            (λ cursor. HasElementAt self.now.peer.applied at (Some cursor.element))
-            (λ e. HasElementAt self.now.peer.applied at None × (e ≡ OutOfRange)) }
+    /// Makes the bytes the answer.
+    pub fn set_answer(&mut self, bytes: Vec<u8>)
+        ensures { self.new ≡ record self.old { answer = bytes.items } }
     {
-        self.host.peer.document().cursor(at)
-    }
-
-    /// How many visible characters stand before the cursor's element, which may have been deleted since.
-    /// `UnknownElement` where the document hasn't the element.
-    pub fn cursor_position(&self, cursor: &Cursor) -> Result<usize, DocError>
-        ensures { MatchResult result
-            (λ at. HasPosition self.now.peer.applied cursor.now.element (Some at))
-            (λ e. HasPosition self.now.peer.applied cursor.now.element None
-            × (e ≡ UnknownElement)) }
-    {
-        self.host.peer.document().cursor_position(cursor)
+        self.answer = bytes;
     }
 }

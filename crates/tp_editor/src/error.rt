@@ -4,24 +4,12 @@ use thiserror::Error;
 use tp_journal::OpenError;
 use tp_peer::PeerError;
 
-/// Why a call was refused.
+/// Why a call on a link was refused.
 #[derive(Clone, Copy, Debug, PartialEq, Eq, Error)]
 pub enum EditorError {
-    /// A growth was refused, before the layer below was asked.
-    #[error("OutOfMemory")]
-    OutOfMemory,
     /// There is no link with the number.
     #[error("NoLink")]
     NoLink,
-    /// There is no applied change with the number.
-    #[error("NoChange")]
-    NoChange,
-    /// What should be a text isn't UTF-8.
-    #[error("BadText")]
-    BadText,
-    /// The lengths of splices don't add up to the bytes that are given for their texts.
-    #[error("BadLengths")]
-    BadLengths,
     /// The peer refused.
     #[error("{0}")]
     Peer(PeerError),

@@ -16,7 +16,6 @@ mod hosting;
 mod linking;
 mod meeting;
 mod opening;
-mod reading;
 
 pub use editor::Editor;
 pub use error::{EditorError, EditorOpenError};

@@ -1,9 +1,9 @@
 //! Links to other peers, and messages on them.
 
-ghost use Rattle.std.specs.Prelude.{◌≡◌, ◌↔◌, ◌+◌, ◌≤◌, Err, IfOk, IfErr, OnErr, IsOkUnless};
+ghost use Rattle.std.specs.Prelude.{◌≡◌, ◌↔◌, ◌+◌, ◌≤◌, Err, IfOk, OnErr, IsOkUnless};
 ghost use Rattle.tp_peer.specs.declared.error.PeerError.TheVariants.{TooManyLinks};
 ghost use Rattle.tp_editor.specs.EditorState.{KeepsAnswer, KeepsRest};
-ghost use Rattle.tp_editor.specs.Exchanging.{Generates, Receives, RefusesGenerate, RefusesReceive};
+ghost use Rattle.tp_editor.specs.Exchanging.{Generates, Receives};
 
 use crate::editor::Editor;
 use crate::error::EditorError;
@@ -11,7 +11,6 @@ use crate::hosting::MOST_LINKS;
 use tp_document::Applied;
 use tp_journal::Journal;
 use tp_peer::{Link, PeerError};
-use tp_sync::Message;
 
 impl<J: Journal> Editor<J> {
     /// Opens a link to another peer, of which nothing is known yet. Answers its number, from 0 in the order in which
@@ -37,8 +36,7 @@ impl<J: Journal> Editor<J> {
     ///
     /// `NoLink` where there is no such link. A refusal leaves the answer.
     pub fn generate(&mut self, link: usize) -> Result<bool, EditorError>
-        ensures ok { IfOk result (λ made. Generates self.old link made self.new) }
-        ensures err { IfErr result (λ e. RefusesGenerate self.old link e self.new) }
+        ensures made { Generates self.old link result self.new }
         ensures rest { KeepsRest self.old self.new }
     {
         if link >= self.links {
@@ -54,18 +52,16 @@ impl<J: Journal> Editor<J> {
         }
     }
 
-    /// Receives a message of the other of the link, as [`Peer::receive_message`](tp_peer::Peer::receive_message) does
-    /// and with its refusals. `NoLink` where there is no such link.
-    pub fn receive(&mut self, link: usize, message: Message) -> Result<Applied, EditorError>
-        ensures ok { IfOk result
-            (λ applied. Receives self.old link message applied self.new) }
-        ensures err { IfErr result (λ e. RefusesReceive self.old link message e self.new) }
+    /// Receives the bytes of a message of the other of the link, as [`Peer::receive_bytes`](tp_peer::Peer::receive_bytes)
+    /// does and with its refusals. `NoLink` where there is no such link.
+    pub fn receive(&mut self, link: usize, bytes: &[u8]) -> Result<Applied, EditorError>
+        ensures received { Receives self.old link bytes.now result self.new }
         ensures rest { KeepsAnswer self.old self.new }
     {
         if link >= self.links {
             return Err(EditorError::NoLink);
         }
-        match self.host.peer.receive_message(Link(link as u64), message) {
+        match self.host.peer.receive_bytes(Link(link as u64), bytes) {
             Ok(received) => Ok(received.applied),
             Err(error) => Err(EditorError::Peer(error)),
         }

@@ -26,7 +26,7 @@ impl<J: Journal> Editor<J> {
         self.answer.clear();
         self.held = None;
         self.entered = 0;
-        let id = self.id();
+        let id = self.document().id();
         match self.host.forget() {
             Ok(()) => {}
             Err(error) => return Err(NetError::Peer(error)),

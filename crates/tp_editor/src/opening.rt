@@ -1,6 +1,7 @@
 //! Opening an editor on a journal in a file, or on none.
 
-ghost use Rattle.std.specs.Prelude.{◌≡◌, ◌⊎◌, [], IfOk, IfErr, OnOk, OnErr};
+ghost use Rattle.std.specs.Prelude.{◌≡◌, ◌⊎◌, [], IfOk, IfErr, IsOkUnless, OnOk, OnErr};
+ghost use Rattle.tp_document.specs.declared.error.DocError.TheVariants as doc;
 ghost use Rattle.tp_journal.specs.Journal.{no_device};
 ghost use Rattle.tp_journal.specs.Recovery.{HasTail, Recovers};
 ghost use Rattle.tp_journal.specs.Refusals.{IsRefusal};
@@ -20,7 +21,7 @@ use crate::editor::Editor;
 use crate::error::EditorOpenError;
 use crate::hosting::Hosted;
 use std::alloc::Global;
-use tp_document::Document;
+use tp_document::{DocError, Document};
 use tp_journal::{DurableJournal, Journal, OptionalJournal, Recovered, SystemFiles, holds_record};
 use tp_opid::{Actor, DocId};
 use tp_peer::{Peer, PeerError, PeerSequence};
@@ -117,6 +118,18 @@ impl Editor<OptionalJournal> {
             }
             Err(error) => Err(error),
         }
+    }
+
+    /// An editor of a copy of the document with the changes that entered, in memory alone, edited under the actor,
+    /// without links and with an empty answer: as [`Document::fork`]. No two editors may edit under one actor at a time.
+    /// The only refusal is `OutOfMemory`.
+    pub fn fork(&self, actor: Actor) -> Result<Editor<OptionalJournal>, DocError>
+        ensures ok { IfOk result (λ e. e
+            ≡ alone (opened self.now.peer.id actor self.now.peer.applied no_device)) }
+        ensures err { IsOkUnless result doc.OutOfMemory }
+    {
+        let document = self.document().fork()?;
+        Ok(Editor::of(self.alloc, peer_of(self.alloc, document, actor)))
     }
 
     /// Opens the journal in the file at the path, takes the file's lock, and makes an editor of the changes that it

@@ -1,27 +1,24 @@
 -- The names that several proofs cite, passed on from one place. Declares nothing.
-pub use Rattle.std.proofs.Common.{Bool, Err, IfOk, List, MatchBool, None, Ok, Option, Result, Some, [], ap, append-nil, append_assoc, arith, drop, false, get_or, inl, inr, length, length-append, length-drop, min, option_to_list, refl, replicate, slice_index, slice_index_or, subst, suc, sym, take, take_all, true, zero, ℕ, ◌++◌, ◌+◌, ◌-◌, ◌<◌, ◌^◌, ◌∙◌, ◌∷◌, ◌≡◌, ◌≤◌, ◌⊎◌}
+pub use Rattle.std.proofs.Common.{Bool, Err, List, None, Ok, Option, Result, Some, [], ap, append-nil, append_assoc, arith, false, inl, inr, length, length-append, length-drop, min, option_to_list, refl, slice_index_or, suc, take, zero, ℕ, ◌++◌, ◌+◌, ◌-◌, ◌<◌, ◌^◌, ◌∙◌, ◌∷◌, ◌≡◌, ◌≤◌}
 pub use Rattle.std.proofs.KnownBytes.{Appends-kept, Appends-nil, Appends-trans, Consumes-nil, Consumes-trans}
-pub use Rattle.std.proofs.lemmas.List.{length-take}
 pub use Rattle.std.proofs.lemmas.Result.{err_from_is_err_and}
 pub use Rattle.std.specs.Io.KnownBytes.{Appends, Consumes, Keeps}
 pub use Rattle.std.specs.List.{flat_map}
 pub use Rattle.tp_frame.specs.Frame.{spelling}
 pub use Rattle.tp_frame.specs.declared.frame.Frame.{Frame}
-pub use Rattle.tp_list.proofs.TraceLaws.{trace_join, trace_keeps, trace_push}
-pub use Rattle.tp_net.specs.RunSession.{CantSend, EndsWell, IsHeld, StopsAtTurn, StopsFor}
+pub use Rattle.tp_list.proofs.TraceLaws.{trace_join, trace_keeps}
+pub use Rattle.tp_net.specs.RunSession.{CantSend, IsHeld, StopsAtTurn, StopsFor}
 pub use Rattle.tp_net.specs.Sessions.{AllSit, Enters, Holds, Meets, Sits, TakesTurn}
 pub use Rattle.tp_opid.specs.declared.doc_id.DocId.{DocId}
-pub use Rattle.tp_peer.specs.PeerStep.{Call, Forget, Forgotten, Generate, Hears, Receive, Received, Refused, Reply}
-pub use Rattle.tp_served.specs.Seats.{SeatData, SeatState, Shows, past}
-pub use Rattle.tp_session.proofs.StepFacts.{answers, step_ways}
-pub use Rattle.tp_session.specs.Conversation.{AnswersFrame, BreaksAt, EndsBy, Goes, frame_bytes}
+pub use Rattle.tp_peer.specs.PeerStep.{Forgotten, Received, Reply}
+pub use Rattle.tp_served.specs.Seats.{SeatData, SeatState}
+pub use Rattle.tp_session.specs.Conversation.{Goes, frame_bytes}
 pub use Rattle.tp_session.specs.HostCalls.{HostCall}
 pub use Rattle.tp_session.specs.Laws.{is_over}
 pub use Rattle.tp_session.specs.NetError.{refusal_of}
-pub use Rattle.tp_session.specs.SessionData.{SessionData, begun, counting, first_of}
-pub use Rattle.tp_session.specs.SessionStep.{Heard, SessionStep, Tells, is_stale}
+pub use Rattle.tp_session.specs.SessionData.{SessionData, begun, first_of}
+pub use Rattle.tp_session.specs.SessionStep.{SessionStep}
 pub use Rattle.tp_session.specs.Transcript.{Answered, Comes, Entry, Traffic}
 pub use Rattle.tp_session.specs.declared.error.NetError.{NetError}
 pub use Rattle.tp_session.specs.declared.error.NetError.TheVariants.{Io}
-pub use Rattle.tp_session.specs.declared.turn.Ended.{Ended}
 pub use Rattle.tp_session.specs.declared.turn.Turn.{Turn}

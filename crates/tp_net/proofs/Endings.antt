@@ -1,64 +1,49 @@
--- How a session over a stream ends.
-use Rattle.tp_net.proofs.Common.{◌≡◌, ℕ, ◌<◌, List, [], ◌++◌, length, true, false, Some, None, inl, inr, refl, sym, subst, append-nil, Option, option_to_list, Frame, Reply, NetError, Io, HostCall, is_over, SessionData, first_of, Comes, Traffic, BreaksAt, frame_bytes, EndsWell, StopsAtTurn, StopsFor, CantSend}
+-- How a session over a stream goes on and ends.
+use Rattle.tp_net.proofs.Common.{◌≡◌, ℕ, ◌<◌, List, [], ◌++◌, length, None, Some, inl, inr, refl, false, append-nil, append_assoc, arith, Option, option_to_list, Appends, Appends-trans, flat_map, spelling, Frame, Reply, NetError, Io, HostCall, is_over, SessionData, first_of, Comes, Traffic, frame_bytes, Goes, StopsAtTurn, StopsFor, CantSend}
+use Rattle.std.proofs.lemmas.List.Concat.{flat_map-append}
 use Rattle.tp_session.specs.declared.conversation.Next.{Next}
-use Rattle.tp_session.specs.declared.conversation.Next.TheVariants.{Waits, GoesOn, Ended}
-use Rattle.tp_session.specs.declared.session.Phase.{Phase}
-use Rattle.tp_session.specs.declared.session.Phase.TheVariants.{AwaitsHello, Exchanges, SaidDone, Over}
-use Rattle.tp_session.proofs.Transcripts.{comes_begin, comes_on, has_ended, some_frame}
+use Rattle.tp_session.proofs.Transcripts.{has_ended, some_frame, takes_more, takes_none, takes_on, takes_turn}
 
-over_is : (p : Phase) → is_over p ≡ true → p ≡ Over
-over_is AwaitsHello is = absurd (cc)
-over_is Exchanges is = absurd (cc)
-over_is SaidDone is = absurd (cc)
-over_is Over is = refl
-
-pub not_ended : (next : Next) → (next ≡ Ended → ⊥) → has_ended next ≡ false
-not_ended Waits not = refl
-not_ended GoesOn not = refl
-not_ended Ended not = absurd (not refl)
+-- frames behind frames
+pub sends_more : (a b c : Option (List ℕ)) (xs ys : List Frame) → Appends a b (flat_map spelling xs) → Appends b c (flat_map spelling ys) → Appends a c (flat_map spelling (xs ++ ys))
+sends_more a b c xs ys first then = rw flat_map-append (Appends-trans a b c (flat_map spelling xs) (flat_map spelling ys) first then)
 
 module _ {H : Type 0} (steps : H → HostCall → Reply → H → Type 0) (a : SessionData × H) where
-  -- a session that breaks off stops
-  pub breaks_turn : (held : List ℕ) (e : NetError) (h' : H) → BreaksAt steps a held e h' → StopsAtTurn steps a held e h'
-  breaks_turn held e h' (inl none) = inl (inr none.0, none.1)
-  breaks_turn held e h' (inr (inl by)) = inr (inl by)
-  breaks_turn held e h' (inr (inr unsent)) = inr (inr (unsent.0, inr unsent.1))
+  pub comes_begin : Comes steps a (record { read = []; sent = option_to_list (first_of a.0.role a.0.id) }) [] a
+  comes_begin = record { answers = []; takes = takes_none steps a []; sent = grind (arith, append-nil) }
 
-  -- a turn that ends the session ends it well
-  pub ends_well : (w : Traffic) (held : List ℕ) (s' : SessionData) (h' : H) (applied : ℕ)
-      → Comes steps a w held (s', h') → is_over s'.phase ≡ true → applied ≡ s'.applied → EndsWell steps a w applied h'
-  ends_well w held s' h' applied c over count = record { held = held; session = s'; comes = c; over = over_is s'.phase over; count = count }
-
-  -- with nothing left to be sent
-  comes_all : (w : Traffic) (held : List ℕ) (b : SessionData × H) → Comes steps a w held b → Comes steps a (record { read = w.read; sent = w.sent ++ [] }) held b
-  comes_all w held b c =
-      subst (λ (l : List Frame). Comes steps a (record { read = w.read; sent = l }) held b) (sym (append-nil w.sent)) c
+  -- a turn was taken
+  pub comes_turn : (w : Traffic) (held more : List ℕ) (b : SessionData × H) (next : Next) (send : List ℕ) (k : SessionData × H) (rest : List ℕ)
+      → is_over b.0.phase ≡ false → Comes steps a w held b → Goes steps b (held ++ more) next send k rest
+      → (frames : List Frame) × (send ≡ flat_map spelling frames) × Comes steps a (record { read = w.read ++ more; sent = w.sent ++ frames }) rest k × (is_over k.0.phase ≡ has_ended next)
+  comes_turn w held more b next send k rest going c g =
+      let t = takes_turn steps a w.read c.answers held more b next send k rest going c.takes g in
+      (t.0, t.1, record { answers = c.answers ++ t.0; takes = t.2; sent = grind (arith, append_assoc) }, t.3)
 
   -- the first frame can't be sent
   pub stops_at_first : (f : Frame) (e : NetError) → first_of a.0.role a.0.id ≡ Some f → CantSend e → StopsFor steps a (record { read = []; sent = [] }) e a.1
-  stops_at_first f e is cant = record {
-    unsent = Some f;
-    held = [];
-    side = a;
-    comes = subst (λ (o : Option Frame). Comes steps a (record { read = []; sent = option_to_list o }) [] a) is (comes_begin steps a);
-    cause = (cant, refl);
-  }
+  stops_at_first f e is cant = record { unsent = Some f; held = []; side = a; comes = rw is at comes_begin; cause = (cant, refl) }
 
-  -- and its bytes can't be
-  pub stops_at_bytes : (bytes : List ℕ) → bytes ≡ frame_bytes (first_of a.0.role a.0.id) → 0 < length bytes → StopsFor steps a (record { read = []; sent = [] }) Io a.1
-  stops_at_bytes bytes is some =
-      let f = some_frame (first_of a.0.role a.0.id) (subst (λ (l : List ℕ). 0 < length l) is some) in
-      stops_at_first f.0 Io f.1 (inl refl)
+  -- nor can its bytes
+  pub stops_at_bytes : 0 < length (frame_bytes (first_of a.0.role a.0.id)) → StopsFor steps a (record { read = []; sent = [] }) Io a.1
+  stops_at_bytes some = let f = some_frame (first_of a.0.role a.0.id) some in stops_at_first f.0 Io f.1 (inl refl)
 
   -- no frame comes, the next one ends it, or its answer can't be sent
-  pub stops_at_turn : (w : Traffic) (held : List ℕ) (b : SessionData × H) (e : NetError) (h' : H) → Comes steps a w held b → StopsAtTurn steps b held e h' → StopsFor steps a w e h'
-  stops_at_turn w held b e h' c (inl none) = record { unsent = None; held = held; side = b; comes = comes_all w held b c; cause = inl none }
-  stops_at_turn w held b e h' c (inr (inl by)) = record { unsent = None; held = held; side = b; comes = comes_all w held b c; cause = inr by }
-  stops_at_turn w held b e h' c (inr (inr (t, cant))) = record {
-    unsent = Some t.answer;
-    held = t.rest;
-    side = (t.session, h');
-    comes = subst (λ (o : Option Frame). Comes steps a (record { read = w.read; sent = w.sent ++ option_to_list o }) t.rest (t.session, h')) t.to_send
-        (comes_on steps a w held b t.turn t.rest (t.session, h') c t.takes);
-    cause = (cant, refl);
-  }
+  pub stops_at_turn : (w : Traffic) (held more : List ℕ) (b : SessionData × H) (e : NetError) (h' : H) → Comes steps a w held b → StopsAtTurn steps b (held ++ more) e h' → StopsFor steps a (record { read = w.read ++ more; sent = w.sent }) e h'
+  stops_at_turn w held more b e h' c stops =
+      let all = takes_more steps a w.read more c.answers held b c.takes in
+      elim stops [
+        | inl none ↦ record { unsent = None; held = held ++ more; side = b; comes = grind (arith, append-nil); cause = inl none }
+        | inr (inl by) ↦ record { unsent = None; held = held ++ more; side = b; comes = grind (arith, append-nil); cause = inr by }
+        | inr (inr (t, cant)) ↦ record {
+          unsent = Some t.answer;
+          held = t.rest;
+          side = (t.session, h');
+          comes = record {
+            answers = c.answers ++ option_to_list t.turn.send;
+            takes = takes_on steps a (w.read ++ more) c.answers (held ++ more) b t.turn t.rest (t.session, h') all t.takes;
+            sent = grind (arith, append_assoc);
+          };
+          cause = (cant, refl);
+        }
+      ]

@@ -1,4 +1,3 @@
 pub mod Common
 pub mod RunSession
-pub mod Names
 pub mod Sessions

@@ -1,5 +1,5 @@
 -- Sessions on a seat, one after another, and what they came to.
-use Rattle.std.specs.Prelude.{◌≡◌, ◌⊎◌, ℕ, ◌+◌, ◌-◌, ◌^◌, min, List, [], ◌∷◌, length, Result, Ok, Err}
+use Rattle.std.specs.Prelude.{◌≡◌, ◌⊎◌, ℕ, ◌+◌, ◌-◌, ◌<◌, ◌^◌, min, List, length, slice_index_or, Result, Ok, Err}
 use Rattle.tp_net.specs.Common.{Trace, Reply, NetError, Io, HostCall, on, begun}
 use Rattle.tp_opid.specs.declared.doc_id.DocId.{DocId}
 use Rattle.tp_served.specs.Seats.{SeatData, SeatState, Shows}
@@ -34,9 +34,7 @@ pub record Sits (id : DocId) (s s' : SeatData) : Type 0 where
   pub answers : List (Result ℕ NetError)
   pub sessions : Trace (Holds Server id) s.state answers s'.state
 
--- the same of all seats, in their order
-abbrev pub AllSit : DocId → List SeatData → List SeatData → Type 0
-AllSit id [] [] = Unit {0}
-AllSit id [] (s' ∷ seats') = ⊥
-AllSit id (s ∷ seats) [] = ⊥
-AllSit id (s ∷ seats) (s' ∷ seats') = Sits id s s' × AllSit id seats seats'
+-- So it is of each seat, in their order, and as many are there.
+pub record AllSit (id : DocId) (seats seats' : List SeatData) : Type 0 where
+  pub same : length seats' ≡ length seats
+  pub each : (i : ℕ) (d : SeatData) → i < length seats → Sits id (slice_index_or seats i d) (slice_index_or seats' i d)

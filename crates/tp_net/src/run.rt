@@ -9,7 +9,7 @@ ghost use Rattle.tp_session.specs.declared.error.NetError.TheVariants.{Io};
 ghost use Rattle.tp_session.specs.Laws.{is_over};
 ghost use Rattle.tp_session.specs.SessionData.{begun};
 ghost use Rattle.tp_session.specs.Transcript.{Traffic};
-ghost use Rattle.tp_net.specs.RunSession.{EndsWell, StopsAtTurn, StopsFor, Ends, IsHeld};
+ghost use Rattle.tp_net.specs.RunSession.{EndsWell, StopsAtTurn, StopsFor, IsHeld};
 
 use crate::reading::read_more;
 use crate::writing::{put, send_refusal};
@@ -81,31 +81,6 @@ fn converse<R: Read, W: Write, H: Host>(
     Err(NetError::Io)
 }
 
-// The session to its end, with the refusal that is due where it stops for an error.
-fn hold<R: Read, W: Write, H: Host>(
-    alloc: Global,
-    reader: &mut R,
-    writer: &mut W,
-    role: Role,
-    id: DocId,
-    host: &mut H,
-) -> Result<u64, NetError>
-    ensures session { (w : Traffic)
-        × Consumes (R.remaining reader.old) (R.remaining reader.new) w.read
-        × ((result ≡ Err Io)
-        ⊎ Appends (W.contents writer.old) (W.contents writer.new) (flat_map spelling w.sent))
-        × Ends H.steps (begun role id, H.seen host.old) w result (H.seen host.new) }
-    ensures host { H.goes_on host.old host.new }
-{
-    match converse(alloc, reader, writer, role, id, host) {
-        Ok(applied) => Ok(applied),
-        Err(error) => {
-            send_refusal(writer, error)?;
-            Err(error)
-        }
-    }
-}
-
 /// Holds one session over a stream, as the side with the role, about the document with the identifier, and answers how
 /// many changes were applied here.
 ///
@@ -141,7 +116,10 @@ pub fn run_session<R: Read, W: Write, H: Host>(
     ensures host { H.goes_on host.old host.new }
 {
     host.forget()?;
-    let result = hold(alloc, reader, writer, role, id, host);
+    let result = match converse(alloc, reader, writer, role, id, host) {
+        Ok(applied) => Ok(applied),
+        Err(error) => Err(send_refusal(writer, error)),
+    };
     let _ = host.forget();
     result
 }

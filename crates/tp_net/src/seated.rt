@@ -1,7 +1,8 @@
 //! A seat at a served peer, as the host of a session.
 
 ghost use Rattle.std.specs.Prelude.{◌≡◌};
-ghost use Rattle.tp_net.specs.Names.{TableId-set};
+ghost use Rattle.std.specs.Coded.{Coded-set};
+ghost use Rattle.atomic_table.specs.Seated.{table_id_coded};
 ghost use Rattle.tp_net.specs.Sessions.{TakesTurn};
 
 use std::sync::Wait;
@@ -20,7 +21,7 @@ pub struct SeatedHost<'a, 's, J: Journal, R: Wait> {
     rt: &'a R,
     served: &'a Served<J>,
     seat: &'s mut Seat,
-    ghost at_its_peer: { seat.now.served ≡ served.now.served } by { TableId-set _ _ },
+    ghost at_its_peer: { seat.now.served ≡ served.now.served } by { Coded-set table_id_coded _ _ },
 }
 
 impl<'a, 's, J: Journal, R: Wait> SeatedHost<'a, 's, J, R> {

@@ -1,8 +1,7 @@
 //! The server: sessions over the connections that are accepted, one worker a seat.
 
-ghost use Rattle.std.specs.Prelude.{◌≡◌, ◌⊎◌, ◌<◌, ℕ, length, slice_index_or, IfOk, IfErr};
+ghost use Rattle.std.specs.Prelude.{◌≡◌, ◌⊎◌, IfOk, IfErr};
 ghost use Rattle.tp_served.specs.Calls.{AreOf};
-ghost use Rattle.tp_served.specs.Seats.{SeatData};
 ghost use Rattle.tp_session.specs.declared.error.NetError.TheVariants.{Io, OutOfMemory};
 ghost use Rattle.tp_net.specs.Sessions.{AllSit, Sits};
 
@@ -60,6 +59,7 @@ fn accept_all<R: Wait, S: Drop, L: OpenListener<Stream = S>>(
 }
 
 // Holds the session of a connection. However it ends, it ends alone.
+#[tactic(auto, using(crate::proofs::SeatLists::sat))]
 fn attend<R: Wait, S: Read + Write + OpenStream + Drop, J: Journal, G: Gate>(
     rt: &R,
     alloc: Global,
@@ -78,6 +78,7 @@ fn attend<R: Wait, S: Read + Write + OpenStream + Drop, J: Journal, G: Gate>(
 }
 
 // A worker: it takes one connection after another, until no more come.
+#[tactic(auto, using(crate::proofs::SeatLists::stays, crate::proofs::SeatLists::joins))]
 fn work<R: Wait, S: Read + Write + OpenStream + Drop, J: Journal, G: Gate>(
     rt: &R,
     alloc: Global,
@@ -97,39 +98,8 @@ fn work<R: Wait, S: Read + Write + OpenStream + Drop, J: Journal, G: Gate>(
     }
 }
 
-// One worker for each seat, side by side.
+// One worker for each seat, side by side. The seats come back.
 fn work_on_all<
-    R: Threads + Wait + Sync,
-    S: Read + Write + OpenStream + Send + Drop,
-    J: Journal + Send,
-    G: Gate + Sync,
->(
-    rt: &R,
-    alloc: Global,
-    connections: &Receiver<Accepted<S>>,
-    served: &Served<J>,
-    gate: &G,
-    seats: &mut [Seat],
-)
-    requires { AreOf served.now.served seats.old }
-    ensures all { length seats.new ≡ length seats.old }
-    ensures each { (i : ℕ) (d : SeatData) → i < length seats.old
-        → Sits served.now.opened.id (slice_index_or seats.old i d) (slice_index_or seats.new i d) }
-{
-    let workers = seats.len().max(1);
-    thread::for_each_mut(
-        rt,
-        seats,
-        workers,
-        &|_, seat: &mut Seat|
-            requires { seat.old.served ≡ served.now.served }
-            ensures { Sits served.entry.now.opened.id seat.old seat.new }
-        { work(rt, alloc, connections, served, gate, seat) },
-    );
-}
-
-// The same, of seats by value. They come back.
-fn work_with<
     R: Threads + Wait + Sync,
     S: Read + Write + OpenStream + Send + Drop,
     J: Journal + Send,
@@ -146,7 +116,16 @@ fn work_with<
     ensures { AllSit served.now.opened.id seats.items result.items }
 {
     let mut seats = seats;
-    work_on_all(rt, alloc, &connections, served, gate, seats.as_mut_slice());
+    let workers = seats.len().max(1);
+    thread::for_each_mut(
+        rt,
+        seats.as_mut_slice(),
+        workers,
+        &|_, seat: &mut Seat|
+            requires { seat.old.served ≡ served.now.served }
+            ensures { Sits served.entry.now.opened.id seat.old seat.new }
+        { work(rt, alloc, &connections, served, gate, seat) },
+    );
     seats
 }
 
@@ -201,7 +180,7 @@ pub fn serve<
         move ||
             requires { AreOf served.now.served seats.items }
             ensures { AllSit served.entry.now.opened.id seats.items result.items }
-        { work_with(rt, alloc, connections, served, gate, seats) },
+        { work_on_all(rt, alloc, connections, served, gate, seats) },
         move || accept_all(rt, listener, sessions, workers),
     );
     match accepted {

@@ -1,6 +1,6 @@
 //! Bytes into a writer.
 
-ghost use Rattle.std.specs.Prelude.{◌≡◌, ◌<◌, length, IfErr, OnOk, option_to_list};
+ghost use Rattle.std.specs.Prelude.{◌≡◌, ◌⊎◌, ◌<◌, length, IfErr, OnOk, option_to_list};
 ghost use Rattle.std.specs.List.{flat_map};
 ghost use Rattle.std.specs.Io.KnownBytes.{Appends};
 ghost use Rattle.tp_frame.specs.declared.frame.Frame.TheVariants.{Refusal};
@@ -27,20 +27,25 @@ pub(crate) fn put<W: Write>(writer: &mut W, bytes: &[u8]) -> Result<(), NetError
 }
 
 // The bytes of a refusal, which take no memory.
+#[tactic(auto, unfolding(tp_frame::specs::Frame::spelling))]
 fn refusal_bytes(code: u8) -> [u8; 6]
     ensures { result ≡ spelling (Refusal code) }
 {
     [0, 0, 0, 2, 3, code]
 }
 
-/// Sends the refusal that is due for an error, if one is. `Io` where the writer fails. No memory.
-pub(crate) fn send_refusal<W: Write>(writer: &mut W, error: NetError) -> Result<(), NetError>
-    ensures ok { OnOk result (Appends (W.contents writer.old) (W.contents writer.new)
+/// Sends the refusal that is due for an error, if one is. What is told then: the error, or `Io` where the writer fails. No
+/// memory.
+pub(crate) fn send_refusal<W: Write>(writer: &mut W, error: NetError) -> NetError
+    ensures { (result ≡ Io) ⊎ ((result ≡ error)
+        × Appends (W.contents writer.old) (W.contents writer.new)
         (flat_map spelling (option_to_list (refusal_of error)))) }
-    ensures err { IfErr result (λ e. e ≡ Io) }
 {
-    match error.refusal() {
-        Some(Frame::Refusal(code)) => put(writer, &refusal_bytes(code)),
-        _ => Ok(()),
+    let Some(Frame::Refusal(code)) = error.refusal() else {
+        return error;
+    };
+    match put(writer, &refusal_bytes(code)) {
+        Ok(()) => error,
+        Err(e) => e,
     }
 }

@@ -1,9 +1,7 @@
 -- What sessions on the seats of a served peer came to.
-use Rattle.std.proofs.Common.{◌≡◌, ℕ, suc, zero, ◌+◌, List, [], ◌∷◌, length, refl, sym, ap, ◌∙◌, subst}
+use Rattle.std.proofs.Common.{◌≡◌, ℕ, suc, zero, ◌+◌, List, length, refl, sym, ap, ◌∙◌, subst}
 use Rattle.std.proofs.lemmas.List.{length-map}
-use Rattle.tp_opid.specs.declared.doc_id.DocId.{DocId}
 use Rattle.tp_peer.specs.PeerData.{PeerData}
-use Rattle.tp_net.specs.Sessions.{AllSit}
 use Rattle.tp_served.specs.Calls.{AreOf}
 use Rattle.tp_served.specs.Seats.{SeatData, ServedData, fresh_from, seats_of}
 use Rattle.tp_served.proofs.SeatLaws.{AreOf-seats}
@@ -24,10 +22,3 @@ opened_are d seats is = (subst (AreOf d.served) (sym is) (AreOf-seats d.served (
 pub opened_by : (d : ServedData) (p : PeerData) (count : ℕ) (seats : List SeatData) → d.opened ≡ p → d.count ≡ count → seats ≡ seats_of d.served (fresh_from p 0 count) → seats ≡ opened_seats d
 opened_by d p count seats opened number is =
     is ∙ (ap (λ (q : PeerData). seats_of d.served (fresh_from q 0 count)) (sym opened) ∙ ap (λ (n : ℕ). seats_of d.served (fresh_from d.opened 0 n)) (sym number))
-
--- as many seats come back
-pub sat_long : (id : DocId) (seats back : List SeatData) → AllSit id seats back → length back ≡ length seats
-sat_long id [] [] sat = refl
-sat_long id [] (b ∷ back) sat = absurd sat
-sat_long id (s ∷ seats) [] sat = absurd sat
-sat_long id (s ∷ seats) (b ∷ back) sat = ap suc (sat_long id seats back sat.1)

@@ -1,5 +1,4 @@
 pub mod Common
-pub mod SessionLaws
 pub mod StepFacts
 pub mod ReadingLaws
 pub mod Hearing

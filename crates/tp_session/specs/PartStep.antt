@@ -5,13 +5,12 @@ use Rattle.tp_sync.specs.Gives.{FailsWith}
 use Rattle.tp_sync.specs.Reading.{message_at}
 use Rattle.tp_peer.specs.PeerError.{refusal_of_sync}
 use Rattle.tp_session.specs.HostCalls.{HostCall}
-use Rattle.tp_session.specs.declared.error.NetError.TheVariants.{Unexpected, Peer}
-use Rattle.tp_session.specs.declared.session.Phase.{Phase}
-use Rattle.tp_session.specs.declared.session.Phase.TheVariants.{AwaitsHello, Exchanges, SaidDone, Over}
+use Rattle.tp_session.specs.declared.error.NetError.TheVariants.{Peer}
+use Rattle.tp_session.specs.declared.session.Phase.TheVariants.{Exchanges}
 use Rattle.tp_session.specs.declared.turn.Turn.{Turn}
 use Rattle.tp_session.specs.declared.turn.Ended.{Ended}
 use Rattle.tp_session.specs.SessionData.{SessionData}
-use Rattle.tp_session.specs.SessionStep.{Fails, IsLate, SessionStep}
+use Rattle.tp_session.specs.SessionStep.{Fails, SessionStep}
 
 -- ---- the bytes of a message
 
@@ -48,13 +47,6 @@ IsAt s (Some frame) s' = IsReading s frame s'
 abbrev pub GoesOn : SessionData → Result ReaderState SyncError → Result Turn Ended → SessionData → Type 0
 GoesOn s (Ok reader) answer s' = (answer ≡ Ok (record { send = None; ended = false })) × (s' ≡ record s { reading = Some reader })
 GoesOn s (Err e) answer s' = Fails s (Peer (refusal_of_sync e)) answer s'
-
--- A sync frame of so many bytes begins.
-abbrev pub OnBegin : Phase → SessionData → ℕ → Result Turn Ended → SessionData → Type 0
-OnBegin AwaitsHello s len answer s' = Fails s Unexpected answer s'
-OnBegin Exchanges s len answer s' = (read : Result ReaderState SyncError) × Reads (none_of len) read × GoesOn s read answer s'
-OnBegin SaidDone s len answer s' = Fails s Unexpected answer s'
-OnBegin Over s len answer s' = IsLate s answer s'
 
 -- A part of a sync frame came that doesn't end it: the session reads on, sends nothing and doesn't ask the host; or it
 -- ends as every frame of this length that begins so would end it.

@@ -11,7 +11,7 @@ ghost use Rattle.tp_session.specs.SessionData.{begun, first_of};
 
 use crate::error::NetError;
 use crate::host::Host;
-use crate::session::{Phase, Role, Session};
+use crate::session::{Phase, Role, Session, late};
 use crate::turn::{Ended, Turn};
 use std::alloc::Global;
 use std::marker::Model;
@@ -226,10 +226,7 @@ impl Conversation {
         ensures host { H.goes_on host.old host.new }
     {
         if self.is_over() {
-            return Err(Ended {
-                error: NetError::Unexpected,
-                send: None,
-            });
+            return Err(late());
         }
         match self.side.answer(bytes, host) {
             Ok(output) => Ok(output),

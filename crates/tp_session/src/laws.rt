@@ -35,6 +35,7 @@ pub fn the_end_is_told<H: Host>()
 {}
 
 /// With each error stands the refusal that is due for it, unless the session had ended before.
+#[tactic(auto, using(crate::proofs::StepFacts::is_due))]
 pub fn the_refusal_is_due<H: Host>()
     ensures { (a b : SessionData × H.Seen) (f : FrameOf) (ended : EndedOf)
         → is_over a.0.phase ≡ false → SessionStep H.steps a f (Err ended) b

@@ -6,7 +6,7 @@ ghost use Rattle.tp_sync.specs.Gives.{Gives};
 ghost use Rattle.tp_sync.specs.declared.error.SyncError.{SyncError as Refusal};
 ghost use Rattle.tp_sync.specs.Reading.{message_at};
 ghost use Rattle.tp_sync.specs.ReaderState.{ReaderState};
-ghost use Rattle.tp_session.specs.PartStep.{GoesOn, IsAt, IsReading, OnBegin, PartStep, Reads, and_given, none_of};
+ghost use Rattle.tp_session.specs.PartStep.{GoesOn, IsAt, IsReading, PartStep, Reads, and_given, none_of};
 ghost use Rattle.tp_session.specs.SessionData.{SessionData};
 ghost use Rattle.tp_session.specs.SessionStep.{Hears};
 
@@ -21,6 +21,7 @@ use tp_peer::PeerError;
 use tp_sync::{Message, MessageReader, SyncError};
 
 // A reader of a message that has so many bytes.
+#[tactic(auto, using(crate::proofs::ReadingLaws::reads_none))]
 fn reader_of(alloc: Global, len: u32) -> Result<MessageReader, SyncError>
     ensures { Reads (none_of len) result }
 {
@@ -77,17 +78,6 @@ impl Session {
         }
     }
 
-    // A sync frame begins.
-    fn on_begin(&mut self, alloc: Global, len: u32) -> Result<Turn, Ended>
-        ensures { OnBegin self.old.phase self.old len result self.new }
-    {
-        match self.phase {
-            Phase::Exchanges => self.go_on(reader_of(alloc, len)),
-            Phase::AwaitsHello | Phase::SaidDone => self.fail(NetError::Unexpected),
-            Phase::Over => late(),
-        }
-    }
-
     // The next bytes of a sync frame come.
     fn on_piece(&mut self, piece: &[u8]) -> Result<Turn, Ended>
         ensures { (s : SessionData) (frame : Opened) → IsReading s frame self.old
@@ -97,7 +87,7 @@ impl Session {
     {
         match self.reading.take() {
             Some(reader) => self.go_on(read_on(reader, piece)),
-            None => late(),
+            None => Err(late()),
         }
     }
 
@@ -116,7 +106,7 @@ impl Session {
                 }
                 Err(error) => self.fail(NetError::Peer(PeerError::from(error))),
             },
-            None => late(),
+            None => Err(late()),
         }
     }
 
@@ -131,6 +121,7 @@ impl Session {
     ///
     /// Of the bytes of a message those of one hash or change at most are held, which are 4,194,304 at most, and what was
     /// decoded. A byte is copied only where its field comes in several pieces.
+    #[tactic(auto, using(crate::proofs::ReadingLaws::awaits))]
     pub fn on_part<H: Host>(
         &mut self,
         alloc: Global,
@@ -141,11 +132,13 @@ impl Session {
             → PartStep H.steps (s, H.seen host.old) opened part result (self.new, H.seen host.new) }
         ensures host { H.goes_on host.old host.new }
     {
-        match part {
-            Part::Begin(len) => self.on_begin(alloc, len),
-            Part::Piece(bytes) => self.on_piece(bytes.as_slice()),
-            Part::End => self.on_end(host),
-            Part::Whole(frame) => self.on_frame(frame, host),
+        match (self.phase, part) {
+            (Phase::Exchanges, Part::Begin(len)) => self.go_on(reader_of(alloc, len)),
+            (Phase::Over, Part::Begin(_)) => Err(late()),
+            (_, Part::Begin(_)) => self.fail(NetError::Unexpected),
+            (_, Part::Piece(bytes)) => self.on_piece(bytes.as_slice()),
+            (_, Part::End) => self.on_end(host),
+            (_, Part::Whole(frame)) => self.on_frame(frame, host),
         }
     }
 }

@@ -1,6 +1,6 @@
 //! The session: what a side answers to each frame.
 
-ghost use Rattle.std.specs.Prelude.{◌≡◌, ◌≤◌, length, Err, None, MatchOption};
+ghost use Rattle.std.specs.Prelude.{◌≡◌, ◌≤◌, length, None, MatchOption};
 ghost use Rattle.tp_change.specs.declared.limits.TheConstants.{MAX_BYTES};
 ghost use Rattle.tp_peer.specs.PeerStep.{Received as Reported, replied};
 ghost use Rattle.tp_peer.specs.Taking.{report_of};
@@ -257,7 +257,7 @@ impl Session {
         match (self.phase, &frame) {
             (Phase::AwaitsHello, Frame::Hello { version, id }) => self.greet(*version, *id, host),
             (Phase::Exchanges, Frame::Sync(bytes)) => self.hear(bytes.as_slice(), host),
-            (Phase::Over, _) => late(),
+            (Phase::Over, _) => Err(late()),
             (_, Frame::Refusal(code)) => self.fail(NetError::RefusedByOther { code: *code }),
             (Phase::Exchanges, Frame::Done) => self.close(Some(Frame::Done)),
             (Phase::SaidDone, Frame::Done) => self.close(None),
@@ -266,12 +266,12 @@ impl Session {
     }
 }
 
-// A frame comes after the end: nothing is sent.
-pub(crate) fn late() -> Result<Turn, Ended>
-    ensures { result ≡ Err (record { error = NetError.Unexpected; send = None }) }
+// What a session that has ended answers: nothing is sent.
+pub(crate) fn late() -> Ended
+    ensures { result ≡ record { error = NetError.Unexpected; send = None } }
 {
-    Err(Ended {
+    Ended {
         error: NetError::Unexpected,
         send: None,
-    })
+    }
 }

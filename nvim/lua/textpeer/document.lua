@@ -38,6 +38,13 @@ local function lines_of(buffer)
   return api.nvim_buf_get_lines(buffer, 0, -1, true)
 end
 
+-- How many bytes a buffer of so many lines has, with a newline after the last one, whether it is written there or not. Where a
+-- line begins isn't asked for: Neovim may answer with what that was before a change.
+local function size_of(buffer, count)
+  local options, size = vim.bo[buffer], api.nvim_buf_get_offset(buffer, count)
+  return (options.endofline or options.fixendofline and not options.binary) and size or size + 1
+end
+
 -- Whether the text may be changed now.
 function Document.may_change()
   local mode = api.nvim_get_mode()
@@ -271,7 +278,7 @@ end
 -- The pieces that the events named; nil where they misled.
 function Document:named_pieces(lines)
   local buffer, pieces, mark, last = self.buffer, {}, { row = 0, bytes = 0 }, 0
-  if api.nvim_buf_get_offset(buffer, #lines) ~= self.shown:size() + self.spans:growth() then
+  if size_of(buffer, #lines) ~= self.shown:size() + self.spans:growth() then
     return nil
   end
   for _, span in ipairs(self.spans:list()) do
@@ -449,33 +456,27 @@ function Document:put(places)
   self.shown:replace(places)
 end
 
--- The pieces by which what is shown becomes what the engine has. The engine tells no differences to C yet: once it does, they
--- are to be had here, and nothing else compares whole texts when something comes.
-function Document:arrived()
-  local list, new = self.shown.list, Lines.split(self.engine:text())
-  local first, least = 1, math.min(#list, #new)
-  while first <= least and list[first] == new[first] do
-    first = first + 1
+-- Puts pieces whose places count characters, as the engine and `undo` have them, into what is shown and into the buffer. Their
+-- rows and columns are found from those that were looked for last: it takes the lines between, and the bytes of a line up to
+-- the place where not all of it is ASCII.
+function Document:put_pieces(pieces)
+  for _, piece in ipairs(pieces) do
+    piece.row, piece.column = self.shown:place_of_char(piece.at)
+    piece.to_row, piece.to_column = self.shown:place_of_char(piece.at + piece.count)
   end
-  if first > #list and first > #new then
-    return {}
-  end
-  local same = 0
-  while same <= least - first and list[#list - same] == new[#new - same] do
-    same = same + 1
-  end
-  -- A line on each side where there is one, so that none of both texts is without a line.
-  first, same = math.max(first - 1, 1), math.max(same - 1, 0)
-  local pieces = {}
-  pieces_of.add(pieces, self.shown:byte_of(first - 1), table.concat(list, '\n', first, #list - same),
-    table.concat(new, '\n', first, #new - same))
-  return pieces
+  self:put(pieces)
 end
 
--- What was put into the buffer is all that differs from what is shown: else it is shown anew. Shows in the windows what they
--- held.
+-- Whether the buffer has as many lines and bytes as what is shown. None of it is read.
+function Document:is_alike()
+  local count = api.nvim_buf_line_count(self.buffer)
+  return count == #self.shown.list and size_of(self.buffer, count) == self.shown:size()
+end
+
+-- Shows in the windows what they held, after pieces were put into the buffer. Where it isn't like what is shown then it is shown
+-- anew; what else may differ the next edit finds, or `check`.
 function Document:settle(held)
-  if not self.shown:equals(lines_of(self.buffer)) then
+  if not self:is_alike() then
     self.mended = self.mended + 1
     say.error('the buffer had another text than the engine; it is shown anew')
     self:change(function()
@@ -486,22 +487,13 @@ function Document:settle(held)
   vim.bo[self.buffer].modified = false
 end
 
--- Shows what came.
-function Document:show(held)
-  local pieces = self:arrived()
+-- Shows what came since the engine had these heads, and the buffer their text: only what changed of it is changed there.
+function Document:arrived(heads, held)
+  local pieces = self.engine:differences_since(heads)
   if #pieces > 0 then
-    self:put(self:places_of(pieces))
+    self:put_pieces(pieces)
     self:settle(held)
   end
-end
-
--- Puts pieces that `undo` made into the buffer.
-function Document:put_back(pieces)
-  for _, piece in ipairs(pieces) do
-    piece.row, piece.column = self.shown:place_of_char(piece.at)
-    piece.to_row, piece.to_column = self.shown:place_of_char(piece.at + piece.count)
-  end
-  self:put(pieces)
 end
 
 -- Insert mode was left: what is typed next is undone apart from what was typed before.
@@ -521,7 +513,7 @@ function Document:turn_back(again)
   end
   local held = windows.hold(self.buffer, self.shown, self.engine)
   local ok, place = pcall(again and self.history.redo or self.history.undo, self.history, function(pieces)
-    self:put_back(pieces)
+    self:put_pieces(pieces)
   end)
   if not ok then
     self:stop(tostring(place))
@@ -557,7 +549,7 @@ function Document:receive(bytes)
   if self.stopped then
     return nil
   end
-  local before = self.engine:change_count()
+  local before, heads = self.engine:change_count(), self.engine:heads()
   local held = windows.hold(self.buffer, self.shown, self.engine)
   local answer, going, refusal = self.engine:feed(bytes)
   if refusal and self.engine.has_stopped(refusal) then
@@ -566,7 +558,7 @@ function Document:receive(bytes)
   local entered = self.engine:change_count() - before
   if entered > 0 then
     self.entered = self.entered + entered
-    local ok, problem = pcall(self.show, self, held)
+    local ok, problem = pcall(self.arrived, self, heads, held)
     if not ok then
       self:stop(tostring(problem))
       return nil

@@ -1,6 +1,7 @@
 -- The engine by LuaJIT's ffi: the shared editors of ffi/textpeer.h, as objects. A refusal is raised as a table with its
 -- `status` and its `name`, as { status = 801, name = 'Busy' }.
 local ffi = require('ffi')
+local utf8 = require('textpeer.utf8')
 
 local M = {}
 
@@ -24,6 +25,8 @@ uint32_t tp_shared_begin(tp_shared *shared, uint32_t role, size_t *len);
 uint32_t tp_shared_feed(tp_shared *shared, const char *bytes, size_t bytes_len, size_t *len, uint32_t *going,
                         uint64_t *entered);
 void tp_shared_end(tp_shared *shared);
+uint32_t tp_differences_since(tp_shared *shared, const char *heads, size_t heads_len, tp_splice *splices, size_t room,
+                              size_t *count, size_t *len);
 ]])
 
 -- The names of refusals, by their statuses.
@@ -95,7 +98,7 @@ local function loaded()
     if not ok then
       error(('the engine, which ffi/build makes, is not there (%s)'):format(found), 0)
     end
-    if not pcall(function() return found.tp_shared_edit_many end) then
+    if not pcall(function() return found.tp_differences_since end) then
       error(('the engine at %s is older than the plugin; ffi/build makes it anew'):format(place()), 0)
     end
     library = found
@@ -107,6 +110,9 @@ local Engine = {}
 Engine.__index = Engine
 
 local length, number, going = ffi.new('size_t[1]'), ffi.new('uint64_t[1]'), ffi.new('uint32_t[1]')
+
+-- Where splices are written, how many there are, and for how many there is room: as many as there ever were at once.
+local written, count, room = ffi.new('tp_splice[?]', 64), ffi.new('size_t[1]'), 64
 
 -- Sixteen bytes that nobody else has.
 local function drawn()
@@ -185,6 +191,31 @@ function Engine:heads()
     heads[#heads + 1] = bytes:sub(at, at + 31)
   end
   return heads
+end
+
+-- What changed since the text at the heads: rising pieces { at, count, added, text }, each of which puts the `added` characters
+-- of a text in the place of `count` ones from `at` on, by the places of the text at the heads. What both texts have is in none of
+-- them, and no two touch. Of a few changes near the end the engine finds them without going over the whole text.
+function Engine:differences_since(heads)
+  local bytes = table.concat(heads)
+  local function ask()
+    done(self.lib.tp_differences_since(self.handle, bytes, #bytes, written, room, count, length))
+  end
+  ask()
+  if count[0] > room then
+    room = tonumber(count[0])
+    written = ffi.new('tp_splice[?]', room)
+    ask()
+  end
+  local texts, pieces, from, grown = self:answer(), {}, 0, 0
+  for i = 1, tonumber(count[0]) do
+    local splice = written[i - 1]
+    local text = texts:sub(from + 1, from + tonumber(splice.len))
+    local piece = { at = tonumber(splice.at) - grown, count = tonumber(splice.del), added = utf8.count(text), text = text }
+    from, grown = from + #text, grown + piece.added - piece.count
+    pieces[i] = piece
+  end
+  return pieces
 end
 
 local actor = ffi.new('uint8_t[16]')

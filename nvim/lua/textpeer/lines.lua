@@ -89,11 +89,6 @@ function Lines:place_of_byte(at)
   return row, at - bytes
 end
 
--- The place by bytes at which a row begins.
-function Lines:byte_of(row)
-  return mark_row(self, row).bytes
-end
-
 -- The row and the column of a place by characters; the end of the text where that comes before.
 function Lines:place_of_char(at)
   local mark, list, sizes = self.mark, self.list, self.sizes

@@ -8,9 +8,10 @@ other the changes that the other lacks; all copies with the same changes have th
         notes.sync("127.0.0.1:7000")
         print(notes.text())
 
-`SharedEditor` edits a journal in a file, the same file that the program ``textpeer`` reads and writes, and exchanges
-changes with others over sockets, pipes or any streams of bytes. `Editor` is a document in memory, whose changes,
-messages and saved files are bytes for you to carry.
+`SharedEditor` edits a journal in a file, the same file that the program ``textpeer`` reads and writes. `Editor` is a
+document in memory, with all the same calls. Both exchange changes with others over sockets, pipes or any streams of
+bytes, or as changes, messages and saved files for you to carry; they have each earlier text too, and tell what changed
+since.
 
 Identifiers, actors, hashes, changes, messages and saved files are ``bytes`` (a ``bytearray`` or a ``memoryview`` is
 taken too), texts are ``str``, and positions count the characters of a ``str``. An argument of another type raises
@@ -20,13 +21,14 @@ is named after the refusal, as `OutOfRange`; for want of memory that is a Memory
 Don't use an editor in the child of a ``fork``.
 """
 from . import refusals
-from ._owner import Cursor
-from .editor import Editor, Link
+from ._arguments import Splice
+from .changes import Change
+from .editor import Cursor, Editor, Link
 from .refusals import *  # noqa: F403
 from .sessions import Session
 from .shared import SharedEditor
 
 __version__ = "0.1"
 
-__all__ = ["Cursor", "Editor", "Link", "Session", "SharedEditor", "__version__"]
+__all__ = ["Change", "Cursor", "Editor", "Link", "Session", "SharedEditor", "Splice", "__version__"]
 __all__ += refusals.__all__

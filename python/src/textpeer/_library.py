@@ -11,7 +11,7 @@ NAME = "libtextpeer.so.0"
 
 
 class Handle(ctypes.Structure):
-    """A ``tp_handle`` or a ``tp_shared``: the address of the engine's editor."""
+    """A ``tp_handle``: the address of the engine's editor."""
 
     _fields_ = [("at", ctypes.c_void_p)]
 
@@ -22,15 +22,29 @@ class Element(ctypes.Structure):
     _fields_ = [("counter", ctypes.c_uint64), ("actor", ctypes.c_uint8 * 16)]
 
 
-class Splice(ctypes.Structure):
+class FlatSplice(ctypes.Structure):
     """A ``tp_splice``."""
 
     _fields_ = [("at", ctypes.c_size_t), ("del", ctypes.c_size_t), ("len", ctypes.c_size_t)]
 
 
+class FlatChange(ctypes.Structure):
+    """A ``tp_change``."""
+
+    _fields_ = [
+        ("hash", ctypes.c_uint8 * 32),
+        ("actor", ctypes.c_uint8 * 16),
+        ("seq", ctypes.c_uint64),
+        ("time", ctypes.c_uint64),
+        ("deps", ctypes.c_size_t),
+        ("inserted", ctypes.c_size_t),
+        ("deleted", ctypes.c_size_t),
+    ]
+
+
 _STATUS, _SIZE, _NUMBER, _BYTES, _OUT = ctypes.c_uint32, ctypes.c_size_t, ctypes.c_uint64, ctypes.c_char_p, ctypes.c_void_p
 _HANDLE, _ELEMENT, _ADDRESS = ctypes.POINTER(Handle), ctypes.POINTER(Element), ctypes.POINTER(ctypes.c_void_p)
-_SPLICES = ctypes.POINTER(Splice)
+_SPLICES, _CHANGE = ctypes.POINTER(FlatSplice), ctypes.POINTER(FlatChange)
 _STATUS_TO, _SIZE_TO, _NUMBER_TO = ctypes.POINTER(_STATUS), ctypes.POINTER(_SIZE), ctypes.POINTER(_NUMBER)
 
 # Of each function its name, what it answers, and what it takes.
@@ -49,8 +63,14 @@ _FUNCTIONS: Iterable[Tuple[str, Any, Tuple[Any, ...]]] = (
     ("tp_heads", _STATUS, (_HANDLE, _SIZE_TO)),
     ("tp_change_count", _SIZE, (_HANDLE,)),
     ("tp_change_at", _STATUS, (_HANDLE, _SIZE, _SIZE_TO)),
+    ("tp_change_describe", _STATUS, (_HANDLE, _SIZE, _CHANGE, _SIZE_TO)),
     ("tp_cursor", _STATUS, (_HANDLE, _SIZE, _ELEMENT)),
     ("tp_cursor_position", _STATUS, (_HANDLE, _ELEMENT, _SIZE_TO)),
+    ("tp_text_at", _STATUS, (_HANDLE, _BYTES, _SIZE, _SIZE_TO)),
+    ("tp_len_at", _STATUS, (_HANDLE, _BYTES, _SIZE, _SIZE_TO)),
+    ("tp_differences_since", _STATUS, (_HANDLE, _BYTES, _SIZE, _SPLICES, _SIZE, _SIZE_TO, _SIZE_TO)),
+    ("tp_differences", _STATUS, (_HANDLE, _BYTES, _SIZE, _BYTES, _SIZE, _SPLICES, _SIZE, _SIZE_TO, _SIZE_TO)),
+    ("tp_fork", _STATUS, (_HANDLE, _BYTES, _ADDRESS)),
     ("tp_apply", _STATUS, (_HANDLE, _BYTES, _SIZE)),
     ("tp_merge", _STATUS, (_HANDLE, _HANDLE)),
     ("tp_link", _STATUS, (_HANDLE, _SIZE_TO)),
@@ -58,17 +78,6 @@ _FUNCTIONS: Iterable[Tuple[str, Any, Tuple[Any, ...]]] = (
     ("tp_receive", _STATUS, (_HANDLE, _SIZE, _BYTES, _SIZE)),
     ("tp_shared_open", _STATUS, (_BYTES, _SIZE, _BYTES, _ADDRESS)),
     ("tp_shared_create", _STATUS, (_BYTES, _SIZE, _BYTES, _BYTES, _ADDRESS)),
-    ("tp_shared_close", None, (Handle,)),
-    ("tp_shared_answer", _SIZE, (_HANDLE, _OUT, _SIZE)),
-    ("tp_shared_id", None, (_HANDLE, _OUT)),
-    ("tp_shared_length", _SIZE, (_HANDLE,)),
-    ("tp_shared_change_count", _SIZE, (_HANDLE,)),
-    ("tp_shared_text", _STATUS, (_HANDLE, _SIZE_TO)),
-    ("tp_shared_edit", _STATUS, (_HANDLE, _SIZE, _SIZE, _BYTES, _SIZE, _NUMBER, _BYTES, _SIZE, _SIZE_TO)),
-    ("tp_shared_edit_many", _STATUS, (_HANDLE, _SPLICES, _SIZE, _BYTES, _SIZE, _NUMBER, _BYTES, _SIZE, _SIZE_TO)),
-    ("tp_shared_heads", _STATUS, (_HANDLE, _SIZE_TO)),
-    ("tp_shared_cursor", _STATUS, (_HANDLE, _SIZE, _NUMBER_TO, _OUT)),
-    ("tp_shared_cursor_position", _STATUS, (_HANDLE, _NUMBER, _BYTES, _SIZE_TO)),
     ("tp_shared_begin", _STATUS, (_HANDLE, _STATUS, _SIZE_TO)),
     ("tp_shared_feed", _STATUS, (_HANDLE, _BYTES, _SIZE, _SIZE_TO, _STATUS_TO, _NUMBER_TO)),
     ("tp_shared_end", None, (_HANDLE,)),

@@ -47,7 +47,7 @@ _WORDS: Dict[int, str] = {
     2: "there is no link with this number",
     3: "there is no applied change with this number",
     4: "what should be a text isn't UTF-8",
-    5: "the lengths of the splices don't add up to the bytes that are given for their texts",
+    5: "the lengths of splices don't add up to the bytes of their texts, or bytes end within a hash",
     101: "the text ends before the position, or before the end of what is to be deleted",
     102: "the last counter of the edit would be past 2^48 - 1",
     103: "the edit has more than 65,536 operations, one for each character that comes or goes",
@@ -128,7 +128,7 @@ class BadText(Refused):
 
 
 class BadLengths(Refused):
-    """The lengths of the splices don't add up to the bytes that are given for their texts (5)."""
+    """The lengths of splices don't add up to the bytes of their texts, or bytes end within a hash (5)."""
 
 
 class OutOfRange(Refused):

@@ -1,4 +1,4 @@
-"""Sessions of a shared editor: `Session`, one side of one by bytes, and the streams that one may be held over."""
+"""Sessions of an editor: `Session`, one side of one by bytes, and the streams that one may be held over."""
 from __future__ import annotations
 
 import ctypes
@@ -9,7 +9,7 @@ from ._library import library
 from .refusals import refusal_in_session
 
 if TYPE_CHECKING:
-    from .shared import SharedEditor
+    from .editor import Editor
 
 Role = Literal["client", "server"]
 """The side that connected, and the one that it connected to."""
@@ -34,7 +34,7 @@ class Stream(Reader, Writer, Protocol):
 
 
 class Session:
-    """One side of a session, by bytes: for an event loop of your own. `SharedEditor.begin` begins one.
+    """One side of a session, by bytes: for an event loop of your own. `Editor.begin` begins one.
 
     Send what `data_to_send` gives, first of all and after each call of `receive_data`, also after one that was
     refused, since the other side is due a word then, and after the last one.
@@ -52,7 +52,7 @@ class Session:
     At most 16,777,220 bytes of a frame that isn't whole yet are held.
     """
 
-    def __init__(self, editor: SharedEditor, first: bytes) -> None:
+    def __init__(self, editor: Editor, first: bytes) -> None:
         self._editor, self._due, self._is_complete, self._entered = editor, [first], False, 0
 
     @property
@@ -77,8 +77,8 @@ class Session:
             return due
 
     def receive_data(self, data: BytesLike) -> None:
-        """Takes bytes of the other side, in whatever pieces they come. A change that enters is on the disk before the
-        answer for it is given. Bytes that come after the end of a session that ends well are dropped.
+        """Takes bytes of the other side, in whatever pieces they come. In a file a change that enters is on the disk
+        before the answer for it is given. Bytes that come after the end of a session that ends well are dropped.
 
         Each refusal ends the session, and what it had received stays: `Frame`, `Unexpected`, `Version` or
         `OtherDocument` where the other side keeps to no rule or has another document, what it sent where it refused

@@ -1,4 +1,4 @@
-use Rattle.std.proofs.Common.{rules, ◌∙◌, ◌++◌, ◌∷◌, [], ap, get_or, length, refl, subst, sym, List, ◌+◌}
+use Rattle.std.proofs.Common.{rules, ◌∙◌, ◌++◌, ◌∷◌, [], ap, get_or, inl, inr, length, refl, subst, sym, List, ◌+◌}
 use Rattle.std.specs.Str.{IsUtf8}
 use Rattle.tp_edit.specs.declared.splice.Splice.{Splice}
 use Rattle.tp_c.specs.declared.splices.FlatSplice.{FlatSplice}
@@ -7,10 +7,14 @@ use Rattle.tp_c.proofs.splices.splices_of.Goals as goal
 
 pub returns-in-Err-from_utf8 : goal.returns-in-Err-from_utf8
 returns-in-Err-from_utf8 c =
-    let d : FlatSplice = record { at = 0; del = 0; len = 0 } in (
+    let d : FlatSplice = record { at = 0; del = 0; len = 0 } in
+    inr (
       search rules,
-      next_unread c.args.flat.now c.args.texts.now c.loop-numbers.numbers-index d _ _ c.loop-numbers.invariant c.loop-numbers-test.true
-          (λ u. c.in-Err-from_utf8.ensures.cases.0 (subst IsUtf8 (sym c.split_at.ensures.front) u)),
+      inl (
+        refl,
+        next_unread c.args.flat.now c.args.texts.now c.loop-numbers.numbers-index d _ _ c.loop-numbers.invariant c.loop-numbers-test.true
+            (λ u. c.in-Err-from_utf8.ensures.cases.0 (subst IsUtf8 (sym c.split_at.ensures.front) u)),
+      ),
     )
 
 pub loop-numbers-preserved : goal.loop-numbers-preserved

@@ -1,5 +1,5 @@
 use Rattle.tp_net.proofs.Common.{SeatState, Meets}
-use Rattle.std.proofs.Common.{rules, inl, inr, ⊎_elim}
+use Rattle.std.proofs.Common.{rules, inl, inr}
 use Rattle.tp_net.proofs.Counting.{meets}
 use Rattle.tp_net.proofs.holding.hold_over.Goals as goal
 
@@ -9,12 +9,9 @@ returns-clause-meets g c =
     let w = c.run_session.ensures.session in
     let t : SeatState = c.new-host.result.seat.now.state in
     let t' : SeatState = c.run_session.new.host.seat.now.state in
-    let fact : Meets c.args.role c.args.served.now.opened.id t c.run_session.result t' =
-    meets c.args.role c.id-id.result c.args.served.now.opened.id t c.run_session.result t' c.id-id.ensures (w.0, w.3) in
-    search (rules, fact)
+    let fact : Meets c.args.role c.id-id.result t c.run_session.result t' = meets c.args.role c.id-id.result t c.run_session.result t' (w.0, w.3) in
+    search (rules, rw c.id-id.ensures at fact)
 
 -- what was written are the frames that it sent
 pub returns-clause-frames : goal.returns-clause-frames
-returns-clause-frames g c =
-    let w = c.run_session.ensures.session in
-    ⊎_elim (λ io. inl io) (λ wrote. inr (w.0.sent, wrote)) w.2
+returns-clause-frames g c = let w = c.run_session.ensures.session in elim w.2 [ inl io ↦ inl io | inr wrote ↦ inr (w.0.sent, wrote) ]

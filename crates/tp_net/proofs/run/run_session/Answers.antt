@@ -1,4 +1,7 @@
-use Rattle.tp_net.proofs.Common.{[], ap, inl, inr, refl, Err, Appends-nil, Consumes-nil, err_from_is_err_and}
+use Rattle.tp_net.proofs.Common.{[], ◌++◌, ap, arith, inl, inr, refl, Err, option_to_list, Appends-nil, Consumes-nil, Forgotten, err_from_is_err_and, refusal_of}
+use Rattle.tp_peer.specs.PeerStep.{replied}
+use Rattle.tp_net.proofs.Endings.{sends_more}
+use Rattle.tp_net.proofs.run.run_session.Goals.{in-Ok, in-Err}
 use Rattle.tp_net.proofs.run.run_session.Goals as goal
 
 pub returns-in_err-forget-clause-session : goal.returns-in_err-forget-clause-session
@@ -10,3 +13,25 @@ returns-in_err-forget-clause-session g c =
       inr (Appends-nil (g.W.Write.contents c.args.writer.now)),
       inl (record { refusal = c.in_err-forget.field-0.0; refused = c.in_err-forget.ensures.reply; told = ap Err p.2; nothing = refl }),
     )
+
+pub returns-clause-session : goal.returns-clause-session
+returns-clause-session g c =
+    let s = c.converse.ensures.session in
+    let start = g.H.Host.seen c.forget.new.self in
+    let left = g.H.Host.seen c.converse.new.host in
+    let reply = replied (λ _. Forgotten) c.forget-2.result in
+    elim c.match-converse.branch [
+      | in-Ok w ↦ (
+        s.0,
+        s.1,
+        grind arith,
+        inr (record { start = start; forgot = c.in_ok-forget.ensures.reply; left = left; session = grind arith; reply = reply; forgot_again = c.forget-2.ensures.reply }),
+      )
+      | in-Err w ↦
+          let t = w.in-Err.ensures.session in (
+            record { read = t.0.read; sent = t.0.sent ++ option_to_list (refusal_of w.in-Err.error) },
+            t.1,
+            grind (arith, sends_more (g.W.Write.contents c.args.writer.now) (g.W.Write.contents c.converse.new.writer) (g.W.Write.contents w.send_refusal.new.writer) t.0.sent),
+            inr (record { start = start; forgot = c.in_ok-forget.ensures.reply; left = left; session = rw w.result-is (record { why = w.in-Err.error; before = t.0.sent; stops = t.3; refusal = refl; told = grind arith }); reply = reply; forgot_again = c.forget-2.ensures.reply }),
+          )
+    ]

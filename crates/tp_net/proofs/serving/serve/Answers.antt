@@ -1,10 +1,7 @@
-use Rattle.tp_net.proofs.Common.{inr, refl, AllSit}
+use Rattle.tp_net.proofs.Common.{AllSit}
 use Rattle.std.proofs.Common.{rules}
-use Rattle.tp_net.proofs.SeatLists.{all_stay, still_of}
+use Rattle.tp_net.proofs.SeatLists.{still_of}
 use Rattle.tp_net.proofs.serving.serve.Goals as goal
-
-pub returns-in_default-clause-err : goal.returns-in_default-clause-err
-returns-in_default-clause-err g c = (all_stay _ c.args.seats.items, c.requires, inr refl)
 
 pub returns-in-Ok-accepted-clause-of : goal.returns-in-Ok-accepted-clause-of
 returns-in-Ok-accepted-clause-of g c =

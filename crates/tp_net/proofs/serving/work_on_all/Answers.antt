@@ -1,7 +1,10 @@
-use Rattle.tp_net.proofs.Common.{◌∙◌, ap, SeatData}
+use Rattle.tp_net.proofs.Common.{◌≡◌, arith}
+use Rattle.std.proofs.Common.{rules}
 use Rattle.tp_net.proofs.SeatLists.{seat_is_of}
 use Rattle.tp_net.proofs.serving.work_on_all.Goals as goal
 
 pub for_each_mut-requires-clause-accepts : goal.for_each_mut-requires-clause-accepts
 for_each_mut-requires-clause-accepts g c lifetimes live i p below is =
-    ap (λ (s : SeatData). s.served) is ∙ seat_is_of c.args.served.now.served c.args.seats.now i p.now c.requires below
+    let lent : c.as_mut_slice.result.now ≡ c.args.seats.items = search rules in
+    let at = seat_is_of c.args.served.now.served c.args.seats.items i p.now c.requires in
+    grind arith

@@ -1,6 +1,6 @@
 use Rattle.std.proofs.Common.{subst}
 use Rattle.tp_opid.specs.declared.actor.Actor.{Actor}
-use Rattle.tp_net.proofs.Told.{IfOk-each}
+use Rattle.std.proofs.lemmas.Result.{IfOk-weaker}
 use Rattle.tp_shell.specs.Files.{OpensJournal}
 use Rattle.tp_online.proofs.serving.serve_file.Goals as goal
 
@@ -9,7 +9,7 @@ pub returns-in-Ok-clause-served : goal.returns-in-Ok-clause-served
 returns-in-Ok-clause-served g c =
     let key = c.in_ok-actor.ensures in
     let read = c.in-Ok.ensures.opens in
-    IfOk-each c.serve_on.result _ _ (λ p served. (
+    IfOk-weaker c.serve_on.result _ _ (λ p served. (
       read.0,
       read.1,
       record {
