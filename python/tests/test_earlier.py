@@ -267,6 +267,27 @@ class AtRandom(unittest.TestCase):
                 self.compare(draw, editor, kept)
                 editor.close()
 
+    def test_a_longer_text_against_a_model(self):
+        # More than the engine keeps in one block, with few changes near its end, as those that come to an editor.
+        draw = random.Random(12)
+        for _ in range(3):
+            ann, kept = Editor(TEXT, ANN), []
+            for at in range(0, 6000, 500):
+                ann.edit(draw.randint(0, at), 0, "".join(draw.choices("abc\u20ac\n", k=500)))
+            ben = ann.fork(BEN)
+            for number in range(20):
+                editor = (ann, ben)[number % 2]
+                at = draw.randint(0, len(editor))
+                delete = min(draw.choice((0, 1, 5, 600)), len(editor) - at)
+                editor.edit(at, delete, draw.choice(("x", "y\U0001f600z")))
+                kept += [editor.heads()]
+                if draw.random() < 0.4:
+                    kept += [ann.heads()]
+                    ann.merge(ben)
+                    ben.merge(ann)
+            ann.merge(ben)
+            self.compare(draw, ann, kept[-8:])
+
 
 if __name__ == "__main__":
     unittest.main()

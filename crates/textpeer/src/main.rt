@@ -4,5 +4,5 @@
 use std::process::ExitCode;
 
 fn main(rt: HostRuntime) -> ExitCode {
-    ExitCode::from(tp_online::run(&rt))
+    ExitCode::from(tp_program::run(&rt))
 }

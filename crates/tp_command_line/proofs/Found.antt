@@ -1,5 +1,5 @@
 -- What the parser's matches say of the subcommand that was found, and of its values.
-use Rattle.std.proofs.Common.{◌≡◌, ◌∙◌, ap, Bool, true, false, refl, sym, subst, List, [], ◌∷◌, Option, Some, None, codes}
+use Rattle.std.proofs.Common.{◌≡◌, ◌∙◌, ⊎_elim, ap, Bool, true, false, inl, inr, refl, sym, subst, List, [], ◌∷◌, Option, Some, None, codes}
 use Rattle.std.specs.Prelude.{◌||◌, IsErrAnd, IsSome, ℕ, Ok, Err, Result, find, if◌then◌else◌, option_map}
 use Rattle.std.specs.Str.{bytes_eq}
 use Rattle.std.proofs.lemmas.Slice.Eq.{bytes_eq-Decides}
@@ -13,36 +13,54 @@ use Rattle.clap.specs.Values.{Accepts}
 use Rattle.clap.specs.ValueTests.{accepts}
 use Rattle.clap.proofs.ValueTestLemmas.{accepts-Accepts}
 use Rattle.clap.proofs.WalkLemmas.{one_text-rows}
-use Rattle.clap.specs.Words.{App, HasKind, HasMatchesOf, Row, Text, found_of, is_simple, is_simple_and_free, one_text, rows_of, subcommand_name_of, subcommand_of, subcommand_rows_of}
+use Rattle.clap.specs.Words.{App, HasKind, HasMatchesOf, IsAmong, Kinds, Row, Text, found_of, is_simple, is_simple_and_free, kind_of, one_text, rows_of, subcommand_name_of, subcommand_of, subcommand_rows_of}
 use Rattle.clap.specs.declared.builder.value_parser.ValueParser.TheVariants as parser
 use Rattle.clap.specs.declared.parser.matches.ArgMatches.{ArgMatches}
 use Rattle.clap.specs.declared.parser.matches.Found.{Found}
 use Rattle.clap.specs.declared.parser.matches.ArgMatches.TheViews.{out-ArgMatches}
 use Rattle.clap.specs.declared.error.Error.{Error}
-use Rattle.tp_command_line.specs.CommandLine.{few, numbers, textpeer_app}
-use Rattle.tp_command_line.specs.LineError.{FailsAs, parser_fault}
-use Rattle.tp_command_line.specs.declared.command.Command.{Command}
+use Rattle.clap.specs.declared.error.kind.ErrorKind.{ErrorKind}
+use Rattle.tp_command_line.specs.Commands.{textpeer_app}
+use Rattle.tp_command_line.specs.Rules.{few, numbers}
+use Rattle.tp_command_line.specs.Uses.{IsUse, always_has}
+use Rattle.tp_command_line.specs.Values.{HasFlag, HasNumber, HasValue, IsNumber, is_number, is_numeric, parser_named}
+use Rattle.tp_command_line.specs.LineError.{FailsAs, RefusesLine, IsPassedAs, RefusesValue, NotRead}
+use Rattle.tp_command_line.specs.declared.job.Job.{Job}
 use Rattle.tp_command_line.specs.declared.error.LineError.{LineError}
-use Rattle.tp_command_line.specs.Values.{HasFlag, HasNumber, HasValue, IsNumber, IsUse}
-use Rattle.tp_command_line.proofs.Rows.{HasFirst, parser_named}
-use Rattle.tp_command_line.proofs.Uses.{IsUseOf, required_of, requires_value, use_of}
+use Rattle.tp_command_line.specs.declared.error.LineError.TheVariants.{Request, Fault, Value}
+use Rattle.tp_command_line.specs.declared.error.ValueError.{ValueError}
+use Rattle.tp_command_line.specs.declared.error.ValueError.TheVariants.{BadHex, BadAddress, OutOfMemory}
+use Rattle.tp_command_line.proofs.Rows.{HasFirst}
+use Rattle.tp_command_line.proofs.Uses.{IsUseOf, always_given, use_of}
 
 -- ---- values
 
-pub value_of : (id : Text) (rows : List Row) → HasFirst id rows → HasValue id rows
-value_of id rows has = (has.value, has.first)
+-- an argument that the subcommand always has has a value
+pub value_of : (name id : Text) (rows : List Row) → IsUse name rows → always_has name id ≡ true → HasValue id rows
+value_of name id rows found has = let given = always_given name id rows found has in (given.value, given.first)
 
--- a value that the parser of numbers takes is a number
-pub number_of : (id : Text) (rows : List Row) → HasFirst id rows → parser_named id ≡ numbers → (n : ℕ) × HasNumber id rows n
-number_of id rows has is =
+-- a value that the parser of numbers takes is a number; so is one of few
+number_taken : (id : Text) (rows : List Row) → HasFirst id rows → parser_named id ≡ numbers → (n : ℕ) × HasNumber id rows n
+number_taken id rows has is =
     let taken : Accepts false numbers has.value = accepts-Accepts false numbers has.value (ap (λ p. accepts false p has.value) (sym is) ∙ has.taken) in
     (digits_value 10 (without_leading_plus has.value), (has.value, has.one, record { digits = taken.0; small = taken.1; value = refl }))
 
--- so it is of a number of few
-pub few_of : (id : Text) (rows : List Row) → HasFirst id rows → parser_named id ≡ few → (n : ℕ) × HasNumber id rows n
-few_of id rows has is =
+few_taken : (id : Text) (rows : List Row) → HasFirst id rows → parser_named id ≡ few → (n : ℕ) × HasNumber id rows n
+few_taken id rows has is =
     let taken : Accepts false few has.value = accepts-Accepts false few has.value (ap (λ p. accepts false p has.value) (sym is) ∙ has.taken) in
     (digits_value 10 (without_leading_plus has.value), (has.value, has.one, record { digits = taken.0; small = taken.1; value = refl }))
+
+-- a number that the subcommand always has
+pub number_of : (name id : Text) (rows : List Row) → IsUse name rows → always_has name id ≡ true → is_number id ≡ true → (n : ℕ) × HasNumber id rows n
+number_of name id rows found has is = go (is_numeric id) (bytes_eq (codes "workers") id) refl refl is
+  where
+    given : HasFirst id rows
+    given = always_given name id rows found has
+
+    go : (b d : Bool) → is_numeric id ≡ b → bytes_eq (codes "workers") id ≡ d → (b || d) ≡ true → (n : ℕ) × HasNumber id rows n
+    go true d numeric workers either = number_taken id rows given (rw numeric refl)
+    go false true numeric workers either = few_taken id rows given (rw (numeric, workers) refl)
+    go false false numeric workers either = absurd (cc)
 
 -- a value that the parser of flags takes says whether the flag was given
 pub flag_given : (id : Text) (rows : List Row) → HasFirst id rows → parser_named id ≡ parser.Bool → (given : Bool) × HasFlag id rows given
@@ -86,17 +104,8 @@ some_is {X} {x} {y} e = cc
 
 -- ---- the subcommand
 
--- an argument that the subcommand with this name requires has a value
-pub named_value : (name id : Text) {found : Text} {rows : List Row} → found ≡ name → IsUse found rows → requires_value name id ≡ true → HasValue id rows
-named_value name id {found} {rows} is use_of_it needed = value_of id rows (required_of name id rows (subst (λ (x : Text). IsUse x rows) is use_of_it) needed)
-
-pub named_number : (name id : Text) {found : Text} {rows : List Row} → found ≡ name → IsUse found rows → requires_value name id ≡ true → parser_named id ≡ numbers
-    → (n : ℕ) × HasNumber id rows n
-named_number name id {found} {rows} is use_of_it needed number =
-    number_of id rows (required_of name id rows (subst (λ (x : Text). IsUse x rows) is use_of_it) needed) number
-
 -- no subcommand has the name
-abbrev NoneNamed : Text → List Shape → Type 0
+abbrev pub NoneNamed : Text → List Shape → Type 0
 NoneNamed name [] = Unit {0}
 NoneNamed name (s ∷ shapes) = (name ≡ s.name → ⊥) × NoneNamed name shapes
 
@@ -110,13 +119,9 @@ not_found name (s ∷ shapes) none = go (bytes_eq s.name name) refl (not_found n
     go false same rest = rest
 
 -- these names are all
-pub no_other_name : (name : Text) (rows : List Row) → IsUse name rows → (name ≡ codes "new" → ⊥) → (name ≡ codes "edit" → ⊥) → (name ≡ codes "text" → ⊥)
-    → (name ≡ codes "heads" → ⊥) → (name ≡ codes "log" → ⊥) → (name ≡ codes "graph" → ⊥) → (name ≡ codes "cursor" → ⊥) → (name ≡ codes "check" → ⊥) → (name ≡ codes "merge" → ⊥) → (name ≡ codes "save" → ⊥)
-    → (name ≡ codes "load" → ⊥) → (name ≡ codes "recover" → ⊥) → (name ≡ codes "show" → ⊥) → (name ≡ codes "simulate" → ⊥)
-    → (name ≡ codes "serve" → ⊥) → (name ≡ codes "sync" → ⊥) → (name ≡ codes "session" → ⊥) → ⊥
-no_other_name name rows found a b c d e f g h i j k l m n o p q =
-    let none = not_found name (built textpeer_app).subs (a, (b, (c, (d, (e, (f, (g, (h, (i, (j, (k, (l, (m, (n, (o, (p, (q, tt))))))))))))))))) in
-    let bad : None ≡ Some found.shape = sym none ∙ found.named in
+pub no_other : (name : Text) (rows : List Row) → IsUse name rows → NoneNamed name (built textpeer_app).subs → ⊥
+no_other name rows found none =
+    let bad : None ≡ Some found.shape = sym (not_found name (built textpeer_app).subs none) ∙ found.named in
     absurd (cc)
 
 -- the name that stands with the rows is the name
@@ -171,10 +176,31 @@ use_found words m o p parsed is named rowed =
     let as_name : IsUse name parsed.is_use.1 = subst (λ (x : Text). IsUse x parsed.is_use.1) (some_is (ap first both)) parsed.is_use.3 in
     (found, subst (IsUse name) (some_is (ap second both)) as_name)
 
+-- what the parser said is a cause
+caused : (kinds : Kinds) (found : Option (Text × List Row)) (said : Error) (e : LineError) → IsPassedAs said e → HasKind kinds said → RefusesLine kinds found e
+caused kinds found said (Request e) passed (inl memory) = ⊎_elim (λ h. absurd (cc)) (λ v. absurd (cc)) passed.1
+caused kinds found said (Request e) passed (inr among) =
+    ⊎_elim (λ h. inl (subst (λ (k : ErrorKind). IsAmong k kinds) h among)) (λ v. inr (subst (λ (k : ErrorKind). IsAmong k kinds) v among)) passed.1
+caused kinds found said (Fault e) passed (inl memory) = absurd (passed.1 memory)
+caused kinds found said (Fault e) passed (inr among) = subst (λ (x : Error). IsAmong (kind_of x) kinds) (sym passed.0) among
+caused kinds found said (Value e) passed has = subst (NotRead kinds found) (sym passed.0) tt
+
 -- an error is passed up as it is
-pub fails_as : (a : App) (words : List Text) (e : Error) (r : Result Command LineError) → a ≡ textpeer_app → IsErrAnd r (λ y. parser_fault y ≡ e)
-    → (is_simple_and_free a ≡ true → HasKind (fault_of a words) e) → FailsAs (fault_of textpeer_app words) r
-fails_as a words e (Ok command) is passed has = absurd passed
+pub fails_as : (a : App) (words : List Text) (e : Error) (r : Result Job LineError) → a ≡ textpeer_app → IsErrAnd r (IsPassedAs e)
+    → (is_simple_and_free a ≡ true → HasKind (fault_of a words) e) → FailsAs (fault_of textpeer_app words) (subcommand_of textpeer_app words) r
+fails_as a words e (Ok job) is passed has = absurd passed
 fails_as a words e (Err y) is passed has =
     let kinds : HasKind (fault_of textpeer_app words) e = subst (λ (x : App). HasKind (fault_of x words) e) is (has (ap is_simple_and_free is)) in
-    subst (HasKind (fault_of textpeer_app words)) (sym passed) kinds
+    caused (fault_of textpeer_app words) (subcommand_of textpeer_app words) e y passed kinds
+
+-- so it is of why a value wasn't read
+not_read : (kinds : Kinds) (found : Option (Text × List Row)) (name : Text) (rows : List Row) (e : ValueError) → kinds ≡ [] → found ≡ Some (name, rows)
+    → RefusesValue rows e → NotRead kinds found e
+not_read kinds found name rows BadHex none is bad = (name, rows, none, is, bad)
+not_read kinds found name rows BadAddress none is bad = (name, rows, none, is, bad)
+not_read kinds found name rows OutOfMemory none is bad = tt
+
+pub value_fails : (kinds : Kinds) (found : Option (Text × List Row)) (name : Text) (rows : List Row) (e : ValueError) (r : Result Job LineError) → kinds ≡ []
+    → found ≡ Some (name, rows) → IsErrAnd r (λ y. y ≡ Value e) → RefusesValue rows e → FailsAs kinds found r
+value_fails kinds found name rows e (Ok job) none is passed bad = absurd passed
+value_fails kinds found name rows e (Err y) none is passed bad = subst (RefusesLine kinds found) (sym passed) (not_read kinds found name rows e none is bad)

@@ -10,7 +10,8 @@ use Rattle.clap.specs.Simple.{Shape}
 use Rattle.clap.specs.Takes.{is_given}
 use Rattle.clap.specs.Walk.{Held, Names, Row, Rule, Text, default_rows, has_row, nothing_held, reading_by, rows_after, settled, walk, walk_from, with_default}
 use Rattle.clap.specs.declared.builder.value_parser.Reading.TheVariants.{AsWritten}
-use Rattle.tp_command_line.proofs.Rows.{AllFilled, AllTaken, HasFirst, default_row, first_of_row, given_row, has_default, or_else_none, with_values_filled}
+use Rattle.tp_command_line.proofs.Rows.{AllFilled, AllTaken, HasFirst, default_row, first_of_row, given_row, or_else_none, with_values_filled}
+use Rattle.tp_command_line.specs.Uses.{has_default, is_required}
 use Rattle.tp_command_line.proofs.Words.{AllFill, Fills, settle_filled, walk_filled}
 
 -- ---- arguments that take what is given
@@ -76,10 +77,6 @@ level_checked s names words has below e =
     let settled_on = or_else_none (settle_fault s.rules s.args_override_self end) _ past_below.1 in
     let filled_on = or_else_none (defaults_fault (settled s.rules end).rows s.rules) _ settled_on.1 in
     (past_below.0, filled_on.1)
-
--- the argument with this identifier has to be given
-abbrev pub is_required : Text → List Rule → Bool
-is_required id c = list_any (λ a. bytes_eq a.id id && a.required) c
 
 -- where none that has to be given is missing, it was given
 given_of : (id : Text) (c : List Rule) (rows : List Row) → list_any (λ a. a.required && not (is_given a.id rows)) c ≡ false

@@ -1,3 +1,4 @@
+pub mod HashTexts
 pub mod Rows
 pub mod Words
 pub mod Levels

@@ -1,7 +1,7 @@
 -- Rows that each have a value, and only values that their argument takes.
-use Rattle.std.proofs.Common.{◌≡◌, ◌∙◌, ap, ◌<◌, Bool, true, false, refl, sym, subst, arith, List, [], ◌∷◌, ◌++◌, length, not, Option, Some, codes, length-append}
+use Rattle.std.proofs.Common.{◌≡◌, ◌∙◌, ap, ◌<◌, Bool, true, false, refl, sym, subst, arith, List, [], ◌∷◌, ◌++◌, length, not, Option, Some, length-append}
 use Rattle.std.specs.Prelude.{◌&&◌, ◌||◌, if◌then◌else◌, find, fold, slice_get, option_map, option_and_then}
-use Rattle.std.specs.List.{list_all, list_any}
+use Rattle.std.specs.List.{list_all}
 use Rattle.std.specs.Option.{option_map_or}
 use Rattle.std.specs.Str.{bytes_eq}
 use Rattle.std.proofs.lemmas.Slice.Eq.{bytes_eq-Decides}
@@ -14,18 +14,10 @@ use Rattle.clap.specs.Walk.{Row, Rule, Text, default_rows, first_of, has_row, is
 use Rattle.clap.specs.declared.builder.value_parser.Reading.{Reading}
 use Rattle.clap.specs.declared.builder.value_parser.Reading.TheVariants.{AsWritten}
 use Rattle.clap.specs.declared.builder.value_parser.ValueParser.{ValueParser}
-use Rattle.clap.specs.declared.builder.value_parser.ValueParser.TheVariants as parser
 use Rattle.clap.specs.declared.parser.matches.ValueSource.{ValueSource}
 use Rattle.clap.specs.declared.parser.matches.ValueSource.TheVariants.{DefaultValue}
-use Rattle.tp_command_line.specs.CommandLine.{few, numbers}
-
--- the arguments whose values are numbers
-abbrev pub is_numeric : Text → Bool
-is_numeric id = list_any (λ n. bytes_eq n id) (codes "AT" ∷ codes "at" ∷ codes "del" ∷ codes "time" ∷ codes "sessions" ∷ [])
-
--- what reads the values of an argument
-abbrev pub parser_named : Text → ValueParser
-parser_named id = if is_numeric id then numbers else if bytes_eq (codes "workers") id then few else if bytes_eq (codes "client") id then parser.Bool else parser.String
+use Rattle.tp_command_line.specs.Uses.{has_default}
+use Rattle.tp_command_line.specs.Values.{parser_named}
 
 -- the argument takes each of the values
 abbrev pub AllTaken : Text → List Text → Type 0
@@ -220,10 +212,6 @@ own_default rows a some = go (has_row a.id rows) refl
     go : (b : Bool) → has_row a.id rows ≡ b → has_row a.id (if b then rows else default_rows a.id (reading_by a) a.defaults rows) ≡ true
     go true is = is
     go false is = given a.defaults some
-
--- the argument with this identifier has a default
-abbrev pub has_default : Text → List Rule → Bool
-has_default id c = list_any (λ a. bytes_eq a.id id && not (is_empty a.defaults)) c
 
 -- so it has a row in the end
 pub default_row : (id : Text) (c : List Rule) (rows : List Row) → has_default id c ≡ true → has_row id (fold with_default rows c) ≡ true

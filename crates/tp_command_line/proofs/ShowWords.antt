@@ -1,27 +1,35 @@
 -- `show PATH` is at no fault, and its `LOG` is the path.
-use Rattle.std.proofs.Common.{◌≡◌, ◌∙◌, ℕ, Bool, true, false, ap, sym, subst, ⊎_elim, refl, List, [], ◌∷◌, Option, Some, codes, nat_eq, option_map, true≢false}
+use Rattle.std.proofs.Common.{◌≡◌, ◌∙◌, ℕ, Bool, true, false, ap, sym, subst, ⊎_elim, refl, List, [], ◌∷◌, length, Option, Some, None, arith, inl, inr, codes, nat_eq, option_map, true≢false}
 use Rattle.std.proofs.lemmas.Bool.{eqb-true}
 use Rattle.std.specs.Str.{bytes_eq}
 use Rattle.std.proofs.lemmas.Slice.Eq.{bytes_eq-Decides}
-use Rattle.std.specs.Prelude.{IsErrAnd, MatchResult, Ok, Err, Result}
+use Rattle.std.specs.Prelude.{◌<◌, IsErrAnd, MatchResult, Ok, Err, Result}
 use Rattle.clap.specs.Walk.{Row, Text, first_of}
 use Rattle.clap.specs.Simple.{subcommand_of}
 use Rattle.clap.specs.Faults.{fault_of}
 use Rattle.clap.proofs.OnLiterals.{clap_on_literals}
 use Rattle.clap.specs.Words.{App, HasKind, Kinds, is_simple_and_free, kind_of}
 use Rattle.clap.specs.declared.error.Error.{Error}
-use Rattle.clap.specs.declared.error.kind.ErrorKind.TheVariants.{OutOfMemory}
-use Rattle.tp_command_line.specs.CommandLine.{textpeer_app}
-use Rattle.tp_command_line.specs.CommandOf.{AskToShow, IsCommandOf, IsFoundAs, IsShow}
-use Rattle.tp_command_line.specs.LineError.{parser_fault}
+use Rattle.clap.specs.declared.error.kind.ErrorKind.TheVariants as kind
+use Rattle.tp_command_line.specs.Commands.{AskToShow, IsFoundAs, IsJobOf, IsShow, textpeer_app}
+use Rattle.tp_command_line.specs.Values.{given_heads}
+use Rattle.tp_command_line.specs.LineError.{IsPassedAs, RefusesValue}
 use Rattle.tp_command_line.proofs.Found.{some_is}
-use Rattle.tp_command_line.specs.declared.command.Command.{Command}
-use Rattle.tp_command_line.specs.declared.command.Command.TheVariants.{New, Edit, Text as ReadText, Heads, Log, Graph, Cursor, Check, Merge, Save, Load, Recover, Show, Simulate, Serve, Session, Sync}
+use Rattle.tp_command_line.specs.declared.job.FileJob.TheVariants.{Show}
+use Rattle.tp_command_line.specs.declared.job.Job.{Job}
+use Rattle.tp_command_line.specs.declared.job.Job.TheVariants.{Files}
 use Rattle.tp_command_line.specs.declared.error.LineError.{LineError}
+use Rattle.tp_command_line.specs.declared.error.LineError.TheVariants.{Request, Fault, Value}
+use Rattle.tp_command_line.specs.declared.error.ValueError.{ValueError}
+use Rattle.tp_command_line.specs.declared.error.ValueError.TheVariants.{BadHex, BadAddress, OutOfMemory}
 
--- the name of a subcommand, and the value of its `LOG`
-abbrev named_log : Text × List Row → Text × Option Text
-named_log p = (p.0, first_of (codes "LOG") p.1)
+-- the name of a subcommand, its `LOG`, its key, its address and its hashes
+abbrev named_log : Text × List Row → Text × Option Text × Option Text × Option Text × List Text
+named_log p = (p.0, first_of (codes "LOG") p.1, first_of (codes "key") p.1, first_of (codes "ADDR") p.1, given_heads p.1)
+
+-- those of `show` with the path
+abbrev shown : Text → Text × Option Text × Option Text × Option Text × List Text
+shown path = (codes "show", Some path, None, None, [])
 
 -- the empty path
 no_fault_empty : (name : Text) → fault_of textpeer_app (name ∷ codes "show" ∷ [] ∷ []) ≡ []
@@ -33,12 +41,12 @@ no_fault_byte : (name : Text) (x : ℕ) (xs : Text) → nat_eq x 45 ≡ false �
 unfolding clap_on_literals
 no_fault_byte name x xs e = rw (e, e) refl
 
-log_empty : (name : Text) → option_map named_log (subcommand_of textpeer_app (name ∷ codes "show" ∷ [] ∷ [])) ≡ Some (codes "show", Some [])
+log_empty : (name : Text) → option_map named_log (subcommand_of textpeer_app (name ∷ codes "show" ∷ [] ∷ [])) ≡ Some (shown [])
 unfolding clap_on_literals
 log_empty name = refl
 
 log_byte : (name : Text) (x : ℕ) (xs : Text) → nat_eq x 45 ≡ false
-    → option_map named_log (subcommand_of textpeer_app (name ∷ codes "show" ∷ (x ∷ xs) ∷ [])) ≡ Some (codes "show", Some (x ∷ xs))
+    → option_map named_log (subcommand_of textpeer_app (name ∷ codes "show" ∷ (x ∷ xs) ∷ [])) ≡ Some (shown (x ∷ xs))
 unfolding clap_on_literals
 log_byte name x xs e = rw (e, e) refl
 
@@ -54,58 +62,75 @@ show_no_fault : (path : Text) (words : List Text) → AskToShow path words → f
 show_no_fault [] words ask = ap (fault_of textpeer_app) ask.words_are ∙ no_fault_empty ask.name
 show_no_fault (x ∷ xs) words ask = ap (fault_of textpeer_app) ask.words_are ∙ no_fault_byte ask.name x xs (hyphen_or x ask.no_flag)
 
-show_log_is : (path : Text) (words : List Text) → AskToShow path words → option_map named_log (subcommand_of textpeer_app words) ≡ Some (codes "show", Some path)
+show_log_is : (path : Text) (words : List Text) → AskToShow path words → option_map named_log (subcommand_of textpeer_app words) ≡ Some (shown path)
 show_log_is [] words ask =
-    let value : List Text → Option (Text × Option Text) = λ ws. option_map named_log (subcommand_of textpeer_app ws) in
+    let value : List Text → Option (Text × Option Text × Option Text × Option Text × List Text) = λ ws. option_map named_log (subcommand_of textpeer_app ws) in
     ap value ask.words_are ∙ log_empty ask.name
 show_log_is (x ∷ xs) words ask =
-    let value : List Text → Option (Text × Option Text) = λ ws. option_map named_log (subcommand_of textpeer_app ws) in
+    let value : List Text → Option (Text × Option Text × Option Text × Option Text × List Text) = λ ws. option_map named_log (subcommand_of textpeer_app ws) in
     ap value ask.words_are ∙ log_byte ask.name x xs (hyphen_or x ask.no_flag)
 
 -- another name isn't `show`
-other_name : {P : Type 0} (name : Text) → bytes_eq name (codes "show") ≡ false → name ≡ codes "show" → P
-other_name name other is = absurd (true≢false (sym ((bytes_eq-Decides name (codes "show")).1 is) ∙ other))
+other_name : {P : Type 0} (name : Text) → name ≡ codes "show" → bytes_eq name (codes "show") ≡ false → P
+other_name name is other = absurd (true≢false (sym ((bytes_eq-Decides name (codes "show")).1 is) ∙ other))
 
--- a command with the name `show` shows the value of `LOG`
-show_of_name : (path : Text) (name : Text) (rows : List Row) (command : Command) → name ≡ codes "show" → first_of (codes "LOG") rows ≡ Some path
-    → IsCommandOf name rows command → IsShow path command
-show_of_name path name rows (New file key) is log of = other_name (codes "new") refl (sym of.0 ∙ is)
-show_of_name path name rows (Edit file at del text time message key) is log of = other_name (codes "edit") refl (sym of.0 ∙ is)
-show_of_name path name rows (ReadText file heads) is log of = other_name (codes "text") refl (sym of.0 ∙ is)
-show_of_name path name rows (Heads file) is log of = other_name (codes "heads") refl (sym of.0 ∙ is)
-show_of_name path name rows (Log file) is log of = other_name (codes "log") refl (sym of.0 ∙ is)
-show_of_name path name rows (Graph file) is log of = other_name (codes "graph") refl (sym of.0 ∙ is)
-show_of_name path name rows (Cursor file at heads) is log of = other_name (codes "cursor") refl (sym of.0 ∙ is)
-show_of_name path name rows (Check file) is log of = other_name (codes "check") refl (sym of.0 ∙ is)
-show_of_name path name rows (Merge file other key) is log of = other_name (codes "merge") refl (sym of.0 ∙ is)
-show_of_name path name rows (Save file out) is log of = other_name (codes "save") refl (sym of.0 ∙ is)
-show_of_name path name rows (Load saved file) is log of = other_name (codes "load") refl (sym of.0 ∙ is)
-show_of_name path name rows (Recover file out) is log of = other_name (codes "recover") refl (sym of.0 ∙ is)
-show_of_name path name rows (Show shown) is log of = let same : Some shown.now ≡ Some path = sym of.1 ∙ log in (shown, refl, cc)
-show_of_name path name rows (Simulate script) is log of = other_name (codes "simulate") refl (sym of.0 ∙ is)
-show_of_name path name rows (Serve file addr sessions workers key) is log of = other_name (codes "serve") refl (sym of.0 ∙ is)
-show_of_name path name rows (Sync file addr key) is log of = other_name (codes "sync") refl (sym of.0 ∙ is)
-show_of_name path name rows (Session file is_client key) is log of = other_name (codes "session") refl (sym of.0 ∙ is)
+-- a job of a subcommand `show` shows the value of `LOG`
+show_of_name : (path : Text) (name : Text) (rows : List Row) (job : Job) → name ≡ codes "show" → first_of (codes "LOG") rows ≡ Some path → IsJobOf name rows job → IsShow path job
+show_of_name path name rows (Files (Show file)) is log of = let same : Some file.now ≡ Some path = sym of.1 ∙ log in (file, refl, cc)
+show_of_name path name rows job is log of = other_name _ (sym of.0 ∙ is) refl
+
+-- what is found of words that ask to show a path
+found_shown : (path : Text) (words : List Text) (name : Text) (rows : List Row) → AskToShow path words → subcommand_of textpeer_app words ≡ Some (name, rows)
+    → named_log (name, rows) ≡ shown path
+found_shown path words name rows ask is =
+    let value : Option (Text × List Row) → Option (Text × Option Text × Option Text × Option Text × List Text) = option_map named_log in
+    some_is (sym (ap value is) ∙ show_log_is path words ask)
 
 -- words that ask to show a path give that
-pub show_path : (path : Text) (words : List Text) (command : Command) → AskToShow path words → IsFoundAs (subcommand_of textpeer_app words) command → IsShow path command
-show_path path words command ask found =
-    let value : Option (Text × List Row) → Option (Text × Option Text) = option_map named_log in
-    let same : Some (found.0, first_of (codes "LOG") found.1) ≡ Some (codes "show", Some path) = sym (ap value found.2) ∙ show_log_is path words ask in
-    let name : Text × Option Text → Text = λ p. p.0 in
-    let log : Text × Option Text → Option Text = λ p. p.1 in
-    show_of_name path found.0 found.1 command (some_is (ap (option_map name) same)) (some_is (ap (option_map log) same)) found.3
+pub show_path : (path : Text) (words : List Text) (job : Job) → AskToShow path words → IsFoundAs (subcommand_of textpeer_app words) job → IsShow path job
+show_path path words job ask found =
+    let same = found_shown path words found.0 found.1 ask found.2 in
+    let name : Text × Option Text × Option Text × Option Text × List Text → Text = λ p. p.0 in
+    let log : Text × Option Text × Option Text × Option Text × List Text → Option Text = λ p. p.1 in
+    show_of_name path found.0 found.1 job (ap name same) (ap log same) found.3
+
+-- with no key, no address and no hash, only memory can fail
+only_values : (rows : List Row) (e : ValueError) → first_of (codes "key") rows ≡ None → first_of (codes "ADDR") rows ≡ None → given_heads rows ≡ [] → RefusesValue rows e → e ≡ OutOfMemory
+only_values rows BadHex key addr heads (inl any) =
+    let none : length (given_heads rows) ≡ 0 = ap length heads in
+    let some : any.0 < length (given_heads rows) = any.2 in
+    absurd (omega arith)
+only_values rows BadHex key addr heads (inr bad) = let e : None ≡ Some bad.0 = sym key ∙ bad.1 in absurd (cc)
+only_values rows BadAddress key addr heads bad = let e : None ≡ Some bad.0 = sym addr ∙ bad.1 in absurd (cc)
+only_values rows OutOfMemory key addr heads bad = refl
+
+-- so it is of words that ask to show a path
+pub show_reads : (path : Text) (words : List Text) (name : Text) (rows : List Row) (e : ValueError) → AskToShow path words
+    → subcommand_of textpeer_app words ≡ Some (name, rows) → RefusesValue rows e → e ≡ OutOfMemory
+show_reads path words name rows e ask is bad =
+    let same = found_shown path words name rows ask is in
+    let key : Text × Option Text × Option Text × Option Text × List Text → Option Text = λ p. p.2 in
+    let addr : Text × Option Text × Option Text × Option Text × List Text → Option Text = λ p. p.3 in
+    let heads : Text × Option Text × Option Text × Option Text × List Text → List Text = λ p. p.4 in
+    only_values rows e (ap key same) (ap addr same) (ap heads same) bad
 
 -- where the words have no fault, only memory can fail
 pub only_memory : (a : App) (path : Text) (words : List Text) (e : Error) → a ≡ textpeer_app → AskToShow path words
-    → (is_simple_and_free a ≡ true → HasKind (fault_of a words) e) → kind_of e ≡ OutOfMemory
+    → (is_simple_and_free a ≡ true → HasKind (fault_of a words) e) → kind_of e ≡ kind.OutOfMemory
 only_memory a path words e is ask has =
     let none : fault_of a words ≡ [] = ap (λ (x : App). fault_of x words) is ∙ show_no_fault path words ask in
     let as_none : HasKind [] e = subst (λ (k : Kinds). HasKind k e) none (has (ap is_simple_and_free is)) in
     ⊎_elim (λ m. m) (λ past. absurd past) as_none
 
--- an error is passed up with its kind
-pub passed_up : (path : Text) (r : Result Command LineError) (e : Error) → IsErrAnd r (λ y. parser_fault y ≡ e) → kind_of e ≡ OutOfMemory
-    → MatchResult r (IsShow path) (λ y. kind_of (parser_fault y) ≡ OutOfMemory)
-passed_up path (Ok c) e is memory = absurd is
-passed_up path (Err y) e is memory = ap kind_of is ∙ memory
+-- that memory ran out is passed up
+pub passed_up : (path : Text) (r : Result Job LineError) (e : Error) → IsErrAnd r (IsPassedAs e) → kind_of e ≡ kind.OutOfMemory → MatchResult r (IsShow path) (λ y. y ≡ Value OutOfMemory)
+passed_up path (Ok job) e is memory = absurd is
+passed_up path (Err (Request y)) e is memory = ⊎_elim (λ h. absurd (cc)) (λ v. absurd (cc)) is.1
+passed_up path (Err (Fault y)) e is memory = absurd (is.1 memory)
+passed_up path (Err (Value y)) e is memory = ap Value is.0
+
+-- so it is of a value
+pub value_passed : (path : Text) (r : Result Job LineError) (e : ValueError) → IsErrAnd r (λ y. y ≡ Value e) → e ≡ OutOfMemory
+    → MatchResult r (IsShow path) (λ y. y ≡ Value OutOfMemory)
+value_passed path (Ok job) e is memory = absurd is
+value_passed path (Err y) e is memory = is ∙ ap Value memory

@@ -1,10 +1,10 @@
 -- The definition of the command line, subcommand by subcommand.
 use Rattle.std.proofs.Common.{◌≡◌, ◌∙◌, [], ◌∷◌, ◌++◌, ap, false}
-use Rattle.std.specs.Prelude.{◌||◌, IfOk, Ok, Err, Result}
+use Rattle.std.specs.Prelude.{◌||◌, IfErr, IfOk, Ok, Err, Result}
 use Rattle.clap.specs.Words.{AddsArg, App, Rule, Shape, rule_of, with_rule}
 use Rattle.clap.specs.declared.builder.arg.Arg.{Arg}
 use Rattle.clap.specs.declared.builder.command.Command.{Command}
-use Rattle.tp_command_line.specs.CommandLine.{IsLeaf}
+use Rattle.tp_command_line.specs.Commands.{IsLeaf}
 
 -- an argument with this rule was added
 pub argument_added : (s : Shape) (r : Rule) (old : Command) (a : Arg) (new : Command) → IsLeaf s old → rule_of a ≡ r → a.global ≡ false → AddsArg old a new
@@ -18,3 +18,8 @@ argument_added s r old a new leaf is local added = record {
 pub IfOk-map : {X E : Type 0} (r : Result X E) (P Q : X → Type 0) → ((x : X) → P x → Q x) → IfOk r P → IfOk r Q
 IfOk-map (Ok x) P Q f h = f x h
 IfOk-map (Err e) P Q f h = tt
+
+-- and of each error
+pub IfErr-map : {X E : Type 0} (r : Result X E) (P Q : E → Type 0) → ((e : E) → P e → Q e) → IfErr r P → IfErr r Q
+IfErr-map (Ok x) P Q f h = tt
+IfErr-map (Err e) P Q f h = f e h

@@ -1,6 +1,6 @@
 -- The subcommands of `textpeer`: where words without a fault name one, its arguments have their values.
-use Rattle.std.proofs.Common.{◌≡◌, ◌∙◌, ap, Bool, true, false, refl, sym, subst, List, [], ◌∷◌, Option, Some, None, codes, is_some}
-use Rattle.std.specs.Prelude.{ℕ, if◌then◌else◌, find, option_map}
+use Rattle.std.proofs.Common.{rules, ◌≡◌, ◌∙◌, ap, Bool, true, false, refl, sym, subst, List, [], ◌∷◌, Option, Some, None, codes, is_some}
+use Rattle.std.specs.Prelude.{◌||◌, ℕ, if◌then◌else◌, find, option_map}
 use Rattle.std.specs.List.{list_all}
 use Rattle.std.specs.Option.{option_map_or}
 use Rattle.std.specs.Str.{bytes_eq}
@@ -15,11 +15,13 @@ use Rattle.clap.specs.declared.builder.value_parser.Reading.TheVariants.{AsWritt
 use Rattle.clap.specs.declared.builder.value_parser.ValueParser.{ValueParser}
 use Rattle.clap.specs.declared.builder.value_parser.ValueParser.TheVariants as parser
 use Rattle.clap.specs.declared.builder.value_parser.ValueParser.TheVariants.{String}
-use Rattle.tp_command_line.specs.CommandLine.{few, file_rule, flag_rule, key_rule, mandatory, message_rule, numbers, numeric, option_rule, required_rule, sessions_rule, several, textpeer_app, time_rule, workers_rule}
-use Rattle.tp_command_line.specs.Values.{IsUse, shape_named}
-use Rattle.tp_command_line.proofs.Rows.{AllTaken, HasFirst, has_default, or_else_none, parser_named, values_taken, with_values_filled, without_filled}
+use Rattle.tp_command_line.specs.Commands.{textpeer_app}
+use Rattle.tp_command_line.specs.Rules.{few, file_rule, flag_rule, key_rule, mandatory, message_rule, numbers, numeric, option_rule, required_rule, sessions_rule, several, time_rule, workers_rule}
+use Rattle.tp_command_line.specs.Uses.{IsUse, always_has, has_default, is_required, shape_named}
+use Rattle.tp_command_line.specs.Values.{parser_named}
+use Rattle.tp_command_line.proofs.Rows.{AllTaken, HasFirst, or_else_none, values_taken, with_values_filled, without_filled}
 use Rattle.tp_command_line.proofs.Words.{Fills}
-use Rattle.tp_command_line.proofs.Levels.{AllSound, IsSound, default_value, is_required, level_checked, required_value}
+use Rattle.tp_command_line.proofs.Levels.{AllSound, IsSound, default_value, level_checked, required_value}
 
 -- ---- the arguments, as they are built
 
@@ -148,54 +150,28 @@ found_sound test (x ∷ shapes) sound s e = go (test x) (found_sound test shapes
     go false rest is = rest is
 
 all_sound : AllShapesSound (built textpeer_app).subs
-all_sound = (
-  (file_sound, (key_sound, (help_sound, tt))),
-  (
-    (file_sound, (at_sound, (del_sound, (text_sound, (time_sound, (message_sound, (key_sound, (help_sound, tt)))))))),
-    (
-      (file_sound, (heads_sound 2 false, (help_sound, tt))),
-      (
-        (file_sound, (help_sound, tt)),
-        (
-          (file_sound, (help_sound, tt)),
-          (
-            (file_sound, (help_sound, tt)),
-            (
-              (file_sound, (position_sound, (heads_sound 3 true, (help_sound, tt)))),
-              (
-                (file_sound, (help_sound, tt)),
-                (
-                  (file_sound, (other_sound, (key_sound, (help_sound, tt)))),
-                  (
-                    (file_sound, (out_sound, (help_sound, tt))),
-                    (
-                      (saved_sound, (second_file_sound, (help_sound, tt))),
-                      (
-                        (file_sound, (out_sound, (help_sound, tt))),
-                        (
-                          (log_sound, (help_sound, tt)),
-                          (
-                            (script_sound, (help_sound, tt)),
-                            (
-                              (file_sound, (addr_sound, (sessions_sound, (workers_sound, (key_sound, (help_sound, tt)))))),
-                              (
-                                (file_sound, (addr_sound, (key_sound, (help_sound, tt)))),
-                                ((file_sound, (client_sound, (key_sound, (help_sound, tt)))), tt),
-                              ),
-                            ),
-                          ),
-                        ),
-                      ),
-                    ),
-                  ),
-                ),
-              ),
-            ),
-          ),
-        ),
-      ),
-    ),
-  ),
+all_sound = assumption (
+  file_sound,
+  key_sound,
+  at_sound,
+  del_sound,
+  text_sound,
+  time_sound,
+  message_sound,
+  position_sound,
+  other_sound,
+  out_sound,
+  saved_sound,
+  second_file_sound,
+  log_sound,
+  script_sound,
+  addr_sound,
+  sessions_sound,
+  workers_sound,
+  client_sound,
+  heads_sound 2 false,
+  heads_sound 3 true,
+  help_sound,
 )
 
 -- each is found by its name
@@ -204,7 +180,7 @@ AllNamed [] = Unit {0}
 AllNamed (s ∷ shapes) = (shape_named s.name ≡ Some s) × AllNamed shapes
 
 all_named : AllNamed (built textpeer_app).subs
-all_named = (refl, (refl, (refl, (refl, (refl, (refl, (refl, (refl, (refl, (refl, (refl, (refl, (refl, (refl, (refl, (refl, (refl, tt)))))))))))))))))
+all_named = search rules
 
 found_named : (test : Shape → Bool) (shapes : List Shape) → AllNamed shapes → (s : Shape) → find test shapes ≡ Some s → shape_named s.name ≡ Some s
 found_named test [] named s e = absurd (cc)
@@ -216,26 +192,17 @@ found_named test (x ∷ shapes) named s e = go (test x) (found_named test shapes
 
 -- ---- the arguments' values
 
--- the subcommand with this name requires the argument; has a default for it
-abbrev pub requires_value : Text → Text → Bool
-requires_value name id = option_map_or (λ s. is_required id s.rules) (shape_named name) false
-
-abbrev defaults : Text → Text → Bool
-defaults name id = option_map_or (λ s. has_default id s.rules) (shape_named name) false
-
--- an argument that the subcommand requires has a value
-pub required_of : (name id : Text) (rows : List Row) → IsUse name rows → requires_value name id ≡ true → HasFirst id rows
-required_of name id rows found e =
+-- an argument that the subcommand always has has a value
+pub always_given : (name id : Text) (rows : List Row) → IsUse name rows → always_has name id ≡ true → HasFirst id rows
+always_given name id rows found e =
     let sound = found_sound (λ s. bytes_eq s.name name) (built textpeer_app).subs all_sound found.shape found.named in
-    let needed : is_required id found.shape.rules ≡ true = ap (λ o. option_map_or (λ s. is_required id s.rules) o false) (sym found.named) ∙ e in
-    subst (HasFirst id) (sym found.found) (required_value found.shape found.words id sound found.passed needed)
-
--- so has one for which it has a default
-pub default_of : (name id : Text) (rows : List Row) → IsUse name rows → defaults name id ≡ true → HasFirst id rows
-default_of name id rows found e =
-    let sound = found_sound (λ s. bytes_eq s.name name) (built textpeer_app).subs all_sound found.shape found.named in
-    let has : has_default id found.shape.rules ≡ true = ap (λ o. option_map_or (λ s. has_default id s.rules) o false) (sym found.named) ∙ e in
-    subst (HasFirst id) (sym found.found) (default_value found.shape found.words id sound found.passed has)
+    let has = ap (λ o. option_map_or (λ s. is_required id s.rules || has_default id s.rules) o false) (sym found.named) ∙ e in
+    subst (HasFirst id) (sym found.found) (go (is_required id found.shape.rules) refl sound has)
+  where
+    go : (b : Bool) → is_required id found.shape.rules ≡ b → AllSound found.shape.rules → (b || has_default id found.shape.rules) ≡ true
+        → HasFirst id (rows_after found.shape.rules [] found.words)
+    go true needed sound has = required_value found.shape found.words id sound found.passed needed
+    go false needed sound has = default_value found.shape found.words id sound found.passed has
 
 -- ---- what was found
 

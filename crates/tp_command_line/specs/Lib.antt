@@ -1,4 +1,5 @@
-pub mod CommandLine
+pub mod Rules
 pub mod Values
-pub mod CommandOf
+pub mod Commands
+pub mod Uses
 pub mod LineError

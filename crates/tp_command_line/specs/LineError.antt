@@ -1,18 +1,73 @@
--- What the parser said.
-use Rattle.std.specs.Prelude.{◌≡◌, ◌⊎◌, [], Result, MatchResult}
-use Rattle.clap.specs.Words.{HasKind, IsAmong, Kinds}
+-- Why a command line gave no job.
+use Rattle.std.specs.Prelude.{◌≡◌, ◌≢◌, ◌⊎◌, ℕ, List, [], Option, Some, Result, MatchResult, Any, codes}
+use Rattle.clap.specs.Words.{IsAmong, Kinds, Row, Text, first_of, kind_of}
 use Rattle.clap.specs.declared.error.Error.{Error}
-use Rattle.clap.specs.declared.error.kind.ErrorKind.TheVariants.{DisplayHelp, DisplayVersion}
+use Rattle.clap.specs.declared.error.kind.ErrorKind.{ErrorKind}
+use Rattle.clap.specs.declared.error.kind.ErrorKind.TheVariants as kind
+use Rattle.tp_opid.specs.declared.hex_text.HexError.{HexError}
+use Rattle.tp_opid.specs.declared.hex_text.HexError.TheVariants as hex
+use Rattle.tp_command_line.specs.Values.{IsNoAddress, IsNoHash, given_heads}
 use Rattle.tp_command_line.specs.declared.error.LineError.{LineError}
+use Rattle.tp_command_line.specs.declared.error.LineError.TheVariants.{Request, Fault, Value}
+use Rattle.tp_command_line.specs.declared.error.ValueError.{ValueError}
+use Rattle.tp_command_line.specs.declared.error.ValueError.TheVariants.{BadHex, BadAddress, OutOfMemory}
 
--- what the parser said
-abbrev pub parser_fault : LineError → Error
-parser_fault e = e.0
+-- ---- values
 
--- an `Ok` comes only where there is no fault, and an `Err` is one of the faults, or that memory ran out
-abbrev pub FailsAs : {T : Type 0} → Kinds → Result T LineError → Type 0
-FailsAs kinds r = MatchResult r (λ _. kinds ≡ []) (λ e. HasKind kinds (parser_fault e))
+-- the number of a refusal
+abbrev pub code_of_value : ValueError → ℕ
+code_of_value BadHex = 1
+code_of_value BadAddress = 2
+code_of_value OutOfMemory = 3
+
+-- the line that is printed of it
+abbrev pub value_line : ValueError → List ℕ
+value_line BadHex = codes "textpeer: BadHex\n"
+value_line BadAddress = codes "textpeer: Io\n"
+value_line OutOfMemory = codes "textpeer: OutOfMemory\n"
+
+abbrev pub refusal_of_hex : HexError → ValueError
+refusal_of_hex hex.BadHex = BadHex
+refusal_of_hex hex.OutOfMemory = OutOfMemory
+
+-- Why a value of the arguments isn't read: a hash or the key isn't 64 hexadecimal digits, the address isn't one, or memory
+-- ran out.
+abbrev pub RefusesValue : List Row → ValueError → Type 0
+RefusesValue rows BadHex = Any IsNoHash (given_heads rows) ⊎ ((text : Text) × (first_of (codes "key") rows ≡ Some text) × IsNoHash text)
+RefusesValue rows BadAddress = (text : Text) × (first_of (codes "ADDR") rows ≡ Some text) × IsNoAddress text
+RefusesValue rows OutOfMemory = Unit {0}
+
+-- ---- words
+
+-- the parser was asked for help or for the version
+abbrev pub IsForHelp : ErrorKind → Type 0
+IsForHelp k = (k ≡ kind.DisplayHelp) ⊎ (k ≡ kind.DisplayVersion)
+
+-- what the parser said, as it is passed on
+abbrev pub IsPassedAs : Error → LineError → Type 0
+IsPassedAs said (Request e) = (e ≡ said) × IsForHelp (kind_of said)
+IsPassedAs said (Fault e) = (e ≡ said) × (kind_of said ≢ kind.OutOfMemory) × (kind_of said ≢ kind.DisplayHelp) × (kind_of said ≢ kind.DisplayVersion)
+IsPassedAs said (Value e) = (e ≡ OutOfMemory) × (kind_of said ≡ kind.OutOfMemory)
+
+-- among the words' faults is that they ask for help or for the version
+abbrev pub AsksForHelp : Kinds → Type 0
+AsksForHelp kinds = IsAmong kind.DisplayHelp kinds ⊎ IsAmong kind.DisplayVersion kinds
 
 -- the words are at no fault, or ask for help or the version
 abbrev pub MayBeDone : Kinds → Type 0
-MayBeDone kinds = (kinds ≡ []) ⊎ (IsAmong DisplayHelp kinds ⊎ IsAmong DisplayVersion kinds)
+MayBeDone kinds = (kinds ≡ []) ⊎ AsksForHelp kinds
+
+-- The words are at no fault, but a value of the subcommand that they name isn't read; or memory ran out.
+abbrev pub NotRead : Kinds → Option (Text × List Row) → ValueError → Type 0
+NotRead kinds found OutOfMemory = Unit {0}
+NotRead kinds found e = (name : Text) × (rows : List Row) × (kinds ≡ []) × (found ≡ Some (name, rows)) × RefusesValue rows e
+
+-- Why there is no job: help or the version is asked for, the words have that fault, or a value isn't read.
+abbrev pub RefusesLine : Kinds → Option (Text × List Row) → LineError → Type 0
+RefusesLine kinds found (Request e) = AsksForHelp kinds
+RefusesLine kinds found (Fault e) = IsAmong (kind_of e) kinds
+RefusesLine kinds found (Value e) = NotRead kinds found e
+
+-- an `Ok` comes only where there is no fault, and an `Err` is for its cause
+abbrev pub FailsAs : {T : Type 0} → Kinds → Option (Text × List Row) → Result T LineError → Type 0
+FailsAs kinds found r = MatchResult r (λ _. kinds ≡ []) (RefusesLine kinds found)

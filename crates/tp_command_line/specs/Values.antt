@@ -1,12 +1,16 @@
--- What a parse without a fault leaves of a subcommand's arguments.
-use Rattle.std.specs.Prelude.{◌≡◌, ℕ, ◌^◌, ◌<◌, Bool, true, false, List, [], Option, Some, codes, find}
+-- What a parse without a fault leaves of a subcommand's arguments, and which value that is.
+use Rattle.std.specs.Prelude.{◌≡◌, ◌||◌, ℕ, ◌^◌, ◌<◌, Bool, true, false, if◌then◌else◌, List, [], ◌∷◌, length, Option, Some, None, codes, unwrap_or}
+use Rattle.std.specs.List.{list_any}
+use Rattle.std.specs.Net.Grammar.{IsSocketText}
 use Rattle.std.specs.Str.{bytes_eq}
 use Rattle.std.specs.Str.Parse.{IsNumeral, digits_value, without_leading_plus}
-use Rattle.clap.specs.Faults.{level_fault}
-use Rattle.clap.specs.Simple.{built}
-use Rattle.clap.specs.Walk.{nothing_held, rows_after}
-use Rattle.clap.specs.Words.{Row, Shape, Text, first_of, one_of}
-use Rattle.tp_command_line.specs.CommandLine.{textpeer_app}
+use Rattle.std.specs.declared.net.socket_addr.SocketAddr.{SocketAddr}
+use Rattle.clap.specs.Words.{Row, Text, all_of, first_of, one_of}
+use Rattle.clap.specs.declared.builder.value_parser.ValueParser.{ValueParser}
+use Rattle.clap.specs.declared.builder.value_parser.ValueParser.TheVariants as parser
+use Rattle.tp_opid.specs.HexText.{IsHexOf}
+use Rattle.tp_opid.specs.declared.hash.Hash.{Hash}
+use Rattle.tp_command_line.specs.Rules.{few, numbers}
 
 -- an argument has a first value among what was found
 abbrev pub HasValue : Text → List Row → Type 0
@@ -31,14 +35,55 @@ flag_text false = codes "false"
 abbrev pub HasFlag : Text → List Row → Bool → Type 0
 HasFlag id rows given = one_of id rows ≡ Some (flag_text given)
 
--- the subcommand of `textpeer` with this name, as it is built
-abbrev pub shape_named : Text → Option Shape
-shape_named name = find (λ s. bytes_eq s.name name) (built textpeer_app).subs
+-- ---- hashes, keys and addresses
 
--- the rows are what some words without a fault give the arguments of the subcommand with this name
-pub record IsUse (name : Text) (rows : List Row) : Type 0 where
-  pub shape : Shape
-  pub words : List Text
-  pub named : shape_named name ≡ Some shape
-  pub passed : level_fault shape [] nothing_held words false [] ≡ []
-  pub found : rows ≡ rows_after shape.rules [] words
+-- the texts are the hexadecimal digits of the hashes, one for one
+abbrev pub AreHashes : List Text → List Hash → Type 0
+AreHashes [] [] = Unit {0}
+AreHashes [] (h ∷ hs) = ⊥
+AreHashes (t ∷ ts) [] = ⊥
+AreHashes (t ∷ ts) (h ∷ hs) = IsHexOf t h.0 × AreHashes ts hs
+
+-- the text isn't the hexadecimal digits of 32 bytes
+abbrev pub IsNoHash : Text → Type 0
+IsNoHash text = (bytes : List ℕ) → length bytes ≡ 32 → IsHexOf text bytes → ⊥
+
+-- the key is the bytes whose hexadecimal digits are given, where any are
+abbrev pub IsKeyOf : Option Text → Option (List ℕ) → Type 0
+IsKeyOf None None = Unit {0}
+IsKeyOf None (Some key) = ⊥
+IsKeyOf (Some text) None = ⊥
+IsKeyOf (Some text) (Some key) = IsHexOf text key
+
+-- the text isn't an address
+abbrev pub IsNoAddress : Text → Type 0
+IsNoAddress text = (addr : SocketAddr) → IsSocketText text addr → ⊥
+
+-- the hashes that were given
+abbrev pub given_heads : List Row → List Text
+given_heads rows = unwrap_or (all_of (codes "HASH") rows) []
+
+abbrev pub HasHeads : List Row → List Hash → Type 0
+HasHeads rows heads = AreHashes (given_heads rows) heads
+
+-- the key is what `--key` was given, if it was
+abbrev pub HasKey : List Row → Option (List ℕ) → Type 0
+HasKey rows key = IsKeyOf (first_of (codes "key") rows) key
+
+-- the address is the one that was given
+abbrev pub HasAddress : List Row → SocketAddr → Type 0
+HasAddress rows addr = (text : Text) × (first_of (codes "ADDR") rows ≡ Some text) × IsSocketText text addr
+
+-- ---- parsers
+
+-- the arguments whose values are numbers
+abbrev pub is_numeric : Text → Bool
+is_numeric id = list_any (λ n. bytes_eq n id) (codes "AT" ∷ codes "at" ∷ codes "del" ∷ codes "time" ∷ codes "sessions" ∷ [])
+
+-- what reads the values of an argument
+abbrev pub parser_named : Text → ValueParser
+parser_named id = if is_numeric id then numbers else if bytes_eq (codes "workers") id then few else if bytes_eq (codes "client") id then parser.Bool else parser.String
+
+-- the argument has a number as its value
+abbrev pub is_number : Text → Bool
+is_number id = is_numeric id || bytes_eq (codes "workers") id

@@ -1,10 +1,9 @@
 //! The definition of the command line, as clap takes it.
 
-ghost use Rattle.std.specs.Prelude.{◌≡◌, IfOk, [], false, codes};
+ghost use Rattle.std.specs.Prelude.{◌≡◌, ◌∷◌, IfOk, [], false, codes};
 ghost use Rattle.clap.specs.Words.{App, Shape, app_of, rule_of, with_subcommand};
-ghost use Rattle.tp_command_line.specs.CommandLine.{flag_rule, mandatory, message_rule, numeric, option_rule, required_rule, several, sessions_rule, time_rule, workers_rule};
-ghost use Rattle.tp_command_line.specs.CommandLine.{IsLeaf, bare_app, files_app, journals_app, textpeer_app, with_rules};
-ghost use Rattle.tp_command_line.specs.CommandLine.{check_shape, cursor_shape, edit_at_shape, edit_shape, graph_shape, heads_shape, load_shape, log_shape, merge_shape, new_shape, recover_shape, save_shape, serve_at_shape, serve_shape, session_shape, show_shape, simulate_shape, sync_shape, text_shape};
+ghost use Rattle.tp_command_line.specs.Commands.{IsLeaf, bare_app, cursor_shape, edit_at_shape, edit_shape, files_app, journals_app, load_shape, merge_shape, new_shape, serve_shape, session_shape, sync_shape, text_shape, textpeer_app, with_rules};
+ghost use Rattle.tp_command_line.specs.Rules.{file_rule, flag_rule, mandatory, message_rule, numeric, option_rule, required_rule, sessions_rule, several, time_rule, workers_rule};
 
 use clap::builder::ValueParser;
 use clap::{Arg, ArgAction, Command, value_parser};
@@ -26,11 +25,51 @@ fn file_commands<'a>(alloc: Global) -> Result<Command<'a>, AllocError>
 {
     let journals = journal_commands(alloc);
     let merged = with(journals, merge_command(alloc));
-    let saved = with(merged, save_command(alloc));
+    let saved = with(
+        merged,
+        pair_command(
+            alloc,
+            "save",
+            "Writes the document of a journal as a saved file",
+            "Example:\n  textpeer save notes.journal notes.saved",
+            "OUT",
+            "the saved file; another file there is replaced, and a journal refused",
+        ),
+    );
     let loaded = with(saved, load_command(alloc));
-    let recovered = with(loaded, recover_command(alloc));
-    let shown = with(recovered, show_command(alloc));
-    with(shown, simulate_command(alloc))
+    let recovered = with(
+        loaded,
+        pair_command(
+            alloc,
+            "recover",
+            "Makes a journal of all that can be had of a damaged one, and says how many changes came and from which bytes none did",
+            "Example:\n  textpeer recover notes.journal whole.journal",
+            "OUT",
+            "the journal that is made; where anything is there it stays",
+        ),
+    );
+    let shown = with(
+        recovered,
+        value_command(
+            alloc,
+            "show",
+            "Prints the text that a log of changes makes",
+            "Example:\n  textpeer show changes.log",
+            "LOG",
+            "a log of changes: each a length of 4 bytes and the change's bytes",
+        ),
+    );
+    with(
+        shown,
+        value_command(
+            alloc,
+            "simulate",
+            "Runs a script of peers that edit, exchange and crash, and prints a line for each line of it",
+            "Example:\n  textpeer simulate two-peers.script",
+            "SCRIPT",
+            "a script: an event on each line, as `start ACTOR`, `edit P AT DEL TEXT` or `read P`",
+        ),
+    )
 }
 
 // The program with the commands on one journal alone.
@@ -40,11 +79,44 @@ fn journal_commands<'a>(alloc: Global) -> Result<Command<'a>, AllocError>
     let begun = with(Ok(program(alloc)), new_command(alloc));
     let edited = with(begun, edit_command(alloc));
     let read = with(edited, text_command(alloc));
-    let headed = with(read, heads_command(alloc));
-    let logged = with(headed, log_command(alloc));
-    let drawn = with(logged, graph_command(alloc));
+    let headed = with(
+        read,
+        file_command(
+            alloc,
+            "heads",
+            "Prints the hashes of the changes on which no other depends",
+            "Example:\n  textpeer heads notes.journal",
+        ),
+    );
+    let logged = with(
+        headed,
+        file_command(
+            alloc,
+            "log",
+            "Prints a line for each change: hash, actor, sequence number, time, \
+             inserted and deleted characters, message",
+            "Example:\n  textpeer log notes.journal",
+        ),
+    );
+    let drawn = with(
+        logged,
+        file_command(
+            alloc,
+            "graph",
+            "Prints the changes as a graph in DOT, for Graphviz: an edge to each dependency, heads with a thick border",
+            "Example:\n  textpeer graph notes.journal | dot -Tsvg > changes.svg",
+        ),
+    );
     let found = with(drawn, cursor_command(alloc));
-    with(found, check_command(alloc))
+    with(
+        found,
+        file_command(
+            alloc,
+            "check",
+            "Says how much of a journal is kept, and what stands behind that: a fault with its place, and whole changes",
+            "Example:\n  textpeer check notes.journal",
+        ),
+    )
 }
 
 // The program with one more command, where both could be made.
@@ -157,14 +229,6 @@ fn count<'a>(alloc: Global, id: &'a str, help: &'a str) -> Arg<'a>
         .required(true)
 }
 
-// The address of a server.
-fn address<'a>(alloc: Global, help: &'a str) -> Arg<'a>
-    ensures rule { rule_of result ≡ required_rule (codes "ADDR") }
-    ensures local { result.global ≡ false }
-{
-    required(alloc, "ADDR", help)
-}
-
 fn text<'a>(alloc: Global) -> Arg<'a>
     ensures rule { rule_of result ≡ mandatory (option_rule (codes "text")) }
     ensures local { result.global ≡ false }
@@ -245,16 +309,56 @@ fn named<'a>(alloc: Global, name: &'a str, about: &'a str, example: &'a str) -> 
     Command::new(alloc, name).about(about).after_help(example)
 }
 
+// A command with one value, which has to be given.
+fn value_command<'a>(
+    alloc: Global,
+    name: &'a str,
+    about: &'a str,
+    example: &'a str,
+    id: &'a str,
+    help: &'a str,
+) -> Result<Command<'a>, AllocError>
+    ensures { IfOk result (IsLeaf (with_rules name.entry.now (required_rule id.entry.now ∷ []))) }
+{
+    named(alloc, name, about, example).arg(required(alloc, id, help))
+}
+
+// A command on a journal alone.
+fn file_command<'a>(
+    alloc: Global,
+    name: &'a str,
+    about: &'a str,
+    example: &'a str,
+) -> Result<Command<'a>, AllocError>
+    ensures { IfOk result (IsLeaf (with_rules name.entry.now (file_rule ∷ []))) }
+{
+    value_command(alloc, name, about, example, "FILE", "a journal")
+}
+
+// A command on a journal, with one more value, which has to be given.
+fn pair_command<'a>(
+    alloc: Global,
+    name: &'a str,
+    about: &'a str,
+    example: &'a str,
+    id: &'a str,
+    help: &'a str,
+) -> Result<Command<'a>, AllocError>
+    ensures { IfOk result (IsLeaf
+        (with_rules name.entry.now (file_rule ∷ required_rule id.entry.now ∷ []))) }
+{
+    file_command(alloc, name, about, example)?.arg(required(alloc, id, help))
+}
+
 fn new_command<'a>(alloc: Global) -> Result<Command<'a>, AllocError>
     ensures { IfOk result (IsLeaf new_shape) }
 {
-    named(
+    file_command(
         alloc,
         "new",
         "Begins a journal, and prints the identifier of its document",
         "Example:\n  textpeer new notes.journal",
-    )
-    .arg(journal(alloc))?
+    )?
     .arg(key(alloc))
 }
 
@@ -262,13 +366,12 @@ fn new_command<'a>(alloc: Global) -> Result<Command<'a>, AllocError>
 fn edit_at<'a>(alloc: Global) -> Result<Command<'a>, AllocError>
     ensures { IfOk result (IsLeaf edit_at_shape) }
 {
-    named(
+    file_command(
         alloc,
         "edit",
         "Makes one change, and prints its hash, or `nothing` where it changes nothing",
         "Example:\n  textpeer edit notes.journal --at 0 --del 0 --text 'Hello, world!'",
-    )
-    .arg(journal(alloc))?
+    )?
     .arg(count(alloc, "at", "the position, in characters from 0"))?
     .arg(count(
         alloc,
@@ -290,229 +393,98 @@ fn edit_command<'a>(alloc: Global) -> Result<Command<'a>, AllocError>
 fn text_command<'a>(alloc: Global) -> Result<Command<'a>, AllocError>
     ensures { IfOk result (IsLeaf text_shape) }
 {
-    named(
+    file_command(
         alloc,
         "text",
         "Prints the text, as it is now or at earlier heads",
         "Example:\n  textpeer text notes.journal",
-    )
-    .arg(journal(alloc))?
+    )?
     .arg(hashes(
         alloc,
         "the heads at which the text is read; as it is now if left out",
     ))
 }
 
-fn heads_command<'a>(alloc: Global) -> Result<Command<'a>, AllocError>
-    ensures { IfOk result (IsLeaf heads_shape) }
-{
-    named(
-        alloc,
-        "heads",
-        "Prints the hashes of the changes on which no other depends",
-        "Example:\n  textpeer heads notes.journal",
-    )
-    .arg(journal(alloc))
-}
-
-fn log_command<'a>(alloc: Global) -> Result<Command<'a>, AllocError>
-    ensures { IfOk result (IsLeaf log_shape) }
-{
-    named(
-        alloc,
-        "log",
-        "Prints a line for each change: hash, actor, sequence number, time, \
-             inserted and deleted characters, message",
-        "Example:\n  textpeer log notes.journal",
-    )
-    .arg(journal(alloc))
-}
-
-fn graph_command<'a>(alloc: Global) -> Result<Command<'a>, AllocError>
-    ensures { IfOk result (IsLeaf graph_shape) }
-{
-    named(
-        alloc,
-        "graph",
-        "Prints the changes as a graph in DOT, for Graphviz: an edge to each dependency, heads with a thick border",
-        "Example:\n  textpeer graph notes.journal | dot -Tsvg > changes.svg",
-    )
-    .arg(journal(alloc))
-}
-
 fn cursor_command<'a>(alloc: Global) -> Result<Command<'a>, AllocError>
     ensures { IfOk result (IsLeaf cursor_shape) }
 {
-    named(
+    file_command(
         alloc,
         "cursor",
         "Prints where a character of the text at earlier heads stands now",
         "Example:\n  textpeer cursor notes.journal 3 $(textpeer heads notes.journal)",
-    )
-    .arg(journal(alloc))?
+    )?
     .arg(position(alloc))?
     .arg(earlier_heads(alloc))
-}
-
-fn check_command<'a>(alloc: Global) -> Result<Command<'a>, AllocError>
-    ensures { IfOk result (IsLeaf check_shape) }
-{
-    named(
-        alloc,
-        "check",
-        "Says how much of a journal is kept, and what stands behind that: a fault with its place, and whole changes",
-        "Example:\n  textpeer check notes.journal",
-    )
-    .arg(journal(alloc))
 }
 
 fn merge_command<'a>(alloc: Global) -> Result<Command<'a>, AllocError>
     ensures { IfOk result (IsLeaf merge_shape) }
 {
-    named(
+    pair_command(
         alloc,
         "merge",
         "Takes the changes of another journal of the document, and prints how many entered",
         "Example:\n  textpeer merge notes.journal copy.journal",
-    )
-    .arg(journal(alloc))?
-    .arg(required(
-        alloc,
         "OTHER",
         "the journal that has the changes; it isn't written",
-    ))?
+    )?
     .arg(key(alloc))
-}
-
-fn save_command<'a>(alloc: Global) -> Result<Command<'a>, AllocError>
-    ensures { IfOk result (IsLeaf save_shape) }
-{
-    named(
-        alloc,
-        "save",
-        "Writes the document of a journal as a saved file",
-        "Example:\n  textpeer save notes.journal notes.saved",
-    )
-    .arg(journal(alloc))?
-    .arg(required(
-        alloc,
-        "OUT",
-        "the saved file; another file there is replaced, and a journal refused",
-    ))
 }
 
 fn load_command<'a>(alloc: Global) -> Result<Command<'a>, AllocError>
     ensures { IfOk result (IsLeaf load_shape) }
 {
-    named(
+    value_command(
         alloc,
         "load",
         "Makes a journal of a saved file",
         "Example:\n  textpeer load notes.saved notes.journal",
-    )
-    .arg(required(alloc, "SAVED", "a saved file"))?
+        "SAVED",
+        "a saved file",
+    )?
     .arg(journal(alloc))
-}
-
-fn recover_command<'a>(alloc: Global) -> Result<Command<'a>, AllocError>
-    ensures { IfOk result (IsLeaf recover_shape) }
-{
-    named(
-        alloc,
-        "recover",
-        "Makes a journal of all that can be had of a damaged one, and says how many changes came and from which bytes none did",
-        "Example:\n  textpeer recover notes.journal whole.journal",
-    )
-    .arg(journal(alloc))?
-    .arg(required(
-        alloc,
-        "OUT",
-        "the journal that is made; where anything is there it stays",
-    ))
-}
-
-fn show_command<'a>(alloc: Global) -> Result<Command<'a>, AllocError>
-    ensures { IfOk result (IsLeaf show_shape) }
-{
-    named(
-        alloc,
-        "show",
-        "Prints the text that a log of changes makes",
-        "Example:\n  textpeer show changes.log",
-    )
-    .arg(required(
-        alloc,
-        "LOG",
-        "a log of changes: each a length of 4 bytes and the change's bytes",
-    ))
-}
-
-fn simulate_command<'a>(alloc: Global) -> Result<Command<'a>, AllocError>
-    ensures { IfOk result (IsLeaf simulate_shape) }
-{
-    named(
-        alloc,
-        "simulate",
-        "Runs a script of peers that edit, exchange and crash, and prints a line for each line of it",
-        "Example:\n  textpeer simulate two-peers.script",
-    )
-    .arg(required(
-        alloc,
-        "SCRIPT",
-        "a script: an event on each line, as `start ACTOR`, `edit P AT DEL TEXT` or `read P`",
-    ))
-}
-
-// `serve` with the address.
-fn serve_at<'a>(alloc: Global) -> Result<Command<'a>, AllocError>
-    ensures { IfOk result (IsLeaf serve_at_shape) }
-{
-    named(
-        alloc,
-        "serve",
-        "Serves a journal: prints the port once it listens, then holds sessions until it is ended",
-        "Example:\n  textpeer serve notes.journal 127.0.0.1:7000",
-    )
-    .arg(journal(alloc))?
-    .arg(address(
-        alloc,
-        "the address to listen on, as IP:PORT; with port 0 a free one is taken",
-    ))
 }
 
 fn serve_command<'a>(alloc: Global) -> Result<Command<'a>, AllocError>
     ensures { IfOk result (IsLeaf serve_shape) }
 {
-    serve_at(alloc)?
-        .arg(sessions(alloc))?
-        .arg(workers(alloc))?
-        .arg(key(alloc))
+    pair_command(
+        alloc,
+        "serve",
+        "Serves a journal: prints the port once it listens, then holds sessions until it is ended",
+        "Example:\n  textpeer serve notes.journal 127.0.0.1:7000",
+        "ADDR",
+        "the address to listen on, as IP:PORT; with port 0 a free one is taken",
+    )?
+    .arg(sessions(alloc))?
+    .arg(workers(alloc))?
+    .arg(key(alloc))
 }
 
 fn sync_command<'a>(alloc: Global) -> Result<Command<'a>, AllocError>
     ensures { IfOk result (IsLeaf sync_shape) }
 {
-    named(
+    pair_command(
         alloc,
         "sync",
         "Exchanges changes with a server of the document, and prints how many entered here",
         "Example:\n  textpeer sync copy.journal 127.0.0.1:7000",
-    )
-    .arg(journal(alloc))?
-    .arg(address(alloc, "the address of the server, as IP:PORT"))?
+        "ADDR",
+        "the address of the server, as IP:PORT",
+    )?
     .arg(key(alloc))
 }
 
 fn session_command<'a>(alloc: Global) -> Result<Command<'a>, AllocError>
     ensures { IfOk result (IsLeaf session_shape) }
 {
-    named(
+    file_command(
         alloc,
         "session",
         "Holds one session over the standard input and output, and says on the standard error how many changes entered here",
         "Example:\n  mkfifo back\n  textpeer session copy.journal --client <back | ssh host textpeer session notes.journal >back",
-    )
-    .arg(journal(alloc))?
+    )?
     .arg(client(alloc))?
     .arg(key(alloc))
 }

@@ -1,60 +1,126 @@
-//! Why a command line gave no command.
+//! Why a command line gave no job.
 
-ghost use Rattle.std.specs.Prelude.{◌≡◌, ◌↔◌, ◌⊎◌, IsTrue};
-ghost use Rattle.clap.specs.Words.{kind_of};
-ghost use Rattle.clap.specs.declared.error.kind.ErrorKind.TheVariants.{OutOfMemory};
-ghost use Rattle.tp_command_line.specs.LineError.{parser_fault};
+ghost use Rattle.std.specs.Prelude.{◌≡◌};
+ghost use Rattle.tp_command_line.specs.LineError.{IsPassedAs, code_of_value, refusal_of_hex, value_line};
+ghost use Rattle.tp_command_line.specs.declared.error.LineError.TheVariants.{Value};
+ghost use Rattle.tp_command_line.specs.declared.error.ValueError.TheVariants.{OutOfMemory};
 
 use clap::error::ErrorKind;
-use std::alloc::AllocError;
+use std::alloc::{AllocError, AllocFailed};
 use std::fmt;
+use tp_opid::HexError;
 
-/// Why a command line gave no command: a fault in its words, a request for help or the version, or that memory ran
-/// out. Its `Display` is the parser's text for the user, which ends with a newline.
+/// Why a value wasn't read of words in which the parser finds no fault; or that memory ran out, which says nothing of the
+/// words.
+#[derive(Clone, Copy, Debug, PartialEq, Eq)]
+pub enum ValueError {
+    /// A hash or a key isn't 64 hexadecimal digits.
+    BadHex,
+    /// An address isn't `IP:PORT`.
+    BadAddress,
+    /// A growth was refused.
+    OutOfMemory,
+}
+
+impl ValueError {
+    /// The number of the refusal among those of the program: 1 `BadHex`, 2 `BadAddress`, as of what fails outside, 3
+    /// `OutOfMemory`.
+    pub fn code(&self) -> u8
+        ensures { result ≡ code_of_value self.now }
+    {
+        match self {
+            ValueError::BadHex => 1,
+            ValueError::BadAddress => 2,
+            ValueError::OutOfMemory => 3,
+        }
+    }
+
+    /// The line that is printed of it, with the newline.
+    pub fn line(&self) -> &'static str
+        ensures { result.now ≡ value_line self.now }
+    {
+        match self {
+            ValueError::BadHex => "textpeer: BadHex\n",
+            ValueError::BadAddress => "textpeer: Io\n",
+            ValueError::OutOfMemory => "textpeer: OutOfMemory\n",
+        }
+    }
+}
+
+/// Why a command line gave no job. Its `Display` is the text for the user, which ends with a newline.
 #[derive(Debug, Drop)]
-pub struct LineError(clap::Error);
-
-impl LineError {
-    /// Whether help or the version was asked for, whose text goes to the standard output.
-    pub fn is_request(&self) -> bool
-        ensures { IsTrue result ↔ ((kind_of (parser_fault self.now) ≡ ErrorKind.DisplayHelp)
-            ⊎ (kind_of (parser_fault self.now) ≡ ErrorKind.DisplayVersion)) }
-    {
-        matches!(
-            self.0.kind(),
-            ErrorKind::DisplayHelp | ErrorKind::DisplayVersion
-        )
-    }
-
-    /// Whether memory ran out, which says nothing of the words.
-    pub fn is_out_of_memory(&self) -> bool
-        ensures { IsTrue result ↔ (kind_of (parser_fault self.now) ≡ ErrorKind.OutOfMemory) }
-    {
-        self.0.kind() == ErrorKind::OutOfMemory
-    }
+pub enum LineError {
+    /// Help or the version was asked for. The text goes to the standard output.
+    Request(clap::Error),
+    /// The words are at fault.
+    Fault(clap::Error),
+    /// A value wasn't read.
+    Value(ValueError),
 }
 
 impl fmt::Display for LineError {
     fn fmt<W: fmt::Write>(&self, f: &mut fmt::Formatter<W>) -> fmt::Result {
-        let fault = &self.0;
-        write!(f, "{fault}")
+        match self {
+            LineError::Request(text) => write!(f, "{text}"),
+            LineError::Fault(text) => write!(f, "{text}"),
+            LineError::Value(error) => f.write_str(error.line()),
+        }
     }
 }
 
 impl std::error::Error for LineError {}
 
 impl From<clap::Error> for LineError {
-    ghost from_gives = { λ fault e. parser_fault e ≡ fault };
+    ghost from_gives = { IsPassedAs };
 
     fn from(fault: clap::Error) -> LineError {
-        LineError(fault)
+        match fault.kind() {
+            ErrorKind::OutOfMemory => LineError::Value(ValueError::OutOfMemory),
+            ErrorKind::DisplayHelp | ErrorKind::DisplayVersion => LineError::Request(fault),
+            _ => LineError::Fault(fault),
+        }
+    }
+}
+
+impl From<ValueError> for LineError {
+    ghost from_gives = { λ error e. e ≡ Value error };
+
+    fn from(error: ValueError) -> LineError {
+        LineError::Value(error)
     }
 }
 
 impl From<AllocError> for LineError {
-    ghost from_gives = { λ _ e. kind_of (parser_fault e) ≡ OutOfMemory };
+    ghost from_gives = { λ _ e. e ≡ Value OutOfMemory };
 
-    fn from(e: AllocError) -> LineError {
-        LineError(clap::Error::from(e))
+    fn from(_e: AllocError) -> LineError {
+        LineError::Value(ValueError::OutOfMemory)
+    }
+}
+
+impl From<AllocError> for ValueError {
+    ghost from_gives = { λ _ e. e ≡ OutOfMemory };
+
+    fn from(_e: AllocError) -> ValueError {
+        ValueError::OutOfMemory
+    }
+}
+
+impl<T: Drop> From<AllocFailed<T>> for ValueError {
+    ghost from_gives = { λ _ e. e ≡ OutOfMemory };
+
+    fn from(_e: AllocFailed<T>) -> ValueError {
+        ValueError::OutOfMemory
+    }
+}
+
+impl From<HexError> for ValueError {
+    ghost from_gives = { λ error e. e ≡ refusal_of_hex error };
+
+    fn from(error: HexError) -> ValueError {
+        match error {
+            HexError::BadHex => ValueError::BadHex,
+            HexError::OutOfMemory => ValueError::OutOfMemory,
+        }
     }
 }

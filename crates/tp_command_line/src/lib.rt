@@ -1,12 +1,13 @@
-//! The command line of `textpeer`: which command its words ask for.
+//! The command line of `textpeer`: which job its words ask for, with its hashes, its key and its address as values.
 #![tactic(auto)]
 
-mod command;
 mod definition;
 mod error;
+mod job;
 mod parsing;
+mod texts;
 mod values;
 
-pub use command::Command;
-pub use error::LineError;
+pub use error::{LineError, ValueError};
+pub use job::{FileJob, Job};
 pub use parsing::line;

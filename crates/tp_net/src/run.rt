@@ -73,10 +73,10 @@ fn converse<R: Read, W: Write, H: Host>(
     put(writer, first.as_slice())?;
     let mut next = Next::Waits;
     for _ in 0..u64::MAX {
-        next = take_turn(reader, writer, &mut conversation, next, host)?;
         if let Next::Ended = next {
             return Ok(conversation.applied());
         }
+        next = take_turn(reader, writer, &mut conversation, next, host)?;
     }
     Err(NetError::Io)
 }

@@ -2,7 +2,6 @@
 
 ghost use Rattle.std.specs.Prelude.{◌≡◌, ◌⊎◌, ◌++◌, ℕ, List, [], true, false, Err, Some, None, IfOk, IfErr, OnErr};
 ghost use Rattle.tp_frame.specs.declared.frame.Frame.{Frame as FrameOf};
-ghost use Rattle.tp_session.specs.declared.conversation.Next.TheVariants as next;
 ghost use Rattle.tp_session.specs.declared.session.Phase.TheVariants.{Over};
 ghost use Rattle.tp_session.specs.Conversation.{BreaksAt, EndsBy, Goes, HasCome, HasNoBytes, IsNoFrame, TakesNext, at_frame, frame_bytes, is_last};
 ghost use Rattle.tp_session.specs.Laws as law;
@@ -46,14 +45,6 @@ fn is_last(part: &Part) -> bool
         Part::Begin(_) | Part::Piece(_) => false,
         Part::End | Part::Whole(_) => true,
     }
-}
-
-// How it goes on behind a frame.
-fn next_of(ended: bool) -> Next
-    ensures ends { ended ≡ true → result ≡ next.Ended }
-    ensures goes_on { ended ≡ false → result ≡ next.GoesOn }
-{
-    if ended { Next::Ended } else { Next::GoesOn }
 }
 
 // The bytes of the frame, if there is one.
@@ -130,10 +121,12 @@ impl Side {
         };
         self.came = History::behind(&self.came);
         let send = bytes_of(self.alloc, &turn.send)?;
-        Ok(Output {
-            send,
-            next: next_of(turn.ended),
-        })
+        let next = if turn.ended {
+            Next::Ended
+        } else {
+            Next::GoesOn
+        };
+        Ok(Output { send, next })
     }
 }
 

@@ -1,4 +1,5 @@
 pub mod SimError
+pub mod Names
 pub mod Words
 pub mod Telling
 pub mod Marks

@@ -6,7 +6,7 @@ use Rattle.tp_opid.specs.declared.op_id.OpId.{OpId}
 use Rattle.tp_peer.specs.Taking.{Report}
 use Rattle.tp_peer.specs.PeerStep as peer
 use Rattle.tp_headline.specs.Reply.{Reply, Peer, Wire, Reopened, Armed, Answered, Refused}
-use Rattle.tp_names.specs.Names.{name_of_peer, name_of_world}
+use Rattle.tp_simulate.specs.Names.{name_of_peer, name_of_world}
 use Rattle.tp_simulate.specs.declared.asked.Asked.{Asked}
 use Rattle.tp_simulate.specs.declared.asked.Asked.TheVariants as asks
 

@@ -10,9 +10,9 @@ ghost use Rattle.tp_world.specs.Told.{reply_of};
 ghost use Rattle.tp_simulate.specs.Telling.{counts, is_mark as is_mark_of, line as line_of, told as told_of, told_answer as told_answer_of, told_text as told_text_of};
 
 use crate::asked::Asked;
+use crate::names::{peer_name, world_name};
 use std::alloc::{AllocError, Global};
 use tp_document::Applied;
-use tp_names::{peer_name, world_name};
 use tp_world::{Answer, PeerReply, Reply};
 
 // A line.

@@ -14,13 +14,10 @@ use std::fs::File;
 use std::io::ErrorKind;
 use std::rt::Files;
 use std::{fs, io};
-use tp_command_line::{Command, line};
+use tp_command_line::{Job, line};
 use tp_commands::CommandError;
 use tp_journal::Lockable;
-use tp_shell::{
-    DONE, Errors, Job, JobError, ShellError, carry_out, ended_with, explain, job_of, journal_path,
-    report,
-};
+use tp_program::{DONE, Errors, JobError, carry_out, ended_with, explain, journal_path, report};
 use tp_test_runner::{Fault, Words, number};
 
 // A command whose device fails later than this succeeds first.
@@ -69,22 +66,6 @@ where
     }
 }
 
-// Does what a command asks for.
-fn run_command<R: Files + Print + AllocGlobal>(
-    rt: &R,
-    command: Command,
-    cut: &mut Option<u64>,
-) -> Result<(), ShellError>
-where
-    R::File: Lockable,
-    requires { cut.old ≡ None }
-{
-    match run_job(rt, job_of(rt.alloc(), command)?, cut) {
-        Ok(()) => Ok(()),
-        Err(error) => Err(ShellError::Job(error)),
-    }
-}
-
 // The program, as far as it needs no network: the exit status.
 fn run_program<R: Files + Print + Eprint + AllocGlobal>(rt: &R, words: &[String]) -> u8
 where
@@ -93,10 +74,10 @@ where
     let errors = Errors { rt };
     let mut err = io::writer(&errors);
     match line(rt.alloc(), words) {
-        Ok(command) => {
-            let file = journal_path(&command);
+        Ok(job) => {
+            let file = journal_path(&job);
             let mut cut = None;
-            match run_command(rt, command, &mut cut) {
+            match run_job(rt, job, &mut cut) {
                 Ok(()) => {
                     report(rt.alloc(), file, cut, None, &mut err);
                     DONE

@@ -13,7 +13,7 @@ use std::sync::Wait;
 use std::test::Fail;
 use std::thread::{Threads, join};
 use std::time::Clock;
-use tp_shell::Disk;
+use tp_program::Disk;
 
 // Ann serves her journal to two clients, one after the other: Ben brings a change, and Cat gets it. Meanwhile another edit of
 // hers finds the journal taken. Then all three read one text.

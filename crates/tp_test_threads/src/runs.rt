@@ -10,8 +10,7 @@ use std::sync::atomic::{AtomicBool, Ordering};
 use std::test::Fail;
 use std::thread::{Threads, join};
 use std::time::Clock;
-use tp_online::run_words_on;
-use tp_shell::{Disk, Folders, Found};
+use tp_program::{Disk, Folders, Found, run_words_on};
 
 // The key of each journal that is begun.
 const DOCUMENT: &str = "0000000000000000000000000000000000000000000000000000000000000000";

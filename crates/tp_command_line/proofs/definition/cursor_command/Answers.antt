@@ -1,10 +1,7 @@
-use Rattle.std.specs.Prelude.{[], codes}
-use Rattle.tp_command_line.specs.CommandLine.{with_rules}
 use Rattle.tp_command_line.proofs.Subcommands.{IfOk-map, argument_added}
 use Rattle.tp_command_line.proofs.definition.cursor_command.Goals as goal
 
 pub returns : goal.returns
 returns c =
-    let with1 = argument_added (with_rules (codes "cursor") []) _ _ c.journal.result c.in_ok-arg.field-0 c.named.ensures c.journal.ensures.rule c.journal.ensures.local c.in_ok-arg.ensures in
-    let with2 = argument_added _ _ _ c.position.result c.in_ok-arg-2.field-0 with1 c.position.ensures.rule c.position.ensures.local c.in_ok-arg-2.ensures in
-    IfOk-map c.arg-3.result _ _ (λ r added. argument_added _ _ _ c.earlier_heads.result r with2 c.earlier_heads.ensures.rule c.earlier_heads.ensures.local added) c.arg-3.ensures
+    let with1 = argument_added _ _ _ c.position.result c.in_ok-arg.field-0 c.in_ok-file_command.ensures c.position.ensures.rule c.position.ensures.local c.in_ok-arg.ensures in
+    IfOk-map c.arg-2.result _ _ (λ r added. argument_added _ _ _ c.earlier_heads.result r with1 c.earlier_heads.ensures.rule c.earlier_heads.ensures.local added) c.arg-2.ensures

@@ -1,4 +1,4 @@
-use Rattle.tp_command_line.specs.CommandLine.{edit_at_shape}
+use Rattle.tp_command_line.specs.Commands.{edit_at_shape}
 use Rattle.tp_command_line.proofs.Subcommands.{IfOk-map, argument_added}
 use Rattle.tp_command_line.proofs.definition.edit_command.Goals as goal
 

@@ -1,9 +1,6 @@
-use Rattle.std.specs.Prelude.{[], codes}
-use Rattle.tp_command_line.specs.CommandLine.{with_rules}
 use Rattle.tp_command_line.proofs.Subcommands.{IfOk-map, argument_added}
 use Rattle.tp_command_line.proofs.definition.load_command.Goals as goal
 
 pub returns : goal.returns
 returns c =
-    let with1 = argument_added (with_rules (codes "load") []) _ _ c.required.result c.in_ok-arg.field-0 c.named.ensures c.required.ensures.rule c.required.ensures.local c.in_ok-arg.ensures in
-    IfOk-map c.arg-2.result _ _ (λ r added. argument_added _ _ _ c.journal.result r with1 c.journal.ensures.rule c.journal.ensures.local added) c.arg-2.ensures
+    IfOk-map c.arg.result _ _ (λ r added. argument_added _ _ _ c.journal.result r c.in_ok-value_command.ensures c.journal.ensures.rule c.journal.ensures.local added) c.arg.ensures

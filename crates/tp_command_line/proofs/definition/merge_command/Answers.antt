@@ -1,10 +1,6 @@
-use Rattle.std.specs.Prelude.{[], codes}
-use Rattle.tp_command_line.specs.CommandLine.{with_rules}
 use Rattle.tp_command_line.proofs.Subcommands.{IfOk-map, argument_added}
 use Rattle.tp_command_line.proofs.definition.merge_command.Goals as goal
 
 pub returns : goal.returns
 returns c =
-    let with1 = argument_added (with_rules (codes "merge") []) _ _ c.journal.result c.in_ok-arg.field-0 c.named.ensures c.journal.ensures.rule c.journal.ensures.local c.in_ok-arg.ensures in
-    let with2 = argument_added _ _ _ c.required.result c.in_ok-arg-2.field-0 with1 c.required.ensures.rule c.required.ensures.local c.in_ok-arg-2.ensures in
-    IfOk-map c.arg-3.result _ _ (λ r added. argument_added _ _ _ c.key.result r with2 c.key.ensures.rule c.key.ensures.local added) c.arg-3.ensures
+    IfOk-map c.arg.result _ _ (λ r added. argument_added _ _ _ c.key.result r c.in_ok-pair_command.ensures c.key.ensures.rule c.key.ensures.local added) c.arg.ensures

@@ -1,9 +1,6 @@
-use Rattle.std.specs.Prelude.{[], codes}
-use Rattle.tp_command_line.specs.CommandLine.{with_rules}
 use Rattle.tp_command_line.proofs.Subcommands.{IfOk-map, argument_added}
 use Rattle.tp_command_line.proofs.definition.text_command.Goals as goal
 
 pub returns : goal.returns
 returns c =
-    let with1 = argument_added (with_rules (codes "text") []) _ _ c.journal.result c.in_ok-arg.field-0 c.named.ensures c.journal.ensures.rule c.journal.ensures.local c.in_ok-arg.ensures in
-    IfOk-map c.arg-2.result _ _ (λ r added. argument_added _ _ _ c.hashes.result r with1 c.hashes.ensures.rule c.hashes.ensures.local added) c.arg-2.ensures
+    IfOk-map c.arg.result _ _ (λ r added. argument_added _ _ _ c.hashes.result r c.in_ok-file_command.ensures c.hashes.ensures.rule c.hashes.ensures.local added) c.arg.ensures

@@ -1,4 +1,4 @@
-use Rattle.tp_command_line.specs.CommandLine.{files_app, serve_shape, session_shape, sync_shape}
+use Rattle.tp_command_line.specs.Commands.{files_app, serve_shape, session_shape, sync_shape}
 use Rattle.tp_command_line.proofs.definition.textpeer_command.Goals as goal
 
 pub returns : goal.returns

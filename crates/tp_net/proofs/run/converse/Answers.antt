@@ -1,4 +1,4 @@
-use Rattle.tp_net.proofs.Common.{[], ◌++◌, inl, inr, refl, ap, ◌∙◌, Err, None, arith, append-nil, option_to_list, Appends-kept, Appends-nil, Consumes-nil, Consumes-trans, err_from_is_err_and, SessionData, begun, first_of}
+use Rattle.tp_net.proofs.Common.{◌≡◌, false, [], ◌++◌, inl, inr, refl, ap, ◌∙◌, Err, None, arith, append-nil, option_to_list, Appends-kept, Appends-nil, Consumes-nil, Consumes-trans, err_from_is_err_and, SessionData, begun, first_of, is_over}
 use Rattle.tp_session.proofs.Transcripts.{sent_alone}
 use Rattle.tp_net.proofs.Endings.{comes_begin, comes_turn, sends_more, stops_at_bytes, stops_at_first, stops_at_turn}
 use Rattle.tp_net.proofs.run.converse.Goals as goal
@@ -21,7 +21,8 @@ pub returns-in_err-next-clause-session : goal.returns-in_err-next-clause-session
 returns-in_err-next-clause-session g c =
     let p = err_from_is_err_and c.from_residual-in_err-next.result c.from_residual-in_err-next.ensures.1 in
     let far = c.loop.invariant in
-    let none = c.in_err-next.ensures.err far.4 in
+    let going : is_over c.loop.conversation.session.phase ≡ false = grind arith in
+    let none = c.in_err-next.ensures.err going in
     let begin : SessionData × g.H.Host.Seen = (begun c.args.role c.args.id, g.H.Host.seen c.args.host.now) in
     let side : SessionData × g.H.Host.Seen = (c.loop.conversation.session, g.H.Host.seen c.loop.host) in
     rw (p.1, p.2) (
@@ -51,29 +52,21 @@ loop-init g c =
 pub returns-in-Ended-clause-session : goal.returns-in-Ended-clause-session
 returns-in-Ended-clause-session g c =
     let far = c.loop.invariant in
-    let turned = c.in_ok-next.ensures.ok in
-    let begin : SessionData × g.H.Host.Seen = (begun c.args.role c.args.id, g.H.Host.seen c.args.host.now) in
-    let side : SessionData × g.H.Host.Seen = (c.loop.conversation.session, g.H.Host.seen c.loop.host) in
-    let then : SessionData × g.H.Host.Seen = (c.take_turn.new.conversation.session, g.H.Host.seen c.take_turn.new.host) in
-    let on = comes_turn g.H.Host.steps begin far.0 c.loop.conversation.bytes turned.0 side c.in_ok-next.next turned.1 then c.take_turn.new.conversation.bytes far.4 far.3 turned.4 in (
-      record { read = far.0.read ++ turned.0; sent = far.0.sent ++ on.0 },
-      Consumes-trans _ _ _ far.0.read turned.0 far.1 turned.2,
-      inr (sends_more _ _ _ far.0.sent on.0 far.2 (rw on.1 at turned.3)),
-      record { held = c.take_turn.new.conversation.bytes; session = then.0; comes = on.2; over = grind arith; count = c.applied.ensures },
-    )
+    (far.0, far.1, inr far.2, record { held = c.loop.conversation.bytes; session = c.loop.conversation.session; comes = far.3; over = grind arith; count = c.applied.ensures })
 
 pub loop-preserved : goal.loop-preserved
 loop-preserved g c =
     let far = c.loop.invariant in
+    let going : is_over c.loop.conversation.session.phase ≡ false = grind arith in
     let turned = c.in_ok-next.ensures.ok in
     let begin : SessionData × g.H.Host.Seen = (begun c.args.role c.args.id, g.H.Host.seen c.args.host.now) in
     let side : SessionData × g.H.Host.Seen = (c.loop.conversation.session, g.H.Host.seen c.loop.host) in
     let then : SessionData × g.H.Host.Seen = (c.take_turn.new.conversation.session, g.H.Host.seen c.take_turn.new.host) in
-    let on = comes_turn g.H.Host.steps begin far.0 c.loop.conversation.bytes turned.0 side c.in_ok-next.next turned.1 then c.take_turn.new.conversation.bytes far.4 far.3 turned.4 in (
+    let on = comes_turn g.H.Host.steps begin far.0 c.loop.conversation.bytes turned.0 side c.in_ok-next.next turned.1 then c.take_turn.new.conversation.bytes going far.3 turned.4 in (
       record { read = far.0.read ++ turned.0; sent = far.0.sent ++ on.0 },
       Consumes-trans _ _ _ far.0.read turned.0 far.1 turned.2,
       sends_more _ _ _ far.0.sent on.0 far.2 (rw on.1 at turned.3),
       on.2,
-      grind arith,
+      on.3,
       g.met.H.Host.joins _ _ _ far.5 c.take_turn.ensures.host,
     )

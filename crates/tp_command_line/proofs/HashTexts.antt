@@ -1,0 +1,49 @@
+-- Hashes as text, one after another, and texts that are none.
+use Rattle.std.proofs.Common.{◌≡◌, ◌<◌, ◌+◌, ◌∙◌, ℕ, List, [], ◌∷◌, ◌++◌, length, map, take, get_or, arith, inl, inr, subst, sym}
+use Rattle.std.proofs.lemmas.List.{get_or-map, length-map, map_more}
+use Rattle.std.specs.Borrow.{Bor}
+use Rattle.std.specs.Prelude.{◌⊎◌, Any, Result, Ok, Err}
+use Rattle.clap.specs.Words.{Row, Text}
+use Rattle.tp_opid.specs.HexText.{IsHexOf}
+use Rattle.tp_opid.specs.declared.hash.Hash.{Hash}
+use Rattle.tp_opid.specs.declared.hex_text.HexError.{HexError}
+use Rattle.tp_command_line.specs.LineError.{RefusesValue}
+use Rattle.tp_command_line.specs.Values.{AreHashes, IsNoHash, given_heads}
+use Rattle.tp_command_line.specs.declared.error.ValueError.{ValueError}
+use Rattle.tp_command_line.specs.declared.error.ValueError.TheVariants.{BadHex, OutOfMemory}
+
+-- the texts behind references
+abbrev pub texts_of : List (Bor Text) → List Text
+texts_of ts = map (λ (t : Bor Text). t.now) ts
+
+-- one more text, and its hash
+AreHashes-push : (ts : List Text) (hs : List Hash) (t : Text) (h : Hash) → AreHashes ts hs → IsHexOf t h.0 → AreHashes (ts ++ t ∷ []) (hs ++ h ∷ [])
+AreHashes-push [] [] t h are is = (is, tt)
+AreHashes-push [] (x ∷ hs) t h are is = absurd are
+AreHashes-push (y ∷ ts) [] t h are is = absurd are
+AreHashes-push (y ∷ ts) (x ∷ hs) t h are is = (are.0, AreHashes-push ts hs t h are.1 is)
+
+-- the same, of the first texts of a list
+pub AreHashes-more : (ts : List (Bor Text)) (i : ℕ) (hs new : List Hash) (text : Text) (t : Bor Text) (h : Hash) → i < length ts
+    → text ≡ (get_or ts i t).now → AreHashes (texts_of (take i ts)) hs → IsHexOf text h.0 → new ≡ hs ++ h ∷ [] → AreHashes (texts_of (take (i + 1) ts)) new
+AreHashes-more ts i hs new text t h lt at are is pushed =
+    rw (map_more (λ (x : Bor Text). x.now) ts i t lt, pushed)
+    (AreHashes-push (texts_of (take i ts)) hs (get_or ts i t).now h are (subst (λ (s : Text). IsHexOf s h.0) at is))
+
+-- a text is no hash that is refused where each text of a hash would give it
+pub IsNoHash-refused : (text : Text) (r : Result Hash HexError) (e : HexError) → ((x : Hash) → length x.0 ≡ 32 → IsHexOf text x.0 → r ≡ Ok x) → r ≡ Err e
+    → IsNoHash text
+IsNoHash-refused text r e only is bytes long spelled = let given : r ≡ Ok (record { 0 = bytes }) = only (record { 0 = bytes }) long spelled in cc
+
+-- so one of the texts is none
+pub Any-IsNoHash : (ts : List (Bor Text)) (i : ℕ) (text : Text) (t : Bor Text) → i < length ts → text ≡ (get_or ts i t).now → IsNoHash text → Any IsNoHash (texts_of ts)
+Any-IsNoHash ts i text t lt at none =
+    let now : Bor Text → Text = λ x. x.now in
+    let long : i < length (texts_of ts) = omega (arith, length-map ts now) in
+    (i, text, long, get_or-map now ts i t text lt ∙ sym at, none)
+
+-- why the hashes that were given weren't read
+pub unread : (ts : List (Bor Text)) (rows : List Row) (e : ValueError) → texts_of ts ≡ given_heads rows
+    → (e ≡ OutOfMemory) ⊎ ((e ≡ BadHex) × Any IsNoHash (texts_of ts)) → RefusesValue rows e
+unread ts rows e same (inl memory) = subst (RefusesValue rows) (sym memory) tt
+unread ts rows e same (inr bad) = subst (RefusesValue rows) (sym bad.0) (inl (subst (λ (xs : List Text). Any IsNoHash xs) same bad.1))

@@ -1,0 +1,6 @@
+use Rattle.tp_command_line.proofs.Subcommands.{IfOk-map, argument_added}
+use Rattle.tp_command_line.proofs.definition.pair_command.Goals as goal
+
+pub returns : goal.returns
+returns c =
+    IfOk-map c.arg.result _ _ (λ r added. argument_added _ _ _ c.required.result r c.in_ok-file_command.ensures c.required.ensures.rule c.required.ensures.local added) c.arg.ensures

@@ -1,0 +1,8 @@
+use Rattle.std.specs.Prelude.{[]}
+use Rattle.tp_command_line.specs.Commands.{with_rules}
+use Rattle.tp_command_line.proofs.Subcommands.{IfOk-map, argument_added}
+use Rattle.tp_command_line.proofs.definition.value_command.Goals as goal
+
+pub returns : goal.returns
+returns c =
+    IfOk-map c.arg.result _ _ (λ r added. argument_added (with_rules c.args.name.now []) _ _ c.required.result r c.named.ensures c.required.ensures.rule c.required.ensures.local added) c.arg.ensures

@@ -1,0 +1,64 @@
+-- The rules of the arguments, as clap's definition for simple commands reads them.
+use Rattle.std.specs.Prelude.{[], ◌∷◌, Some, true, codes}
+use Rattle.clap.specs.Lexer.{usize_max}
+use Rattle.clap.specs.Words.{Rule, Text, new_rule}
+use Rattle.clap.specs.declared.builder.action.ArgAction.TheVariants.{Append, Set, SetTrue}
+use Rattle.clap.specs.declared.builder.value_parser.ValueParser.{ValueParser}
+use Rattle.clap.specs.declared.builder.value_parser.ValueParser.TheVariants.{Unsigned}
+
+-- one value, by its place, which has to be given
+abbrev pub required_rule : Text → Rule
+required_rule id = record (new_rule id) { required = true; action = Some Set }
+
+-- `--id VALUE`
+abbrev pub option_rule : Text → Rule
+option_rule id = record (new_rule id) { long = Some id; action = Some Set; value_names = 1 }
+
+-- `--id`
+abbrev pub flag_rule : Text → Rule
+flag_rule id = record (new_rule id) { long = Some id; action = Some SetTrue }
+
+-- an argument that has to be given
+abbrev pub mandatory : Rule → Rule
+mandatory r = record r { required = true }
+
+-- the decimal numbers up to 2^64 - 1
+abbrev pub numbers : ValueParser
+numbers = Unsigned 0 18446744073709551615
+
+-- an argument whose value is a number
+abbrev pub numeric : Rule → Rule
+numeric r = record r { parser = Some numbers }
+
+-- values by their place, one or more, where any are given
+abbrev pub several : Text → Rule
+several id = record (new_rule id) {
+  action = Some Append;
+  range = Some (record { start_inclusive = 1; end_inclusive = usize_max });
+}
+
+abbrev pub file_rule : Rule
+file_rule = required_rule (codes "FILE")
+
+abbrev pub key_rule : Rule
+key_rule = option_rule (codes "key")
+
+-- how many sessions a server holds at once: 1 to 64
+abbrev pub few : ValueParser
+few = Unsigned 1 64
+
+-- a server holds the most that there may be where `--sessions` is left out
+abbrev pub sessions_rule : Rule
+sessions_rule = record (numeric (option_rule (codes "sessions"))) { defaults = codes "18446744073709551615" ∷ [] }
+
+-- two at once where `--workers` is left out
+abbrev pub workers_rule : Rule
+workers_rule = record (option_rule (codes "workers")) { parser = Some few; defaults = codes "2" ∷ [] }
+
+-- the time is 0 where it is left out
+abbrev pub time_rule : Rule
+time_rule = record (numeric (option_rule (codes "time"))) { defaults = codes "0" ∷ [] }
+
+-- the message is empty where it is left out
+abbrev pub message_rule : Rule
+message_rule = record (option_rule (codes "message")) { defaults = [] ∷ [] }

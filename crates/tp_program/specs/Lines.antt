@@ -1,0 +1,47 @@
+-- What is printed of what was done to journals.
+use Rattle.std.specs.Prelude.{◌≡◌, ℕ, List, [], ◌++◌, Option, Some, None, codes}
+use Rattle.std.specs.Fmt.{decimal}
+use Rattle.hex.specs.Hex.{encode_lower}
+use Rattle.rand_chacha.specs.ChaCha.{ChaCha}
+use Rattle.tp_opid.specs.declared.doc_id.DocId.{DocId}
+use Rattle.tp_opid.specs.declared.hash.Hash.{Hash}
+use Rattle.tp_edit.specs.declared.splice.Splice.{Splice}
+use Rattle.tp_peer.specs.PeerData.{PeerData}
+use Rattle.tp_commands.specs.Editing.{EditsJournal, TakesJournal}
+use Rattle.tp_commands.specs.Reading.{hash_line, line}
+use Rattle.tp_program.specs.Files.{BeginsJournal, OpensJournal}
+use Rattle.tp_program.specs.Keys.{IsKeyed, after_draw, drawn}
+
+-- The line of the identifier of a new document, the first that is drawn under the key, with which an unused journal was
+-- begun.
+pub record IsNewLine (key : Option (List ℕ)) (before after printed : List ℕ) : Type 0 where
+  pub generator : ChaCha
+  pub id : DocId
+  pub keyed : IsKeyed key generator
+  pub first : id.0 ≡ (drawn generator).0
+  pub begins : BeginsJournal id [] before after
+  pub spelled : printed ≡ line (encode_lower id.0)
+
+-- the line of what an edit made
+abbrev pub made_line : Option Hash → List ℕ
+made_line (Some h) = hash_line h
+made_line None = line (codes "nothing")
+
+-- The line of what the splice made of a journal, under the actor that is drawn under the key.
+pub record IsEditLine (key : Option (List ℕ)) (splice : Splice) (time : ℕ) (message before after printed : List ℕ) : Type 0 where
+  pub generator : ChaCha
+  pub made : Option Hash
+  pub keyed : IsKeyed key generator
+  pub edits : EditsJournal before (drawn generator) splice time message made after
+  pub spelled : printed ≡ made_line made
+
+-- The line of how many changes of another journal entered, which a journal took: this one was opened under the actor that
+-- is drawn first under the key, the other one under the actor that is drawn then.
+pub record IsMergeLine (key : Option (List ℕ)) (before other after printed : List ℕ) : Type 0 where
+  pub generator : ChaCha
+  pub peer : PeerData
+  pub count : ℕ
+  pub keyed : IsKeyed key generator
+  pub opens : OpensJournal before (drawn generator) peer
+  pub takes : TakesJournal peer other (drawn (after_draw generator)) count after
+  pub spelled : printed ≡ line (codes "applied " ++ decimal count)

@@ -1,0 +1,85 @@
+//! Words that ask for no job, and the standard error.
+
+ghost use Rattle.std.specs.Prelude.{◌≡◌, ◌≤◌, ◌⊎◌, IfErr};
+ghost use Rattle.std.specs.Io.KnownBytes.{Keeps};
+ghost use Rattle.tp_command_line.specs.LineError.{value_line};
+ghost use Rattle.tp_command_line.specs.declared.error.LineError.TheVariants.{Value};
+ghost use Rattle.tp_command_line.specs.declared.error.ValueError.{ValueError as ValueRefusal};
+ghost use Rattle.tp_program.specs.declared.error.JobError.{JobError as JobRefusal};
+ghost use Rattle.tp_program.specs.Output.{GrowsPart, IsLineOf};
+ghost use Rattle.tp_program.specs.Words.{IsMisuse, IsRequest, RefusesHelp};
+
+use crate::error::JobError;
+use crate::telling::{DONE, REFUSED, ended, output_refusal};
+use std::alloc::Global;
+use std::fmt::Display;
+use std::io;
+use std::io::{ErrorKind, Write};
+use tp_command_line::LineError;
+use tp_textpeer::write_out;
+
+/// The exit status of words that are at fault.
+pub const MISUSED: u8 = 2;
+
+/// The standard error, as what prints.
+#[derive(Drop)]
+pub struct Errors<'a, R> {
+    /// What has the standard error.
+    pub rt: &'a R,
+}
+
+impl<R: Eprint> Print for Errors<'_, R> {
+    fn print<D: Display + Drop>(&self, value: D) -> io::Result<()> {
+        self.rt.eprint(value)
+    }
+
+    fn println<D: Display + Drop>(&self, value: D) -> io::Result<()> {
+        self.rt.eprintln(value)
+    }
+
+    fn write_all(&self, bytes: &[u8]) -> io::Result<()> {
+        match str::from_utf8(bytes) {
+            Ok(text) => self.rt.eprint(text),
+            Err(_) => Err(io::Error::from(ErrorKind::InvalidData)),
+        }
+    }
+}
+
+/// Prints why the words ask for no job, and returns the exit status: 0 where help or the version was asked for, 1 where that
+/// could not be written or a value wasn't read, and 2 where the words are at fault.
+pub fn explain<W: Write, E: Write>(alloc: Global, fault: &LineError, out: &mut W, err: &mut E) -> u8
+    ensures status { result ≤ MISUSED }
+    ensures done { result ≡ DONE
+        → Keeps (E.contents err.old) (E.contents err.new) × IsRequest fault.now }
+    ensures refused { result ≡ REFUSED → ((e : ValueRefusal) × (fault.now ≡ Value e)
+        × GrowsPart (λ printed. printed ≡ value_line e) (E.contents err.old) (E.contents err.new)
+        × Keeps (W.contents out.old) (W.contents out.new))
+        ⊎ ((e : JobRefusal) × IsRequest fault.now
+        × GrowsPart (IsLineOf e) (E.contents err.old) (E.contents err.new)
+        × RefusesHelp e (W.contents out.old) (W.contents out.new)) }
+    ensures misused { result ≡ MISUSED
+        → IsMisuse fault.now × Keeps (W.contents out.old) (W.contents out.new) }
+{
+    match fault {
+        LineError::Request(_) => ended(alloc, put_fault(alloc, fault, out), err),
+        LineError::Fault(_) => {
+            let _ = put_fault(alloc, fault, err);
+            MISUSED
+        }
+        LineError::Value(error) => {
+            let _ = write_out(err, error.line().as_bytes());
+            REFUSED
+        }
+    }
+}
+
+// Prints the parser's text.
+fn put_fault<W: Write>(alloc: Global, fault: &LineError, out: &mut W) -> Result<(), JobError>
+    ensures { IfErr result (λ e. RefusesHelp e (W.contents out.old) (W.contents out.new)) }
+{
+    let text = format!(in alloc; "{fault}")?;
+    match write_out(out, text.as_str().as_bytes()) {
+        Ok(()) => Ok(()),
+        Err(error) => Err(output_refusal(&error)),
+    }
+}

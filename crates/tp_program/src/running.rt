@@ -1,0 +1,349 @@
+//! Doing a job, and what is printed of it.
+
+ghost use Rattle.std.specs.Prelude.{◌≡◌, [], IfOk, IfErr, IfSome, None, OnErr, OnOk};
+ghost use Rattle.std.specs.Str.{chars};
+ghost use Rattle.std.specs.String.{string_bytes};
+ghost use Rattle.tp_simulate.specs.Script.{Prints};
+ghost use Rattle.tp_commands.specs.Graph.{IsChangeGraph};
+ghost use Rattle.tp_commands.specs.Log.{AreChangeLines};
+ghost use Rattle.tp_commands.specs.Reading.{AreHeadLines, IsCursorLine, IsTextLine, line};
+ghost use Rattle.tp_program.specs.Files.{BeginsJournal, ChangesFile, CutsFile, IsLoaded, MayCutFile, OfFile, RescuesTo, SavesTo};
+ghost use Rattle.tp_program.specs.Lines.{IsEditLine, IsMergeLine, IsNewLine, made_line as line_of_made};
+ghost use Rattle.tp_program.specs.Names.{WasMade, digits_of};
+ghost use Rattle.tp_program.specs.Output.{CutsFor, Grows, IsFilesPrinted, IsShown, Leaves, LeavesCheck, LeavesFiles, LeavesScript, MayCutFor};
+ghost use Rattle.tp_program.specs.Rescuing.{IsChecked};
+ghost use Rattle.tp_program.specs.JobError.{IsAllSaid};
+
+use crate::error::{JobError, Made};
+use crate::files::{Disk, Opened};
+use crate::keys::{draw, draw_actor, generator};
+use crate::replacing::{put_new, replace};
+use crate::rescuing::{check_report, rescue_report};
+use crate::telling::{put, put_made};
+use std::alloc::Global;
+use std::io::{BufReader, Write};
+use tp_command_line::FileJob;
+use tp_commands::{
+    CommandError, begin, cursor_line, edit, graph_lines, hash_line, head_lines, id_line, log_lines,
+    merge, reopen, saved, text_line,
+};
+use tp_document::Document;
+use tp_edit::Splice;
+use tp_opid::{Actor, DocId, Hash};
+use tp_peer::{PeerSequence, create_journal};
+use tp_simulate::simulate;
+use tp_store::load;
+use tp_textpeer::show;
+
+/// Does what is to be done to files, and writes what is printed of it to `out`, which is flushed. A refusal writes nothing
+/// to `out`; where `out` itself failed, which is refused as `Io`, or was closed by who read it, it has taken a beginning of
+/// what is printed; the refusal has what a job made whose line that was. A script is printed line by line as it goes on, and
+/// what was printed before a refusal stays.
+pub fn carry_out<D: Disk + AllocGlobal, W: Write>(
+    rt: &D,
+    job: FileJob,
+    out: &mut W,
+    cut: &mut Option<u64>,
+) -> Result<(), JobError>
+    requires { cut.old ≡ None }
+    ensures cuts { OnOk result
+        (CutsFor (D.saw rt.now) job.entry cut.new) }
+    ensures may_cut { OnErr result
+        (MayCutFor (D.saw rt.now) job.entry cut.new) }
+    ensures prints { OnOk result
+        (Grows (IsFilesPrinted (D.saw rt.now) job.entry)
+        (W.contents out.old) (W.contents out.new)) }
+    ensures err { IfErr result
+        (λ e. LeavesFiles (D.saw rt.now) job.entry e
+        (W.contents out.old) (W.contents out.new)) }
+    ensures unsaid { IfErr result
+        (WasMade (IsFilesPrinted (D.saw rt.now) job.entry)) }
+{
+    match job {
+        FileJob::New { file, key } => put_made(out, new(rt, file, key)),
+        FileJob::Edit {
+            file,
+            at,
+            del,
+            text,
+            time,
+            message,
+            key,
+        } => {
+            let splice = Splice {
+                at: at as usize,
+                del: del as usize,
+                text,
+            };
+            put_made(out, edited(rt, file, splice, time, message, key, cut))
+        }
+        FileJob::Text { file, heads } => put(out, text(rt, file, &heads)),
+        FileJob::Heads { file } => put(out, heads(rt, file)),
+        FileJob::Log { file } => put(out, log(rt, file)),
+        FileJob::Graph { file } => put(out, graph(rt, file)),
+        FileJob::Cursor { file, at, heads } => put(out, cursor(rt, file, at as usize, &heads)),
+        FileJob::Check { file } => check_file(rt, file, out),
+        FileJob::Merge { file, other, key } => put(out, merged(rt, file, other, key, cut)),
+        FileJob::Save { file, out: path } => put(out, save_to(rt, file, path)),
+        FileJob::Load { saved, file } => put(out, load_from(rt, saved, file)),
+        FileJob::Recover { file, out: path } => put(out, recover_to(rt, file, path)),
+        FileJob::Show { log } => show_file(rt, log, out),
+        FileJob::Simulate { script } => simulate_file(rt, script, out),
+    }
+}
+
+// What reads the file at a path.
+fn reader_of<D: Disk + AllocGlobal>(
+    rt: &D,
+    path: &str,
+) -> Result<BufReader<D::File>, CommandError> {
+    let file = rt.open(path)?;
+    Ok(BufReader::new(rt.alloc(), file)?)
+}
+
+// Writes the text of the log at a path.
+fn show_file<D: Disk + AllocGlobal, W: Write>(
+    rt: &D,
+    log: &str,
+    out: &mut W,
+) -> Result<(), JobError>
+    ensures ok { OnOk result (Grows IsShown (W.contents out.old) (W.contents out.new)) }
+    ensures err { IfErr result (λ e. Leaves IsShown e (W.contents out.old) (W.contents out.new)) }
+    ensures said { IfErr result IsAllSaid }
+{
+    let mut reader = reader_of(rt, log)?;
+    match show(rt.alloc(), &mut reader, out) {
+        Ok(()) => Ok(()),
+        Err(error) => Err(JobError::from(error)),
+    }
+}
+
+// Runs the script at a path.
+fn simulate_file<D: Disk + AllocGlobal, W: Write>(
+    rt: &D,
+    script: &str,
+    out: &mut W,
+) -> Result<(), JobError>
+    ensures ok { OnOk result (Prints (W.contents out.old) (W.contents out.new)) }
+    ensures err { IfErr result
+        (λ e. LeavesScript e (W.contents out.old) (W.contents out.new)) }
+    ensures said { IfErr result IsAllSaid }
+{
+    let mut reader = reader_of(rt, script)?;
+    match simulate(rt.alloc(), &mut reader, out) {
+        Ok(()) => Ok(()),
+        Err(error) => Err(JobError::from(error)),
+    }
+}
+
+fn text<D: Disk + AllocGlobal>(rt: &D, file: &str, heads: &[Hash]) -> Result<String, CommandError>
+    ensures { IfOk result (λ l. OfFile (D.saw rt.now) file.now
+        (λ journal. IsTextLine journal heads.now (string_bytes l))) }
+{
+    text_line(rt.alloc(), rt.recover(file)?, heads)
+}
+
+fn heads<D: Disk + AllocGlobal>(rt: &D, file: &str) -> Result<String, CommandError>
+    ensures { IfOk result (λ l. OfFile (D.saw rt.now) file.now
+        (λ journal. AreHeadLines journal (string_bytes l))) }
+{
+    head_lines(rt.alloc(), rt.recover(file)?)
+}
+
+fn log<D: Disk + AllocGlobal>(rt: &D, file: &str) -> Result<String, CommandError>
+    ensures { IfOk result (λ l. OfFile (D.saw rt.now) file.now
+        (λ journal. AreChangeLines journal (string_bytes l))) }
+{
+    log_lines(rt.alloc(), rt.recover(file)?)
+}
+
+fn graph<D: Disk + AllocGlobal>(rt: &D, file: &str) -> Result<String, CommandError>
+    ensures { IfOk result (λ l. OfFile (D.saw rt.now) file.now
+        (λ journal. IsChangeGraph journal (string_bytes l))) }
+{
+    graph_lines(rt.alloc(), rt.recover(file)?)
+}
+
+fn cursor<D: Disk + AllocGlobal>(
+    rt: &D,
+    file: &str,
+    at: usize,
+    heads: &[Hash],
+) -> Result<String, CommandError>
+    ensures { IfOk result (λ l. OfFile (D.saw rt.now) file.now
+        (λ journal. IsCursorLine journal at heads.now (string_bytes l))) }
+{
+    cursor_line(rt.alloc(), rt.recover(file)?, at, heads)
+}
+
+// The document identifier and then the actor are drawn.
+fn new<D: Disk + AllocGlobal>(
+    rt: &D,
+    file: &str,
+    key: Option<[u8; 32]>,
+) -> Result<(String, Option<Made>), CommandError>
+    ensures line { IfOk result (λ p. ChangesFile (D.saw rt.now) file.now
+        (λ before after. IsNewLine key before after (string_bytes p.0))) }
+    ensures made { IfOk result
+        (λ p. IfSome p.1 (λ made. string_bytes p.0 ≡ line (digits_of made))) }
+{
+    let mut generator = generator(rt, key)?;
+    let Actor(drawn) = draw(&mut generator);
+    let id = DocId(drawn);
+    let actor = draw(&mut generator);
+    let mut journal = begin(rt.alloc(), rt.journal(file, true)?, id, actor)?;
+    rt.sync(file, &mut journal)?;
+    Ok((id_line(rt.alloc(), &id)?, Some(Made::Document(id))))
+}
+
+fn edited<D: Disk + AllocGlobal>(
+    rt: &D,
+    file: &str,
+    splice: Splice,
+    time: u64,
+    message: &str,
+    key: Option<[u8; 32]>,
+    cut: &mut Option<u64>,
+) -> Result<(String, Option<Made>), CommandError>
+    requires { cut.old ≡ None }
+    ensures cuts { OnOk result (CutsFile (D.saw rt.now) file.now cut.new) }
+    ensures may_cut { OnErr result
+        (MayCutFile (D.saw rt.now) file.now cut.new) }
+    ensures line { IfOk result (λ p. ChangesFile (D.saw rt.now) file.now
+        (λ before after. IsEditLine key splice.entry time (chars message.now) before after
+        (string_bytes p.0))) }
+    ensures made { IfOk result
+        (λ p. IfSome p.1 (λ made. string_bytes p.0 ≡ line (digits_of made))) }
+{
+    let actor = draw_actor(rt, key)?;
+    let Opened {
+        journal,
+        recovered,
+        cut: kept,
+    } = rt.recovered_journal(file)?;
+    *cut = kept;
+    let opened = (journal, Ok(recovered));
+    let (mut journal, made) = edit(rt.alloc(), opened, actor, splice, time, message)?;
+    rt.sync(file, &mut journal)?;
+    made_line(rt.alloc(), made)
+}
+
+// The line of what an edit made, and that.
+fn made_line(alloc: Global, made: Option<Hash>) -> Result<(String, Option<Made>), CommandError>
+    ensures line { IfOk result (λ p. string_bytes p.0 ≡ line_of_made made) }
+    ensures made { IfOk result
+        (λ p. IfSome p.1 (λ made. string_bytes p.0 ≡ line (digits_of made))) }
+{
+    match made {
+        Some(hash) => Ok((hash_line(alloc, &hash)?, Some(Made::Change(hash)))),
+        None => Ok((String::from_str(alloc, "nothing\n")?, None)),
+    }
+}
+
+fn merged<D: Disk + AllocGlobal>(
+    rt: &D,
+    file: &str,
+    other: &str,
+    key: Option<[u8; 32]>,
+    cut: &mut Option<u64>,
+) -> Result<String, CommandError>
+    requires { cut.old ≡ None }
+    ensures cuts { OnOk result (CutsFile (D.saw rt.now) file.now cut.new) }
+    ensures may_cut { OnErr result
+        (MayCutFile (D.saw rt.now) file.now cut.new) }
+    ensures line { IfOk result (λ l. ChangesFile (D.saw rt.now) file.now
+        (λ before after. OfFile (D.saw rt.now) other.now
+        (λ bytes. IsMergeLine key before bytes after (string_bytes l)))) }
+{
+    let mut generator = generator(rt, key)?;
+    let actor = draw(&mut generator);
+    let other_actor = draw(&mut generator);
+    let Opened {
+        journal,
+        recovered,
+        cut: kept,
+    } = rt.recovered_journal(file)?;
+    *cut = kept;
+    let peer = reopen(rt.alloc(), (journal, Ok(recovered)), actor)?;
+    match rt.recover(other) {
+        Ok(read) => {
+            let (mut journal, count) = merge(rt.alloc(), peer, read, other_actor)?;
+            rt.sync(file, &mut journal)?;
+            Ok(format!(in rt.alloc(); "applied {count}\n")?)
+        }
+        Err(error) => {
+            drop(peer);
+            Err(error)
+        }
+    }
+}
+
+fn save_to<D: Disk + AllocGlobal>(rt: &D, file: &str, out: &str) -> Result<String, CommandError>
+    ensures empty { IfOk result (λ l. string_bytes l ≡ []) }
+    ensures saved { OnOk result (OfFile (D.saw rt.now) file.now
+        (λ journal. SavesTo (D.saw rt.now) out.now journal)) }
+{
+    let bytes = saved(rt.alloc(), rt.recover(file)?)?;
+    replace(rt, out, file, &bytes)?;
+    Ok(String::new(rt.alloc()))
+}
+
+// Writes what stands in the journal at a path. It is refused for what is at fault there, once that is written.
+fn check_file<D: Disk + AllocGlobal, W: Write>(
+    rt: &D,
+    file: &str,
+    out: &mut W,
+) -> Result<(), JobError>
+    ensures ok { OnOk result
+        (Grows (λ printed. OfFile (D.saw rt.now) file.now
+        (λ bytes. IsChecked bytes None printed)) (W.contents out.old) (W.contents out.new)) }
+    ensures err { IfErr result (λ e. LeavesCheck (D.saw rt.now) file.now e
+        (W.contents out.old) (W.contents out.new)) }
+    ensures said { IfErr result IsAllSaid }
+{
+    let bytes = rt.read(file)?;
+    let (text, fault) = check_report(rt.alloc(), &bytes)?;
+    match put(out, Ok(text)) {
+        Ok(()) => match fault {
+            Some(error) => Err(JobError::Command(CommandError::from(error))),
+            None => Ok(()),
+        },
+        Err(error) => Err(error),
+    }
+}
+
+// Makes the journal of all that can be had of the one at a path.
+fn recover_to<D: Disk + AllocGlobal>(rt: &D, file: &str, out: &str) -> Result<String, CommandError>
+    ensures { IfOk result (λ l. OfFile (D.saw rt.now) file.now
+        (λ bytes. RescuesTo (D.saw rt.now) out.now bytes (string_bytes l))) }
+{
+    let (journal, text) = rescue_report(rt.alloc(), &rt.read(file)?)?;
+    put_new(rt, out, file, &journal)?;
+    Ok(text)
+}
+
+// Begins the journal at a path with the document.
+fn begin_at<D: Disk + AllocGlobal>(
+    rt: &D,
+    file: &str,
+    document: &Document<PeerSequence>,
+) -> Result<(), CommandError>
+    ensures { OnOk result (ChangesFile (D.saw rt.now) file.now
+        (λ before after. BeginsJournal document.now.id document.now.applied before after)) }
+{
+    let mut journal = rt.journal(file, true)?;
+    create_journal(rt.alloc(), &mut journal, document)?;
+    rt.sync(file, &mut journal)
+}
+
+fn load_from<D: Disk + AllocGlobal>(rt: &D, saved: &str, file: &str) -> Result<String, CommandError>
+    ensures empty { IfOk result (λ l. string_bytes l ≡ []) }
+    ensures begun { OnOk result (OfFile (D.saw rt.now) saved.now
+        (λ bytes. ChangesFile (D.saw rt.now) file.now (IsLoaded bytes))) }
+{
+    let document = load::<PeerSequence>(rt.alloc(), &rt.read(saved)?)?;
+    let begun = begin_at(rt, file, &document);
+    drop(document);
+    begun?;
+    Ok(String::new(rt.alloc()))
+}

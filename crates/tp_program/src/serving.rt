@@ -1,0 +1,268 @@
+//! The commands `serve` and `sync`.
+
+ghost use Rattle.std.specs.Prelude.{◌≡◌, ◌⊎◌, ℕ, IfOk, IfErr, None, OnErr, OnOk, Option};
+ghost use Rattle.std.specs.Io.KnownBytes.{Appends, Keeps};
+ghost use Rattle.std.specs.String.{string_bytes};
+ghost use Rattle.tp_textpeer.specs.Output.{AppendsPart};
+ghost use Rattle.tp_program.specs.Network.{IsServed, IsSynced, applied_line as line_of_applied, listening_line as line_of_port, served_line as line_of_sessions};
+ghost use Rattle.tp_program.specs.Output.{Grows, GrowsPart, Leaves, Reports};
+ghost use Rattle.tp_program.specs.Files.{CutsFile, MayCutFile, OfLocked, OpensUnder};
+ghost use Rattle.tp_session.specs.declared.session.Role.TheVariants.{Client};
+ghost use Rattle.tp_program.specs.Sessions.{HasEntered, ServesJournal, WasServed};
+
+use crate::error::JobError;
+use crate::files::Disk;
+use crate::keys::draw_actor;
+use crate::listening::{Listening, listen, opened};
+use crate::seating::{ended, hold, meet, seated, seated_alone};
+use crate::telling::{applied_text, put, report};
+use std::alloc::Global;
+use std::fs::OpenFile;
+use std::io::Write;
+use std::net::{Net, SocketAddr};
+use std::sync::Wait;
+use std::thread::Threads;
+use tp_commands::CommandError;
+use tp_journal::DurableJournal;
+use tp_peer::Peer;
+use tp_served::{Seat, Served};
+
+/// A peer that is served to one thread, once a session was held on its seat.
+#[derive(Drop)]
+pub(crate) struct Met<F: Write + OpenFile + Drop> {
+    /// The served peer.
+    pub served: Served<DurableJournal<F>>,
+    /// Its seat.
+    pub seat: Seat,
+    /// How many changes entered by the session.
+    pub applied: u64,
+}
+
+// The line of the port on which a server listens.
+fn listening_line(alloc: Global, port: u16) -> Result<String, CommandError>
+    ensures ok { IfOk result (λ l. string_bytes l ≡ line_of_port port) }
+{
+    Ok(format!(in alloc; "listening {port}\n")?)
+}
+
+// The line of how many sessions were held.
+fn served_line(alloc: Global, sessions: u64) -> Result<String, CommandError>
+    ensures ok { IfOk result (λ l. string_bytes l ≡ line_of_sessions sessions) }
+{
+    Ok(format!(in alloc; "served {sessions}\n")?)
+}
+
+// Prints the port.
+fn tell_port<W: Write>(alloc: Global, port: u16, out: &mut W) -> Result<(), JobError>
+    ensures ok { OnOk result
+        (Appends (W.contents out.old) (W.contents out.new) (line_of_port port)) }
+    ensures err { IfErr result
+        (λ _. AppendsPart (W.contents out.old) (W.contents out.new) (line_of_port port)) }
+{
+    put(out, listening_line(alloc, port))
+}
+
+// Prints how many sessions there were.
+fn tell_sessions<W: Write>(alloc: Global, sessions: u64, out: &mut W) -> Result<(), JobError>
+    ensures ok { OnOk result
+        (Appends (W.contents out.old) (W.contents out.new) (line_of_sessions sessions)) }
+    ensures err { IfErr result
+        (λ _. AppendsPart (W.contents out.old) (W.contents out.new) (line_of_sessions sessions)) }
+{
+    put(out, served_line(alloc, sessions))
+}
+
+// Prints how many changes entered.
+fn tell_applied<W: Write>(alloc: Global, applied: u64, out: &mut W) -> Result<(), JobError>
+    ensures ok { OnOk result
+        (Appends (W.contents out.old) (W.contents out.new) (line_of_applied applied)) }
+    ensures err { IfErr result
+        (λ e. Leaves IsSynced e (W.contents out.old) (W.contents out.new)) }
+{
+    put(out, applied_text(alloc, Some(applied)))
+}
+
+// Holds the sessions, and ends the serving with the seats that came back: the peer that the closing gives. One whose
+// journal failed meanwhile is refused.
+fn held<R: Disk + Net + Threads + Wait + AllocGlobal + Sync>(
+    rt: &R,
+    listening: Listening<R::Listener, R::File>,
+    sessions: u64,
+    workers: usize,
+) -> Result<Peer<DurableJournal<R::File>>, JobError>
+where
+    R::File: Send,
+    R::Stream: Send,
+    ensures ok { IfOk result (λ p. WasServed listening.peer workers p) }
+{
+    let Listening {
+        listener,
+        port: _,
+        peer,
+    } = listening;
+    match seated(rt.alloc(), peer, workers) {
+        Ok((served, seats)) => {
+            match hold(rt, rt.alloc(), &listener, &served, seats, sessions) {
+                Ok(back) => Ok(ended(served, back)?),
+                Err(error) => Err(error),
+            }
+        }
+        Err(error) => Err(JobError::Command(error)),
+    }
+}
+
+// The same, and prints how many they were.
+fn held_and_told<R: Disk + Net + Threads + Wait + AllocGlobal + Sync, W: Write>(
+    rt: &R,
+    listening: Listening<R::Listener, R::File>,
+    sessions: u64,
+    workers: usize,
+    out: &mut W,
+) -> Result<Peer<DurableJournal<R::File>>, JobError>
+where
+    R::File: Send,
+    R::Stream: Send,
+    ensures served { IfOk result (λ p. WasServed listening.peer workers p) }
+    ensures ok { OnOk result
+        (Appends (W.contents out.old) (W.contents out.new) (line_of_sessions sessions)) }
+    ensures err { IfErr result
+        (λ _. AppendsPart (W.contents out.old) (W.contents out.new) (line_of_sessions sessions)) }
+{
+    match held(rt, listening, sessions, workers) {
+        Ok(peer) => match tell_sessions(rt.alloc(), sessions, out) {
+            Ok(()) => Ok(peer),
+            Err(error) => {
+                drop(peer);
+                Err(error)
+            }
+        },
+        Err(error) => Err(error),
+    }
+}
+
+// Prints the port, holds the sessions, and prints how many they were. The peer that the closing gave back.
+fn serve_on<R: Disk + Net + Threads + Wait + AllocGlobal + Sync, W: Write>(
+    rt: &R,
+    listening: Listening<R::Listener, R::File>,
+    sessions: u64,
+    workers: usize,
+    out: &mut W,
+) -> Result<Peer<DurableJournal<R::File>>, JobError>
+where
+    R::File: Send,
+    R::Stream: Send,
+    ensures served { IfOk result (λ p. WasServed listening.peer workers p) }
+    ensures ok { OnOk result
+        (Grows (IsServed sessions) (W.contents out.old) (W.contents out.new)) }
+    ensures err { IfErr result
+        (λ _. GrowsPart (IsServed sessions) (W.contents out.old) (W.contents out.new)) }
+{
+    match tell_port(rt.alloc(), listening.port, out) {
+        Ok(()) => held_and_told(rt, listening, sessions, workers, out),
+        Err(error) => {
+            drop(listening);
+            Err(error)
+        }
+    }
+}
+
+/// Serves the journal at a path, with as many sessions at once as there are workers, 1 to 64. The port on which it listens
+/// is printed before the first session, and how many sessions there were behind the last. What was cut off the journal is said
+/// once it listens. The peer that the closing gave back; one whose journal failed meanwhile is refused.
+pub(crate) fn serve_file<R: Disk + Net + Threads + Wait + AllocGlobal + Sync, W: Write, E: Write>(
+    rt: &R,
+    file: &str,
+    addr: SocketAddr,
+    sessions: u64,
+    workers: usize,
+    key: Option<[u8; 32]>,
+    out: &mut W,
+    err: &mut E,
+    cut: &mut Option<u64>,
+) -> Result<Peer<DurableJournal<R::File>>, JobError>
+where
+    R::File: Send,
+    R::Stream: Send,
+    requires { cut.old ≡ None }
+    ensures cuts { OnOk result (cut.new ≡ None) }
+    ensures may_cut { OnErr result
+        (MayCutFile (R.saw rt.now) file.now cut.new) }
+    ensures early { (kept : Option ℕ)
+        × MayCutFile (R.saw rt.now) file.now kept
+        × Reports file.now kept None (E.contents err.old) (E.contents err.new) }
+    ensures served { IfOk result (λ p. OfLocked (R.saw rt.now) file.now
+        (λ bytes. ServesJournal key bytes workers p)) }
+    ensures ok { OnOk result
+        (Grows (IsServed sessions) (W.contents out.old) (W.contents out.new)) }
+    ensures err { IfErr result (λ _. Keeps (W.contents out.old) (W.contents out.new)
+        ⊎ GrowsPart (IsServed sessions) (W.contents out.old) (W.contents out.new)) }
+{
+    let actor = draw_actor(rt, key)?;
+    match listen(rt, file, addr, actor, cut) {
+        Ok(listening) => {
+            report(rt.alloc(), file, *cut, None, err);
+            *cut = None;
+            serve_on(rt, listening, sessions, workers, out)
+        }
+        Err(error) => Err(JobError::Command(error)),
+    }
+}
+
+// Holds one session with the server at the address, on the one seat of the peer that is opened for it.
+fn applied_by<R: Disk + Net + Wait + AllocGlobal>(
+    rt: &R,
+    file: &str,
+    addr: SocketAddr,
+    key: Option<[u8; 32]>,
+    cut: &mut Option<u64>,
+) -> Result<Met<R::File>, JobError>
+    requires { cut.old ≡ None }
+    ensures cuts { OnOk result (CutsFile (R.saw rt.now) file.now cut.new) }
+    ensures may_cut { OnErr result
+        (MayCutFile (R.saw rt.now) file.now cut.new) }
+    ensures entered { IfOk result (λ met. HasEntered Client met.served met.seat met.applied
+        × OfLocked (R.saw rt.now) file.now (λ bytes. OpensUnder key bytes met.served.opened)) }
+{
+    let actor = draw_actor(rt, key)?;
+    let peer = opened(rt, file, actor, cut)?;
+    let (served, mut seat) = seated_alone(rt.alloc(), peer)?;
+    match meet(rt, rt.alloc(), addr, &served, &mut seat) {
+        Ok(applied) => Ok(Met {
+            served,
+            seat,
+            applied,
+        }),
+        Err(error) => Err(error),
+    }
+}
+
+/// Holds one session with the server at the address, and prints how many changes entered by it: those that the seat on
+/// which it was held entered. Served peer and seat are given back.
+pub(crate) fn sync_file<R: Disk + Net + Wait + AllocGlobal, W: Write>(
+    rt: &R,
+    file: &str,
+    addr: SocketAddr,
+    key: Option<[u8; 32]>,
+    out: &mut W,
+    cut: &mut Option<u64>,
+) -> Result<Met<R::File>, JobError>
+    requires { cut.old ≡ None }
+    ensures cuts { OnOk result (CutsFile (R.saw rt.now) file.now cut.new) }
+    ensures may_cut { OnErr result
+        (MayCutFile (R.saw rt.now) file.now cut.new) }
+    ensures entered { IfOk result (λ met. HasEntered Client met.served met.seat met.applied
+        × OfLocked (R.saw rt.now) file.now (λ bytes. OpensUnder key bytes met.served.opened)) }
+    ensures ok { IfOk result (λ met. Appends (W.contents out.old) (W.contents out.new)
+        (line_of_applied met.applied)) }
+    ensures err { IfErr result
+        (λ e. Leaves IsSynced e (W.contents out.old) (W.contents out.new)) }
+{
+    let met = applied_by(rt, file, addr, key, cut)?;
+    match tell_applied(rt.alloc(), met.applied, out) {
+        Ok(()) => Ok(met),
+        Err(error) => {
+            drop(met);
+            Err(error)
+        }
+    }
+}

@@ -1,4 +1,0 @@
-pub mod HashLemmas
-pub mod HelpWords
-pub mod TellLaws
-pub mod DoneLaws
