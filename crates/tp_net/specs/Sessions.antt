@@ -2,6 +2,8 @@
 use Rattle.std.specs.Prelude.{◌≡◌, ◌⊎◌, ℕ, ◌+◌, ◌-◌, ◌<◌, ◌^◌, min, List, length, slice_index_or, Result, Ok, Err}
 use Rattle.tp_net.specs.Common.{Trace, Reply, NetError, Io, HostCall, on, begun}
 use Rattle.tp_opid.specs.declared.doc_id.DocId.{DocId}
+use Rattle.tp_peer.specs.PeerData.{PeerData}
+use Rattle.tp_peer.specs.PeerStep.{PeerStep}
 use Rattle.tp_served.specs.Seats.{SeatData, SeatState, Shows}
 use Rattle.tp_session.specs.declared.session.Role.{Role}
 use Rattle.tp_session.specs.declared.session.Role.TheVariants.{Server}
@@ -16,17 +18,31 @@ TakesTurn t call reply t' = Shows t (on t.number call) reply t'
 abbrev pub Holds : Role → DocId → SeatState → Result ℕ NetError → SeatState → Type 0
 Holds role id t answer t' = (w : Traffic) × IsHeld TakesTurn (begun role id) t w answer t'
 
--- The seat's own changes grew by so many, and n is their number, up to 2^64 - 1.
-pub record Enters (n : ℕ) (t t' : SeatState) : Type 0 where
+-- There were so many changes before and after, and n is the number of those that came, up to 2^64 - 1.
+pub record Enters (n before after : ℕ) : Type 0 where
   pub more : ℕ
-  pub grown : length t'.mine ≡ length t.mine + more
+  pub grown : after ≡ before + more
   pub told : n ≡ min more (2 ^ 64 - 1)
 
 -- Over a connection a session was held, and where it ended well it answered how many changes the seat entered; or there
 -- was no connection to be had, and the seat stayed.
 abbrev pub Meets : Role → DocId → SeatState → Result ℕ NetError → SeatState → Type 0
-Meets role id t (Ok n) t' = Holds role id t (Ok n) t' × Enters n t t'
+Meets role id t (Ok n) t' = Holds role id t (Ok n) t' × Enters n (length t.mine) (length t'.mine)
 Meets role id t (Err e) t' = Holds role id t (Err e) t' ⊎ ((e ≡ Io) × (t' ≡ t))
+
+-- A call of a session was a step of the peer, on its link with the number.
+abbrev pub StepsOn : ℕ × PeerData → HostCall → Reply → ℕ × PeerData → Type 0
+StepsOn a call reply b = (b.0 ≡ a.0) × PeerStep a.1 (on a.0 call) reply b.1
+
+-- One whole session was held by the peer alone, on its link 0, as the side with the role about its document.
+abbrev pub HoldsAlone : Role → PeerData → Result ℕ NetError → PeerData → Type 0
+HoldsAlone role p answer p' = (w : Traffic) × IsHeld StepsOn (begun role p.id) (0, p) w answer (0, p')
+
+-- It was, over a connection, and where it ended well it answered how many changes entered; or there was no connection to be
+-- had, and the peer stayed.
+abbrev pub MeetsAlone : Role → PeerData → Result ℕ NetError → PeerData → Type 0
+MeetsAlone role p (Ok n) p' = HoldsAlone role p (Ok n) p' × Enters n (length p.applied) (length p'.applied)
+MeetsAlone role p (Err e) p' = HoldsAlone role p (Err e) p' ⊎ ((e ≡ Io) × (p' ≡ p))
 
 -- The seat stayed at its served peer, and some sessions led it from the one to the other, each as the server.
 pub record Sits (id : DocId) (s s' : SeatData) : Type 0 where

@@ -2,9 +2,11 @@
 //!
 //! [`run_session`] holds one session over a reader and a writer: it reads frames, has a session answer them, and sends
 //! the answers, until both sides have said done or the session breaks off. [`serve`] holds sessions over the connections
-//! that it accepts, on the seats of a served peer, and [`connect`] holds one as the client.
+//! that it accepts, on the seats of a served peer, and [`connect`] holds one as the client. [`hold_alone`] and
+//! [`connect_alone`] hold one of a peer that nobody else has.
 #![tactic(auto)]
 
+mod alone;
 mod connecting;
 mod gate;
 mod holding;
@@ -14,6 +16,7 @@ mod seated;
 mod serving;
 mod writing;
 
+pub use alone::{connect_alone, hold_alone};
 pub use connecting::connect;
 pub use gate::{AlwaysOpen, Gate};
 pub use holding::hold_over;

@@ -1,20 +1,19 @@
 //! Sessions on the seats of a peer.
 
-ghost use Rattle.std.specs.Prelude.{◌≡◌, length, IfOk, Ok, false};
-ghost use Rattle.tp_session.specs.declared.session.Role.TheVariants.{Client};
-ghost use Rattle.tp_net.specs.Sessions.{AllSit, Meets};
+ghost use Rattle.std.specs.Prelude.{◌≡◌, length, IfOk, false};
+ghost use Rattle.tp_net.specs.Sessions.{AllSit};
 ghost use Rattle.tp_served.specs.Calls.{AreOf};
-ghost use Rattle.tp_program.specs.Sessions.{EndsRunning, opened_seats, opening_seat};
+ghost use Rattle.tp_program.specs.Sessions.{EndsRunning, opened_seats};
 
 use crate::error::JobError;
 use std::alloc::Global;
 use std::io::{Read, Write};
-use std::net::{Net, OpenListener, OpenStream, SocketAddr};
+use std::net::{OpenListener, OpenStream};
 use std::sync::Wait;
 use std::thread::Threads;
 use tp_commands::CommandError;
 use tp_journal::Journal;
-use tp_net::{AlwaysOpen, connect, serve};
+use tp_net::{AlwaysOpen, serve};
 use tp_peer::{Peer, PeerError};
 use tp_served::{Seat, Served};
 
@@ -31,21 +30,6 @@ pub(crate) fn seated<J: Journal>(
     match Served::open(alloc, peer, seats) {
         Ok(opened) => Ok(opened),
         Err(_) => Err(CommandError::OutOfMemory),
-    }
-}
-
-/// The same, to one thread: with its seat.
-pub(crate) fn seated_alone<J: Journal>(
-    alloc: Global,
-    peer: Peer<J>,
-) -> Result<(Served<J>, Seat), CommandError>
-    ensures ok { IfOk result (λ r. (r.0.opened ≡ peer) × (r.0.count ≡ 1)
-        × (r.1 ≡ opening_seat r.0)) }
-{
-    let (served, mut seats) = seated(alloc, peer, 1)?;
-    match seats.pop() {
-        Some(seat) => Ok((served, seat)),
-        None => unreachable!(),
     }
 }
 
@@ -97,24 +81,5 @@ pub(crate) fn hold<
     match serve(rt, alloc, listener, served, seats, sessions, &AlwaysOpen) {
         Ok(back) => Ok(back),
         Err(interrupted) => Err(JobError::from(interrupted.error)),
-    }
-}
-
-/// Holds one session with the server at the address, on the seat: how many changes the seat entered.
-pub(crate) fn meet<R: Net + Wait, J: Journal>(
-    rt: &R,
-    alloc: Global,
-    addr: SocketAddr,
-    served: &Served<J>,
-    seat: &mut Seat,
-) -> Result<u64, JobError>
-    requires { seat.old.served ≡ served.now.served }
-    ensures served { seat.new.served ≡ seat.old.served }
-    ensures meets { IfOk result (λ n. Meets Client served.now.opened.id seat.old.state (Ok n)
-        seat.new.state) }
-{
-    match connect(rt, alloc, addr, served, seat) {
-        Ok(applied) => Ok(applied),
-        Err(error) => Err(JobError::from(error)),
     }
 }

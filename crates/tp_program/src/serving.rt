@@ -8,13 +8,13 @@ ghost use Rattle.tp_program.specs.Network.{IsServed, IsSynced, applied_line as l
 ghost use Rattle.tp_program.specs.Output.{Grows, GrowsPart, Leaves, Reports};
 ghost use Rattle.tp_program.specs.Files.{CutsFile, MayCutFile, OfLocked, OpensUnder};
 ghost use Rattle.tp_session.specs.declared.session.Role.TheVariants.{Client};
-ghost use Rattle.tp_program.specs.Sessions.{HasEntered, ServesJournal, WasServed};
+ghost use Rattle.tp_program.specs.Sessions.{HasMet, ServesJournal, WasServed};
 
 use crate::error::JobError;
 use crate::files::Disk;
 use crate::keys::draw_actor;
 use crate::listening::{Listening, listen, opened};
-use crate::seating::{ended, hold, meet, seated, seated_alone};
+use crate::seating::{ended, hold, seated};
 use crate::telling::{applied_text, put, report};
 use std::alloc::Global;
 use std::fs::OpenFile;
@@ -24,16 +24,14 @@ use std::sync::Wait;
 use std::thread::Threads;
 use tp_commands::CommandError;
 use tp_journal::DurableJournal;
+use tp_net::connect_alone;
 use tp_peer::Peer;
-use tp_served::{Seat, Served};
 
-/// A peer that is served to one thread, once a session was held on its seat.
+/// A peer, once it held a session.
 #[derive(Drop)]
 pub(crate) struct Met<F: Write + OpenFile + Drop> {
-    /// The served peer.
-    pub served: Served<DurableJournal<F>>,
-    /// Its seat.
-    pub seat: Seat,
+    /// The peer.
+    pub peer: Peer<DurableJournal<F>>,
     /// How many changes entered by the session.
     pub applied: u64,
 }
@@ -208,8 +206,8 @@ where
     }
 }
 
-// Holds one session with the server at the address, on the one seat of the peer that is opened for it.
-fn applied_by<R: Disk + Net + Wait + AllocGlobal>(
+// Holds one session with the server at the address, of the peer that is opened for it.
+fn applied_by<R: Disk + Net + AllocGlobal>(
     rt: &R,
     file: &str,
     addr: SocketAddr,
@@ -218,27 +216,23 @@ fn applied_by<R: Disk + Net + Wait + AllocGlobal>(
 ) -> Result<Met<R::File>, JobError>
     requires { cut.old ≡ None }
     ensures cuts { OnOk result (CutsFile (R.saw rt.now) file.now cut.new) }
-    ensures may_cut { OnErr result
-        (MayCutFile (R.saw rt.now) file.now cut.new) }
-    ensures entered { IfOk result (λ met. HasEntered Client met.served met.seat met.applied
-        × OfLocked (R.saw rt.now) file.now (λ bytes. OpensUnder key bytes met.served.opened)) }
+    ensures may_cut { OnErr result (MayCutFile (R.saw rt.now) file.now cut.new) }
+    ensures met { IfOk result
+        (λ met. HasMet (R.saw rt.now) file.now key Client met.applied met.peer) }
 {
     let actor = draw_actor(rt, key)?;
-    let peer = opened(rt, file, actor, cut)?;
-    let (served, mut seat) = seated_alone(rt.alloc(), peer)?;
-    match meet(rt, rt.alloc(), addr, &served, &mut seat) {
-        Ok(applied) => Ok(Met {
-            served,
-            seat,
-            applied,
-        }),
-        Err(error) => Err(error),
+    let mut peer = opened(rt, file, actor, cut)?;
+    match connect_alone(rt, rt.alloc(), addr, &mut peer) {
+        Ok(applied) => Ok(Met { peer, applied }),
+        Err(error) => {
+            drop(peer);
+            Err(JobError::from(error))
+        }
     }
 }
 
-/// Holds one session with the server at the address, and prints how many changes entered by it: those that the seat on
-/// which it was held entered. Served peer and seat are given back.
-pub(crate) fn sync_file<R: Disk + Net + Wait + AllocGlobal, W: Write>(
+/// Holds one session with the server at the address, and prints how many changes entered by it. The peer is given back.
+pub(crate) fn sync_file<R: Disk + Net + AllocGlobal, W: Write>(
     rt: &R,
     file: &str,
     addr: SocketAddr,
@@ -248,10 +242,9 @@ pub(crate) fn sync_file<R: Disk + Net + Wait + AllocGlobal, W: Write>(
 ) -> Result<Met<R::File>, JobError>
     requires { cut.old ≡ None }
     ensures cuts { OnOk result (CutsFile (R.saw rt.now) file.now cut.new) }
-    ensures may_cut { OnErr result
-        (MayCutFile (R.saw rt.now) file.now cut.new) }
-    ensures entered { IfOk result (λ met. HasEntered Client met.served met.seat met.applied
-        × OfLocked (R.saw rt.now) file.now (λ bytes. OpensUnder key bytes met.served.opened)) }
+    ensures may_cut { OnErr result (MayCutFile (R.saw rt.now) file.now cut.new) }
+    ensures met { IfOk result
+        (λ met. HasMet (R.saw rt.now) file.now key Client met.applied met.peer) }
     ensures ok { IfOk result (λ met. Appends (W.contents out.old) (W.contents out.new)
         (line_of_applied met.applied)) }
     ensures err { IfErr result

@@ -1,0 +1,68 @@
+//! One session of a peer alone: over a reader and a writer, and with a server.
+
+ghost use Rattle.std.specs.Prelude.{◌≡◌, ◌⊎◌, Err};
+ghost use Rattle.tp_session.specs.declared.error.NetError.TheVariants.{Io};
+ghost use Rattle.tp_session.specs.declared.session.Role.TheVariants.{Client};
+ghost use Rattle.tp_net.specs.RunSession.{TakesFrames};
+ghost use Rattle.tp_net.specs.Sessions.{MeetsAlone};
+
+use crate::run::run_session;
+use std::alloc::Global;
+use std::io::{Read, Write};
+use std::net::{Net, OpenStream, SocketAddr, TcpStream};
+use tp_journal::Journal;
+use tp_peer::{Link, Peer};
+use tp_session::{LinkedPeer, NetError, Role};
+
+/// Holds one session over the reader and the writer, as the side with the role, about the peer's document and on its link
+/// with the number 0. Answers how many changes entered. At 2^64 - 1 the number stays.
+///
+/// Each refusal is as [`run_session`] says.
+pub fn hold_alone<I: Read, O: Write, J: Journal>(
+    alloc: Global,
+    reader: &mut I,
+    writer: &mut O,
+    role: Role,
+    peer: &mut Peer<J>,
+) -> Result<u64, NetError>
+    ensures meets { MeetsAlone role peer.old result peer.new }
+    ensures frames { (result ≡ Err Io)
+        ⊎ TakesFrames (O.contents writer.old) (O.contents writer.new) }
+{
+    let id = peer.document().id();
+    let mut host = LinkedPeer::new(peer, Link(0));
+    run_session(alloc, reader, writer, role, id, &mut host)
+}
+
+// The same over the stream, which is closed at the end.
+fn hold_alone_on<S: Read + Write + OpenStream + Drop, J: Journal>(
+    alloc: Global,
+    stream: S,
+    role: Role,
+    peer: &mut Peer<J>,
+) -> Result<u64, NetError>
+    ensures { MeetsAlone role peer.old result peer.new }
+{
+    let mut reader = stream;
+    let Ok(mut writer) = reader.try_clone() else {
+        return Err(NetError::Io);
+    };
+    hold_alone(alloc, &mut reader, &mut writer, role, peer)
+}
+
+/// Connects to a server, and holds one session with it, as the client, as [`hold_alone`] does.
+///
+/// `Io` where there is no connection to be had, and else what [`run_session`] answers.
+pub fn connect_alone<R: Net, J: Journal>(
+    rt: &R,
+    alloc: Global,
+    addr: SocketAddr,
+    peer: &mut Peer<J>,
+) -> Result<u64, NetError>
+    ensures { MeetsAlone Client peer.old result peer.new }
+{
+    let Ok(stream) = TcpStream::connect(rt, addr) else {
+        return Err(NetError::Io);
+    };
+    hold_alone_on(alloc, stream, Role::Client, peer)
+}
