@@ -1,10 +1,12 @@
 /* The engine of textpeer for C. docs/C.md says what a caller must keep to.
  *
- * A handle is an editor: a document, what is known on its links to others, and its last answer. Each function that returns
- * a uint32_t returns a status: 0 where it was done, else the number of its refusal, one of tp_status.
+ * A handle is an editor: a document, whose journal is in a file or which is in memory alone, what is known on its links to
+ * others, one session at a time, and its last answer. Every function takes a handle of either kind. Each that returns a
+ * uint32_t returns a status: 0 where it was done, else the number of its refusal, one of tp_status.
  *
  * A call whose result is bytes keeps them as the handle's answer and writes their number to *len; tp_answer copies them. They
- * stay until the next such call. Bytes are given by a pointer and a length: with the length 0 the pointer may be NULL. No other
+ * stay until the next such call. A refused call leaves the answer, but an edit, and a session's begin and feed, which say what
+ * it is then. Bytes are given by a pointer and a length: with the length 0 the pointer may be NULL. No other
  * pointer may be, but where it is said. Positions and lengths of texts count Unicode scalar values, lengths of buffers count bytes.
  */
 #ifndef TEXTPEER_H
@@ -45,7 +47,8 @@ enum tp_status {
     TP_NO_LINK = 2, /* there is no link with this number */
     TP_NO_CHANGE = 3, /* there is no applied change with this number */
     TP_BAD_TEXT = 4, /* what should be a text isn't UTF-8 */
-    TP_BAD_LENGTHS = 5, /* the lengths of the splices don't add up to the bytes that are given for their texts */
+    /* the lengths of splices don't add up to the bytes of their texts, or bytes end within a hash: */
+    TP_BAD_LENGTHS = 5,
 
     /* of a document */
     TP_DOC_OUT_OF_RANGE = 101, /* the text ends before the position, or before the end of what is to be deleted */
@@ -101,7 +104,7 @@ enum tp_status {
     /* the journal's device failed in this call, and the editor has stopped: close it and open the file again: */
     TP_PEER_JOURNAL_FAILED = 502,
     TP_PEER_STOPPED = 503, /* the editor has stopped since its journal failed: close it and open the file again */
-    TP_PEER_TOO_MANY_LINKS = 504, /* there are 1,024 links */
+    TP_PEER_TOO_MANY_LINKS = 504, /* there are as many links as there may be */
     TP_PEER_JOURNAL_NOT_EMPTY = 505, /* the file has a journal or other bytes already */
     TP_PEER_OUT_OF_MEMORY = 509, /* memory was refused */
 
@@ -209,7 +212,7 @@ static inline const char *tp_status_words(uint32_t status)
     case TP_NO_LINK: return "there is no link with this number";
     case TP_NO_CHANGE: return "there is no applied change with this number";
     case TP_BAD_TEXT: return "what should be a text isn't UTF-8";
-    case TP_BAD_LENGTHS: return "the lengths of the splices don't add up to the bytes that are given for their texts";
+    case TP_BAD_LENGTHS: return "the lengths of splices don't add up to the bytes of their texts, or bytes end within a hash";
     case TP_DOC_OUT_OF_RANGE: return "the text ends before the position, or before the end of what is to be deleted";
     case TP_DOC_COUNTER_LIMIT: return "the last counter of the edit would be past 2^48 - 1";
     case TP_DOC_TOO_MANY_OPS: return "the edit has more than 65,536 operations, one for each character that comes or goes";
@@ -253,7 +256,7 @@ static inline const char *tp_status_words(uint32_t status)
     case TP_PEER_ACTOR_IN_USE: return "the journal has a change of this actor: draw another one";
     case TP_PEER_JOURNAL_FAILED: return "the journal's device failed in this call, and the editor has stopped: close it and open the file again";
     case TP_PEER_STOPPED: return "the editor has stopped since its journal failed: close it and open the file again";
-    case TP_PEER_TOO_MANY_LINKS: return "there are 1,024 links";
+    case TP_PEER_TOO_MANY_LINKS: return "there are as many links as there may be";
     case TP_PEER_JOURNAL_NOT_EMPTY: return "the file has a journal or other bytes already";
     case TP_PEER_OUT_OF_MEMORY: return "memory was refused";
     case TP_SESSION_FRAME: return "the other side sent bytes that are no frame, or a message of this side is too long for one";
@@ -280,19 +283,21 @@ static inline const char *tp_status_words(uint32_t status)
  * one in its place. Refused as 1; nothing is written then. */
 uint32_t tp_open(void **at);
 
-/* Gives back all that the editor has. The handle must not be used again. Does nothing where its field is NULL. */
+/* Ends the editor and its session, frees its file's lock, and gives back all memory. The handle must not be used again. Does
+ * nothing where its field is NULL. */
 void tp_free(tp_handle handle);
 
 /* Copies the answer to out, up to room bytes of it, and returns how many were copied. The answer stays. */
 size_t tp_answer(tp_handle *handle, uint8_t *out, size_t room);
 
-/* ---- a document in memory ---- */
+/* ---- a document ---- */
 
-/* Puts an empty document with this identifier in the place of the handle's. Its links and its answer are gone then. */
+/* Puts an empty document with this identifier in the place of the handle's, in memory alone. Its links, its session and its
+ * answer are gone then; a journal in a file is closed, and stays as it is. The editor's actor is one of zeros. */
 void tp_new(tp_handle *handle, const uint8_t id[16]);
 
-/* Puts the document whose saved file the bytes are in the place of the handle's. Its links are gone then, its answer stays. A
- * refusal leaves all as it was: past 300. */
+/* Puts the document whose saved file the bytes are in the place of the handle's, in memory alone. Its links and its session are
+ * gone then, its answer stays; a journal in a file is closed, and stays as it is. A refusal leaves all as it was: past 300. */
 uint32_t tp_load(tp_handle *handle, const uint8_t *bytes, size_t bytes_len);
 
 /* The answer is the saved file of the document. Changes that wait aren't in it. Refused as 307. */
@@ -307,9 +312,9 @@ size_t tp_len(tp_handle *handle);
 /* The answer is the text, as UTF-8 without a zero at its end. Refused as 109. */
 uint32_t tp_text(tp_handle *handle, size_t *len);
 
-/* Deletes del characters from at on and inserts a text there, as one change by the actor. The answer is the hash of the
- * change, 32 bytes, or empty where nothing was asked; len may be NULL. A refusal leaves the document as it was: 4 or past
- * 100. */
+/* Deletes del characters from at on and inserts a text there, as one change by the actor, which is the editor's from then on. In
+ * a file it is on the disk when it is done. The answer is the hash of the change, 32 bytes, or empty where nothing was asked;
+ * len may be NULL. A refusal leaves the document as it was, and the answer empty: 4, past 100, 502 or 503. */
 uint32_t tp_edit(tp_handle *handle, const uint8_t actor[16], size_t at, size_t del, const char *text, size_t text_len,
                  uint64_t time, const char *message, size_t message_len, size_t *len);
 
@@ -337,6 +342,21 @@ size_t tp_change_count(tp_handle *handle);
  * where there are fewer, and as 1. */
 uint32_t tp_change_at(tp_handle *handle, size_t number, size_t *len);
 
+/* What a change says. */
+typedef struct tp_change {
+    uint8_t hash[32];
+    uint8_t actor[16];
+    uint64_t seq;    /* its number among the actor's changes, from 1 */
+    uint64_t time;   /* when it was made, as whoever made it counts time */
+    size_t deps;     /* how many changes it depends on */
+    size_t inserted; /* how many characters it inserts */
+    size_t deleted;  /* how many it deletes, also those that another change deletes too */
+} tp_change;
+
+/* Writes what the applied change with this number says to change. The answer is the hashes of the changes that it depends on,
+ * 32 bytes each, rising, and behind them its message as UTF-8. Refused as tp_change_at; nothing is written to change then. */
+uint32_t tp_change_describe(tp_handle *handle, size_t number, tp_change *change, size_t *len);
+
 /* An element of the text, which stays the same whatever is written before it. */
 typedef struct tp_element {
     uint64_t counter; /* from 1 to 2^48 - 1 */
@@ -351,42 +371,71 @@ uint32_t tp_cursor(tp_handle *handle, size_t at, tp_element *element);
  * hasn't the element; nothing is written then. */
 uint32_t tp_cursor_position(tp_handle *handle, const tp_element *element, size_t *at);
 
+/* ---- earlier texts, and what changed ----
+ *
+ * Heads are given as tp_heads answers them: hashes of applied changes, 32 bytes each, in any order, repeats allowed. Their text
+ * is that of these changes and of all that they depend on; no hash gives the empty text. Refused as 5 where a part of a hash is
+ * left over, as 105 where one is of no applied change, as 109. */
+
+/* The answer is the text at the heads, as UTF-8 without a zero at its end. */
+uint32_t tp_text_at(tp_handle *handle, const uint8_t *heads, size_t heads_len, size_t *len);
+
+/* Writes how many characters the text at the heads has to count; nothing where it is refused. */
+uint32_t tp_len_at(tp_handle *handle, const uint8_t *heads, size_t heads_len, size_t *count);
+
+/* What changed from the text at the heads to the text now: writes splices that lead from one to the other, rising, each on the
+ * text that those before it leave, and how many they are to count. Room is for so many splices; where there are more, the first
+ * are written, and the same call with more room writes all. The answer is the texts of all of them, one after another, of which
+ * each has the next len bytes. They are exact by elements: what both texts show is left as it is, and no two could be one. What
+ * came since heads near the end is found without going over the whole text. Nothing is written where it is refused. */
+uint32_t tp_differences_since(tp_handle *handle, const uint8_t *heads, size_t heads_len, tp_splice *splices, size_t room,
+                              size_t *count, size_t *len);
+
+/* The same, from the text at some heads to that at others. */
+uint32_t tp_differences(tp_handle *handle, const uint8_t *from, size_t from_len, const uint8_t *to, size_t to_len,
+                        tp_splice *splices, size_t room, size_t *count, size_t *len);
+
+/* Makes an editor of a copy of the document, with all changes that entered, in memory alone, without links and a session:
+ * tp_fork(&handle, actor, &other.at). Its edits by the shared calls are the actor's; no two editors may edit under one actor at
+ * a time. Refused as 109 or 1; nothing is written then. */
+uint32_t tp_fork(tp_handle *handle, const uint8_t actor[16], void **at);
+
 /* ---- what others have ---- */
 
 /* Receives the change that the bytes are: it enters, waits for what it depends on, or is refused for good, as one that is there
- * already. Each of these is 0; tp_change_count tells how many entered. Refused past 400 where the bytes are no change, as 107
- * where more than 1,024 changes would wait, and as 1 or 109. */
+ * already. Each of these is 0; tp_change_count tells how many entered. In a file it is on the disk with the next edit or message.
+ * Refused past 400 where the bytes are no change, as 107 where more than 1,024 changes would wait, as 109, 502 or 503. */
 uint32_t tp_apply(tp_handle *handle, const uint8_t *bytes, size_t bytes_len);
 
 /* Receives the changes of the other handle's document that are absent here; the other one isn't changed, and is not this one.
- * Refused as 110 where the documents have different identifiers, and as 109. */
+ * In a file they are on the disk with the next edit or message. Refused as 110 where the documents have different identifiers,
+ * as 109, 502, and 503 where either has stopped. */
 uint32_t tp_merge(tp_handle *handle, tp_handle *other);
 
-/* Opens a link to another peer, and writes its number to link: from 0 in the order in which they are opened. Refused as 109. */
+/* Opens a link to another peer, and writes its number to link: from 0 in the order in which they are opened. Refused as 504
+ * where 1,022 are; nothing is written then. */
 uint32_t tp_link(tp_handle *handle, size_t *link);
 
 /* The answer is the next message to the other of the link. *len is 0 where nothing is to be said, and the answer stays then.
- * Messages may be lost, and come twice, late or in any order. Refused as 2 where there is no such link, as 203, and as 1. */
+ * Messages may be lost, and come twice, late or in any order. In a file what it tells is on the disk first. Refused as 2 where
+ * there is no such link, as 203, 1, 502 or 503; *len is 0 then. */
 uint32_t tp_generate(tp_handle *handle, size_t link, size_t *len);
 
-/* Receives the message that the bytes are from the other of the link. Refused as 201 or 202 where they are none, as 2 where there
- * is no such link, as 204 where more than 1,024 changes would wait, and as 1 or 205. */
+/* Receives the message that the bytes are from the other of the link. Refused as 2 where there is no such link, as 503 where the
+ * editor has stopped, as 201 or 202 where they are no message, as 204 where more than 1,024 changes would wait, as 205 or 502. */
 uint32_t tp_receive(tp_handle *handle, size_t link, const uint8_t *bytes, size_t bytes_len);
 
 /* ---- A text that is shared: a journal in a file, and one session at a time by bytes ----
  *
- * A shared editor is a peer: a document with its journal in a file, edited under one actor. It has the file's lock as long as
- * it lives, as a `textpeer` command has that may write the file; each change is on the disk before the call that made it is
- * done, and before a session answers for it. The answer of a shared editor is copied by tp_shared_answer, as tp_answer copies
- * that of a handle, and stays until the next call that says it makes one.
+ * A handle of a document whose journal is in a file, edited under one actor. It has the file's lock as long as it lives, as a
+ * `textpeer` command has that may write the file; each change is on the disk before the call that made it is done, and before a
+ * session answers for it. The calls above take it too, and those below take a handle in memory: some have two names.
  *
  * After TP_PEER_JOURNAL_FAILED (502) an editor edits and exchanges no more: such calls are refused as 503. What it
  * has is still read; close it, and open it under another actor.
  */
 
-typedef struct tp_shared {
-    void *at; /* the engine's; neither read nor changed by the caller */
-} tp_shared;
+typedef tp_handle tp_shared;
 
 /* Opens the journal in the file at the path, to be edited under the actor: tp_shared_open(path, path_len, actor, &shared.at).
  * The actor is 16 bytes that were drawn anew: no change of the journal may be that actor's (501). What a crash left behind
@@ -400,53 +449,42 @@ uint32_t tp_shared_open(const char *path, size_t path_len, const uint8_t actor[1
  * whole header. Another one is refused as 505 and stays as it is. */
 uint32_t tp_shared_create(const char *path, size_t path_len, const uint8_t id[16], const uint8_t actor[16], void **at);
 
-/* Ends the editor and any session, frees the lock, and gives back all memory. The handle must not be used again. */
+/* tp_free, tp_answer, tp_id, tp_len, tp_change_count, tp_text and tp_heads by other names. */
 void tp_shared_close(tp_shared shared);
-
-/* Copies the answer to out, up to room bytes of it, and returns how many were copied. The answer stays. */
 size_t tp_shared_answer(tp_shared *shared, uint8_t *out, size_t room);
-
-/* Writes the document's identifier to id. */
 void tp_shared_id(tp_shared *shared, uint8_t id[16]);
-
-/* How many characters the text has; how many changes are applied. */
 size_t tp_shared_length(tp_shared *shared);
 size_t tp_shared_change_count(tp_shared *shared);
+uint32_t tp_shared_text(tp_shared *shared, size_t *len);
+uint32_t tp_shared_heads(tp_shared *shared, size_t *len);
 
-/* As tp_edit, under the editor's actor: the change is on the disk when it is done. The answer is its hash, or empty where
- * nothing was asked. *len is the answer's length, also after a refusal, which makes it empty. */
+/* As tp_edit, under the editor's actor: that of its opening or of the last tp_edit, which must not be that of any other editor.
+ * *len is the answer's length, also after a refusal, which makes it empty. Where memory was refused the status is 509. */
 uint32_t tp_shared_edit(tp_shared *shared, size_t at, size_t del, const char *text, size_t text_len, uint64_t time,
                         const char *message, size_t message_len, size_t *len);
 
-/* As tp_edit_many, under the editor's actor and with the answer, the length and the refusals of tp_shared_edit. Where it is
- * refused as 4, 5 or 1, the answer stays. */
+/* As tp_edit_many, under the editor's actor and with the length and the refusals of tp_shared_edit. */
 uint32_t tp_shared_edit_many(tp_shared *shared, const tp_splice *splices, size_t count, const char *texts, size_t texts_len,
                              uint64_t time, const char *message, size_t message_len, size_t *len);
 
-/* The answer is the text, as UTF-8 without a zero at its end. A refusal leaves the answer. */
-uint32_t tp_shared_text(tp_shared *shared, size_t *len);
-
-/* The answer is the hashes of the heads, 32 bytes each, rising. A refusal leaves the answer. */
-uint32_t tp_shared_heads(tp_shared *shared, size_t *len);
-
-/* A cursor at the character at a position, from 0: the identifier of its element, a counter and an actor. 101 where the text
- * ends before; nothing is written then. */
+/* As tp_cursor, but writes the element in parts: a counter and an actor. */
 uint32_t tp_shared_cursor(tp_shared *shared, size_t at, uint64_t *counter, uint8_t actor[16]);
 
-/* Writes how many characters are before the cursor's element, which may have been deleted since. 106 where the document
- * hasn't the element; nothing is written then. */
+/* As tp_cursor_position, of an element in parts. */
 uint32_t tp_shared_cursor_position(tp_shared *shared, uint64_t counter, const uint8_t actor[16], size_t *position);
 
 /* Begins a session, and ends one that was going on, of which nothing more is sent. role is 0 for the side that connected and
  * 1 for the side that was connected to. The answer is what is to be sent at once: the client's first frame; of a server
  * nothing. A session exchanges what both sides have by then, and what they make until each has said done: so a side that
- * wants what comes later begins another session, over a stream of its own. */
+ * wants what comes later begins another session, over a stream of its own. A refusal, 503 or 608, leaves the answer empty, and
+ * no session going on. */
 uint32_t tp_shared_begin(tp_shared *shared, uint32_t role, size_t *len);
 
 /* Takes bytes of the other side, in whatever pieces they come. The answer is what is to be sent for them, which may be empty;
  * send it also where the status isn't 0: it ends with the refusal that the other side is due. *going is 1 while the session
  * goes on. It is 0 once it has ended: with status 0 both sides have said done, and bytes that came after are dropped; any
- * other status says why it broke off, and what it had received stays. Without a session it is refused as 605. *entered is
+ * other status says why it broke off, and what it had received stays. Without a session it is refused as 605, and the answer is
+ * empty. *entered is
  * how many changes entered in this session so far. */
 uint32_t tp_shared_feed(tp_shared *shared, const uint8_t *bytes, size_t bytes_len, size_t *len, uint32_t *going,
                         uint64_t *entered);
@@ -518,6 +556,31 @@ static inline uint32_t tp_receive_some(tp_handle *handle, size_t link, const uin
     return tp_receive(handle, link, (const uint8_t *)tp_some(bytes), bytes_len);
 }
 
+static inline uint32_t tp_text_at_some(tp_handle *handle, const uint8_t *heads, size_t heads_len, size_t *len)
+{
+    return tp_text_at(handle, (const uint8_t *)tp_some(heads), heads_len, len);
+}
+
+static inline uint32_t tp_len_at_some(tp_handle *handle, const uint8_t *heads, size_t heads_len, size_t *count)
+{
+    return tp_len_at(handle, (const uint8_t *)tp_some(heads), heads_len, count);
+}
+
+static inline uint32_t tp_differences_since_some(tp_handle *handle, const uint8_t *heads, size_t heads_len, tp_splice *splices,
+                                                 size_t room, size_t *count, size_t *len)
+{
+    tp_splice none;
+    return tp_differences_since(handle, (const uint8_t *)tp_some(heads), heads_len, splices ? splices : &none, room, count, len);
+}
+
+static inline uint32_t tp_differences_some(tp_handle *handle, const uint8_t *from, size_t from_len, const uint8_t *to,
+                                           size_t to_len, tp_splice *splices, size_t room, size_t *count, size_t *len)
+{
+    tp_splice none;
+    return tp_differences(handle, (const uint8_t *)tp_some(from), from_len, (const uint8_t *)tp_some(to), to_len,
+                          splices ? splices : &none, room, count, len);
+}
+
 #define tp_free tp_free_some
 #define tp_answer tp_answer_some
 #define tp_load tp_load_some
@@ -526,6 +589,10 @@ static inline uint32_t tp_receive_some(tp_handle *handle, size_t link, const uin
 #define tp_shared_edit_many tp_shared_edit_many_some
 #define tp_apply tp_apply_some
 #define tp_receive tp_receive_some
+#define tp_text_at tp_text_at_some
+#define tp_len_at tp_len_at_some
+#define tp_differences_since tp_differences_since_some
+#define tp_differences tp_differences_some
 
 #define tp_shared_edit(shared, at, del, text, text_len, time, message, message_len, len) \
     (tp_shared_edit)(shared, at, del, (const char *)tp_some(text), text_len, time, (const char *)tp_some(message), message_len, len)
