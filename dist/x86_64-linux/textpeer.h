@@ -327,8 +327,8 @@ typedef struct tp_splice {
 
 /* As tp_edit, but does each of the count splices in turn, all as one change. Their texts are the bytes of texts, one after
  * another. Refused as 4 where the message isn't UTF-8; else as 5 where the splices' len together aren't texts_len; else as 4
- * where one of the texts isn't UTF-8 or as 1, and as tp_edit: as 103 where the splices delete and insert more than 65,536
- * characters together. */
+ * where one of the texts isn't UTF-8, and as tp_edit: as 103 where the splices delete and insert more than 65,536 characters
+ * together. */
 uint32_t tp_edit_many(tp_handle *handle, const uint8_t actor[16], const tp_splice *splices, size_t count, const char *texts,
                       size_t texts_len, uint64_t time, const char *message, size_t message_len, size_t *len);
 
