@@ -15,7 +15,7 @@ _textpeer() {
     done
     local last=$((${#words[@]} - 1)) word=${words[-1]} options
     if ((last == 1)); then
-        options='new edit text heads log graph cursor check merge save load recover show simulate serve sync session'
+        options='new edit update import text heads log graph diff status cursor check merge save load recover show simulate serve sync session web'
         [[ $word != -* ]] || options='-h --help -V --version'
         mapfile -t COMPREPLY < <(compgen -W "$options" -- "$word")
         return
@@ -24,11 +24,15 @@ _textpeer() {
     local values rest='' takes='' place=0 name journal=''
     case ${words[1]} in
     new) values=(file) options='--key -h --help' takes='--key' ;;
-    edit) values=(file) options='--at --del --text --time --message --key -h --help' takes='--at --del --text --time --message --key' ;;
-    text) values=(file hash) rest=hash options='-h --help' ;;
+    edit) values=(file) options='--at --del --text --text-file --time --message --key -h --help' takes='--at --del --text --text-file --time --message --key' ;;
+    update) values=(file file) options='--time --message --key -h --help' takes='--time --message --key' ;;
+    import) values=(file file) options='--time --message --key -h --help' takes='--time --message --key' ;;
+    text) values=(file hash) rest=hash options='--raw -h --help' ;;
     heads) values=(file) options='-h --help' ;;
-    log) values=(file) options='-h --help' ;;
+    log) values=(file) options='--pretty --most -h --help' takes='--most' ;;
     graph) values=(file) options='-h --help' ;;
+    diff) values=(file hash) rest=hash options='--to -h --help' takes='--to' ;;
+    status) values=(file) options='-h --help' ;;
     cursor) values=(file other hash) rest=hash options='-h --help' ;;
     check) values=(file) options='-h --help' ;;
     merge) values=(file file) options='--key -h --help' takes='--key' ;;
@@ -37,9 +41,10 @@ _textpeer() {
     recover) values=(file file) options='-h --help' ;;
     show) values=(file) options='-h --help' ;;
     simulate) values=(file) options='-h --help' ;;
-    serve) values=(file other) options='--sessions --workers --key -h --help' takes='--sessions --workers --key' ;;
-    sync) values=(file other) options='--key -h --help' takes='--key' ;;
+    serve) values=(file other) options='--sessions --workers --patience --verbose --key -h --help' takes='--sessions --workers --patience --key' ;;
+    sync) values=(file other) options='--follow --sessions --patience --key -h --help' takes='--sessions --patience --key' ;;
     session) values=(file) options='--client --key -h --help' takes='--key' ;;
+    web) values=(file other) options='--key -h --help' takes='--key' ;;
     *) return ;;
     esac
     options=" $options "

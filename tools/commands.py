@@ -9,11 +9,11 @@ from tree import TOP
 
 # What the values are of which a shell has something to offer, a file or the hash of a change, and the other values.
 FILE, HASH, OTHER = "file", "hash", "other"
-KINDS = {"FILE": FILE, "OTHER": FILE, "OUT": FILE, "SAVED": FILE, "LOG": FILE, "SCRIPT": FILE, "HASH": HASH, "ADDR": OTHER,
-         "AT": OTHER}
+KINDS = {"FILE": FILE, "OTHER": FILE, "OUT": FILE, "SAVED": FILE, "LOG": FILE, "SCRIPT": FILE, "TEXT": FILE, "HASH": HASH, "ADDR": OTHER,
+         "AT": OTHER, "PAGE": OTHER}
 SECTION = re.compile(r"^(Commands|Arguments|Options|Example):\n((?:  .*(?:\n|\Z))+)", re.M)
 VALUE = re.compile(r"  [<\[](\w+)[>\]](\.\.\.)? +(.+)")
-OPTION = re.compile(r"  (?:(-\w), |    )(--\w+)(?: <(\w+)>)?  +(.+)")
+OPTION = re.compile(r"  (?:(-\w), |    )(--[\w-]+)(?: (<\w+>|\[<\w+>\]))?  +(.+)")
 
 
 @dataclass
@@ -39,14 +39,19 @@ class Value:
 
 @dataclass
 class Option:
-    """An option: its short name if it has one, its name, that of its value if it takes one, whether it has to be given,
-    and what it is for."""
+    """An option: its short name if it has one, its name, that of its value if it takes one, in brackets where it may be left
+    out, whether it has to be given, and what it is for."""
 
     short: str
     name: str
     value: str
     is_required: bool
     about: str
+
+    @property
+    def has_value(self):
+        """Whether a value always stands after it."""
+        return bool(self.value) and not self.value.startswith("[")
 
     @property
     def shown(self):
@@ -104,7 +109,7 @@ def lines_of(sections, name, shape):
 
 def options_of(sections, usage):
     """The options of a help: those of the usage have to be given."""
-    return [Option(short, name, value, f" {name} " in usage, about)
+    return [Option(short, name, re.sub("[<>]", "", value or ""), f" {name} " in usage, about)
             for short, name, value, about in lines_of(sections, "Options", OPTION)]
 
 

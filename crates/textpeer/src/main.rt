@@ -1,8 +1,14 @@
 //! The program `textpeer`.
 #![tactic(auto)]
 
+use std::io::IsTerminal;
 use std::process::ExitCode;
+use tp_program::Terminals;
 
 fn main(rt: HostRuntime) -> ExitCode {
-    ExitCode::from(tp_program::run(&rt))
+    let terminals = Terminals {
+        output: rt.stdout().is_terminal(),
+        errors: rt.stderr().is_terminal(),
+    };
+    ExitCode::from(tp_program::run(&rt, terminals))
 }

@@ -79,7 +79,8 @@ fn print(alloc: Global, bytes: &[u8], digest: &mut Digest) -> anyhow::Result<()>
         Ok(text) => digest.text(text.as_str()),
         Err(_) => bail!("no text"),
     }
-    match log_lines(alloc, recovering(alloc, &bytes[..bytes.len() / 2])) {
+    let half = recovering(alloc, &bytes[..bytes.len() / 2]);
+    match log_lines(alloc, half, u64::MAX) {
         Ok(lines) => digest.text(lines.as_str()),
         Err(_) => bail!("no log"),
     }

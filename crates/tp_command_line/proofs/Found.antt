@@ -13,7 +13,7 @@ use Rattle.clap.specs.Values.{Accepts}
 use Rattle.clap.specs.ValueTests.{accepts}
 use Rattle.clap.proofs.ValueTestLemmas.{accepts-Accepts}
 use Rattle.clap.proofs.WalkLemmas.{one_text-rows}
-use Rattle.clap.specs.Words.{App, HasKind, HasMatchesOf, IsAmong, Kinds, Row, Text, found_of, is_simple, is_simple_and_free, kind_of, one_text, rows_of, subcommand_name_of, subcommand_of, subcommand_rows_of}
+use Rattle.clap.specs.Words.{App, HasKind, HasMatchesOf, IsAmong, Kinds, Row, Text, one_of, found_of, is_simple, is_simple_and_free, kind_of, one_text, rows_of, subcommand_name_of, subcommand_of, subcommand_rows_of}
 use Rattle.clap.specs.declared.builder.value_parser.ValueParser.TheVariants as parser
 use Rattle.clap.specs.declared.parser.matches.ArgMatches.{ArgMatches}
 use Rattle.clap.specs.declared.parser.matches.Found.{Found}
@@ -21,17 +21,17 @@ use Rattle.clap.specs.declared.parser.matches.ArgMatches.TheViews.{out-ArgMatche
 use Rattle.clap.specs.declared.error.Error.{Error}
 use Rattle.clap.specs.declared.error.kind.ErrorKind.{ErrorKind}
 use Rattle.tp_command_line.specs.Commands.{textpeer_app}
-use Rattle.tp_command_line.specs.Rules.{few, numbers}
+use Rattle.tp_command_line.specs.Rules.{few, numbers, pausing, waiting}
 use Rattle.tp_command_line.specs.Uses.{IsUse, always_has}
-use Rattle.tp_command_line.specs.Values.{HasFlag, HasNumber, HasValue, IsNumber, is_number, is_numeric, parser_named}
+use Rattle.tp_command_line.specs.Values.{HasFlag, HasNumber, HasValue, IsNumber, IsNumberIn, MayHaveNumber, is_flag, is_number, is_numeric, parser_named}
 use Rattle.tp_command_line.specs.LineError.{FailsAs, RefusesLine, IsPassedAs, RefusesValue, NotRead}
 use Rattle.tp_command_line.specs.declared.job.Job.{Job}
 use Rattle.tp_command_line.specs.declared.error.LineError.{LineError}
 use Rattle.tp_command_line.specs.declared.error.LineError.TheVariants.{Request, Fault, Value}
 use Rattle.tp_command_line.specs.declared.error.ValueError.{ValueError}
-use Rattle.tp_command_line.specs.declared.error.ValueError.TheVariants.{BadHex, BadAddress, OutOfMemory}
-use Rattle.tp_command_line.proofs.Rows.{HasFirst}
-use Rattle.tp_command_line.proofs.Uses.{IsUseOf, always_given, use_of}
+use Rattle.tp_command_line.specs.declared.error.ValueError.TheVariants.{BadHex, BadAddress, OutOfMemory, NotOneText}
+use Rattle.tp_command_line.proofs.Rows.{HasFirst, one_taken}
+use Rattle.tp_command_line.proofs.Uses.{IsUseOf, all_filled, always_given, use_of}
 
 -- ---- values
 
@@ -39,28 +39,32 @@ use Rattle.tp_command_line.proofs.Uses.{IsUseOf, always_given, use_of}
 pub value_of : (name id : Text) (rows : List Row) → IsUse name rows → always_has name id ≡ true → HasValue id rows
 value_of name id rows found has = let given = always_given name id rows found has in (given.value, given.first)
 
--- a value that the parser of numbers takes is a number; so is one of few
-number_taken : (id : Text) (rows : List Row) → HasFirst id rows → parser_named id ≡ numbers → (n : ℕ) × HasNumber id rows n
-number_taken id rows has is =
-    let taken : Accepts false numbers has.value = accepts-Accepts false numbers has.value (ap (λ p. accepts false p has.value) (sym is) ∙ has.taken) in
-    (digits_value 10 (without_leading_plus has.value), (has.value, has.one, record { digits = taken.0; small = taken.1; value = refl }))
+-- what reads a number takes numbers alone
+number_parser : (id : Text) → is_number id ≡ true → (low high : ℕ) × (parser_named id ≡ parser.Unsigned low high)
+number_parser id is = go (is_numeric id) (bytes_eq (codes "workers") id) (bytes_eq (codes "patience") id) (bytes_eq (codes "follow") id) is
+  where
+    go : (numeric workers patience follow : Bool) → (numeric || workers || patience || follow) ≡ true
+        → (low high : ℕ) × ((if numeric then numbers else if workers then few else if patience then waiting else if follow then pausing
+        else if is_flag id then parser.Bool else parser.String) ≡ parser.Unsigned low high)
+    go true w p f any = (_, _, refl)
+    go false true p f any = (_, _, refl)
+    go false false true f any = (_, _, refl)
+    go false false false true any = (_, _, refl)
+    go false false false false any = absurd (cc)
 
-few_taken : (id : Text) (rows : List Row) → HasFirst id rows → parser_named id ≡ few → (n : ℕ) × HasNumber id rows n
-few_taken id rows has is =
-    let taken : Accepts false few has.value = accepts-Accepts false few has.value (ap (λ p. accepts false p has.value) (sym is) ∙ has.taken) in
-    (digits_value 10 (without_leading_plus has.value), (has.value, has.one, record { digits = taken.0; small = taken.1; value = refl }))
+-- a value that it takes is a number
+number_taken : (id text : Text) → is_number id ≡ true → accepts false (parser_named id) text ≡ true → (n : ℕ) × IsNumber text n
+number_taken id text is has =
+    let p = number_parser id is in
+    let taken : Accepts false (parser.Unsigned p.0 p.1) text = accepts-Accepts false (parser.Unsigned p.0 p.1) text (ap (λ q. accepts false q text) (sym p.2) ∙ has) in
+    (digits_value 10 (without_leading_plus text), record { digits = taken.0; small = taken.1; value = refl })
 
 -- a number that the subcommand always has
 pub number_of : (name id : Text) (rows : List Row) → IsUse name rows → always_has name id ≡ true → is_number id ≡ true → (n : ℕ) × HasNumber id rows n
-number_of name id rows found has is = go (is_numeric id) (bytes_eq (codes "workers") id) refl refl is
-  where
-    given : HasFirst id rows
-    given = always_given name id rows found has
-
-    go : (b d : Bool) → is_numeric id ≡ b → bytes_eq (codes "workers") id ≡ d → (b || d) ≡ true → (n : ℕ) × HasNumber id rows n
-    go true d numeric workers either = number_taken id rows given (rw numeric refl)
-    go false true numeric workers either = few_taken id rows given (rw (numeric, workers) refl)
-    go false false numeric workers either = absurd (cc)
+number_of name id rows found has is =
+    let given = always_given name id rows found has in
+    let number = number_taken id given.value is given.taken in
+    (number.0, (given.value, given.one, number.1))
 
 -- a value that the parser of flags takes says whether the flag was given
 pub flag_given : (id : Text) (rows : List Row) → HasFirst id rows → parser_named id ≡ parser.Bool → (given : Bool) × HasFlag id rows given
@@ -97,6 +101,18 @@ number_read text n (Some m) number read = ap Some (read.0.1 ∙ sym number.value
 pub number_found : (f : Found) (id : Text) (n : ℕ) (r : Option ℕ) → HasNumber id (rows_of f) n → ((t : List ℕ) → one_text f id ≡ Some t → ReadsOne ReadsNumber t r)
     → r ≡ Some n
 number_found f id n r has read = number_read has.0 n r has.2 (read has.0 (one_text-rows f id ∙ has.1))
+
+-- the number of an argument, where it has one, is the one that is read
+pub number_if_any : (f : Found) (name id : Text) (r : Option ℕ) → IsUse name (rows_of f) → is_number id ≡ true → (one_text f id ≡ None → r ≡ None)
+    → ((t : List ℕ) → one_text f id ≡ Some t → ReadsOne ReadsNumber t r) → MayHaveNumber id (rows_of f) r
+number_if_any f name id r found is none read = go (one_of id (rows_of f)) refl
+  where
+    go : (o : Option Text) → one_of id (rows_of f) ≡ o → IsNumberIn o r
+    go None has = subst (IsNumberIn None) (sym (none (one_text-rows f id ∙ has))) tt
+    go (Some text) has =
+        let number = number_taken id text is (one_taken id (rows_of f) text (all_filled name (rows_of f) found) has) in
+        let same = number_read text number.0 r number.1 (read text (one_text-rows f id ∙ has)) in
+        subst (IsNumberIn (Some text)) (sym same) number.1
 
 -- what is in the two is one
 pub some_is : {X : Type 0} {x y : X} → Some x ≡ Some y → x ≡ y
@@ -199,6 +215,7 @@ not_read : (kinds : Kinds) (found : Option (Text × List Row)) (name : Text) (ro
 not_read kinds found name rows BadHex none is bad = (name, rows, none, is, bad)
 not_read kinds found name rows BadAddress none is bad = (name, rows, none, is, bad)
 not_read kinds found name rows OutOfMemory none is bad = tt
+not_read kinds found name rows NotOneText none is bad = (name, rows, none, is, bad)
 
 pub value_fails : (kinds : Kinds) (found : Option (Text × List Row)) (name : Text) (rows : List Row) (e : ValueError) (r : Result Job LineError) → kinds ≡ []
     → found ≡ Some (name, rows) → IsErrAnd r (λ y. y ≡ Value e) → RefusesValue rows e → FailsAs kinds found r

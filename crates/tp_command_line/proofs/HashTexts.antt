@@ -1,14 +1,16 @@
 -- Hashes as text, one after another, and texts that are none.
-use Rattle.std.proofs.Common.{◌≡◌, ◌<◌, ◌+◌, ◌∙◌, ℕ, List, [], ◌∷◌, ◌++◌, length, map, take, get_or, arith, inl, inr, subst, sym}
-use Rattle.std.proofs.lemmas.List.{get_or-map, length-map, map_more}
+use Rattle.std.proofs.Common.{◌≡◌, ◌<◌, ◌+◌, ◌∙◌, ℕ, List, [], ◌∷◌, ◌++◌, length, length-append, map, take, get_or, arith, inl, inr, refl, subst, sym, Bool, true, false, codes}
+use Rattle.std.proofs.lemmas.List.{get_or-append-add, get_or-map, get_or_append_left, length-map, map_more}
+use Rattle.std.proofs.lemmas.Slice.Eq.{bytes_eq-Decides}
 use Rattle.std.specs.Borrow.{Bor}
-use Rattle.std.specs.Prelude.{◌⊎◌, Any, Result, Ok, Err}
+use Rattle.std.specs.Str.{bytes_eq}
+use Rattle.std.specs.Prelude.{◌⊎◌, ◌||◌, Any, Result, Ok, Err}
 use Rattle.clap.specs.Words.{Row, Text}
 use Rattle.tp_opid.specs.HexText.{IsHexOf}
 use Rattle.tp_opid.specs.declared.hash.Hash.{Hash}
 use Rattle.tp_opid.specs.declared.hex_text.HexError.{HexError}
 use Rattle.tp_command_line.specs.LineError.{RefusesValue}
-use Rattle.tp_command_line.specs.Values.{AreHashes, IsNoHash, given_heads}
+use Rattle.tp_command_line.specs.Values.{AreHashes, IsNoHash, all_hashes, given_hashes, is_of_hashes}
 use Rattle.tp_command_line.specs.declared.error.ValueError.{ValueError}
 use Rattle.tp_command_line.specs.declared.error.ValueError.TheVariants.{BadHex, OutOfMemory}
 
@@ -42,8 +44,31 @@ Any-IsNoHash ts i text t lt at none =
     let long : i < length (texts_of ts) = omega (arith, length-map ts now) in
     (i, text, long, get_or-map now ts i t text lt ∙ sym at, none)
 
--- why the hashes that were given weren't read
-pub unread : (ts : List (Bor Text)) (rows : List Row) (e : ValueError) → texts_of ts ≡ given_heads rows
+-- one of a list is one of a longer one
+any_left : (P : Text → Type 0) (xs ys : List Text) → Any P xs → Any P (xs ++ ys)
+any_left P xs ys any =
+    (any.0, any.1, (let l = length-append xs ys in omega (arith, any.2)), get_or_append_left xs ys any.1 any.0 any.2 ∙ any.3, any.4)
+
+any_right : (P : Text → Type 0) (xs ys : List Text) → Any P ys → Any P (xs ++ ys)
+any_right P xs ys any =
+    (length xs + any.0, any.1, (let l = length-append xs ys in omega (arith, any.2)), get_or-append-add xs ys any.0 any.1 ∙ any.3, any.4)
+
+-- one of the hashes of an argument is one of all
+among_all : (id : Text) (rows : List Row) → is_of_hashes id ≡ true → Any IsNoHash (given_hashes id rows) → Any IsNoHash (all_hashes rows)
+among_all id rows of any = go (bytes_eq (codes "HASH") id) (bytes_eq (codes "to") id) refl refl of
+  where
+    go : (b d : Bool) → bytes_eq (codes "HASH") id ≡ b → bytes_eq (codes "to") id ≡ d → (b || d) ≡ true → Any IsNoHash (all_hashes rows)
+    go true d first second either =
+        any_left IsNoHash (given_hashes (codes "HASH") rows) (given_hashes (codes "to") rows)
+        (subst (λ (x : Text). Any IsNoHash (given_hashes x rows)) (sym ((bytes_eq-Decides (codes "HASH") id).0 first)) any)
+    go false true first second either =
+        any_right IsNoHash (given_hashes (codes "HASH") rows) (given_hashes (codes "to") rows)
+        (subst (λ (x : Text). Any IsNoHash (given_hashes x rows)) (sym ((bytes_eq-Decides (codes "to") id).0 second)) any)
+    go false false first second either = absurd (cc)
+
+-- why the hashes that an argument was given weren't read
+pub unread : (id : Text) (ts : List (Bor Text)) (rows : List Row) (e : ValueError) → is_of_hashes id ≡ true → texts_of ts ≡ given_hashes id rows
     → (e ≡ OutOfMemory) ⊎ ((e ≡ BadHex) × Any IsNoHash (texts_of ts)) → RefusesValue rows e
-unread ts rows e same (inl memory) = subst (RefusesValue rows) (sym memory) tt
-unread ts rows e same (inr bad) = subst (RefusesValue rows) (sym bad.0) (inl (subst (λ (xs : List Text). Any IsNoHash xs) same bad.1))
+unread id ts rows e of same (inl memory) = subst (RefusesValue rows) (sym memory) tt
+unread id ts rows e of same (inr bad) =
+    subst (RefusesValue rows) (sym bad.0) (inl (among_all id rows of (subst (λ (xs : List Text). Any IsNoHash xs) same bad.1)))

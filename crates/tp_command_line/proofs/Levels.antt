@@ -56,7 +56,7 @@ defaults_filled (a ∷ c) rows sound h = defaults_filled c (with_default rows a)
 -- ---- a level without a fault
 
 -- the rows at the end are filled
-level_filled : (s : Shape) (names : Names) (words : List Text) (has : Bool) (below : Kinds) → AllSound s.rules → level_fault s names nothing_held words has below ≡ []
+pub level_filled : (s : Shape) (names : Names) (words : List Text) (has : Bool) (below : Kinds) → AllSound s.rules → level_fault s names nothing_held words has below ≡ []
     → AllFilled (rows_after s.rules names words)
 level_filled s names words has below sound e =
     let end : Held = (walk s.rules names nothing_held words).held in

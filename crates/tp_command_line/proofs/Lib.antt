@@ -1,4 +1,5 @@
 pub mod HashTexts
+pub mod Hosts
 pub mod Rows
 pub mod Words
 pub mod Levels

@@ -1,5 +1,5 @@
 -- Rows that each have a value, and only values that their argument takes.
-use Rattle.std.proofs.Common.{◌≡◌, ◌∙◌, ap, ◌<◌, Bool, true, false, refl, sym, subst, arith, List, [], ◌∷◌, ◌++◌, length, not, Option, Some, length-append}
+use Rattle.std.proofs.Common.{◌≡◌, ◌∙◌, ap, ◌<◌, Bool, true, false, refl, sym, subst, arith, List, [], ◌∷◌, ◌++◌, length, not, Option, Some, None, length-append}
 use Rattle.std.specs.Prelude.{◌&&◌, ◌||◌, if◌then◌else◌, find, fold, slice_get, option_map, option_and_then}
 use Rattle.std.specs.List.{list_all}
 use Rattle.std.specs.Option.{option_map_or}
@@ -129,6 +129,18 @@ row_first id rows r full e =
       one = ap (option_and_then row_text) e ∙ (ap (λ how. option_map (read_as how) (slice_get r.values 0)) filled.reading ∙ ap (option_map (λ t. t)) got.1);
       taken = subst (λ (x : Text). accepts false (parser_named x) got.0 ≡ true) same got.2;
     }
+
+-- the value of an argument that has one is taken
+pub one_taken : (id : Text) (rows : List Row) (value : Text) → AllFilled rows → one_of id rows ≡ Some value → accepts false (parser_named id) value ≡ true
+one_taken id rows value full e = go (find (λ r. bytes_eq r.id id) rows) refl e
+  where
+    go : (found : Option Row) → find (λ r. bytes_eq r.id id) rows ≡ found → option_and_then row_text found ≡ Some value → accepts false (parser_named id) value ≡ true
+    go None is of = absurd (cc)
+    go (Some r) is of =
+        let has = row_first id rows r full is in
+        let both : Some has.value ≡ Some value = sym has.one ∙ e in
+        let same : has.value ≡ value = cc in
+        subst (λ (v : Text). accepts false (parser_named id) v ≡ true) same has.taken
 
 -- the row of an argument that has one
 row_there : (id : Text) (rows : List Row) → has_row id rows ≡ true → (r : Row) × (find (λ r. bytes_eq r.id id) rows ≡ Some r)

@@ -5,6 +5,7 @@ use Rattle.std.specs.Str.{bytes_eq}
 use Rattle.std.proofs.lemmas.Slice.Eq.{bytes_eq-Decides}
 use Rattle.std.specs.Prelude.{◌<◌, IsErrAnd, MatchResult, Ok, Err, Result}
 use Rattle.clap.specs.Walk.{Row, Text, first_of}
+use Rattle.clap.specs.Words.{one_of}
 use Rattle.clap.specs.Simple.{subcommand_of}
 use Rattle.clap.specs.Faults.{fault_of}
 use Rattle.clap.proofs.OnLiterals.{clap_on_literals}
@@ -12,7 +13,7 @@ use Rattle.clap.specs.Words.{App, HasKind, Kinds, is_simple_and_free, kind_of}
 use Rattle.clap.specs.declared.error.Error.{Error}
 use Rattle.clap.specs.declared.error.kind.ErrorKind.TheVariants as kind
 use Rattle.tp_command_line.specs.Commands.{AskToShow, IsFoundAs, IsJobOf, IsShow, textpeer_app}
-use Rattle.tp_command_line.specs.Values.{given_heads}
+use Rattle.tp_command_line.specs.Values.{all_hashes}
 use Rattle.tp_command_line.specs.LineError.{IsPassedAs, RefusesValue}
 use Rattle.tp_command_line.proofs.Found.{some_is}
 use Rattle.tp_command_line.specs.declared.job.FileJob.TheVariants.{Show}
@@ -21,15 +22,18 @@ use Rattle.tp_command_line.specs.declared.job.Job.TheVariants.{Files}
 use Rattle.tp_command_line.specs.declared.error.LineError.{LineError}
 use Rattle.tp_command_line.specs.declared.error.LineError.TheVariants.{Request, Fault, Value}
 use Rattle.tp_command_line.specs.declared.error.ValueError.{ValueError}
-use Rattle.tp_command_line.specs.declared.error.ValueError.TheVariants.{BadHex, BadAddress, OutOfMemory}
+use Rattle.tp_command_line.specs.declared.error.ValueError.TheVariants.{BadHex, BadAddress, OutOfMemory, NotOneText}
 
--- the name of a subcommand, its `LOG`, its key, its address and its hashes
-abbrev named_log : Text × List Row → Text × Option Text × Option Text × Option Text × List Text
-named_log p = (p.0, first_of (codes "LOG") p.1, first_of (codes "key") p.1, first_of (codes "ADDR") p.1, given_heads p.1)
+-- the name of a subcommand, its `LOG`, its key, its address, its hashes, its place and its page
+abbrev Named : Type 0
+Named = Text × Option Text × Option Text × Option Text × List Text × Option Text × Option Text
+
+abbrev named_log : Text × List Row → Named
+named_log p = (p.0, first_of (codes "LOG") p.1, first_of (codes "key") p.1, first_of (codes "ADDR") p.1, all_hashes p.1, one_of (codes "at") p.1, first_of (codes "PAGE") p.1)
 
 -- those of `show` with the path
-abbrev shown : Text → Text × Option Text × Option Text × Option Text × List Text
-shown path = (codes "show", Some path, None, None, [])
+abbrev shown : Text → Named
+shown path = (codes "show", Some path, None, None, [], None, None)
 
 -- the empty path
 no_fault_empty : (name : Text) → fault_of textpeer_app (name ∷ codes "show" ∷ [] ∷ []) ≡ []
@@ -64,10 +68,10 @@ show_no_fault (x ∷ xs) words ask = ap (fault_of textpeer_app) ask.words_are �
 
 show_log_is : (path : Text) (words : List Text) → AskToShow path words → option_map named_log (subcommand_of textpeer_app words) ≡ Some (shown path)
 show_log_is [] words ask =
-    let value : List Text → Option (Text × Option Text × Option Text × Option Text × List Text) = λ ws. option_map named_log (subcommand_of textpeer_app ws) in
+    let value : List Text → Option (Named) = λ ws. option_map named_log (subcommand_of textpeer_app ws) in
     ap value ask.words_are ∙ log_empty ask.name
 show_log_is (x ∷ xs) words ask =
-    let value : List Text → Option (Text × Option Text × Option Text × Option Text × List Text) = λ ws. option_map named_log (subcommand_of textpeer_app ws) in
+    let value : List Text → Option (Named) = λ ws. option_map named_log (subcommand_of textpeer_app ws) in
     ap value ask.words_are ∙ log_byte ask.name x xs (hyphen_or x ask.no_flag)
 
 -- another name isn't `show`
@@ -83,36 +87,41 @@ show_of_name path name rows job is log of = other_name _ (sym of.0 ∙ is) refl
 found_shown : (path : Text) (words : List Text) (name : Text) (rows : List Row) → AskToShow path words → subcommand_of textpeer_app words ≡ Some (name, rows)
     → named_log (name, rows) ≡ shown path
 found_shown path words name rows ask is =
-    let value : Option (Text × List Row) → Option (Text × Option Text × Option Text × Option Text × List Text) = option_map named_log in
+    let value : Option (Text × List Row) → Option (Named) = option_map named_log in
     some_is (sym (ap value is) ∙ show_log_is path words ask)
 
 -- words that ask to show a path give that
 pub show_path : (path : Text) (words : List Text) (job : Job) → AskToShow path words → IsFoundAs (subcommand_of textpeer_app words) job → IsShow path job
 show_path path words job ask found =
     let same = found_shown path words found.0 found.1 ask found.2 in
-    let name : Text × Option Text × Option Text × Option Text × List Text → Text = λ p. p.0 in
-    let log : Text × Option Text × Option Text × Option Text × List Text → Option Text = λ p. p.1 in
+    let name : Named → Text = λ p. p.0 in
+    let log : Named → Option Text = λ p. p.1 in
     show_of_name path found.0 found.1 job (ap name same) (ap log same) found.3
 
--- with no key, no address and no hash, only memory can fail
-only_values : (rows : List Row) (e : ValueError) → first_of (codes "key") rows ≡ None → first_of (codes "ADDR") rows ≡ None → given_heads rows ≡ [] → RefusesValue rows e → e ≡ OutOfMemory
-only_values rows BadHex key addr heads (inl any) =
-    let none : length (given_heads rows) ≡ 0 = ap length heads in
-    let some : any.0 < length (given_heads rows) = any.2 in
+-- with no key, no address, no hash, no place and no page, only memory can fail
+only_values : (rows : List Row) (e : ValueError) → first_of (codes "key") rows ≡ None → first_of (codes "ADDR") rows ≡ None → all_hashes rows ≡ [] → one_of (codes "at") rows ≡ None → first_of (codes "PAGE") rows ≡ None
+    → RefusesValue rows e → e ≡ OutOfMemory
+only_values rows BadHex key addr heads at page (inl any) =
+    let none : length (all_hashes rows) ≡ 0 = ap length heads in
+    let some : any.0 < length (all_hashes rows) = any.2 in
     absurd (omega arith)
-only_values rows BadHex key addr heads (inr bad) = let e : None ≡ Some bad.0 = sym key ∙ bad.1 in absurd (cc)
-only_values rows BadAddress key addr heads bad = let e : None ≡ Some bad.0 = sym addr ∙ bad.1 in absurd (cc)
-only_values rows OutOfMemory key addr heads bad = refl
+only_values rows BadHex key addr heads at page (inr bad) = let e : None ≡ Some bad.0 = sym key ∙ bad.1 in absurd (cc)
+only_values rows BadAddress key addr heads at page (inl bad) = let e : None ≡ Some bad.0 = sym addr ∙ bad.1 in absurd (cc)
+only_values rows BadAddress key addr heads at page (inr bad) = let e : None ≡ Some bad.0 = sym page ∙ bad.1 in absurd (cc)
+only_values rows OutOfMemory key addr heads at page bad = refl
+only_values rows NotOneText key addr heads at page bad = let e : None ≡ Some bad.0.1.0 = sym at ∙ bad.0.1.1 in absurd (cc)
 
 -- so it is of words that ask to show a path
 pub show_reads : (path : Text) (words : List Text) (name : Text) (rows : List Row) (e : ValueError) → AskToShow path words
     → subcommand_of textpeer_app words ≡ Some (name, rows) → RefusesValue rows e → e ≡ OutOfMemory
 show_reads path words name rows e ask is bad =
     let same = found_shown path words name rows ask is in
-    let key : Text × Option Text × Option Text × Option Text × List Text → Option Text = λ p. p.2 in
-    let addr : Text × Option Text × Option Text × Option Text × List Text → Option Text = λ p. p.3 in
-    let heads : Text × Option Text × Option Text × Option Text × List Text → List Text = λ p. p.4 in
-    only_values rows e (ap key same) (ap addr same) (ap heads same) bad
+    let key : Named → Option Text = λ p. p.2 in
+    let addr : Named → Option Text = λ p. p.3 in
+    let heads : Named → List Text = λ p. p.4 in
+    let at : Named → Option Text = λ p. p.5 in
+    let page : Named → Option Text = λ p. p.6 in
+    only_values rows e (ap key same) (ap addr same) (ap heads same) (ap at same) (ap page same) bad
 
 -- where the words have no fault, only memory can fail
 pub only_memory : (a : App) (path : Text) (words : List Text) (e : Error) → a ≡ textpeer_app → AskToShow path words

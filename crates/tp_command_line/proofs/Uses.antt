@@ -16,12 +16,12 @@ use Rattle.clap.specs.declared.builder.value_parser.ValueParser.{ValueParser}
 use Rattle.clap.specs.declared.builder.value_parser.ValueParser.TheVariants as parser
 use Rattle.clap.specs.declared.builder.value_parser.ValueParser.TheVariants.{String}
 use Rattle.tp_command_line.specs.Commands.{textpeer_app}
-use Rattle.tp_command_line.specs.Rules.{few, file_rule, flag_rule, key_rule, mandatory, message_rule, numbers, numeric, option_rule, required_rule, sessions_rule, several, time_rule, workers_rule}
+use Rattle.tp_command_line.specs.Rules.{few, file_rule, flag_rule, follow_rule, key_rule, mandatory, message_rule, most_rule, numbers, numeric, option_rule, options_rule, page_rule, patience_rule, pausing, required_rule, sessions_rule, several, time_rule, waiting, workers_rule}
 use Rattle.tp_command_line.specs.Uses.{IsUse, always_has, has_default, is_required, shape_named}
 use Rattle.tp_command_line.specs.Values.{parser_named}
-use Rattle.tp_command_line.proofs.Rows.{AllTaken, HasFirst, or_else_none, values_taken, with_values_filled, without_filled}
+use Rattle.tp_command_line.proofs.Rows.{AllFilled, AllTaken, HasFirst, or_else_none, values_taken, with_values_filled, without_filled}
 use Rattle.tp_command_line.proofs.Words.{Fills}
-use Rattle.tp_command_line.proofs.Levels.{AllSound, IsSound, default_value, level_checked, required_value}
+use Rattle.tp_command_line.proofs.Levels.{AllSound, IsSound, default_value, level_checked, level_filled, required_value}
 
 -- ---- the arguments, as they are built
 
@@ -45,6 +45,23 @@ many_fills a is again [] rows e h = absurd (cc)
 many_fills a is again (v ∷ vs) rows e h =
     let taken : AllTaken a.id (v ∷ vs) = subst (λ (q : ValueParser). list_all (accepts false q) (v ∷ vs) ≡ true) is (values_taken String (v ∷ vs) (or_else_none _ _ e).1) in
     with_values_filled _ _ _ v vs rows refl taken h
+
+-- an argument with one value or none
+abbrev optional : ValueParser → Text → Rule → Rule
+optional p value a = record a {
+  action = Some Set;
+  range = Some (record { start_inclusive = 0; end_inclusive = 1 });
+  parser = Some p;
+  ignore_case = false;
+  missing = value ∷ [];
+}
+
+optional_fills : (p : ValueParser) (value : Text) (a : Rule) → p ≡ parser_named a.id → reading_of p ≡ AsWritten → AllTaken a.id (value ∷ []) → Fills (optional p value a)
+optional_fills p value a is reading alone again [] rows e h = with_values_filled _ _ _ value [] _ reading alone (without_filled _ rows h)
+optional_fills p value a is reading alone again (v ∷ vs) rows e h =
+    let used_on = or_else_none _ _ (or_else_none _ _ e).1 in
+    let taken : AllTaken a.id (v ∷ vs) = subst (λ (q : ValueParser). list_all (accepts false q) (v ∷ vs) ≡ true) is (values_taken p (v ∷ vs) used_on.1) in
+    with_values_filled _ _ _ v vs _ reading taken (without_filled _ rows h)
 
 -- a flag
 abbrev flag : Rule → Rule
@@ -85,8 +102,14 @@ at_sound = single_sound numbers (placed 2 (mandatory (numeric (option_rule (code
 del_sound : IsSound (placed 2 (mandatory (numeric (option_rule (codes "del")))))
 del_sound = single_sound numbers (placed 2 (mandatory (numeric (option_rule (codes "del"))))) refl refl refl
 
-text_sound : IsSound (placed 2 (mandatory (option_rule (codes "text"))))
-text_sound = single_sound String (placed 2 (mandatory (option_rule (codes "text")))) refl refl refl
+whole_text_sound : IsSound (placed 2 (required_rule (codes "TEXT")))
+whole_text_sound = single_sound String (placed 2 (required_rule (codes "TEXT"))) refl refl refl
+
+text_sound : IsSound (placed 2 (option_rule (codes "text")))
+text_sound = single_sound String (placed 2 (option_rule (codes "text"))) refl refl refl
+
+text_file_sound : IsSound (placed 2 (option_rule (codes "text-file")))
+text_file_sound = single_sound String (placed 2 (option_rule (codes "text-file"))) refl refl refl
 
 time_sound : IsSound (placed 2 time_rule)
 time_sound = single_sound numbers (placed 2 time_rule) refl refl refl
@@ -118,14 +141,48 @@ script_sound = single_sound String (placed 1 (required_rule (codes "SCRIPT"))) r
 addr_sound : IsSound (placed 2 (required_rule (codes "ADDR")))
 addr_sound = single_sound String (placed 2 (required_rule (codes "ADDR"))) refl refl refl
 
+page_sound : IsSound (placed 2 page_rule)
+page_sound = single_sound String (placed 2 page_rule) refl refl refl
+
 sessions_sound : IsSound (placed 2 sessions_rule)
 sessions_sound = single_sound numbers (placed 2 sessions_rule) refl refl refl
 
 workers_sound : IsSound (placed 2 workers_rule)
 workers_sound = single_sound few (placed 2 workers_rule) refl refl refl
 
+patience_sound : IsSound (placed 2 patience_rule)
+patience_sound = single_sound waiting (placed 2 patience_rule) refl refl refl
+
+follow_sound : IsSound (placed 2 follow_rule)
+follow_sound = record { fills = optional_fills pausing (codes "5") (placed 2 follow_rule) refl refl refl; defaults = refl; reading = refl }
+
+verbose_sound : IsSound (placed 2 (flag_rule (codes "verbose")))
+verbose_sound = record { fills = flag_fills (placed 2 (flag_rule (codes "verbose"))) refl; defaults = refl; reading = refl }
+
+-- an option that may be given several times
+abbrev repeated : Rule → Rule
+repeated a = record a { action = Some Append; range = Some (record { start_inclusive = 1; end_inclusive = 1 }); parser = Some String; ignore_case = false; missing = [] }
+
+repeated_fills : (a : Rule) → String ≡ parser_named a.id → Fills (repeated a)
+repeated_fills a is again [] rows e h = absurd (cc)
+repeated_fills a is again (v ∷ vs) rows e h =
+    let taken : AllTaken a.id (v ∷ vs) = subst (λ (q : ValueParser). list_all (accepts false q) (v ∷ vs) ≡ true) is (values_taken String (v ∷ vs) (or_else_none _ _ e).1) in
+    with_values_filled _ _ _ v vs rows refl taken h
+
+to_sound : IsSound (placed 2 (options_rule (codes "to")))
+to_sound = record { fills = repeated_fills (placed 2 (options_rule (codes "to"))) refl; defaults = refl; reading = refl }
+
+most_sound : IsSound (placed 2 most_rule)
+most_sound = single_sound numbers (placed 2 most_rule) refl refl refl
+
+pretty_sound : IsSound (placed 2 (flag_rule (codes "pretty")))
+pretty_sound = record { fills = flag_fills (placed 2 (flag_rule (codes "pretty"))) refl; defaults = refl; reading = refl }
+
 client_sound : IsSound (placed 2 (flag_rule (codes "client")))
 client_sound = record { fills = flag_fills (placed 2 (flag_rule (codes "client"))) refl; defaults = refl; reading = refl }
+
+raw_sound : IsSound (placed 2 (flag_rule (codes "raw")))
+raw_sound = record { fills = flag_fills (placed 2 (flag_rule (codes "raw"))) refl; defaults = refl; reading = refl }
 
 heads_sound : (i : ℕ) (required : Bool) → IsSound (placed i (record (several (codes "HASH")) { required = required }))
 heads_sound i required = record { fills = many_fills (placed i (record (several (codes "HASH")) { required = required })) refl; defaults = refl; reading = refl }
@@ -155,7 +212,9 @@ all_sound = assumption (
   key_sound,
   at_sound,
   del_sound,
+  whole_text_sound,
   text_sound,
+  text_file_sound,
   time_sound,
   message_sound,
   position_sound,
@@ -166,9 +225,17 @@ all_sound = assumption (
   log_sound,
   script_sound,
   addr_sound,
+  page_sound,
   sessions_sound,
   workers_sound,
+  patience_sound,
+  follow_sound,
+  verbose_sound,
   client_sound,
+  raw_sound,
+  most_sound,
+  to_sound,
+  pretty_sound,
   heads_sound 2 false,
   heads_sound 3 true,
   help_sound,
@@ -203,6 +270,12 @@ always_given name id rows found e =
         → HasFirst id (rows_after found.shape.rules [] found.words)
     go true needed sound has = required_value found.shape found.words id sound found.passed needed
     go false needed sound has = default_value found.shape found.words id sound found.passed has
+
+-- each argument that was found has a value, and only values that it takes
+pub all_filled : (name : Text) (rows : List Row) → IsUse name rows → AllFilled rows
+all_filled name rows found =
+    let sound = found_sound (λ s. bytes_eq s.name name) (built textpeer_app).subs all_sound found.shape found.named in
+    subst AllFilled (sym found.found) (level_filled found.shape [] found.words false [] sound found.passed)
 
 -- ---- what was found
 

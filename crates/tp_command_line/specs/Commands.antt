@@ -1,15 +1,19 @@
 -- The commands of `textpeer`: the shape of each, as clap's definition for simple commands reads it, and the job that it asks for.
-use Rattle.std.specs.Prelude.{◌≡◌, ◌≢◌, List, [], ◌∷◌, ◌++◌, Option, Some, true, false, codes, slice_get}
+use Rattle.std.specs.Prelude.{◌≡◌, ◌≢◌, List, [], ◌∷◌, ◌++◌, Option, Some, None, true, false, codes, slice_get}
 use Rattle.std.specs.Borrow.{Bor}
 use Rattle.clap.specs.Simple.{new_shape as named_shape}
 use Rattle.clap.specs.Words.{App, Row, Rule, Shape, Text, app_of, first_of}
 use Rattle.clap.specs.declared.builder.command.Command.{Command}
 use Rattle.clap.specs.declared.builder.command.Command.TheViews.{out-Command}
-use Rattle.tp_command_line.specs.declared.job.FileJob.TheVariants.{New, Edit, Text as ReadText, Heads, Log, Graph, Cursor, Check, Merge, Save, Load, Recover, Show, Simulate}
+use Rattle.tp_command_line.specs.declared.job.FileJob.TheVariants.{New, Edit, Update, Import, Text as ReadText, Heads, Log, Graph, Diff, Status, Cursor, Check, Merge, Save, Load, Recover, Show, Simulate}
+use Rattle.tp_command_line.specs.declared.job.Beside.TheVariants.{Made, Nothing, Page, Read, There}
+use Rattle.tp_command_line.specs.declared.job.Inserted.{Inserted}
+use Rattle.tp_command_line.specs.declared.job.Inserted.TheVariants.{Given, InFile}
 use Rattle.tp_command_line.specs.declared.job.Job.{Job}
-use Rattle.tp_command_line.specs.declared.job.Job.TheVariants.{Files, Serve, Session, Sync}
-use Rattle.tp_command_line.specs.Rules.{file_rule, flag_rule, key_rule, mandatory, message_rule, numeric, option_rule, required_rule, sessions_rule, several, time_rule, workers_rule}
-use Rattle.tp_command_line.specs.Values.{HasAddress, HasFlag, HasHeads, HasKey, HasNumber}
+use Rattle.tp_command_line.specs.declared.job.Subject.{Subject}
+use Rattle.tp_command_line.specs.declared.job.Job.TheVariants.{Files, Follow, Serve, Session, Sync, Web}
+use Rattle.tp_command_line.specs.Rules.{file_rule, flag_rule, follow_rule, key_rule, mandatory, message_rule, most_rule, numeric, option_rule, options_rule, page_rule, patience_rule, required_rule, sessions_rule, several, time_rule, workers_rule}
+use Rattle.tp_command_line.specs.Values.{HasAddress, HasFlag, HasHashes, HasHeads, HasKey, HasNumber, HasPage, MayHaveNumber}
 
 -- ---- shapes
 
@@ -27,26 +31,47 @@ edit_at_shape = with_rules (codes "edit")
     (file_rule ∷ mandatory (numeric (option_rule (codes "at")))
     ∷ mandatory (numeric (option_rule (codes "del"))) ∷ [])
 
--- the same, and `--text T [--time N] [--message M] [--key HEX]`
+-- the same, and `--text T` or `--text-file F`, `[--time N] [--message M] [--key HEX]`; of the texts the rules ask for none
 abbrev pub edit_shape : Shape
 edit_shape = with_rules (codes "edit") (edit_at_shape.rules
-    ++ mandatory (option_rule (codes "text")) ∷ time_rule ∷ message_rule ∷ key_rule ∷ [])
+    ++ option_rule (codes "text") ∷ option_rule (codes "text-file") ∷ time_rule ∷ message_rule ∷ key_rule ∷ [])
 
--- `text FILE [HASH ..]`
+-- `FILE TEXT [--time N] [--message M] [--key HEX]`
+abbrev pub whole_text_shape : Text → Shape
+whole_text_shape name = with_rules name
+    (file_rule ∷ required_rule (codes "TEXT") ∷ time_rule ∷ message_rule ∷ key_rule ∷ [])
+
+-- `update` with these
+abbrev pub update_shape : Shape
+update_shape = whole_text_shape (codes "update")
+
+-- `import` with these
+abbrev pub import_shape : Shape
+import_shape = whole_text_shape (codes "import")
+
+-- `text FILE [--raw] [HASH ..]`
 abbrev pub text_shape : Shape
-text_shape = with_rules (codes "text") (file_rule ∷ several (codes "HASH") ∷ [])
+text_shape = with_rules (codes "text") (file_rule ∷ flag_rule (codes "raw") ∷ several (codes "HASH") ∷ [])
 
 -- `heads FILE`
 abbrev pub heads_shape : Shape
 heads_shape = with_rules (codes "heads") (file_rule ∷ [])
 
--- `log FILE`
+-- `log FILE [--pretty] [--most N]`
 abbrev pub log_shape : Shape
-log_shape = with_rules (codes "log") (file_rule ∷ [])
+log_shape = with_rules (codes "log") (file_rule ∷ flag_rule (codes "pretty") ∷ most_rule ∷ [])
 
 -- `graph FILE`
 abbrev pub graph_shape : Shape
 graph_shape = with_rules (codes "graph") (file_rule ∷ [])
+
+-- `diff FILE [HASH ..] [--to HASH ..]`
+abbrev pub diff_shape : Shape
+diff_shape = with_rules (codes "diff") (file_rule ∷ several (codes "HASH") ∷ options_rule (codes "to") ∷ [])
+
+-- `status FILE`
+abbrev pub status_shape : Shape
+status_shape = with_rules (codes "status") (file_rule ∷ [])
 
 -- `cursor FILE AT HASH ..`
 abbrev pub cursor_shape : Shape
@@ -81,17 +106,22 @@ show_shape = with_rules (codes "show") (required_rule (codes "LOG") ∷ [])
 abbrev pub simulate_shape : Shape
 simulate_shape = with_rules (codes "simulate") (required_rule (codes "SCRIPT") ∷ [])
 
--- `serve FILE ADDR [--sessions N] [--workers N] [--key HEX]`
+-- `serve FILE ADDR [--sessions N] [--workers N] [--patience SECONDS] [--verbose] [--key HEX]`
 abbrev pub serve_shape : Shape
-serve_shape = with_rules (codes "serve") (file_rule ∷ required_rule (codes "ADDR") ∷ sessions_rule ∷ workers_rule ∷ key_rule ∷ [])
+serve_shape = with_rules (codes "serve") (file_rule ∷ required_rule (codes "ADDR") ∷ sessions_rule ∷ workers_rule ∷ patience_rule
+    ∷ flag_rule (codes "verbose") ∷ key_rule ∷ [])
 
--- `sync FILE ADDR [--key HEX]`
+-- `sync FILE ADDR [--follow [SECONDS]] [--sessions N] [--patience SECONDS] [--key HEX]`
 abbrev pub sync_shape : Shape
-sync_shape = with_rules (codes "sync") (file_rule ∷ required_rule (codes "ADDR") ∷ key_rule ∷ [])
+sync_shape = with_rules (codes "sync") (file_rule ∷ required_rule (codes "ADDR") ∷ follow_rule ∷ sessions_rule ∷ patience_rule ∷ key_rule ∷ [])
 
 -- `session FILE [--client] [--key HEX]`
 abbrev pub session_shape : Shape
 session_shape = with_rules (codes "session") (file_rule ∷ flag_rule (codes "client") ∷ key_rule ∷ [])
+
+-- `web FILE [PAGE] [--key HEX]`
+abbrev pub web_shape : Shape
+web_shape = with_rules (codes "web") (file_rule ∷ page_rule ∷ key_rule ∷ [])
 
 -- the command has this shape, and no subcommand and no argument that subcommands have too
 pub record IsLeaf (s : Shape) (c : Command) : Type 0 where
@@ -113,7 +143,8 @@ bare_app = record {
 abbrev pub journals_app : App
 journals_app = record {
   top = record bare_app.top { is_leaf = false };
-  subs = new_shape ∷ edit_shape ∷ text_shape ∷ heads_shape ∷ log_shape ∷ graph_shape ∷ cursor_shape ∷ check_shape ∷ [];
+  subs = new_shape ∷ edit_shape ∷ update_shape ∷ import_shape ∷ text_shape ∷ heads_shape ∷ log_shape ∷ graph_shape ∷ diff_shape ∷ status_shape
+      ∷ cursor_shape ∷ check_shape ∷ [];
 }
 
 -- `textpeer` with the subcommands that need no network
@@ -124,7 +155,7 @@ files_app = record journals_app {
 
 -- `textpeer` with all its subcommands
 abbrev pub textpeer_app : App
-textpeer_app = record files_app { subs = files_app.subs ++ serve_shape ∷ sync_shape ∷ session_shape ∷ [] }
+textpeer_app = record files_app { subs = files_app.subs ++ serve_shape ∷ sync_shape ∷ session_shape ∷ web_shape ∷ [] }
 
 -- ---- jobs
 
@@ -132,17 +163,33 @@ textpeer_app = record files_app { subs = files_app.subs ++ serve_shape ∷ sync_
 abbrev pub HasText : Text → List Row → Bor Text → Type 0
 HasText id rows text = first_of id rows ≡ Some text.now
 
+-- one text is given, or one file, and not the other
+abbrev pub HasInserted : List Row → Inserted → Type 0
+HasInserted rows (Given text) = HasText (codes "text") rows text × (first_of (codes "text-file") rows ≡ None)
+HasInserted rows (InFile path) = HasText (codes "text-file") rows path × (first_of (codes "text") rows ≡ None)
+
 -- the job is that of the subcommand with this name, and its values are those of the arguments
 abbrev pub IsJobOf : Text → List Row → Job → Type 0
 IsJobOf name rows (Files (New file key)) = (name ≡ codes "new") × HasText (codes "FILE") rows file × HasKey rows key
 IsJobOf name rows (Files (Edit file at del text time message key)) = (name ≡ codes "edit")
     × HasText (codes "FILE") rows file × HasNumber (codes "at") rows at
-    × HasNumber (codes "del") rows del × HasText (codes "text") rows text
+    × HasNumber (codes "del") rows del × HasInserted rows text
     × HasNumber (codes "time") rows time × HasText (codes "message") rows message × HasKey rows key
-IsJobOf name rows (Files (ReadText file heads)) = (name ≡ codes "text") × HasText (codes "FILE") rows file × HasHeads rows heads.items
+IsJobOf name rows (Files (Update file source time message key)) = (name ≡ codes "update")
+    × HasText (codes "FILE") rows file × HasText (codes "TEXT") rows source
+    × HasNumber (codes "time") rows time × HasText (codes "message") rows message × HasKey rows key
+IsJobOf name rows (Files (Import file source time message key)) = (name ≡ codes "import")
+    × HasText (codes "FILE") rows file × HasText (codes "TEXT") rows source
+    × HasNumber (codes "time") rows time × HasText (codes "message") rows message × HasKey rows key
+IsJobOf name rows (Files (ReadText file is_raw heads)) = (name ≡ codes "text")
+    × HasText (codes "FILE") rows file × HasFlag (codes "raw") rows is_raw × HasHeads rows heads.items
 IsJobOf name rows (Files (Heads file)) = (name ≡ codes "heads") × HasText (codes "FILE") rows file
-IsJobOf name rows (Files (Log file)) = (name ≡ codes "log") × HasText (codes "FILE") rows file
+IsJobOf name rows (Files (Log file pretty most)) = (name ≡ codes "log") × HasText (codes "FILE") rows file
+    × HasFlag (codes "pretty") rows pretty × HasNumber (codes "most") rows most
 IsJobOf name rows (Files (Graph file)) = (name ≡ codes "graph") × HasText (codes "FILE") rows file
+IsJobOf name rows (Files (Diff file from to)) = (name ≡ codes "diff")
+    × HasText (codes "FILE") rows file × HasHeads rows from.items × HasHashes (codes "to") rows to.items
+IsJobOf name rows (Files (Status file)) = (name ≡ codes "status") × HasText (codes "FILE") rows file
 IsJobOf name rows (Files (Cursor file at heads)) = (name ≡ codes "cursor")
     × HasText (codes "FILE") rows file × HasNumber (codes "AT") rows at × HasHeads rows heads.items
 IsJobOf name rows (Files (Check file)) = (name ≡ codes "check") × HasText (codes "FILE") rows file
@@ -153,12 +200,18 @@ IsJobOf name rows (Files (Load saved file)) = (name ≡ codes "load") × HasText
 IsJobOf name rows (Files (Recover file out)) = (name ≡ codes "recover") × HasText (codes "FILE") rows file × HasText (codes "OUT") rows out
 IsJobOf name rows (Files (Show log)) = (name ≡ codes "show") × HasText (codes "LOG") rows log
 IsJobOf name rows (Files (Simulate script)) = (name ≡ codes "simulate") × HasText (codes "SCRIPT") rows script
-IsJobOf name rows (Serve file addr sessions workers key) = (name ≡ codes "serve") × HasText (codes "FILE") rows file
+IsJobOf name rows (Serve file addr sessions workers patience is_verbose key) = (name ≡ codes "serve") × HasText (codes "FILE") rows file
     × HasAddress rows addr × HasNumber (codes "sessions") rows sessions
-    × HasNumber (codes "workers") rows workers × HasKey rows key
+    × HasNumber (codes "workers") rows workers × HasNumber (codes "patience") rows patience
+    × HasFlag (codes "verbose") rows is_verbose × HasKey rows key
 IsJobOf name rows (Session file is_client key) = (name ≡ codes "session") × HasText (codes "FILE") rows file
     × HasFlag (codes "client") rows is_client × HasKey rows key
-IsJobOf name rows (Sync file addr key) = (name ≡ codes "sync") × HasText (codes "FILE") rows file × HasAddress rows addr × HasKey rows key
+IsJobOf name rows (Sync file addr patience key) = (name ≡ codes "sync") × HasText (codes "FILE") rows file × HasAddress rows addr
+    × HasNumber (codes "patience") rows patience × MayHaveNumber (codes "follow") rows None × HasKey rows key
+IsJobOf name rows (Follow file addr every sessions patience key) = (name ≡ codes "sync") × HasText (codes "FILE") rows file
+    × HasAddress rows addr × MayHaveNumber (codes "follow") rows (Some every) × HasNumber (codes "sessions") rows sessions
+    × HasNumber (codes "patience") rows patience × HasKey rows key
+IsJobOf name rows (Web file addr key) = (name ≡ codes "web") × HasText (codes "FILE") rows file × HasPage rows addr × HasKey rows key
 
 -- the job is that of the subcommand that was found
 abbrev pub IsFoundAs : Option (Text × List Row) → Job → Type 0
@@ -173,3 +226,32 @@ pub record AskToShow (path : Text) (words : List Text) : Type 0 where
   pub name : Text
   pub words_are : words ≡ name ∷ codes "show" ∷ path ∷ []
   pub no_flag : slice_get path 0 ≢ Some 45
+
+-- ---- what a job is about
+
+-- the file that is judged first, and the one that is read or made beside it, or where its server or its page is
+abbrev pub subject_of : Job → Subject
+subject_of (Files (Merge file other key)) = record { file = file; beside = Read other }
+subject_of (Files (Save file out)) = record { file = file; beside = Made out }
+subject_of (Files (Load saved file)) = record { file = saved; beside = Made file }
+subject_of (Files (Recover file out)) = record { file = file; beside = Made out }
+subject_of (Files (New file key)) = record { file = file; beside = Made file }
+subject_of (Files (Edit file at del (Given text) time message key)) = record { file = file; beside = Nothing }
+subject_of (Files (Edit file at del (InFile source) time message key)) = record { file = file; beside = Read source }
+subject_of (Files (Update file source time message key)) = record { file = file; beside = Read source }
+subject_of (Files (Import file source time message key)) = record { file = file; beside = Read source }
+subject_of (Files (ReadText file is_raw heads)) = record { file = file; beside = Nothing }
+subject_of (Files (Heads file)) = record { file = file; beside = Nothing }
+subject_of (Files (Log file pretty most)) = record { file = file; beside = Nothing }
+subject_of (Files (Graph file)) = record { file = file; beside = Nothing }
+subject_of (Files (Diff file from to)) = record { file = file; beside = Nothing }
+subject_of (Files (Status file)) = record { file = file; beside = Nothing }
+subject_of (Files (Cursor file at heads)) = record { file = file; beside = Nothing }
+subject_of (Files (Check file)) = record { file = file; beside = Nothing }
+subject_of (Files (Show log)) = record { file = log; beside = Nothing }
+subject_of (Files (Simulate script)) = record { file = script; beside = Nothing }
+subject_of (Serve file addr sessions workers patience is_verbose key) = record { file = file; beside = There addr }
+subject_of (Session file is_client key) = record { file = file; beside = Nothing }
+subject_of (Sync file addr patience key) = record { file = file; beside = There addr }
+subject_of (Follow file addr every sessions patience key) = record { file = file; beside = There addr }
+subject_of (Web file addr key) = record { file = file; beside = Page addr }

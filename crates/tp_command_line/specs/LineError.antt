@@ -1,16 +1,16 @@
 -- Why a command line gave no job.
-use Rattle.std.specs.Prelude.{◌≡◌, ◌≢◌, ◌⊎◌, ℕ, List, [], Option, Some, Result, MatchResult, Any, codes}
+use Rattle.std.specs.Prelude.{Bool, true, false, ◌≡◌, ◌≢◌, ◌⊎◌, ℕ, List, [], Option, Some, None, Result, MatchResult, Any, codes}
 use Rattle.clap.specs.Words.{IsAmong, Kinds, Row, Text, first_of, kind_of}
 use Rattle.clap.specs.declared.error.Error.{Error}
 use Rattle.clap.specs.declared.error.kind.ErrorKind.{ErrorKind}
 use Rattle.clap.specs.declared.error.kind.ErrorKind.TheVariants as kind
 use Rattle.tp_opid.specs.declared.hex_text.HexError.{HexError}
 use Rattle.tp_opid.specs.declared.hex_text.HexError.TheVariants as hex
-use Rattle.tp_command_line.specs.Values.{IsNoAddress, IsNoHash, given_heads}
+use Rattle.tp_command_line.specs.Values.{HasNumber, HasValue, IsNoAddress, IsNoHash, IsNoPage, all_hashes}
 use Rattle.tp_command_line.specs.declared.error.LineError.{LineError}
 use Rattle.tp_command_line.specs.declared.error.LineError.TheVariants.{Request, Fault, Value}
 use Rattle.tp_command_line.specs.declared.error.ValueError.{ValueError}
-use Rattle.tp_command_line.specs.declared.error.ValueError.TheVariants.{BadHex, BadAddress, OutOfMemory}
+use Rattle.tp_command_line.specs.declared.error.ValueError.TheVariants.{BadHex, BadAddress, OutOfMemory, NotOneText}
 
 -- ---- values
 
@@ -19,23 +19,34 @@ abbrev pub code_of_value : ValueError → ℕ
 code_of_value BadHex = 1
 code_of_value BadAddress = 2
 code_of_value OutOfMemory = 3
+code_of_value NotOneText = 13
 
--- the line that is printed of it
-abbrev pub value_line : ValueError → List ℕ
-value_line BadHex = codes "textpeer: BadHex\n"
-value_line BadAddress = codes "textpeer: Io\n"
-value_line OutOfMemory = codes "textpeer: OutOfMemory\n"
+-- the line that is printed of it, and below it what was expected, where that is asked for
+abbrev pub value_line : Bool → ValueError → List ℕ
+value_line false BadHex = codes "textpeer: BadHex\n"
+value_line true BadHex = codes "textpeer: BadHex\n  a hash or a key is 64 hexadecimal digits\n"
+value_line false BadAddress = codes "textpeer: Io\n"
+value_line true BadAddress = codes "textpeer: Io\n  an address is IP:PORT or HOST:PORT, as 127.0.0.1:7000\n"
+value_line explains OutOfMemory = codes "textpeer: OutOfMemory\n"
+value_line explains NotOneText = codes "error: one of --text <T> and --text-file <F> has to be given\n\nFor more information, try '--help'.\n"
 
 abbrev pub refusal_of_hex : HexError → ValueError
 refusal_of_hex hex.BadHex = BadHex
 refusal_of_hex hex.OutOfMemory = OutOfMemory
 
--- Why a value of the arguments isn't read: a hash or the key isn't 64 hexadecimal digits, the address isn't one, or memory
--- ran out.
+-- an edit is asked for, with no text and no file of one, or with both
+abbrev pub HasNotOneText : List Row → Type 0
+HasNotOneText rows = ((n : ℕ) × HasNumber (codes "at") rows n)
+    × (((first_of (codes "text") rows ≡ None) × (first_of (codes "text-file") rows ≡ None)) ⊎ (HasValue (codes "text") rows × HasValue (codes "text-file") rows))
+
+-- Why a value of the arguments isn't read: a hash or the key isn't 64 hexadecimal digits, the address isn't one, or a page's not
+-- of this machine, memory ran out, or an edit has not one text.
 abbrev pub RefusesValue : List Row → ValueError → Type 0
-RefusesValue rows BadHex = Any IsNoHash (given_heads rows) ⊎ ((text : Text) × (first_of (codes "key") rows ≡ Some text) × IsNoHash text)
-RefusesValue rows BadAddress = (text : Text) × (first_of (codes "ADDR") rows ≡ Some text) × IsNoAddress text
+RefusesValue rows BadHex = Any IsNoHash (all_hashes rows) ⊎ ((text : Text) × (first_of (codes "key") rows ≡ Some text) × IsNoHash text)
+RefusesValue rows BadAddress = ((text : Text) × (first_of (codes "ADDR") rows ≡ Some text) × IsNoAddress text)
+    ⊎ ((text : Text) × (first_of (codes "PAGE") rows ≡ Some text) × IsNoPage text)
 RefusesValue rows OutOfMemory = Unit {0}
+RefusesValue rows NotOneText = HasNotOneText rows
 
 -- ---- words
 
@@ -61,6 +72,10 @@ MayBeDone kinds = (kinds ≡ []) ⊎ AsksForHelp kinds
 abbrev pub NotRead : Kinds → Option (Text × List Row) → ValueError → Type 0
 NotRead kinds found OutOfMemory = Unit {0}
 NotRead kinds found e = (name : Text) × (rows : List Row) × (kinds ≡ []) × (found ≡ Some (name, rows)) × RefusesValue rows e
+
+-- The words are at no fault, but ask for an edit with not one text.
+abbrev pub AskForNotOneText : Kinds → Option (Text × List Row) → Type 0
+AskForNotOneText kinds found = NotRead kinds found NotOneText
 
 -- Why there is no job: help or the version is asked for, the words have that fault, or a value isn't read.
 abbrev pub RefusesLine : Kinds → Option (Text × List Row) → LineError → Type 0

@@ -37,6 +37,10 @@ several id = record (new_rule id) {
   range = Some (record { start_inclusive = 1; end_inclusive = usize_max });
 }
 
+-- `--id VALUE`, which may be given several times
+abbrev pub options_rule : Text → Rule
+options_rule id = record (option_rule id) { action = Some Append }
+
 abbrev pub file_rule : Rule
 file_rule = required_rule (codes "FILE")
 
@@ -55,9 +59,37 @@ sessions_rule = record (numeric (option_rule (codes "sessions"))) { defaults = c
 abbrev pub workers_rule : Rule
 workers_rule = record (option_rule (codes "workers")) { parser = Some few; defaults = codes "2" ∷ [] }
 
+-- so many seconds one side waits for the other: up to a day, and for ever where it is 0
+abbrev pub waiting : ValueParser
+waiting = Unsigned 0 86400
+
+-- half a minute where `--patience` is left out
+abbrev pub patience_rule : Rule
+patience_rule = record (option_rule (codes "patience")) { parser = Some waiting; defaults = codes "30" ∷ [] }
+
+-- the address of a page, by its place; this one where it is left out
+abbrev pub page_rule : Rule
+page_rule = record (new_rule (codes "PAGE")) { action = Some Set; defaults = codes "127.0.0.1:7117" ∷ [] }
+
+-- so many seconds between two sessions: up to a day
+abbrev pub pausing : ValueParser
+pausing = Unsigned 1 86400
+
+-- `--follow` alone is every five seconds
+abbrev pub follow_rule : Rule
+follow_rule = record (option_rule (codes "follow")) {
+  parser = Some pausing;
+  range = Some (record { start_inclusive = 0; end_inclusive = 1 });
+  missing = codes "5" ∷ [];
+}
+
 -- the time is 0 where it is left out
 abbrev pub time_rule : Rule
 time_rule = record (numeric (option_rule (codes "time"))) { defaults = codes "0" ∷ [] }
+
+-- as many as there are where `--most` is left out
+abbrev pub most_rule : Rule
+most_rule = record (numeric (option_rule (codes "most"))) { defaults = codes "18446744073709551615" ∷ [] }
 
 -- the message is empty where it is left out
 abbrev pub message_rule : Rule

@@ -2,8 +2,8 @@
 
 ghost use Rattle.std.specs.Prelude.{◌≡◌, ◌∷◌, IfOk, [], false, codes};
 ghost use Rattle.clap.specs.Words.{App, Shape, app_of, rule_of, with_subcommand};
-ghost use Rattle.tp_command_line.specs.Commands.{IsLeaf, bare_app, cursor_shape, edit_at_shape, edit_shape, files_app, journals_app, load_shape, merge_shape, new_shape, serve_shape, session_shape, sync_shape, text_shape, textpeer_app, with_rules};
-ghost use Rattle.tp_command_line.specs.Rules.{file_rule, flag_rule, mandatory, message_rule, numeric, option_rule, required_rule, sessions_rule, several, time_rule, workers_rule};
+ghost use Rattle.tp_command_line.specs.Commands.{IsLeaf, bare_app, cursor_shape, diff_shape, edit_at_shape, edit_shape, files_app, journals_app, load_shape, log_shape, merge_shape, new_shape, serve_shape, session_shape, sync_shape, text_shape, textpeer_app, web_shape, whole_text_shape, with_rules};
+ghost use Rattle.tp_command_line.specs.Rules.{file_rule, flag_rule, follow_rule, mandatory, message_rule, most_rule, numeric, option_rule, options_rule, page_rule, patience_rule, required_rule, sessions_rule, several, time_rule, workers_rule};
 
 use clap::builder::ValueParser;
 use clap::{Arg, ArgAction, Command, value_parser};
@@ -16,7 +16,8 @@ pub(crate) fn textpeer_command<'a>(alloc: Global) -> Result<Command<'a>, AllocEr
     let on_files = file_commands(alloc);
     let served = with(on_files, serve_command(alloc));
     let synced = with(served, sync_command(alloc));
-    with(synced, session_command(alloc))
+    let held = with(synced, session_command(alloc));
+    with(held, web_command(alloc))
 }
 
 // The program with the commands that need no network.
@@ -78,7 +79,25 @@ fn journal_commands<'a>(alloc: Global) -> Result<Command<'a>, AllocError>
 {
     let begun = with(Ok(program(alloc)), new_command(alloc));
     let edited = with(begun, edit_command(alloc));
-    let read = with(edited, text_command(alloc));
+    let updated = with(
+        edited,
+        whole_text_command(
+            alloc,
+            "update",
+            "Makes the text that of a file, by the differences of both, and prints the hash of each change, or `nothing` where they are equal",
+            "Example:\n  textpeer update notes.journal notes.txt",
+        ),
+    );
+    let imported = with(
+        updated,
+        whole_text_command(
+            alloc,
+            "import",
+            "Brings the text of a file into a new document, or one without text, and prints the hash of each change",
+            "Example:\n  textpeer import notes.journal notes.txt",
+        ),
+    );
+    let read = with(imported, text_command(alloc));
     let headed = with(
         read,
         file_command(
@@ -88,16 +107,7 @@ fn journal_commands<'a>(alloc: Global) -> Result<Command<'a>, AllocError>
             "Example:\n  textpeer heads notes.journal",
         ),
     );
-    let logged = with(
-        headed,
-        file_command(
-            alloc,
-            "log",
-            "Prints a line for each change: hash, actor, sequence number, time, \
-             inserted and deleted characters, message",
-            "Example:\n  textpeer log notes.journal",
-        ),
-    );
+    let logged = with(headed, log_command(alloc));
     let drawn = with(
         logged,
         file_command(
@@ -107,7 +117,17 @@ fn journal_commands<'a>(alloc: Global) -> Result<Command<'a>, AllocError>
             "Example:\n  textpeer graph notes.journal | dot -Tsvg > changes.svg",
         ),
     );
-    let found = with(drawn, cursor_command(alloc));
+    let compared = with(drawn, diff_command(alloc));
+    let described = with(
+        compared,
+        file_command(
+            alloc,
+            "status",
+            "Prints what a journal has: document, changes, authors, characters, heads, bytes; and who has it open",
+            "Example:\n  textpeer status notes.journal",
+        ),
+    );
+    let found = with(described, cursor_command(alloc));
     with(
         found,
         file_command(
@@ -230,11 +250,20 @@ fn count<'a>(alloc: Global, id: &'a str, help: &'a str) -> Arg<'a>
 }
 
 fn text<'a>(alloc: Global) -> Arg<'a>
-    ensures rule { rule_of result ≡ mandatory (option_rule (codes "text")) }
+    ensures rule { rule_of result ≡ option_rule (codes "text") }
     ensures local { result.global ≡ false }
 {
     let help = "the text that is inserted there; one that begins with - as in --text=-x";
-    option(alloc, "text", "T", help).required(true)
+    option(alloc, "text", "T", help)
+}
+
+// The file of a text.
+fn text_file<'a>(alloc: Global) -> Arg<'a>
+    ensures rule { rule_of result ≡ option_rule (codes "text-file") }
+    ensures local { result.global ≡ false }
+{
+    let help = "in place of --text, a file of the text; - is the standard input";
+    option(alloc, "text-file", "F", help)
 }
 
 fn time<'a>(alloc: Global) -> Arg<'a>
@@ -246,20 +275,15 @@ fn time<'a>(alloc: Global) -> Arg<'a>
         .default_value("0")
 }
 
-// How many sessions a server holds.
-fn sessions<'a>(alloc: Global) -> Arg<'a>
+// How many sessions are held.
+fn sessions<'a>(alloc: Global, help: &'a str) -> Arg<'a>
     ensures rule { rule_of result ≡ sessions_rule }
     ensures local { result.global ≡ false }
 {
-    option(
-        alloc,
-        "sessions",
-        "N",
-        "how many sessions are held; then it ends. If left out it serves until it is ended",
-    )
-    .value_parser(value_parser!(u64))
-    .default_value("18446744073709551615")
-    .hide_default_value(true)
+    option(alloc, "sessions", "N", help)
+        .value_parser(value_parser!(u64))
+        .default_value("18446744073709551615")
+        .hide_default_value(true)
 }
 
 // How many sessions a server holds at once.
@@ -277,15 +301,65 @@ fn workers<'a>(alloc: Global) -> Arg<'a>
     .default_value("2")
 }
 
-// Which side of a session is held.
-fn client<'a>(alloc: Global) -> Arg<'a>
-    ensures rule { rule_of result ≡ flag_rule (codes "client") }
+// How many seconds the other side of a session may say nothing.
+fn patience<'a>(alloc: Global) -> Arg<'a>
+    ensures rule { rule_of result ≡ patience_rule }
     ensures local { result.global ≡ false }
 {
-    Arg::new(alloc, "client")
-        .long("client")
-        .help("holds the client's side; the server's if left out")
+    option(
+        alloc,
+        "patience",
+        "SECONDS",
+        "how long the other side may say nothing, in seconds to 86400; then its session ends. For ever if 0",
+    )
+    .value_parser(ValueParser::unsigned(0, 86400))
+    .default_value("30")
+}
+
+// How many seconds pass between two sessions, where there is more than one.
+fn follow<'a>(alloc: Global) -> Arg<'a>
+    ensures rule { rule_of result ≡ follow_rule }
+    ensures local { result.global ≡ false }
+{
+    option(
+        alloc,
+        "follow",
+        "SECONDS",
+        "goes on with one session after another, so many seconds between two, 1 to 86400; 5 if none are given",
+    )
+    .num_args(0..=1)
+    .value_parser(ValueParser::unsigned(1, 86400))
+    .default_missing_value("5")
+}
+
+// An option without a value.
+fn flag<'a>(alloc: Global, id: &'a str, help: &'a str) -> Arg<'a>
+    ensures rule { rule_of result ≡ flag_rule id.entry.now }
+    ensures local { result.global ≡ false }
+{
+    Arg::new(alloc, id)
+        .long(id)
+        .help(help)
         .action(ArgAction::SetTrue)
+}
+
+// Whether a text is printed as it is.
+fn raw<'a>(alloc: Global) -> Arg<'a>
+    ensures rule { rule_of result ≡ flag_rule (codes "raw") }
+    ensures local { result.global ≡ false }
+{
+    flag(alloc, "raw", "prints no newline after the text")
+}
+
+// How many of the newest changes.
+fn most<'a>(alloc: Global) -> Arg<'a>
+    ensures rule { rule_of result ≡ most_rule }
+    ensures local { result.global ≡ false }
+{
+    option(alloc, "most", "N", "the newest N changes only")
+        .value_parser(value_parser!(u64))
+        .default_value("18446744073709551615")
+        .hide_default_value(true)
 }
 
 fn message<'a>(alloc: Global) -> Arg<'a>
@@ -385,9 +459,32 @@ fn edit_command<'a>(alloc: Global) -> Result<Command<'a>, AllocError>
 {
     edit_at(alloc)?
         .arg(text(alloc))?
+        .arg(text_file(alloc))?
         .arg(time(alloc))?
         .arg(message(alloc))?
         .arg(key(alloc))
+}
+
+// A command on a journal, with a text in a file.
+fn whole_text_command<'a>(
+    alloc: Global,
+    name: &'a str,
+    about: &'a str,
+    example: &'a str,
+) -> Result<Command<'a>, AllocError>
+    ensures { IfOk result (IsLeaf (whole_text_shape name.entry.now)) }
+{
+    pair_command(
+        alloc,
+        name,
+        about,
+        example,
+        "TEXT",
+        "a file of text; - is the standard input",
+    )?
+    .arg(time(alloc))?
+    .arg(message(alloc))?
+    .arg(key(alloc))
 }
 
 fn text_command<'a>(alloc: Global) -> Result<Command<'a>, AllocError>
@@ -399,10 +496,59 @@ fn text_command<'a>(alloc: Global) -> Result<Command<'a>, AllocError>
         "Prints the text, as it is now or at earlier heads",
         "Example:\n  textpeer text notes.journal",
     )?
+    .arg(raw(alloc))?
     .arg(hashes(
         alloc,
         "the heads at which the text is read; as it is now if left out",
     ))
+}
+
+fn log_command<'a>(alloc: Global) -> Result<Command<'a>, AllocError>
+    ensures { IfOk result (IsLeaf log_shape) }
+{
+    file_command(
+        alloc,
+        "log",
+        "Prints a line for each change: hash, actor, sequence number, time, \
+         inserted and deleted characters, message",
+        "Example:\n  textpeer log notes.journal --pretty --most 10",
+    )?
+    .arg(flag(
+        alloc,
+        "pretty",
+        "for people: the newest first, short hashes and actors, dates (UTC) of times that are seconds since 1970",
+    ))?
+    .arg(most(alloc))
+}
+
+// The heads of a later text, each after the option's name.
+fn later_heads<'a>(alloc: Global) -> Arg<'a>
+    ensures rule { rule_of result ≡ options_rule (codes "to") }
+    ensures local { result.global ≡ false }
+{
+    option(
+        alloc,
+        "to",
+        "HASH",
+        "a head of the later text, once for each; as it is now if left out",
+    )
+    .action(ArgAction::Append)
+}
+
+fn diff_command<'a>(alloc: Global) -> Result<Command<'a>, AllocError>
+    ensures { IfOk result (IsLeaf diff_shape) }
+{
+    file_command(
+        alloc,
+        "diff",
+        "Prints which lines of an earlier text became which of a later one, as what was typed and deleted says",
+        "Example:\n  textpeer diff notes.journal $(textpeer heads notes.journal)",
+    )?
+    .arg(hashes(
+        alloc,
+        "the heads of the earlier text; the empty text of the beginning if left out",
+    ))?
+    .arg(later_heads(alloc))
 }
 
 fn cursor_command<'a>(alloc: Global) -> Result<Command<'a>, AllocError>
@@ -455,10 +601,19 @@ fn serve_command<'a>(alloc: Global) -> Result<Command<'a>, AllocError>
         "Serves a journal: prints the port once it listens, then holds sessions until it is ended",
         "Example:\n  textpeer serve notes.journal 127.0.0.1:7000",
         "ADDR",
-        "the address to listen on, as IP:PORT; with port 0 a free one is taken",
+        "the address to listen on, as IP:PORT or HOST:PORT; with port 0 a free one is taken",
     )?
-    .arg(sessions(alloc))?
+    .arg(sessions(
+        alloc,
+        "how many sessions are held; then it ends. If left out it serves until it is ended",
+    ))?
     .arg(workers(alloc))?
+    .arg(patience(alloc))?
+    .arg(flag(
+        alloc,
+        "verbose",
+        "prints a line on the standard error for each session as it ends",
+    ))?
     .arg(key(alloc))
 }
 
@@ -471,8 +626,14 @@ fn sync_command<'a>(alloc: Global) -> Result<Command<'a>, AllocError>
         "Exchanges changes with a server of the document, and prints how many entered here",
         "Example:\n  textpeer sync copy.journal 127.0.0.1:7000",
         "ADDR",
-        "the address of the server, as IP:PORT",
+        "the address of the server, as IP:PORT or HOST:PORT",
     )?
+    .arg(follow(alloc))?
+    .arg(sessions(
+        alloc,
+        "with --follow: how many sessions are held; then it ends. If left out it goes on until it is ended",
+    ))?
+    .arg(patience(alloc))?
     .arg(key(alloc))
 }
 
@@ -482,9 +643,40 @@ fn session_command<'a>(alloc: Global) -> Result<Command<'a>, AllocError>
     file_command(
         alloc,
         "session",
-        "Holds one session over the standard input and output, and says on the standard error how many changes entered here",
+        "Holds one session over the standard input and output, and says on the standard error how many changes entered here. \
+         It waits for the other side without a bound",
         "Example:\n  mkfifo back\n  textpeer session copy.journal --client <back | ssh host textpeer session notes.journal >back",
     )?
-    .arg(client(alloc))?
+    .arg(flag(
+        alloc,
+        "client",
+        "holds the client's side; the server's if left out",
+    ))?
+    .arg(key(alloc))
+}
+
+// The address of a page.
+fn page<'a>(alloc: Global) -> Arg<'a>
+    ensures rule { rule_of result ≡ page_rule }
+    ensures local { result.global ≡ false }
+{
+    Arg::new(alloc, "PAGE")
+        .help(
+            "the address of the page, as IP:PORT of this machine; with port 0 a free one is taken",
+        )
+        .action(ArgAction::Set)
+        .default_value("127.0.0.1:7117")
+}
+
+fn web_command<'a>(alloc: Global) -> Result<Command<'a>, AllocError>
+    ensures { IfOk result (IsLeaf web_shape) }
+{
+    file_command(
+        alloc,
+        "web",
+        "Shows a journal as a page, in whose windows several people write: prints its address, and serves it until it is ended",
+        "Example:\n  textpeer web notes.journal",
+    )?
+    .arg(page(alloc))?
     .arg(key(alloc))
 }

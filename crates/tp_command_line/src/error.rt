@@ -20,11 +20,13 @@ pub enum ValueError {
     BadAddress,
     /// A growth was refused.
     OutOfMemory,
+    /// An edit has no text and no file of one, or both: a fault of the words.
+    NotOneText,
 }
 
 impl ValueError {
     /// The number of the refusal among those of the program: 1 `BadHex`, 2 `BadAddress`, as of what fails outside, 3
-    /// `OutOfMemory`.
+    /// `OutOfMemory`, 13 `NotOneText`.
     pub fn code(&self) -> u8
         ensures { result ≡ code_of_value self.now }
     {
@@ -32,17 +34,26 @@ impl ValueError {
             ValueError::BadHex => 1,
             ValueError::BadAddress => 2,
             ValueError::OutOfMemory => 3,
+            ValueError::NotOneText => 13,
         }
     }
 
-    /// The line that is printed of it, with the newline.
-    pub fn line(&self) -> &'static str
-        ensures { result.now ≡ value_line self.now }
+    /// The line that is printed of it, with the newline, and where it is to be explained what was expected, below it.
+    pub fn line(&self, explains: bool) -> &'static str
+        ensures { result.now ≡ value_line explains self.now }
     {
-        match self {
-            ValueError::BadHex => "textpeer: BadHex\n",
-            ValueError::BadAddress => "textpeer: Io\n",
-            ValueError::OutOfMemory => "textpeer: OutOfMemory\n",
+        match (self, explains) {
+            (ValueError::BadHex, false) => "textpeer: BadHex\n",
+            (ValueError::BadHex, true) => {
+                "textpeer: BadHex\n  a hash or a key is 64 hexadecimal digits\n"
+            }
+            (ValueError::BadAddress, false) => "textpeer: Io\n",
+            (ValueError::BadAddress, true) => {
+                "textpeer: Io\n  an address is IP:PORT or HOST:PORT, as 127.0.0.1:7000\n"
+            }
+            (ValueError::OutOfMemory, _) => "textpeer: OutOfMemory\n",
+            (ValueError::NotOneText, _) =>
+                "error: one of --text <T> and --text-file <F> has to be given\n\nFor more information, try '--help'.\n",
         }
     }
 }
@@ -63,7 +74,7 @@ impl fmt::Display for LineError {
         match self {
             LineError::Request(text) => write!(f, "{text}"),
             LineError::Fault(text) => write!(f, "{text}"),
-            LineError::Value(error) => f.write_str(error.line()),
+            LineError::Value(error) => f.write_str(error.line(false)),
         }
     }
 }

@@ -1,17 +1,30 @@
 //! What a command line can ask for, and which job is asked for by a subcommand.
 
-ghost use Rattle.std.specs.Prelude.{IfErr, IfOk, codes};
+ghost use Rattle.std.specs.Prelude.{◌≡◌, IfErr, IfOk, codes};
 ghost use Rattle.clap.specs.Words.{found_of, rows_of};
-ghost use Rattle.tp_command_line.specs.Commands.{IsJobOf};
+ghost use Rattle.tp_command_line.specs.declared.job.Job.TheVariants.{Files};
+ghost use Rattle.tp_command_line.specs.Commands.{IsJobOf, subject_of};
 ghost use Rattle.tp_command_line.specs.LineError.{RefusesValue};
 ghost use Rattle.tp_command_line.specs.Uses.{IsUse};
 
+use crate::address::Address;
 use crate::error::ValueError;
-use crate::values::{address_of, client_of, heads_of, key_of, number_of, text_of};
+use crate::values::{
+    address_of, flag_of, hashes_of, inserted_of, key_of, number_in, number_of, page_of, text_of,
+};
 use clap::ArgMatches;
 use std::alloc::Global;
 use std::net::SocketAddr;
 use tp_opid::Hash;
+
+/// The text that an edit inserts.
+#[derive(Drop)]
+pub enum Inserted<'a> {
+    /// The text itself.
+    Given(&'a str),
+    /// The path of a file of it; `-` is the standard input.
+    InFile(&'a str),
+}
 
 /// What is to be done to files. Paths and texts are borrowed from the words of the command line; a key is that of the
 /// generator of random numbers, where one is given.
@@ -33,10 +46,36 @@ pub enum FileJob<'a> {
         /// How many characters are deleted from the position on.
         del: u64,
         /// The text that is inserted there.
-        text: &'a str,
+        text: Inserted<'a>,
         /// The time of the change; 0 where none is given.
         time: u64,
         /// The message of the change; empty where none is given.
+        message: &'a str,
+        /// The key.
+        key: Option<[u8; 32]>,
+    },
+    /// Makes the text that of a file.
+    Update {
+        /// The path of the journal.
+        file: &'a str,
+        /// The path of the file; `-` is the standard input.
+        source: &'a str,
+        /// The time of the changes; 0 where none is given.
+        time: u64,
+        /// The message of the changes; empty where none is given.
+        message: &'a str,
+        /// The key.
+        key: Option<[u8; 32]>,
+    },
+    /// Brings the text of a file into a document without text, which is begun where there is none.
+    Import {
+        /// The path of the journal.
+        file: &'a str,
+        /// The path of the file; `-` is the standard input.
+        source: &'a str,
+        /// The time of the changes; 0 where none is given.
+        time: u64,
+        /// The message of the changes; empty where none is given.
         message: &'a str,
         /// The key.
         key: Option<[u8; 32]>,
@@ -45,6 +84,8 @@ pub enum FileJob<'a> {
     Text {
         /// The path of the journal.
         file: &'a str,
+        /// Whether no newline is printed after it.
+        is_raw: bool,
         /// The heads at which the text is read; as it is now where there are none.
         heads: Vec<Hash>,
     },
@@ -57,9 +98,27 @@ pub enum FileJob<'a> {
     Log {
         /// The path of the journal.
         file: &'a str,
+        /// Whether it is printed for people, the newest change first.
+        pretty: bool,
+        /// How many of the newest changes at most; 2^64 - 1 where none is given.
+        most: u64,
     },
     /// Prints the changes as a graph, in the language DOT.
     Graph {
+        /// The path of the journal.
+        file: &'a str,
+    },
+    /// Prints which lines of an earlier text become which of a later one.
+    Diff {
+        /// The path of the journal.
+        file: &'a str,
+        /// The heads of the earlier text; where there are none it is the empty text of the beginning.
+        from: Vec<Hash>,
+        /// The heads of the later text; as it is now where there are none.
+        to: Vec<Hash>,
+    },
+    /// Prints what a journal has, and who has it open.
+    Status {
         /// The path of the journal.
         file: &'a str,
     },
@@ -129,11 +188,15 @@ pub enum Job<'a> {
         /// The path of the journal.
         file: &'a str,
         /// The address that is listened on.
-        addr: SocketAddr,
+        addr: Address<'a>,
         /// How many sessions are held; 2^64 - 1, which is for ever, where none is given.
         sessions: u64,
         /// How many sessions are held at once: 1 to 64, and 2 where none is given.
         workers: u64,
+        /// How many seconds a client may say nothing; 0, which is for ever, to 86,400, and 30 where none is given.
+        patience: u64,
+        /// Whether a line is printed of each session as it ends.
+        is_verbose: bool,
         /// The key.
         key: Option<[u8; 32]>,
     },
@@ -151,10 +214,109 @@ pub enum Job<'a> {
         /// The path of the journal.
         file: &'a str,
         /// The address of the server.
+        addr: Address<'a>,
+        /// How many seconds the server may say nothing; 0, which is for ever, to 86,400, and 30 where none is given.
+        patience: u64,
+        /// The key.
+        key: Option<[u8; 32]>,
+    },
+    /// The same, again and again.
+    Follow {
+        /// The path of the journal.
+        file: &'a str,
+        /// The address of the server.
+        addr: Address<'a>,
+        /// How many seconds pass between a session and the next: 1 to 86,400.
+        every: u64,
+        /// How many sessions are held; 2^64 - 1, which is for ever, where none is given.
+        sessions: u64,
+        /// How many seconds the server may say nothing; 0, which is for ever, to 86,400, and 30 where none is given.
+        patience: u64,
+        /// The key.
+        key: Option<[u8; 32]>,
+    },
+    /// Shows a journal as a page of this machine.
+    Web {
+        /// The path of the journal.
+        file: &'a str,
+        /// The address of the page.
         addr: SocketAddr,
         /// The key.
         key: Option<[u8; 32]>,
     },
+}
+
+/// What is read or made beside the first file of a job, or whom it is about.
+#[derive(Clone, Copy)]
+pub enum Beside<'a> {
+    /// There is none.
+    Nothing,
+    /// It is read.
+    Read(&'a str),
+    /// It is made.
+    Made(&'a str),
+    /// It is a server, at the address.
+    There(Address<'a>),
+    /// It is a page, at the address.
+    Page(SocketAddr),
+}
+
+/// What a job is about.
+#[derive(Clone, Copy)]
+pub struct Subject<'a> {
+    /// The path of the file that is judged first.
+    pub file: &'a str,
+    /// The file beside it.
+    pub beside: Beside<'a>,
+}
+
+impl<'a> Job<'a> {
+    /// What the job is about.
+    pub fn subject(&self) -> Subject<'a>
+        ensures { result ≡ subject_of self.now }
+    {
+        let (file, beside) = match self {
+            Job::Files(job) => return subject_of_files(job),
+            Job::Serve { file, addr, .. } => (file, Beside::There(*addr)),
+            Job::Session { file, .. } => (file, Beside::Nothing),
+            Job::Sync { file, addr, .. } => (file, Beside::There(*addr)),
+            Job::Follow { file, addr, .. } => (file, Beside::There(*addr)),
+            Job::Web { file, addr, .. } => (file, Beside::Page(*addr)),
+        };
+        Subject { file, beside }
+    }
+}
+
+// The same of a job that needs no network.
+fn subject_of_files<'a>(job: &FileJob<'a>) -> Subject<'a>
+    ensures { result ≡ subject_of (Files job.now) }
+{
+    let (file, beside) = match job {
+        FileJob::New { file, .. } => (file, Beside::Made(file)),
+        FileJob::Merge { file, other, .. } => (file, Beside::Read(other)),
+        FileJob::Save { file, out } => (file, Beside::Made(out)),
+        FileJob::Load { saved, file } => (saved, Beside::Made(file)),
+        FileJob::Recover { file, out } => (file, Beside::Made(out)),
+        FileJob::Edit {
+            file,
+            text: Inserted::InFile(source),
+            ..
+        } => (file, Beside::Read(source)),
+        FileJob::Edit { file, .. } => (file, Beside::Nothing),
+        FileJob::Update { file, source, .. } => (file, Beside::Read(source)),
+        FileJob::Import { file, source, .. } => (file, Beside::Read(source)),
+        FileJob::Text { file, .. } => (file, Beside::Nothing),
+        FileJob::Heads { file } => (file, Beside::Nothing),
+        FileJob::Log { file, .. } => (file, Beside::Nothing),
+        FileJob::Graph { file } => (file, Beside::Nothing),
+        FileJob::Diff { file, .. } => (file, Beside::Nothing),
+        FileJob::Status { file } => (file, Beside::Nothing),
+        FileJob::Cursor { file, .. } => (file, Beside::Nothing),
+        FileJob::Check { file } => (file, Beside::Nothing),
+        FileJob::Show { log } => (log, Beside::Nothing),
+        FileJob::Simulate { script } => (script, Beside::Nothing),
+    };
+    Subject { file, beside }
 }
 
 // The change that `edit` asks for.
@@ -167,10 +329,53 @@ fn edit_of<'a>(found: &ArgMatches<'a>) -> Result<Job<'a>, ValueError>
         file: text_of(found, "edit", "FILE"),
         at: number_of(found, "edit", "at"),
         del: number_of(found, "edit", "del"),
-        text: text_of(found, "edit", "text"),
+        text: inserted_of(found)?,
         time: number_of(found, "edit", "time"),
         message: text_of(found, "edit", "message"),
         key: key_of(found)?,
+    }))
+}
+
+// The text that `update` asks for.
+fn update_of<'a>(found: &ArgMatches<'a>) -> Result<Job<'a>, ValueError>
+    requires { IsUse (codes "update") (rows_of (found_of found.now)) }
+    ensures ok { IfOk result (IsJobOf (codes "update") (rows_of (found_of found.now))) }
+    ensures err { IfErr result (RefusesValue (rows_of (found_of found.now))) }
+{
+    Ok(Job::Files(FileJob::Update {
+        file: text_of(found, "update", "FILE"),
+        source: text_of(found, "update", "TEXT"),
+        time: number_of(found, "update", "time"),
+        message: text_of(found, "update", "message"),
+        key: key_of(found)?,
+    }))
+}
+
+// The text that `import` asks for.
+fn import_of<'a>(found: &ArgMatches<'a>) -> Result<Job<'a>, ValueError>
+    requires { IsUse (codes "import") (rows_of (found_of found.now)) }
+    ensures ok { IfOk result (IsJobOf (codes "import") (rows_of (found_of found.now))) }
+    ensures err { IfErr result (RefusesValue (rows_of (found_of found.now))) }
+{
+    Ok(Job::Files(FileJob::Import {
+        file: text_of(found, "import", "FILE"),
+        source: text_of(found, "import", "TEXT"),
+        time: number_of(found, "import", "time"),
+        message: text_of(found, "import", "message"),
+        key: key_of(found)?,
+    }))
+}
+
+// The comparison that `diff` asks for.
+fn diff_of<'a>(alloc: Global, found: &ArgMatches<'a>) -> Result<Job<'a>, ValueError>
+    requires { IsUse (codes "diff") (rows_of (found_of found.now)) }
+    ensures ok { IfOk result (IsJobOf (codes "diff") (rows_of (found_of found.now))) }
+    ensures err { IfErr result (RefusesValue (rows_of (found_of found.now))) }
+{
+    Ok(Job::Files(FileJob::Diff {
+        file: text_of(found, "diff", "FILE"),
+        from: hashes_of(alloc, found, "HASH")?,
+        to: hashes_of(alloc, found, "to")?,
     }))
 }
 
@@ -186,6 +391,8 @@ fn serve_of<'a>(found: &ArgMatches<'a>) -> Result<Job<'a>, ValueError>
         addr: address_of(found, "serve")?,
         sessions: number_of(found, "serve", "sessions"),
         workers: number_of(found, "serve", "workers"),
+        patience: number_of(found, "serve", "patience"),
+        is_verbose: flag_of(found, "serve", "verbose"),
         key,
     })
 }
@@ -198,21 +405,49 @@ fn session_of<'a>(found: &ArgMatches<'a>) -> Result<Job<'a>, ValueError>
 {
     Ok(Job::Session {
         file: text_of(found, "session", "FILE"),
-        is_client: client_of(found),
+        is_client: flag_of(found, "session", "client"),
         key: key_of(found)?,
     })
 }
 
-// The exchange that `sync` asks for.
+// The exchange that `sync` asks for, once or again and again.
 fn sync_of<'a>(found: &ArgMatches<'a>) -> Result<Job<'a>, ValueError>
     requires { IsUse (codes "sync") (rows_of (found_of found.now)) }
     ensures ok { IfOk result (IsJobOf (codes "sync") (rows_of (found_of found.now))) }
     ensures err { IfErr result (RefusesValue (rows_of (found_of found.now))) }
 {
     let key = key_of(found)?;
-    Ok(Job::Sync {
-        file: text_of(found, "sync", "FILE"),
-        addr: address_of(found, "sync")?,
+    let addr = address_of(found, "sync")?;
+    let file = text_of(found, "sync", "FILE");
+    let patience = number_of(found, "sync", "patience");
+    match number_in(found, "sync", "follow") {
+        Some(every) => Ok(Job::Follow {
+            file,
+            addr,
+            every,
+            sessions: number_of(found, "sync", "sessions"),
+            patience,
+            key,
+        }),
+        None => Ok(Job::Sync {
+            file,
+            addr,
+            patience,
+            key,
+        }),
+    }
+}
+
+// The page that `web` asks for.
+fn web_of<'a>(found: &ArgMatches<'a>) -> Result<Job<'a>, ValueError>
+    requires { IsUse (codes "web") (rows_of (found_of found.now)) }
+    ensures ok { IfOk result (IsJobOf (codes "web") (rows_of (found_of found.now))) }
+    ensures err { IfErr result (RefusesValue (rows_of (found_of found.now))) }
+{
+    let key = key_of(found)?;
+    Ok(Job::Web {
+        file: text_of(found, "web", "FILE"),
+        addr: page_of(found)?,
         key,
     })
 }
@@ -233,23 +468,32 @@ pub(crate) fn job_of<'a>(
             key: key_of(found)?,
         })),
         "edit" => edit_of(found),
+        "update" => update_of(found),
+        "import" => import_of(found),
         "text" => Ok(Job::Files(FileJob::Text {
             file: text_of(found, name, "FILE"),
-            heads: heads_of(alloc, found)?,
+            is_raw: flag_of(found, name, "raw"),
+            heads: hashes_of(alloc, found, "HASH")?,
         })),
         "heads" => Ok(Job::Files(FileJob::Heads {
             file: text_of(found, name, "FILE"),
         })),
         "log" => Ok(Job::Files(FileJob::Log {
             file: text_of(found, name, "FILE"),
+            pretty: flag_of(found, name, "pretty"),
+            most: number_of(found, name, "most"),
         })),
         "graph" => Ok(Job::Files(FileJob::Graph {
+            file: text_of(found, name, "FILE"),
+        })),
+        "diff" => diff_of(alloc, found),
+        "status" => Ok(Job::Files(FileJob::Status {
             file: text_of(found, name, "FILE"),
         })),
         "cursor" => Ok(Job::Files(FileJob::Cursor {
             file: text_of(found, name, "FILE"),
             at: number_of(found, name, "AT"),
-            heads: heads_of(alloc, found)?,
+            heads: hashes_of(alloc, found, "HASH")?,
         })),
         "check" => Ok(Job::Files(FileJob::Check {
             file: text_of(found, name, "FILE"),
@@ -280,6 +524,7 @@ pub(crate) fn job_of<'a>(
         "serve" => serve_of(found),
         "sync" => sync_of(found),
         "session" => session_of(found),
+        "web" => web_of(found),
         _ => unreachable!(),
     }
 }

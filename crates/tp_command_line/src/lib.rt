@@ -1,6 +1,7 @@
 //! The command line of `textpeer`: which job its words ask for, with its hashes, its key and its address as values.
 #![tactic(auto)]
 
+mod address;
 mod definition;
 mod error;
 mod job;
@@ -8,6 +9,7 @@ mod parsing;
 mod texts;
 mod values;
 
+pub use address::Address;
 pub use error::{LineError, ValueError};
-pub use job::{FileJob, Job};
+pub use job::{Beside, FileJob, Inserted, Job, Subject};
 pub use parsing::line;

@@ -1,11 +1,13 @@
 //! Hashes, keys and addresses of their texts.
 
-ghost use Rattle.std.specs.Prelude.{◌≡◌, ◌⊎◌, Any, IfOk, IfErr, map};
+ghost use Rattle.std.specs.Prelude.{◌≡◌, ◌⊎◌, ℕ, List, Any, IfOk, IfErr, MatchOption, map};
+ghost use Rattle.std.specs.List.{list_all, list_any};
 ghost use Rattle.std.specs.Net.Grammar.{IsSocketText};
 ghost use Rattle.tp_opid.specs.HexText.{IsHexOf};
 ghost use Rattle.tp_command_line.specs.declared.error.ValueError.TheVariants.{BadAddress, BadHex, OutOfMemory};
-ghost use Rattle.tp_command_line.specs.Values.{AreHashes, IsNoAddress, IsNoHash};
+ghost use Rattle.tp_command_line.specs.Values.{AreHashes, IsAddressText, IsHostText, IsNoAddress, IsNoHash, IsNoPage, IsOfThisMachine, is_host_name as host_name_test, is_of_host as host_test, is_of_name as name_test};
 
+use crate::address::Address;
 use crate::error::ValueError;
 use std::alloc::Global;
 use std::net::SocketAddr;
@@ -34,13 +36,86 @@ pub(crate) fn digits_in(text: &str) -> Result<[u8; 32], ValueError>
     Ok(key)
 }
 
-/// The address that the text is, `IP:PORT`; else `BadAddress`.
-pub(crate) fn address_in(text: &str) -> Result<SocketAddr, ValueError>
-    ensures ok { IfOk result (IsSocketText text.now) }
-    ensures err { IfErr result (λ e. (e ≡ BadAddress) × IsNoAddress text.now) }
+// Whether a byte of a host's name can be this one, which no address in digits has.
+fn is_of_name(byte: u8) -> bool
+    ensures { result ≡ name_test byte }
+{
+    byte.is_ascii_alphabetic() || byte == b'-' || byte == b'_'
+}
+
+// Whether a byte of a host's name can be this one.
+fn is_of_host(byte: u8) -> bool
+    ensures { result ≡ host_test byte }
+{
+    is_of_name(byte) || byte.is_ascii_digit() || byte == b'.'
+}
+
+// Whether each byte can be one of a host's name.
+fn are_of_host(bytes: &[u8]) -> bool
+    ensures { result ≡ list_all host_test bytes.now }
+{
+    bytes.iter().all(|b| is_of_host(*b))
+}
+
+// Whether some byte is one that no address in digits has.
+fn has_of_name(bytes: &[u8]) -> bool
+    ensures { result ≡ list_any name_test bytes.now }
+{
+    bytes.iter().any(|b| is_of_name(*b))
+}
+
+// Whether a host's name can be this: it has something else than digits and dots.
+fn is_host_name(name: &str) -> bool
+    ensures { result ≡ host_name_test name.now }
+{
+    are_of_host(name.as_bytes()) && has_of_name(name.as_bytes())
+}
+
+// The name and the port, where the text is `HOST:PORT`.
+fn host_in<'a>(text: &'a str) -> Option<(&'a str, u16)>
+    ensures { MatchOption result
+        ((name : List ℕ) (port : ℕ) → IsHostText text.entry.now name port → ⊥)
+        (λ host. IsHostText text.entry.now host.0.now host.1) }
+{
+    match text.split_once(':') {
+        Some((name, port)) => {
+            if !is_host_name(name) {
+                return None;
+            }
+            match port.parse::<u16>() {
+                Ok(port) => Some((name, port)),
+                Err(_) => None,
+            }
+        }
+        None => None,
+    }
+}
+
+/// The address that the text is, `IP:PORT` or `HOST:PORT`; else `BadAddress`. No name is looked up.
+pub(crate) fn address_in<'a>(text: &'a str) -> Result<Address<'a>, ValueError>
+    ensures ok { IfOk result (IsAddressText text.entry.now) }
+    ensures err { IfErr result (λ e. (e ≡ BadAddress) × IsNoAddress text.entry.now) }
+{
+    match (text.parse::<SocketAddr>(), host_in(text)) {
+        (Ok(addr), _) => Ok(Address::Socket(addr)),
+        (Err(_), Some((name, port))) => Ok(Address::Host { name, port }),
+        (Err(_), None) => Err(ValueError::BadAddress),
+    }
+}
+
+/// The address that the text is, `IP:PORT` of this machine; else `BadAddress`.
+pub(crate) fn page_in(text: &str) -> Result<SocketAddr, ValueError>
+    ensures ok { IfOk result (λ addr. IsSocketText text.now addr × IsOfThisMachine addr) }
+    ensures err { IfErr result (λ e. (e ≡ BadAddress) × IsNoPage text.now) }
 {
     match text.parse::<SocketAddr>() {
-        Ok(addr) => Ok(addr),
+        Ok(addr) => {
+            if addr.ip().is_loopback() {
+                Ok(addr)
+            } else {
+                Err(ValueError::BadAddress)
+            }
+        }
         Err(_) => Err(ValueError::BadAddress),
     }
 }

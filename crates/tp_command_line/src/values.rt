@@ -1,13 +1,17 @@
 //! The values of what the parser found.
 
 ghost use Rattle.std.specs.Prelude.{◌≡◌, true, IfErr, IfOk, Some, option_map, codes};
+ghost use Rattle.clap.specs.declared.builder.value_parser.ValueParser.TheVariants as parser;
 ghost use Rattle.clap.specs.Words.{first_of, found_of, rows_of};
+ghost use Rattle.tp_command_line.specs.Commands.{HasInserted};
 ghost use Rattle.tp_command_line.specs.LineError.{RefusesValue};
 ghost use Rattle.tp_command_line.specs.Uses.{IsUse, always_has};
-ghost use Rattle.tp_command_line.specs.Values.{HasAddress, HasFlag, HasHeads, HasKey, HasNumber, is_number};
+ghost use Rattle.tp_command_line.specs.Values.{HasAddress, HasFlag, HasHashes, HasKey, HasNumber, HasPage, MayHaveNumber, is_number, is_of_hashes, parser_named};
 
+use crate::address::Address;
 use crate::error::ValueError;
-use crate::texts::{address_in, digits_in, hashes_in};
+use crate::job::Inserted;
+use crate::texts::{address_in, digits_in, hashes_in, page_in};
 use clap::ArgMatches;
 use std::alloc::Global;
 use std::net::SocketAddr;
@@ -32,20 +36,46 @@ pub(crate) fn number_of(found: &ArgMatches<'_>, name: &str, id: &str) -> u64
     found.get_one(id).unwrap()
 }
 
-/// Whether it is the client's side of a session.
-pub(crate) fn client_of(found: &ArgMatches<'_>) -> bool
-    requires { IsUse (codes "session") (rows_of (found_of found.now)) }
-    ensures { HasFlag (codes "client") (rows_of (found_of found.now)) result }
+/// The number that an argument has as its value, where it is given.
+pub(crate) fn number_in(found: &ArgMatches<'_>, name: &str, id: &str) -> Option<u64>
+    requires is_use { IsUse name.now (rows_of (found_of found.now)) }
+    requires number { is_number id.now ≡ true }
+    ensures { MayHaveNumber id.now (rows_of (found_of found.now)) result }
 {
-    found.get_flag("client")
+    found.get_one(id)
 }
 
-// The key's text, where it is given.
-fn key_text<'a>(found: &ArgMatches<'a>) -> Option<&'a str>
-    ensures { option_map (λ key. key.now) result
-        ≡ first_of (codes "key") (rows_of (found_of found.now)) }
+/// Whether a flag of the subcommand is given.
+pub(crate) fn flag_of(found: &ArgMatches<'_>, name: &str, id: &str) -> bool
+    requires is_use { IsUse name.now (rows_of (found_of found.now)) }
+    requires given { always_has name.now id.now ≡ true }
+    requires flag { parser_named id.now ≡ parser.Bool }
+    ensures { HasFlag id.now (rows_of (found_of found.now)) result }
 {
-    found.get_str("key")
+    found.get_flag(id)
+}
+
+// The value of an argument, where it is given.
+fn given_text<'a>(found: &ArgMatches<'a>, id: &str) -> Option<&'a str>
+    ensures { option_map (λ text. text.now) result
+        ≡ first_of id.now (rows_of (found_of found.now)) }
+{
+    found.get_str(id)
+}
+
+/// The text of an edit, or the path of a file of it, of which one has to be given.
+pub(crate) fn inserted_of<'a>(found: &ArgMatches<'a>) -> Result<Inserted<'a>, ValueError>
+    requires { IsUse (codes "edit") (rows_of (found_of found.now)) }
+    ensures ok { IfOk result (HasInserted (rows_of (found_of found.now))) }
+    ensures err { IfErr result (RefusesValue (rows_of (found_of found.now))) }
+{
+    let _at = number_of(found, "edit", "at");
+    match (given_text(found, "text"), given_text(found, "text-file")) {
+        (Some(text), None) => Ok(Inserted::Given(text)),
+        (None, Some(path)) => Ok(Inserted::InFile(path)),
+        (None, None) => Err(ValueError::NotOneText),
+        (Some(_), Some(_)) => Err(ValueError::NotOneText),
+    }
 }
 
 /// The key, where it is given.
@@ -53,7 +83,7 @@ pub(crate) fn key_of(found: &ArgMatches<'_>) -> Result<Option<[u8; 32]>, ValueEr
     ensures ok { IfOk result (HasKey (rows_of (found_of found.now))) }
     ensures err { IfErr result (RefusesValue (rows_of (found_of found.now))) }
 {
-    match key_text(found) {
+    match given_text(found, "key") {
         Some(text) => match digits_in(text) {
             Ok(key) => Ok(Some(key)),
             Err(error) => Err(error),
@@ -63,7 +93,7 @@ pub(crate) fn key_of(found: &ArgMatches<'_>) -> Result<Option<[u8; 32]>, ValueEr
 }
 
 /// The address that is given.
-pub(crate) fn address_of(found: &ArgMatches<'_>, name: &str) -> Result<SocketAddr, ValueError>
+pub(crate) fn address_of<'a>(found: &ArgMatches<'a>, name: &str) -> Result<Address<'a>, ValueError>
     requires is_use { IsUse name.now (rows_of (found_of found.now)) }
     requires given { always_has name.now (codes "ADDR") ≡ true }
     ensures ok { IfOk result (HasAddress (rows_of (found_of found.now))) }
@@ -72,13 +102,27 @@ pub(crate) fn address_of(found: &ArgMatches<'_>, name: &str) -> Result<SocketAdd
     address_in(text_of(found, name, "ADDR"))
 }
 
-/// The hashes that are given.
-pub(crate) fn heads_of(alloc: Global, found: &ArgMatches<'_>) -> Result<Vec<Hash>, ValueError>
-    ensures ok { IfOk result (λ heads. HasHeads (rows_of (found_of found.now)) heads.items) }
+/// The address of a page that is given, which has to be of this machine.
+pub(crate) fn page_of(found: &ArgMatches<'_>) -> Result<SocketAddr, ValueError>
+    requires { IsUse (codes "web") (rows_of (found_of found.now)) }
+    ensures ok { IfOk result (HasPage (rows_of (found_of found.now))) }
     ensures err { IfErr result (RefusesValue (rows_of (found_of found.now))) }
 {
-    match found.get_strs("HASH") {
-        Some(heads) => hashes_in(alloc, heads),
+    page_in(text_of(found, "web", "PAGE"))
+}
+
+/// The hashes that an argument is given.
+pub(crate) fn hashes_of(
+    alloc: Global,
+    found: &ArgMatches<'_>,
+    id: &str,
+) -> Result<Vec<Hash>, ValueError>
+    requires { is_of_hashes id.now ≡ true }
+    ensures ok { IfOk result (λ hashes. HasHashes id.now (rows_of (found_of found.now)) hashes.items) }
+    ensures err { IfErr result (RefusesValue (rows_of (found_of found.now))) }
+{
+    match found.get_strs(id) {
+        Some(hashes) => hashes_in(alloc, hashes),
         None => Ok(Vec::new(alloc)),
     }
 }

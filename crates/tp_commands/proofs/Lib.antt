@@ -1,4 +1,9 @@
+pub mod AuthorLaws
+pub mod DiffLaws
 pub mod Journals
 pub mod GraphLines
 pub mod LabelLaws
 pub mod LogLines
+pub mod PrettyLaws
+pub mod StatusLaws
+pub mod Updates

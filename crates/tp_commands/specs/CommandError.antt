@@ -11,7 +11,7 @@ use Rattle.tp_journal.specs.declared.error.JournalError.TheVariants as journal
 use Rattle.tp_store.specs.declared.error.StoreError.{StoreError}
 use Rattle.tp_store.specs.declared.error.StoreError.TheVariants as store
 use Rattle.tp_commands.specs.declared.error.CommandError.{CommandError}
-use Rattle.tp_commands.specs.declared.error.CommandError.TheVariants.{Io, OutOfMemory, Peer, Doc, Store, Busy}
+use Rattle.tp_commands.specs.declared.error.CommandError.TheVariants.{Io, OutOfMemory, Peer, Doc, Store, Busy, NotText, NotEmpty}
 
 -- the number of a refusal
 abbrev pub code_of : CommandError → ℕ
@@ -21,6 +21,8 @@ code_of (Peer e) = 3
 code_of (Doc e) = 4
 code_of (Store e) = 5
 code_of Busy = 6
+code_of (NotText at) = 10
+code_of NotEmpty = 11
 
 -- a file or a stream failed, or a growth was refused
 abbrev pub IsOfSystem : CommandError → Type 0

@@ -2,5 +2,9 @@ pub mod CommandError
 pub mod Reading
 pub mod Refusing
 pub mod Log
+pub mod Pretty
 pub mod Graph
+pub mod Diff
+pub mod Status
 pub mod Editing
+pub mod Updating

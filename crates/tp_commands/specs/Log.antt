@@ -1,5 +1,5 @@
 -- What `log` prints: a line for each change.
-use Rattle.std.specs.Prelude.{◌≡◌, ℕ, List, [], ◌∷◌, ◌++◌, length, codes, ◌||◌, ◌==◌, if◌then◌else◌, encode_utf8_all}
+use Rattle.std.specs.Prelude.{◌≡◌, ℕ, ◌-◌, List, [], ◌∷◌, ◌++◌, drop, length, codes, ◌||◌, ◌==◌, if◌then◌else◌, encode_utf8_all}
 use Rattle.std.specs.Char.{is_control}
 use Rattle.std.specs.Char.Escape.{backslash, escape_default}
 use Rattle.std.specs.Fmt.{decimal}
@@ -47,8 +47,12 @@ fields_part c =
 abbrev pub change_line : ChangeParts → List ℕ
 change_line c = line (fields_part c ++ message_part c.message)
 
--- What is printed are the lines of a journal's changes, in the order in which they entered.
-pub record AreChangeLines (journal printed : List ℕ) : Type 0 where
+-- the newest of the changes, which entered last: so many, or all where they are fewer
+abbrev pub newest : ℕ → List ChangeParts → List ChangeParts
+newest most C = drop (length C - most) C
+
+-- What is printed are the lines of the newest of a journal's changes, in the order in which they entered.
+pub record AreChangeLines (journal : List ℕ) (most : ℕ) (printed : List ℕ) : Type 0 where
   pub changes : List ChangeParts
   pub recovers : HasChanges journal changes
-  pub spelled : printed ≡ flat_map change_line changes
+  pub spelled : printed ≡ flat_map change_line (newest most changes)

@@ -1,5 +1,5 @@
 -- What is read of a journal, as it is printed.
-use Rattle.std.specs.Prelude.{◌≡◌, ℕ, List, [], ◌∷◌, ◌++◌, Some}
+use Rattle.std.specs.Prelude.{◌≡◌, ℕ, Bool, true, false, List, [], ◌∷◌, ◌++◌, Some, codes}
 use Rattle.std.specs.Fmt.{decimal}
 use Rattle.std.specs.List.{flat_map}
 use Rattle.std.specs.Str.{chars}
@@ -36,9 +36,25 @@ pub record IsTextLine (journal : List ℕ) (hs : List Hash) (printed : List ℕ)
   pub is_text : IsTextOf (changes_at changes hs) (chars text)
   pub spelled : printed ≡ line text
 
+-- The bytes are the text of a journal's changes, at the heads where any are given.
+pub record IsTextAt (journal : List ℕ) (hs : List Hash) (bytes : List ℕ) : Type 0 where
+  pub changes : List ChangeParts
+  pub recovers : HasChanges journal changes
+  pub is_text : IsTextOf (changes_at changes hs) (chars bytes)
+
+-- What is printed is the text as it is, or its line.
+abbrev pub IsTextPrinted : Bool → List ℕ → List Hash → List ℕ → Type 0
+IsTextPrinted true journal hs printed = IsTextAt journal hs printed
+IsTextPrinted false journal hs printed = IsTextLine journal hs printed
+
 -- the line of a hash
 abbrev pub hash_line : Hash → List ℕ
 hash_line h = line (encode_lower h.0)
+
+-- the lines of the changes that were made, or of `nothing` where none were
+abbrev pub lines_of_made : List Hash → List ℕ
+lines_of_made [] = line (codes "nothing")
+lines_of_made (h ∷ hs) = flat_map hash_line (h ∷ hs)
 
 -- What is printed are the lines of the heads of a journal's changes.
 pub record AreHeadLines (journal printed : List ℕ) : Type 0 where

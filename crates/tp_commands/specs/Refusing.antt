@@ -37,6 +37,10 @@ LacksHead journal hs = (changes : List ChangeParts) × HasChanges journal change
 abbrev pub HasNoText : List ℕ → List Hash → CommandError → Type 0
 HasNoText journal hs e = IsUnread journal e ⊎ ((e ≡ Doc UnknownHead) × LacksHead journal hs)
 
+-- why the texts at some heads and at others weren't read
+abbrev pub HasNoTexts : List ℕ → List Hash → List Hash → CommandError → Type 0
+HasNoTexts journal from to e = IsUnread journal e ⊎ ((e ≡ Doc UnknownHead) × (LacksHead journal from ⊎ LacksHead journal to))
+
 -- the text at the heads ends before the position
 abbrev pub EndsBefore : List ℕ → ℕ → List Hash → Type 0
 EndsBefore journal at hs = (changes : List ChangeParts) × HasChanges journal changes × HasElementAt (past changes hs) at None

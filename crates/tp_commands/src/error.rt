@@ -27,10 +27,18 @@ pub enum CommandError {
     Store(StoreError),
     /// Another has the journal open.
     Busy,
+    /// A file that is to be a text isn't UTF-8.
+    NotText {
+        /// How many of its bytes are UTF-8, before the first that aren't.
+        at: u64,
+    },
+    /// A text was to be brought into a document whose text isn't empty.
+    NotEmpty,
 }
 
 impl CommandError {
-    /// The number of the refusal, from 1 in the order of the variants.
+    /// The number of the refusal: from 1 in the order of the variants up to `Busy`, then 10 and 11, since those between
+    /// are of what else the program does.
     pub fn code(&self) -> u8
         ensures { result ≡ code_of self.now }
     {
@@ -41,6 +49,8 @@ impl CommandError {
             CommandError::Doc(_) => 4,
             CommandError::Store(_) => 5,
             CommandError::Busy => 6,
+            CommandError::NotText { .. } => 10,
+            CommandError::NotEmpty => 11,
         }
     }
 }

@@ -41,7 +41,7 @@ fn node_name(alloc: Global, hash: &Hash) -> Result<String, CommandError>
 }
 
 // The first eight digits of a hash.
-fn first_digits(alloc: Global, hash: &Hash) -> Result<String, AllocError>
+pub(crate) fn first_digits(alloc: Global, hash: &Hash) -> Result<String, AllocError>
     ensures { IfOk result (λ d. string_bytes d ≡ encode_lower (take 4 hash.now.0)) }
 {
     hex::encode(alloc, &hash.0[..4])

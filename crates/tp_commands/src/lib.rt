@@ -1,15 +1,26 @@
 //! What the commands of `textpeer` do to bytes and journals.
 #![tactic(auto)]
 
+mod advice;
+mod diff;
 mod editing;
 mod error;
 mod graph;
 pub mod laws;
 mod log;
+mod pretty;
 mod reading;
+mod status;
+mod updating;
 
+pub use diff::diff_lines;
 pub use editing::{begin, edit, merge, reopen};
 pub use error::CommandError;
 pub use graph::graph_lines;
 pub use log::log_lines;
-pub use reading::{Recovery, cursor_line, hash_line, head_lines, id_line, saved, text_line};
+pub use pretty::pretty_lines;
+pub use reading::{
+    Recovery, cursor_line, hash_line, head_lines, id_line, made_lines, raw_text, saved, text_line,
+};
+pub use status::{FileId, Lock, lock_in, status_lines};
+pub use updating::{import, text_in_file, update};

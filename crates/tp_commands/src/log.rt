@@ -6,7 +6,7 @@ ghost use Rattle.std.specs.Str.{chars};
 ghost use Rattle.std.specs.String.{string_bytes};
 ghost use Rattle.tp_change.specs.Operations.{count_in};
 ghost use Rattle.tp_commands.specs.Refusing.{IsUnread};
-ghost use Rattle.tp_commands.specs.Log.{AreChangeLines, change_line as line_of_change, delete_count, deleted_count, escaped, fields_part, inserted_count, message_part};
+ghost use Rattle.tp_commands.specs.Log.{AreChangeLines, change_line as line_of_change, delete_count, deleted_count, escaped, fields_part, inserted_count, message_part, newest as newest_of};
 
 use crate::error::CommandError;
 use crate::reading::{digits, document_in};
@@ -117,15 +117,27 @@ fn change_lines(alloc: Global, changes: &[Change]) -> Result<String, CommandErro
     Ok(lines)
 }
 
-/// A line for each change of a journal, in the order in which they entered: its hash, actor, sequence number,
+/// The newest of the changes: so many, or all where they are fewer.
+pub(crate) fn newest(changes: &[Change], most: u64) -> &[Change]
+    ensures { result.now ≡ newest_of most changes.now }
+{
+    let from = (changes.len() as u64).saturating_sub(most) as usize;
+    &changes[from..]
+}
+
+/// A line for each of the newest changes of a journal, as many as said at most, in the order in which they entered: its hash, actor, sequence number,
 /// time, `+` and how many characters it inserts, `-` and how many it deletes, and its message if it has one, with control
 /// characters escaped.
-pub fn log_lines(alloc: Global, journal: Recovering<PeerSequence>) -> Result<String, CommandError>
-    ensures lines { IfOk result (λ lines. AreChangeLines journal (string_bytes lines)) }
+pub fn log_lines(
+    alloc: Global,
+    journal: Recovering<PeerSequence>,
+    most: u64,
+) -> Result<String, CommandError>
+    ensures lines { IfOk result (λ lines. AreChangeLines journal most (string_bytes lines)) }
     ensures err { IfErr result (λ e. IsUnread journal e) }
 {
     let document = document_in(journal)?;
-    let lines = change_lines(alloc, document.changes());
+    let lines = change_lines(alloc, newest(document.changes(), most));
     drop(document);
     lines
 }

@@ -13,7 +13,7 @@ ghost use Rattle.tp_journal.specs.Recovery.{Recovers};
 ghost use Rattle.tp_document.specs.declared.error.DocError.TheVariants as doc;
 ghost use Rattle.tp_graph.specs.Named.{has_all};
 ghost use Rattle.tp_commands.specs.Refusing.{HasNoPosition, HasNoText, IsUnread};
-ghost use Rattle.tp_commands.specs.Reading.{AreHeadLines, IsCursorLine, IsTextLine, Saves, changes_at, hash_line as line_of_hash, line as line_of};
+ghost use Rattle.tp_commands.specs.Reading.{AreHeadLines, IsCursorLine, IsTextAt, IsTextLine, Saves, changes_at, lines_of_made, hash_line as line_of_hash, line as line_of};
 
 use crate::error::CommandError;
 use std::alloc::{AllocError, Global};
@@ -49,7 +49,7 @@ fn line(mut text: String) -> Result<String, AllocError>
 }
 
 // The text of a document: as it is now, or at the heads where any are given.
-fn text_in(document: &Text, heads: &[Hash]) -> Result<String, DocError>
+pub(crate) fn text_in(document: &Text, heads: &[Hash]) -> Result<String, DocError>
     ensures text { IfOk result (λ text. IsTextOf (changes_at document.now.applied heads.now)
         (chars (string_bytes text))) }
     ensures err { IfErr result (λ e. (e ≡ doc.OutOfMemory)
@@ -75,6 +75,17 @@ pub fn text_line(
     let text = text_in(&document, heads);
     drop(document);
     Ok(line(text?)?)
+}
+
+/// The text of a journal as it is, or at the heads where any are given.
+pub fn raw_text(journal: Recovering<PeerSequence>, heads: &[Hash]) -> Result<String, CommandError>
+    ensures text { IfOk result (λ text. IsTextAt journal heads.now (string_bytes text)) }
+    ensures err { IfErr result (λ e. HasNoText journal heads.now e) }
+{
+    let document = document_in(journal)?;
+    let text = text_in(&document, heads);
+    drop(document);
+    Ok(text?)
 }
 
 // Hexadecimal digits that were made, which is refused for want of memory alone.
@@ -114,6 +125,17 @@ fn hash_lines(alloc: Global, hashes: &[Hash]) -> Result<String, CommandError>
         lines.push_str(hash_line(alloc, hash)?.as_str())?;
     }
     Ok(lines)
+}
+
+/// The lines of the changes that were made, or of `nothing` where none were.
+pub fn made_lines(alloc: Global, hashes: &[Hash]) -> Result<String, CommandError>
+    ensures lines { IfOk result (λ lines. string_bytes lines ≡ lines_of_made hashes.now) }
+    ensures err { IsOkUnless result CommandError.OutOfMemory }
+{
+    match hashes {
+        [] => Ok(String::from_str(alloc, "nothing\n")?),
+        _ => hash_lines(alloc, hashes),
+    }
 }
 
 /// The heads of a journal, rising, a line each.

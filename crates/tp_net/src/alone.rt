@@ -6,10 +6,13 @@ ghost use Rattle.tp_session.specs.declared.session.Role.TheVariants.{Client};
 ghost use Rattle.tp_net.specs.RunSession.{TakesFrames};
 ghost use Rattle.tp_net.specs.Sessions.{MeetsAlone};
 
+use crate::connecting::reach;
+use crate::patience::bound;
 use crate::run::run_session;
 use std::alloc::Global;
 use std::io::{Read, Write};
-use std::net::{Net, OpenStream, SocketAddr, TcpStream};
+use std::net::{Net, OpenStream, ToSocketAddrs};
+use std::time::Duration;
 use tp_journal::Journal;
 use tp_peer::{Link, Peer};
 use tp_session::{LinkedPeer, NetError, Role};
@@ -34,35 +37,42 @@ pub fn hold_alone<I: Read, O: Write, J: Journal>(
     run_session(alloc, reader, writer, role, id, &mut host)
 }
 
-// The same over the stream, which is closed at the end.
-fn hold_alone_on<S: Read + Write + OpenStream + Drop, J: Journal>(
+/// The same as the client or the server over the stream, which is closed at the end, and with the patience as
+/// [`connect`](crate::connect) says. `Io` where that can't be set.
+pub fn hold_alone_on<S: Read + Write + OpenStream + Drop, J: Journal>(
     alloc: Global,
     stream: S,
+    patience: Option<Duration>,
     role: Role,
     peer: &mut Peer<J>,
 ) -> Result<u64, NetError>
     ensures { MeetsAlone role peer.old result peer.new }
 {
     let mut reader = stream;
-    let Ok(mut writer) = reader.try_clone() else {
-        return Err(NetError::Io);
-    };
-    hold_alone(alloc, &mut reader, &mut writer, role, peer)
+    match (bound(&reader, patience), reader.try_clone()) {
+        (Ok(()), Ok(writer)) => {
+            let mut writer = writer;
+            hold_alone(alloc, &mut reader, &mut writer, role, peer)
+        }
+        _ => Err(NetError::Io),
+    }
 }
 
-/// Connects to a server, and holds one session with it, as the client, as [`hold_alone`] does.
+/// Connects to a server, and holds one session with it, as the client, as [`hold_alone`] does; with the patience as
+/// [`connect`](crate::connect) says.
 ///
 /// `Io` where there is no connection to be had, and else what [`run_session`] answers.
-pub fn connect_alone<R: Net, J: Journal>(
+pub fn connect_alone<R: Net, A: ToSocketAddrs, J: Journal>(
     rt: &R,
     alloc: Global,
-    addr: SocketAddr,
+    addr: A,
+    patience: Option<Duration>,
     peer: &mut Peer<J>,
 ) -> Result<u64, NetError>
     ensures { MeetsAlone Client peer.old result peer.new }
 {
-    let Ok(stream) = TcpStream::connect(rt, addr) else {
-        return Err(NetError::Io);
-    };
-    hold_alone_on(alloc, stream, Role::Client, peer)
+    match reach(rt, addr, patience) {
+        Ok(stream) => hold_alone_on(alloc, stream, patience, Role::Client, peer),
+        Err(_) => Err(NetError::Io),
+    }
 }

@@ -5,6 +5,7 @@ ghost use Rattle.std.specs.Coded.{Coded-set};
 ghost use Rattle.atomic_table.specs.Seated.{table_id_coded};
 ghost use Rattle.tp_net.specs.Sessions.{TakesTurn};
 
+use crate::tally::Tally;
 use std::sync::Wait;
 use tp_journal::Journal;
 use tp_peer::{Outgoing, PeerError, Received};
@@ -21,6 +22,7 @@ pub struct SeatedHost<'a, 's, J: Journal, R: Wait> {
     rt: &'a R,
     served: &'a Served<J>,
     seat: &'s mut Seat,
+    tally: Tally,
     ghost at_its_peer: { seat.now.served ≡ served.now.served } by { Coded-set table_id_coded _ _ },
 }
 
@@ -31,7 +33,17 @@ impl<'a, 's, J: Journal, R: Wait> SeatedHost<'a, 's, J, R> {
         ensures same_reference { result.seat.ghost_name ≡ seat.entry.ghost_name }
         ensures seat { result.seat.now ≡ seat.old }
     {
-        SeatedHost { rt, served, seat }
+        SeatedHost {
+            rt,
+            served,
+            seat,
+            tally: Tally::new(),
+        }
+    }
+
+    /// How many changes its messages have moved.
+    pub fn tally(&self) -> Tally {
+        self.tally
     }
 }
 
@@ -49,15 +61,21 @@ impl<'a, 's, J: Journal, R: Wait> Host for SeatedHost<'a, 's, J, R> {
         × (b.seat.now.served ≡ a.seat.now.served) };
 
     fn receive(&mut self, bytes: &[u8]) -> Result<Received, PeerError> {
-        self.served.receive(self.rt, self.seat, bytes)
+        let received = self.served.receive(self.rt, self.seat, bytes);
+        self.tally.receive(&received);
+        received
     }
 
     fn receive_message(&mut self, message: Message) -> Result<Received, PeerError> {
-        self.served.receive_message(self.rt, self.seat, message)
+        let received = self.served.receive_message(self.rt, self.seat, message);
+        self.tally.receive(&received);
+        received
     }
 
     fn generate(&mut self) -> Result<Option<Outgoing>, PeerError> {
-        self.served.generate(self.rt, self.seat)
+        let made = self.served.generate(self.rt, self.seat);
+        self.tally.send(&made);
+        made
     }
 
     fn forget(&mut self) -> Result<(), PeerError> {

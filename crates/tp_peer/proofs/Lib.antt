@@ -8,3 +8,4 @@ pub mod StepLaws
 pub mod ReplyLaws
 pub mod PeerLaws
 pub mod OpeningLaws
+pub mod EarlierLaws

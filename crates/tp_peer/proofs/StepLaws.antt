@@ -10,7 +10,7 @@ use Rattle.tp_receive.specs.Outcome as outcome
 
 -- ---- the kinds of steps
 
-few_none : (p : PeerData) (call : Call) → AreFew p call []
+pub few_none : (p : PeerData) (call : Call) → AreFew p call []
 few_none p (Edit splices time message) = omega arith
 few_none p (Merge other) = tt
 few_none p (Receive link bytes) = omega arith
@@ -51,7 +51,7 @@ link_keeps p p' call reply L other links e = subst (λ (q : PeerData). Keeps p c
 })
 
 -- nothing changed
-same_keeps : (p p' : PeerData) (call : Call) (reply : Reply) → reply ≢ Refused JournalFailed → p' ≡ p → Keeps p call reply p'
+pub same_keeps : (p p' : PeerData) (call : Call) (reply : Reply) → reply ≢ Refused JournalFailed → p' ≡ p → Keeps p call reply p'
 same_keeps p p' call reply other e = link_keeps p p' call reply p.links other (all_stay call p.links) e
 
 -- one change entered by an edit
@@ -101,7 +101,7 @@ stops_keeps p p' call bytes running left torn content device = record {
 }
 
 -- in an edit
-edit_tears : (p p' : PeerData) (call : Call) (c : ChangeParts) → p.stopped ≡ false → cause p.applied c ≡ None → StopsAt p c p' → Keeps p call (Refused JournalFailed) p'
+pub edit_tears : (p p' : PeerData) (call : Call) (c : ChangeParts) → p.stopped ≡ false → cause p.applied c ≡ None → StopsAt p c p' → Keeps p call (Refused JournalFailed) p'
 edit_tears p p' call c running fits s =
     stops_keeps p p' call (take s.tears.part.0 (record_of c)) running s.left
     (inr (record { change = c; limits = s.tears.limits; fits = fits; count = s.tears.part.0; torn = refl })) s.tears.part.1 (true, s.tears.device)

@@ -7,6 +7,7 @@ pub mod Actors
 pub mod Taking
 pub mod Sent
 pub mod PeerStep
+pub mod EditingAt
 pub mod Calls
 pub mod Opening
 pub mod Laws

@@ -20,9 +20,9 @@ use tp_edit::Splice;
 use tp_journal::Journal;
 use tp_opid::{Actor, Hash};
 
-// Appends the record of a change that can enter, settles the journal, and enters it. What can fail besides comes before the
-// append.
-fn append_and_enter<J: Journal>(
+/// Appends the record of a change that can enter, settles the journal, and enters it. What can fail besides comes before the
+/// append.
+pub(crate) fn append_and_enter<J: Journal>(
     document: &mut Document<PeerSequence>,
     appender: &mut Appender<J>,
     change: Change,

@@ -9,6 +9,7 @@ mod appender;
 mod call;
 mod calling;
 mod editing;
+mod editing_at;
 mod error;
 mod exchanged;
 mod fused;
@@ -22,6 +23,7 @@ mod syncing;
 
 pub use actors::fresh_actor;
 pub use call::{Call, Reply, Request};
+pub use editing_at::EditAtError;
 pub use error::PeerError;
 pub use exchanged::{Outgoing, Received};
 pub use links::{Link, MAX_LINKS};

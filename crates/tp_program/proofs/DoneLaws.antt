@@ -1,12 +1,15 @@
 -- What holds whatever a call answered, and what could be had of a journal.
-use Rattle.std.proofs.Common.{◌≡◌, ◌∙◌, ℕ, List, length, Option, Result, Ok, Err, ap}
-use Rattle.std.specs.Prelude.{IfOk, OnErr, OnOk}
+use Rattle.std.proofs.Common.{◌≡◌, ◌∙◌, ℕ, List, length, Option, Result, Ok, Err, ap, subst}
+use Rattle.std.specs.Prelude.{IfErr, IfOk, IsOkAnd, OnErr, OnOk}
 use Rattle.tp_opid.specs.declared.doc_id.DocId.{DocId}
 use Rattle.tp_change.specs.declared.parts.ChangeParts.{ChangeParts}
 use Rattle.tp_journal.specs.Layout.{journal}
 use Rattle.tp_journal.specs.Whole.{Inspects, Rescues}
 use Rattle.tp_journal.specs.declared.rescuing.WholeRecord.{WholeRecord}
 use Rattle.tp_store.specs.declared.error.StoreError.{StoreError}
+use Rattle.tp_report.specs.Names.{WasMade}
+use Rattle.tp_report.specs.declared.error.JobError.{JobError}
+use Rattle.tp_report.specs.declared.error.JobError.TheVariants.{Command, Show, Line, Session, Unreached, Closed, Unsaid}
 use Rattle.tp_program.specs.Rescuing.{IsRescued, rescue_text, tail_start}
 
 -- what holds where it was done, and where it was refused
@@ -17,6 +20,24 @@ done_on (Err e) p = tt
 pub refused_on : {A E P : Type 0} (r : Result A E) → P → OnErr r P
 refused_on (Ok x) p = tt
 refused_on (Err e) p = p
+
+-- what is said of each value is said of the one that was answered
+pub on_value : {A E : Type 0} (P Q : A → Type 0) (r : Result A E) → IfOk r P → ((x : A) → P x → Q x) → IfOk r Q
+on_value P Q (Ok x) p f = f x p
+on_value P Q (Err e) p f = tt
+
+-- what was made whose line couldn't be printed is what is said of the lines that could have been
+pub made_of : {S F D : Type 0} (done : Result D JobError) (printed : Result S F) (P : List ℕ → Type 0) (bytes : S → List ℕ)
+    → IfErr done (WasMade (λ l. IsOkAnd printed (λ p. bytes p ≡ l))) → IfOk printed (λ p. P (bytes p)) → IfErr done (WasMade P)
+made_of (Ok x) printed P bytes was said = tt
+made_of (Err (Unsaid made)) (Ok p) P bytes was said = subst P was said
+made_of (Err (Unsaid made)) (Err f) P bytes was said = absurd was
+made_of (Err (Command e)) printed P bytes was said = tt
+made_of (Err (Show r)) printed P bytes was said = tt
+made_of (Err (Line number)) printed P bytes was said = tt
+made_of (Err (Session e)) printed P bytes was said = tt
+made_of (Err (Unreached cause)) printed P bytes was said = tt
+made_of (Err Closed) printed P bytes was said = tt
 
 -- the journal of all that could be had, and what is printed of that
 pub rescued : {A E : Type 0} (bytes : List ℕ) (r : Result A E) (made said : A → List ℕ) (id : DocId) (kept : List ChangeParts) (keep from : ℕ) (refused : Option StoreError)

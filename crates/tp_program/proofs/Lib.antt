@@ -1,6 +1,3 @@
 pub mod LineCauses
-pub mod TellLaws
 pub mod DoneLaws
-pub mod FrameLaws
-pub mod ServedLines
-pub mod SessionLaws
+pub mod NoteLaws

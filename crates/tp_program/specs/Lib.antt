@@ -1,11 +1,5 @@
-pub mod DiskView
-pub mod JobError
-pub mod Names
-pub mod Keys
 pub mod Rescuing
 pub mod Files
 pub mod Lines
-pub mod Network
 pub mod Output
 pub mod Words
-pub mod Sessions

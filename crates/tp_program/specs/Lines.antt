@@ -8,9 +8,11 @@ use Rattle.tp_opid.specs.declared.hash.Hash.{Hash}
 use Rattle.tp_edit.specs.declared.splice.Splice.{Splice}
 use Rattle.tp_peer.specs.PeerData.{PeerData}
 use Rattle.tp_commands.specs.Editing.{EditsJournal, TakesJournal}
-use Rattle.tp_commands.specs.Reading.{hash_line, line}
-use Rattle.tp_program.specs.Files.{BeginsJournal, OpensJournal}
-use Rattle.tp_program.specs.Keys.{IsKeyed, after_draw, drawn}
+use Rattle.tp_commands.specs.Reading.{hash_line, line, lines_of_made}
+use Rattle.tp_commands.specs.Updating.{HasNoCharacters, UpdatesJournal}
+use Rattle.tp_program.specs.Files.{BeginsJournal}
+use Rattle.tp_disk.specs.Opening.{OpensJournal}
+use Rattle.tp_disk.specs.Keys.{IsKeyed, after_draw, drawn}
 
 -- The line of the identifier of a new document, the first that is drawn under the key, with which an unused journal was
 -- begun.
@@ -34,6 +36,23 @@ pub record IsEditLine (key : Option (List ℕ)) (splice : Splice) (time : ℕ) (
   pub keyed : IsKeyed key generator
   pub edits : EditsJournal before (drawn generator) splice time message made after
   pub spelled : printed ≡ made_line made
+
+-- The lines of the changes that made a journal's text this one, under the actor that is drawn under the key.
+pub record AreUpdateLines (key : Option (List ℕ)) (text : List ℕ) (time : ℕ) (message before after printed : List ℕ) : Type 0 where
+  pub generator : ChaCha
+  pub hashes : List Hash
+  pub keyed : IsKeyed key generator
+  pub updates : UpdatesJournal before (drawn generator) text time message hashes after
+  pub spelled : printed ≡ lines_of_made hashes
+
+-- The same of a journal without text, under the actor that is drawn second.
+pub record AreImportLines (key : Option (List ℕ)) (text : List ℕ) (time : ℕ) (message before after printed : List ℕ) : Type 0 where
+  pub generator : ChaCha
+  pub hashes : List Hash
+  pub keyed : IsKeyed key generator
+  pub empty : HasNoCharacters before
+  pub updates : UpdatesJournal before (drawn (after_draw generator)) text time message hashes after
+  pub spelled : printed ≡ lines_of_made hashes
 
 -- The line of how many changes of another journal entered, which a journal took: this one was opened under the actor that
 -- is drawn first under the key, the other one under the actor that is drawn then.

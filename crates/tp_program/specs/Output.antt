@@ -1,46 +1,67 @@
 -- What is printed of a job, where it was done and where it was refused.
-use Rattle.std.specs.Prelude.{◌≡◌, ◌⊎◌, ℕ, List, [], ◌++◌, Option, Some, None, codes}
-use Rattle.std.specs.Io.KnownBytes.{Appends, Keeps}
+use Rattle.std.specs.Prelude.{◌≡◌, ◌⊎◌, ℕ, Bool, true, false, List, [], Option, Some, None}
+use Rattle.std.specs.Io.KnownBytes.{Keeps}
 use Rattle.std.specs.Str.{chars}
 use Rattle.tp_simulate.specs.Script.{IsPrinted as IsScriptPrinted, PrintsPart, StopsAt}
-use Rattle.tp_textpeer.specs.Output.{AppendsPart}
 use Rattle.tp_textpeer.specs.Show.{HasText, line as text_line}
+use Rattle.tp_commands.specs.Diff.{IsDiff}
 use Rattle.tp_commands.specs.Graph.{IsChangeGraph}
 use Rattle.tp_commands.specs.Log.{AreChangeLines}
-use Rattle.tp_commands.specs.Reading.{AreHeadLines, IsCursorLine, IsTextLine, line}
-use Rattle.tp_program.specs.declared.error.JobError.{JobError}
-use Rattle.tp_program.specs.declared.error.JobError.TheVariants.{Command, Line}
+use Rattle.tp_commands.specs.Pretty.{IsPrettyLog}
+use Rattle.tp_commands.specs.Reading.{AreHeadLines, IsCursorLine, IsTextPrinted}
+use Rattle.tp_commands.specs.Status.{IsStatus}
+use Rattle.tp_commands.specs.declared.status.Lock.{Lock}
+use Rattle.tp_report.specs.declared.error.JobError.{JobError}
+use Rattle.tp_report.specs.declared.error.JobError.TheVariants.{Command, Line}
+use Rattle.tp_peer.specs.PeerData.{PeerData}
+use Rattle.tp_session.specs.declared.session.Role.{Role}
+use Rattle.tp_session.specs.declared.session.Role.TheVariants.{Client, Server}
 use Rattle.tp_store.specs.declared.error.StoreError.{StoreError}
 use Rattle.tp_commands.specs.CommandError.{refusal_of_bytes}
 use Rattle.tp_command_line.specs.declared.job.FileJob.{FileJob}
-use Rattle.tp_command_line.specs.declared.job.FileJob.TheVariants.{New, Edit, Text, Heads, Log, Graph, Cursor, Check, Merge, Save, Load, Recover, Show, Simulate}
+use Rattle.tp_command_line.specs.declared.job.FileJob.TheVariants.{New, Edit, Update, Import, Text, Heads, Log, Graph, Diff, Status, Cursor, Check, Merge, Save, Load, Recover, Show, Simulate}
 use Rattle.tp_command_line.specs.declared.job.Job.{Job}
-use Rattle.tp_command_line.specs.declared.job.Job.TheVariants.{Files, Serve, Session, Sync}
-use Rattle.tp_program.specs.DiskView.{DiskView}
-use Rattle.tp_program.specs.Files.{ChangesFile, CutsFile, IsLoaded, MayCutFile, OfFile, RescuesTo, SavesTo, cut_path}
-use Rattle.tp_program.specs.Lines.{IsEditLine, IsMergeLine, IsNewLine}
-use Rattle.tp_program.specs.Names.{refusal_text, refusal_lines}
+use Rattle.tp_command_line.specs.declared.job.Job.TheVariants.{Files, Follow, Serve, Session, Sync, Web}
+use Rattle.tp_disk.specs.DiskView.{DiskView, ChangesFile, OfFile}
+use Rattle.tp_disk.specs.Opening.{CutsFile, MayCutFile}
+use Rattle.tp_program.specs.Files.{IsLoaded, OfGiven, OfInserted, RescuesTo, SavesTo}
+use Rattle.tp_program.specs.Lines.{AreImportLines, AreUpdateLines, IsEditLine, IsMergeLine, IsNewLine}
 use Rattle.tp_program.specs.Rescuing.{IsChecked}
-use Rattle.tp_program.specs.Network.{AreFrames, IsServed, IsSynced, applied_text}
-use Rattle.tp_program.specs.JobError.{IsOfOutput, failed, no_memory}
+use Rattle.tp_report.specs.JobError.{IsOfOutput, failed}
+use Rattle.tp_report.specs.Telling.{Grows, GrowsPart, Leaves, Reports}
+use Rattle.tp_online.specs.Network.{AreFrames, IsPageShown, IsServed, IsSynced}
+use Rattle.tp_online.specs.Sessions.{HasMet, IsFollowed, ReportsEach}
 
 -- the bytes are the text of a log, and a newline
 abbrev pub IsShown : List ℕ → Type 0
 IsShown printed = (log : List ℕ) × (text : List ℕ) × HasText log text × (printed ≡ text_line text)
 
--- The bytes are what is printed of the job where it was done: of `text`, `heads`, `log`, `graph` and `cursor` what the bytes
--- say that were read of the file; of `show` the text of a log; of `new` the identifier that is drawn; of `edit` the hash of
--- the change that was made, or `nothing`; of `merge` how many changes of the other file entered; of `save` and `load`
+-- the bytes are the lines of a journal's newest changes, for people or not
+abbrev pub IsLogPrinted : Bool → ℕ → List ℕ → List ℕ → Type 0
+IsLogPrinted true most journal printed = IsPrettyLog journal most printed
+IsLogPrinted false most journal printed = AreChangeLines journal most printed
+
+-- The bytes are what is printed of the job where it was done: of `text`, `heads`, `log`, `graph`, `diff`, `status` and `cursor`
+-- what the bytes say that were read of the file; of `show` the text of a log; of `new` the identifier that is drawn; of `edit` the
+-- hash of the change that was made, or `nothing`; of `update` and `import` those of the changes that made the text that of a
+-- file; of `merge` how many changes of the other file entered; of `save` and `load`
 -- nothing; of `check` what is in the bytes, of `recover` what could be had of them; of `simulate` the replies to the lines of a
 -- script, and the one list of its world. And the file that a job writes was left as it says.
 abbrev pub IsFilesPrinted : (DiskView → Type 0) → FileJob → List ℕ → Type 0
 IsFilesPrinted saw (New file key) printed = ChangesFile saw file.now (λ before after. IsNewLine key before after printed)
 IsFilesPrinted saw (Edit file at del text time message key) printed =
-    ChangesFile saw file.now (λ before after. IsEditLine key (record { at = at; del = del; text = text }) time (chars message.now) before after printed)
-IsFilesPrinted saw (Text file heads) printed = OfFile saw file.now (λ journal. IsTextLine journal heads.items printed)
+    OfInserted saw text (λ inserted. ChangesFile saw file.now (λ before after.
+    IsEditLine key (record { at = at; del = del; text = inserted }) time (chars message.now) before after printed))
+IsFilesPrinted saw (Update file source time message key) printed = OfGiven saw source.now (λ bytes.
+    ChangesFile saw file.now (λ before after. AreUpdateLines key (chars bytes) time (chars message.now) before after printed))
+IsFilesPrinted saw (Import file source time message key) printed = OfGiven saw source.now (λ bytes.
+    ChangesFile saw file.now (λ before after. AreImportLines key (chars bytes) time (chars message.now) before after printed))
+IsFilesPrinted saw (Text file is_raw heads) printed = OfFile saw file.now (λ journal. IsTextPrinted is_raw journal heads.items printed)
 IsFilesPrinted saw (Heads file) printed = OfFile saw file.now (λ journal. AreHeadLines journal printed)
-IsFilesPrinted saw (Log file) printed = OfFile saw file.now (λ journal. AreChangeLines journal printed)
+IsFilesPrinted saw (Log file pretty most) printed = OfFile saw file.now (λ journal. IsLogPrinted pretty most journal printed)
 IsFilesPrinted saw (Graph file) printed = OfFile saw file.now (λ journal. IsChangeGraph journal printed)
+IsFilesPrinted saw (Diff file from to) printed = OfFile saw file.now (λ journal. IsDiff journal from.items to.items printed)
+IsFilesPrinted saw (Status file) printed = OfFile saw file.now (λ journal. (lock : Lock) × IsStatus journal lock printed)
 IsFilesPrinted saw (Cursor file at heads) printed = OfFile saw file.now (λ journal. IsCursorLine journal at heads.items printed)
 IsFilesPrinted saw (Check file) printed = OfFile saw file.now (λ bytes. IsChecked bytes None printed)
 IsFilesPrinted saw (Merge file other key) printed =
@@ -52,70 +73,72 @@ IsFilesPrinted saw (Show log) printed = IsShown printed
 IsFilesPrinted saw (Simulate script) printed = IsScriptPrinted printed
 
 -- The bytes are what is printed of the job where it was done: of `serve` the port and how many sessions were held; of `sync`
--- how many changes entered; of `session` the frames of its side.
+-- how many changes entered, by each session where it follows; of `session` the frames of its side; of `web` where the page is.
 abbrev pub IsPrinted : (DiskView → Type 0) → Job → List ℕ → Type 0
 IsPrinted saw (Files job) printed = IsFilesPrinted saw job printed
-IsPrinted saw (Serve file addr sessions workers key) printed = IsServed sessions printed
+IsPrinted saw (Serve file addr sessions workers patience is_verbose key) printed = IsServed sessions printed
 IsPrinted saw (Session file is_client key) printed = AreFrames printed
-IsPrinted saw (Sync file addr key) printed = IsSynced printed
+IsPrinted saw (Sync file addr patience key) printed = IsSynced printed
+IsPrinted saw (Follow file addr every sessions patience key) printed = IsFollowed saw file.now key sessions printed
+IsPrinted saw (Web file addr key) printed = IsPageShown addr printed
 
 -- What is told of the job beside what is printed, where bytes were cut off the journal that it opened: from which offset on.
 abbrev pub CutsFor : (DiskView → Type 0) → FileJob → Option ℕ → Type 0
 CutsFor saw (Edit file at del text time message key) cut = CutsFile saw file.now cut
+CutsFor saw (Update file source time message key) cut = CutsFile saw file.now cut
+CutsFor saw (Import file source time message key) cut = CutsFile saw file.now cut
 CutsFor saw (Merge file other key) cut = CutsFile saw file.now cut
 CutsFor saw job cut = cut ≡ None
 
 abbrev pub MayCutFor : (DiskView → Type 0) → FileJob → Option ℕ → Type 0
 MayCutFor saw job cut = (cut ≡ None) ⊎ CutsFor saw job cut
 
--- the same of each job; a server has said it before it served
+-- the same of each job; a server and a page have said it before they served, and one that follows after each session
 abbrev pub CutsForJob : (DiskView → Type 0) → Job → Option ℕ → Type 0
 CutsForJob saw (Files job) cut = CutsFor saw job cut
-CutsForJob saw (Serve file addr sessions workers key) cut = cut ≡ None
+CutsForJob saw (Serve file addr sessions workers patience is_verbose key) cut = cut ≡ None
 CutsForJob saw (Session file is_client key) cut = CutsFile saw file.now cut
-CutsForJob saw (Sync file addr key) cut = CutsFile saw file.now cut
+CutsForJob saw (Sync file addr patience key) cut = CutsFile saw file.now cut
+CutsForJob saw (Follow file addr every sessions patience key) cut = cut ≡ None
+CutsForJob saw (Web file addr key) cut = cut ≡ None
 
 abbrev pub MayCutForJob : (DiskView → Type 0) → Job → Option ℕ → Type 0
 MayCutForJob saw (Files job) cut = MayCutFor saw job cut
-MayCutForJob saw (Serve file addr sessions workers key) cut = MayCutFile saw file.now cut
+MayCutForJob saw (Serve file addr sessions workers patience is_verbose key) cut = MayCutFile saw file.now cut
 MayCutForJob saw (Session file is_client key) cut = MayCutFile saw file.now cut
-MayCutForJob saw (Sync file addr key) cut = MayCutFile saw file.now cut
+MayCutForJob saw (Sync file addr patience key) cut = MayCutFile saw file.now cut
+MayCutForJob saw (Follow file addr every sessions patience key) cut = MayCutFile saw file.now cut
+MayCutForJob saw (Web file addr key) cut = MayCutFile saw file.now cut
 
 -- What is told of the job where it was done, beside what is printed: of `session` how many changes entered.
 abbrev pub Tells : Job → Option ℕ → Type 0
 Tells (Files job) told = told ≡ None
-Tells (Serve file addr sessions workers key) told = told ≡ None
+Tells (Serve file addr sessions workers patience is_verbose key) told = told ≡ None
 Tells (Session file is_client key) told = (applied : ℕ) × (told ≡ Some applied)
-Tells (Sync file addr key) told = told ≡ None
+Tells (Sync file addr patience key) told = told ≡ None
+Tells (Follow file addr every sessions patience key) told = told ≡ None
+Tells (Web file addr key) told = told ≡ None
 
--- What the writer holds grew by bytes of which P holds.
-abbrev pub Grows : (List ℕ → Type 0) → Option (List ℕ) → Option (List ℕ) → Type 0
-Grows P before after = (printed : List ℕ) × P printed × Appends before after printed
+-- the side that a session is held as
+abbrev pub side_of : Bool → Role
+side_of true = Client
+side_of false = Server
 
--- What the writer holds grew by a beginning of bytes of which P holds.
-abbrev pub GrowsPart : (List ℕ → Type 0) → Option (List ℕ) → Option (List ℕ) → Type 0
-GrowsPart P before after = (printed : List ℕ) × P printed × AppendsPart before after printed
+-- What a session told was held, as the side that was asked for. Of other jobs nothing is said.
+abbrev pub WasHeld : (DiskView → Type 0) → Job → Option ℕ → Type 0
+WasHeld saw (Session file is_client key) told = (n : ℕ) × (told ≡ Some n) × (p' : PeerData) × HasMet saw file.now key (side_of is_client) n p'
+WasHeld saw job told = Unit {0}
 
--- the text, and the line of where bytes are kept that were cut off the journal in the file
-abbrev pub with_cut : List ℕ → List ℕ → Option ℕ → List ℕ
-with_cut text file None = text
-with_cut text file (Some at) = text ++ codes "cut " ++ line (cut_path file at)
-
--- What the error stream holds of what is told: nothing more, or the line of how many changes entered and that of what was cut
--- off, or a beginning of these where writing failed.
-abbrev pub Reports : List ℕ → Option ℕ → Option ℕ → Option (List ℕ) → Option (List ℕ) → Type 0
-Reports file None None before after = Keeps before after
-Reports file cut told before after = AppendsPart before after (with_cut (applied_text told) file cut)
-
--- What the error stream holds of what a job tells before it ends: of a server, once it listens, what was cut off.
+-- What the error stream holds of what a job tells before it ends: of a server and a page, once they listen, what was cut off; of
+-- one that follows the same, after each session.
 abbrev pub ReportsEarly : (DiskView → Type 0) → Job → Option (List ℕ) → Option (List ℕ) → Type 0
-ReportsEarly saw (Serve file addr sessions workers key) before after =
+ReportsEarly saw (Serve file addr sessions workers patience is_verbose key) before after =
     (cut : Option ℕ) × MayCutFile saw file.now cut × Reports file.now cut None before after
+ReportsEarly saw (Web file addr key) before after =
+    (cut : Option ℕ) × MayCutFile saw file.now cut × Reports file.now cut None before after
+ReportsEarly saw (Follow file addr every sessions patience key) before after =
+    (cuts : List (Option ℕ)) × ReportsEach saw file.now cuts before after
 ReportsEarly saw job before after = Keeps before after
-
--- What the output holds after a refusal: what it held, or where the output itself failed a beginning of what is printed.
-abbrev pub Leaves : (List ℕ → Type 0) → JobError → Option (List ℕ) → Option (List ℕ) → Type 0
-Leaves P e before after = Keeps before after ⊎ (IsOfOutput e × GrowsPart P before after)
 
 -- What the output holds after the refusal of a script: where a line is at fault just what is printed of the lines before
 -- it, and else what it held, or a beginning of what a script prints.
@@ -135,19 +158,13 @@ LeavesFiles saw (Simulate script) e before after = LeavesScript e before after
 LeavesFiles saw (Check file) e before after = LeavesCheck saw file.now e before after
 LeavesFiles saw job e before after = Leaves (IsFilesPrinted saw job) e before after
 
--- What the output holds after the refusal of a job. A server prints its port once it listens. A session has written frames,
--- the last of which may have been cut where the output failed.
+-- What the output holds after the refusal of a job. A server prints its port once it listens, and a page its address. A session has written frames,
+-- the last of which may have been cut where the output failed. One that follows has printed what came by sessions before.
 abbrev pub LeavesOf : (DiskView → Type 0) → Job → JobError → Option (List ℕ) → Option (List ℕ) → Type 0
 LeavesOf saw (Files job) e before after = LeavesFiles saw job e before after
-LeavesOf saw (Serve file addr sessions workers key) e before after = Keeps before after ⊎ GrowsPart (IsServed sessions) before after
+LeavesOf saw (Serve file addr sessions workers patience is_verbose key) e before after = Keeps before after ⊎ GrowsPart (IsServed sessions) before after
+LeavesOf saw (Web file addr key) e before after = Keeps before after ⊎ GrowsPart (IsPageShown addr) before after
 LeavesOf saw (Session file is_client key) e before after = Keeps before after ⊎ ((e ≡ failed) ⊎ Grows AreFrames before after)
-LeavesOf saw (Sync file addr key) e before after = Leaves IsSynced e before after
-
--- The bytes are what is told of the refusal, and of what was cut off the journal in the file; or the line of `OutOfMemory`,
--- where there was no memory for that.
-abbrev pub IsToldOf : List ℕ → Option ℕ → JobError → List ℕ → Type 0
-IsToldOf file cut e printed = (printed ≡ with_cut (refusal_lines e) file cut) ⊎ (printed ≡ line (refusal_text no_memory))
-
--- the same where nothing was cut off
-abbrev pub IsLineOf : JobError → List ℕ → Type 0
-IsLineOf e printed = IsToldOf [] None e printed
+LeavesOf saw (Sync file addr patience key) e before after = Leaves IsSynced e before after
+LeavesOf saw (Follow file addr every sessions patience key) e before after =
+    GrowsPart (λ printed. (held : ℕ) × IsFollowed saw file.now key held printed) before after

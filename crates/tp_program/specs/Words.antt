@@ -1,19 +1,21 @@
 -- What the words of a command line ask for, and what the streams hold afterwards.
-use Rattle.std.specs.Prelude.{◌≡◌, ◌⊎◌, ℕ, List, [], Option, None}
+use Rattle.std.specs.Prelude.{◌≡◌, ◌≢◌, ◌⊎◌, ℕ, Bool, true, false, if◌then◌else◌, List, [], ◌∷◌, Option, None, codes, drop}
+use Rattle.std.specs.Str.{bytes_eq}
 use Rattle.std.specs.Io.KnownBytes.{Keeps}
 use Rattle.clap.specs.Words.{Text, fault_of, subcommand_of}
-use Rattle.tp_command_line.specs.Commands.{IsFoundAs, textpeer_app}
-use Rattle.tp_command_line.specs.LineError.{AsksForHelp, NotRead, value_line}
+use Rattle.tp_command_line.specs.Commands.{IsFoundAs, subject_of, textpeer_app}
+use Rattle.tp_command_line.specs.LineError.{AskForNotOneText, AsksForHelp, NotRead, value_line}
 use Rattle.tp_command_line.specs.declared.error.LineError.{LineError}
-use Rattle.tp_command_line.specs.declared.error.LineError.TheVariants.{Request, Fault}
+use Rattle.tp_command_line.specs.declared.error.LineError.TheVariants.{Request, Fault, Value}
 use Rattle.tp_command_line.specs.declared.error.ValueError.{ValueError}
-use Rattle.tp_command_line.specs.declared.job.FileJob.TheVariants.{Edit, Merge}
+use Rattle.tp_command_line.specs.declared.error.ValueError.TheVariants.{NotOneText}
 use Rattle.tp_command_line.specs.declared.job.Job.{Job}
-use Rattle.tp_command_line.specs.declared.job.Job.TheVariants.{Files, Serve, Session, Sync}
-use Rattle.tp_program.specs.declared.error.JobError.{JobError}
-use Rattle.tp_program.specs.DiskView.{DiskView}
-use Rattle.tp_program.specs.JobError.{IsOutputFault, no_memory}
-use Rattle.tp_program.specs.Output.{CutsForJob, Grows, GrowsPart, IsPrinted, LeavesOf, MayCutForJob, ReportsEarly, Tells}
+use Rattle.tp_report.specs.declared.error.JobError.{JobError}
+use Rattle.tp_disk.specs.DiskView.{DiskView}
+use Rattle.tp_report.specs.JobError.{IsOutputFault, no_memory}
+use Rattle.tp_report.specs.Notes.{IsNote}
+use Rattle.tp_program.specs.Output.{CutsForJob, IsPrinted, LeavesOf, MayCutForJob, ReportsEarly, Tells}
+use Rattle.tp_report.specs.Telling.{Grows, GrowsPart}
 
 -- What the streams hold: the error stream as a job begins, and before what is told of it in the end; the output before and
 -- after.
@@ -26,6 +28,15 @@ pub record Streams : Type 0 where
 abbrev pub as_streams : Option (List ℕ) → Option (List ℕ) → Option (List ℕ) → Option (List ℕ) → Streams
 as_streams early mid before after = record { early = early; mid = mid; before = before; after = after }
 
+-- the word after the program's name is `--explain`
+abbrev pub asks_to_explain : List Text → Bool
+asks_to_explain (program ∷ word ∷ words) = bytes_eq word (codes "--explain")
+asks_to_explain words = false
+
+-- the words without it; the first one is passed over
+abbrev pub job_words : List Text → List Text
+job_words words = if asks_to_explain words then drop 1 words else words
+
 -- the error is a request for help or for the version
 abbrev pub IsRequest : LineError → Type 0
 IsRequest (Request e) = Unit {0}
@@ -34,7 +45,12 @@ IsRequest e = ⊥
 -- the error is that the words are at fault
 abbrev pub IsMisuse : LineError → Type 0
 IsMisuse (Fault e) = Unit {0}
+IsMisuse (Value NotOneText) = Unit {0}
 IsMisuse e = ⊥
+
+-- the words are at fault: the parser finds one, or they ask for an edit with not one text
+abbrev pub WereAtFault : List Text → Type 0
+WereAtFault words = (fault_of textpeer_app words ≢ []) ⊎ AskForNotOneText (fault_of textpeer_app words) (subcommand_of textpeer_app words)
 
 -- What help for the words could not be printed for: the output failed, or memory ran out and it stayed.
 abbrev pub RefusesHelp : JobError → Option (List ℕ) → Option (List ℕ) → Type 0
@@ -43,15 +59,6 @@ RefusesHelp e before after = IsOutputFault e ⊎ ((e ≡ no_memory) × Keeps bef
 -- the words are at no fault, and ask for the job
 abbrev pub AskFor : List Text → Job → Type 0
 AskFor words job = (fault_of textpeer_app words ≡ []) × IsFoundAs (subcommand_of textpeer_app words) job
-
--- the path of the journal that a job opens to write
-abbrev pub journal_path : Job → List ℕ
-journal_path (Files (Edit file at del text time message key)) = file.now
-journal_path (Files (Merge file other key)) = file.now
-journal_path (Files job) = []
-journal_path (Serve file addr sessions workers key) = file.now
-journal_path (Session file is_client key) = file.now
-journal_path (Sync file addr key) = file.now
 
 -- The job was done: the output grew by what is printed of it; the error stream by what was told meanwhile, and what is told
 -- at the end is known.
@@ -67,19 +74,19 @@ pub record IsRefused (saw : DiskView → Type 0) (job : Job) (cut : Option ℕ) 
   pub cuts : MayCutForJob saw job cut
   pub leaves_out : LeavesOf saw job e s.before s.after
 
--- The words asked for help or the version; or for a job on the journal in the file, and it was done.
+-- The words asked for help or the version; or for a job on the file, and it was done.
 abbrev pub WasDone : (DiskView → Type 0) → List Text → List ℕ → Option ℕ → Option ℕ → Streams → Type 0
 WasDone saw words file cut told s = (AsksForHelp (fault_of textpeer_app words) × (cut ≡ None) × (told ≡ None) × Keeps s.early s.mid)
-    ⊎ ((job : Job) × AskFor words job × (file ≡ journal_path job) × IsDone saw job cut told s)
+    ⊎ ((job : Job) × AskFor words job × (file ≡ (subject_of job).file.now) × IsDone saw job cut told s)
 
 -- The words asked for help, which could not be printed, and the output may hold a part of it; or the job that they ask for was
 -- refused.
-abbrev pub WasRefused : (DiskView → Type 0) → List Text → List ℕ → Option ℕ → JobError → Streams → Type 0
-WasRefused saw words file cut e s = (AsksForHelp (fault_of textpeer_app words) × (cut ≡ None) × Keeps s.early s.mid × RefusesHelp e s.before s.after)
-    ⊎ ((job : Job) × AskFor words job × (file ≡ journal_path job) × IsRefused saw job cut e s)
+abbrev pub WasRefused : (DiskView → Type 0) → List Text → Bool → List ℕ → List ℕ → Option ℕ → JobError → Streams → Type 0
+WasRefused saw words explains note file cut e s = (AsksForHelp (fault_of textpeer_app words) × (note ≡ []) × (cut ≡ None) × Keeps s.early s.mid × RefusesHelp e s.before s.after)
+    ⊎ ((job : Job) × AskFor words job × (file ≡ (subject_of job).file.now) × IsNote explains (subject_of job) e note × IsRefused saw job cut e s)
 
 -- No job was read of the words: a value isn't what it is to be, or memory ran out. The error stream grew by the line of that, or
 -- a beginning of it, and the output stayed.
-abbrev pub WasUnread : List Text → Option (List ℕ) → Option (List ℕ) → Option (List ℕ) → Option (List ℕ) → Type 0
-WasUnread words early late before after = (e : ValueError) × NotRead (fault_of textpeer_app words) (subcommand_of textpeer_app words) e
-    × GrowsPart (λ printed. printed ≡ value_line e) early late × Keeps before after
+abbrev pub WasUnread : List Text → Bool → Option (List ℕ) → Option (List ℕ) → Option (List ℕ) → Option (List ℕ) → Type 0
+WasUnread words explains early late before after = (e : ValueError) × NotRead (fault_of textpeer_app words) (subcommand_of textpeer_app words) e
+    × GrowsPart (λ printed. printed ≡ value_line explains e) early late × Keeps before after

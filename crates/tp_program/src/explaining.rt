@@ -5,17 +5,16 @@ ghost use Rattle.std.specs.Io.KnownBytes.{Keeps};
 ghost use Rattle.tp_command_line.specs.LineError.{value_line};
 ghost use Rattle.tp_command_line.specs.declared.error.LineError.TheVariants.{Value};
 ghost use Rattle.tp_command_line.specs.declared.error.ValueError.{ValueError as ValueRefusal};
-ghost use Rattle.tp_program.specs.declared.error.JobError.{JobError as JobRefusal};
-ghost use Rattle.tp_program.specs.Output.{GrowsPart, IsLineOf};
+ghost use Rattle.tp_report.specs.declared.error.JobError.{JobError as JobRefusal};
+ghost use Rattle.tp_report.specs.Telling.{GrowsPart, IsLineOf};
 ghost use Rattle.tp_program.specs.Words.{IsMisuse, IsRequest, RefusesHelp};
 
-use crate::error::JobError;
-use crate::telling::{DONE, REFUSED, ended, output_refusal};
 use std::alloc::Global;
 use std::fmt::Display;
 use std::io;
 use std::io::{ErrorKind, Write};
-use tp_command_line::LineError;
+use tp_command_line::{LineError, ValueError};
+use tp_report::{DONE, JobError, REFUSED, ended, output_refusal};
 use tp_textpeer::write_out;
 
 /// The exit status of words that are at fault.
@@ -47,12 +46,18 @@ impl<R: Eprint> Print for Errors<'_, R> {
 
 /// Prints why the words ask for no job, and returns the exit status: 0 where help or the version was asked for, 1 where that
 /// could not be written or a value wasn't read, and 2 where the words are at fault.
-pub fn explain<W: Write, E: Write>(alloc: Global, fault: &LineError, out: &mut W, err: &mut E) -> u8
+pub fn explain<W: Write, E: Write>(
+    alloc: Global,
+    fault: &LineError,
+    explains: bool,
+    out: &mut W,
+    err: &mut E,
+) -> u8
     ensures status { result ≤ MISUSED }
     ensures done { result ≡ DONE
         → Keeps (E.contents err.old) (E.contents err.new) × IsRequest fault.now }
     ensures refused { result ≡ REFUSED → ((e : ValueRefusal) × (fault.now ≡ Value e)
-        × GrowsPart (λ printed. printed ≡ value_line e) (E.contents err.old) (E.contents err.new)
+        × GrowsPart (λ printed. printed ≡ value_line explains e) (E.contents err.old) (E.contents err.new)
         × Keeps (W.contents out.old) (W.contents out.new))
         ⊎ ((e : JobRefusal) × IsRequest fault.now
         × GrowsPart (IsLineOf e) (E.contents err.old) (E.contents err.new)
@@ -66,8 +71,12 @@ pub fn explain<W: Write, E: Write>(alloc: Global, fault: &LineError, out: &mut W
             let _ = put_fault(alloc, fault, err);
             MISUSED
         }
+        LineError::Value(ValueError::NotOneText) => {
+            let _ = write_out(err, ValueError::NotOneText.line(explains).as_bytes());
+            MISUSED
+        }
         LineError::Value(error) => {
-            let _ = write_out(err, error.line().as_bytes());
+            let _ = write_out(err, error.line(explains).as_bytes());
             REFUSED
         }
     }

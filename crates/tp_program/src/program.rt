@@ -1,50 +1,79 @@
 //! The program, but for its `main`.
 
-ghost use Rattle.std.specs.Prelude.{◌≡◌, ◌≢◌, ◌≤◌, ◌⊎◌, ℕ, List, [], map, Err, IfErr, IfOk, MatchResult, None, Ok, OnErr, OnOk, Option};
+ghost use Rattle.std.specs.Prelude.{◌≡◌, ◌≤◌, ◌⊎◌, ℕ, List, map, Err, IfErr, IfOk, MatchResult, None, Ok, OnErr, OnOk, Option};
 ghost use Rattle.std.specs.Io.KnownBytes.{Keeps};
 ghost use Rattle.clap.specs.Words.{fault_of};
-ghost use Rattle.tp_command_line.specs.Commands.{textpeer_app};
+ghost use Rattle.tp_command_line.specs.Commands.{subject_of, textpeer_app};
 ghost use Rattle.tp_command_line.specs.LineError.{MayBeDone};
-ghost use Rattle.tp_program.specs.declared.error.JobError.{JobError as Refusal};
-ghost use Rattle.tp_program.specs.Output.{CutsForJob, Grows, GrowsPart, IsPrinted, IsToldOf, LeavesOf, MayCutForJob, Reports, ReportsEarly, Tells};
-ghost use Rattle.tp_program.specs.Sessions.{WasHeld, side_of};
-ghost use Rattle.tp_program.specs.Words.{IsDone, IsRefused, WasDone, WasRefused, WasUnread, journal_path as path_of_journal, as_streams};
+ghost use Rattle.tp_report.specs.declared.error.JobError.{JobError as Refusal};
+ghost use Rattle.tp_program.specs.Output.{CutsForJob, IsPrinted, LeavesOf, MayCutForJob, ReportsEarly, Tells, WasHeld, side_of};
+ghost use Rattle.tp_report.specs.Telling.{Grows, GrowsPart, IsToldOf, Reports};
+ghost use Rattle.tp_program.specs.Words.{IsDone, IsRefused, WasDone, WasRefused, WasUnread, WereAtFault, asks_to_explain, job_words, as_streams};
+ghost use Rattle.tp_report.specs.Notes.{IsNote};
 
-use crate::error::JobError;
 use crate::explaining::{Errors, MISUSED, explain};
-use crate::files::Disk;
 use crate::running::carry_out;
-use crate::serving::{serve_file, sync_file};
-use crate::streaming::session_file;
-use crate::telling::{DONE, REFUSED, ended, ended_with, report};
 use std::convert::AsStr;
 use std::io::{Read, Write};
 use std::net::Net;
 use std::rt::Env;
 use std::sync::Wait;
 use std::thread::Threads;
+use std::time::{Clock, Duration};
 use std::{env, io};
-use tp_command_line::{FileJob, Job, line};
+use tp_command_line::{Job, line};
 use tp_commands::CommandError;
+use tp_disk::Disk;
+use tp_online::{Following, Serving, follow_file, serve_file, session_file, sync_file, web_file};
+use tp_report::{DONE, JobError, REFUSED, Shown, ended, ended_with, note, note_text, report};
 use tp_session::Role;
+
+/// Which of the standard streams are terminals.
+#[derive(Clone, Copy)]
+pub struct Terminals {
+    /// The standard output.
+    pub output: bool,
+    /// The standard error.
+    pub errors: bool,
+}
 
 /// Does what the process's own words ask for, and returns the exit status, as [`run_words`] does. Words that can't be
 /// read, as those that are no UTF-8, are refused as `textpeer: Io`.
-pub fn run<R: Env + Disk + Net + Threads + Wait + Input + Print + Eprint + AllocGlobal + Sync>(
-    rt: &R,
-) -> u8
+pub fn run<
+    R: Env + Disk + Net + Threads + Wait + Clock + Input + Print + Eprint + AllocGlobal + Sync,
+>(rt: &R, terminals: Terminals) -> u8
 where
     R::File: Send,
     R::Stream: Send,
     ensures { result ≤ MISUSED }
 {
     match own_words(rt) {
-        Ok(words) => run_words(rt, words.as_slice()),
+        Ok(words) => run_words(rt, words.as_slice(), terminals),
         Err(error) => ended(
             rt.alloc(),
             Err(JobError::Command(CommandError::from(error))),
             &mut io::writer(&Errors { rt }),
         ),
+    }
+}
+
+/// Whether the word after the program's name is `--explain`, and the words without it: each refusal then has a line of two
+/// blanks below it that says which file it is about and what to do.
+pub fn without_explain<S: AsStr>(words: &[S]) -> (bool, &[S])
+    ensures explains { result.0 ≡ asks_to_explain (map S.text words.now) }
+    ensures words { map S.text result.1.now ≡ job_words (map S.text words.now) }
+{
+    match words {
+        [_, word, ..] if word.as_str() == "--explain" => (true, &words[1..]),
+        _ => (false, words),
+    }
+}
+
+// Whether the words ask for a session, which writes frames.
+fn is_session<S: AsStr>(words: &[S]) -> bool {
+    match words.get(1) {
+        Some(word) => word.as_str() == "session",
+        None => false,
     }
 }
 
@@ -55,24 +84,30 @@ fn own_words<R: Env + AllocGlobal>(rt: &R) -> io::Result<Vec<String>> {
 /// Does what the words ask for, of which the first is the program's name, and returns the exit status: 0 where it was
 /// done, as for `--help`; 1 where it was refused, with a line on the standard error, as [`JobError`] prints it, and a second
 /// one where something was made whose line couldn't be printed; 2 where the words are at fault, with the parser's text on the
-/// standard error.
+/// standard error, or the line of an edit with not one text. Where the standard output is a terminal, control characters
+/// other than newline and tab are shown there as Rust escapes them, but in the frames of `session`; where the standard error is
+/// one, and after `--explain`, refusals are explained.
 pub fn run_words<
-    R: Disk + Net + Threads + Wait + Input + Print + Eprint + AllocGlobal + Sync,
+    R: Disk + Net + Threads + Wait + Clock + Input + Print + Eprint + AllocGlobal + Sync,
     S: AsStr,
->(rt: &R, words: &[S]) -> u8
+>(rt: &R, words: &[S], terminals: Terminals) -> u8
 where
     R::File: Send,
     R::Stream: Send,
     ensures status { result ≤ MISUSED }
-    ensures done { result ≡ DONE → MayBeDone (fault_of textpeer_app (map S.text words.now)) }
-    ensures misused { result ≡ MISUSED → fault_of textpeer_app (map S.text words.now) ≢ [] }
+    ensures done { result ≡ DONE
+        → MayBeDone (fault_of textpeer_app (job_words (map S.text words.now))) }
+    ensures misused { result ≡ MISUSED → WereAtFault (job_words (map S.text words.now)) }
 {
     let errors = Errors { rt };
+    let (is_asked, words) = without_explain(words);
+    let is_shown = terminals.output && !is_session(words);
     run_words_on(
         rt,
         words,
+        is_asked || terminals.errors,
         &mut rt.reader(),
-        &mut io::writer(rt),
+        &mut Shown::new(rt.alloc(), io::writer(rt), is_shown),
         &mut io::writer(&errors),
     )
 }
@@ -80,12 +115,12 @@ where
 /// The same as [`run_words`], with a reader for the standard input, and writers for the standard output and the standard
 /// error.
 pub fn run_words_on<
-    R: Disk + Net + Threads + Wait + AllocGlobal + Sync,
+    R: Disk + Net + Threads + Wait + Clock + Eprint + AllocGlobal + Sync,
     S: AsStr,
     I: Read,
     W: Write,
     E: Write,
->(rt: &R, words: &[S], input: &mut I, out: &mut W, err: &mut E) -> u8
+>(rt: &R, words: &[S], explains: bool, input: &mut I, out: &mut W, err: &mut E) -> u8
 where
     R::File: Send,
     R::Stream: Send,
@@ -96,75 +131,70 @@ where
         × WasDone (R.saw rt.now) (map S.text words.now) file cut told
         (as_streams (E.contents err.old) mid (W.contents out.old) (W.contents out.new)) }
     // What is told of what was refused stands there, or a beginning of it.
-    ensures refused { result ≡ REFUSED → WasUnread (map S.text words.now)
+    ensures refused { result ≡ REFUSED → WasUnread (map S.text words.now) explains
         (E.contents err.old) (E.contents err.new) (W.contents out.old) (W.contents out.new)
-        ⊎ ((file : List ℕ) × (cut : Option ℕ) × (e : Refusal) × (mid : Option (List ℕ))
-        × GrowsPart (IsToldOf file cut e) mid (E.contents err.new)
-        × WasRefused (R.saw rt.now) (map S.text words.now) file cut e
+        ⊎ ((note : List ℕ) × (file : List ℕ) × (cut : Option ℕ) × (e : Refusal)
+        × (mid : Option (List ℕ))
+        × GrowsPart (IsToldOf note file cut e) mid (E.contents err.new)
+        × WasRefused (R.saw rt.now) (map S.text words.now) explains note file cut e
         (as_streams (E.contents err.old) mid (W.contents out.old) (W.contents out.new))) }
     // Words at fault print nothing on the standard output.
-    ensures misused { result ≡ MISUSED → (fault_of textpeer_app (map S.text words.now) ≢ [])
+    ensures misused { result ≡ MISUSED → WereAtFault (map S.text words.now)
         × Keeps (W.contents out.old) (W.contents out.new) }
 {
     match line(rt.alloc(), words) {
-        Ok(job) => run_job(rt, job, input, out, err),
-        Err(fault) => explain(rt.alloc(), &fault, out, err),
-    }
-}
-
-/// The path of the journal that a job opens to write; empty where it opens none, or begins it.
-pub fn journal_path<'a>(job: &Job<'a>) -> &'a str
-    ensures { result.now ≡ path_of_journal job.now }
-{
-    match job {
-        Job::Files(FileJob::Edit { file, .. }) => file,
-        Job::Files(FileJob::Merge { file, .. }) => file,
-        Job::Files(_) => "",
-        Job::Serve { file, .. } => file,
-        Job::Session { file, .. } => file,
-        Job::Sync { file, .. } => file,
+        Ok(job) => run_job(rt, job, explains, input, out, err),
+        Err(fault) => explain(rt.alloc(), &fault, explains, out, err),
     }
 }
 
 /// Does a job, and returns the exit status: 0 where it was done, and all that is printed of it was written to `out` and
 /// flushed; 1 where it was refused, with one line on `err`. `out` then has what was printed before; where `err` fails it has
 /// taken a beginning of the line.
-pub fn run_job<R: Disk + Net + Threads + Wait + AllocGlobal + Sync, I: Read, W: Write, E: Write>(
-    rt: &R,
-    job: Job,
-    input: &mut I,
-    out: &mut W,
-    err: &mut E,
-) -> u8
+#[tactic(auto, using(crate::proofs::NoteLaws::noted))]
+pub fn run_job<
+    R: Disk + Net + Threads + Wait + Clock + Eprint + AllocGlobal + Sync,
+    I: Read,
+    W: Write,
+    E: Write,
+>(rt: &R, job: Job, explains: bool, input: &mut I, out: &mut W, err: &mut E) -> u8
 where
     R::File: Send,
     R::Stream: Send,
     ensures status { result ≤ REFUSED }
     ensures done { result ≡ DONE → (cut : Option ℕ) × (told : Option ℕ)
         × (mid : Option (List ℕ))
-        × Reports (path_of_journal job.entry) cut told mid (E.contents err.new)
+        × Reports (subject_of job.entry).file.now cut told mid (E.contents err.new)
         × IsDone (R.saw rt.now) job.entry cut told
         (as_streams (E.contents err.old) mid (W.contents out.old) (W.contents out.new)) }
-    ensures refused { result ≡ REFUSED → (cut : Option ℕ) × (e : Refusal)
-        × (mid : Option (List ℕ))
-        × GrowsPart (IsToldOf (path_of_journal job.entry) cut e) mid (E.contents err.new)
+    ensures refused { result ≡ REFUSED → (note : List ℕ) × (cut : Option ℕ) × (e : Refusal)
+        × (mid : Option (List ℕ)) × IsNote explains (subject_of job.entry) e note
+        × GrowsPart (IsToldOf note (subject_of job.entry).file.now cut e) mid (E.contents err.new)
         × IsRefused (R.saw rt.now) job.entry cut e
         (as_streams (E.contents err.old) mid (W.contents out.old) (W.contents out.new)) }
 {
-    let file = journal_path(&job);
+    let subject = job.subject();
     let mut cut = None;
     match carried(rt, job, input, out, err, &mut cut) {
         Ok(told) => {
-            report(rt.alloc(), file, cut, told, err);
+            report(rt.alloc(), subject.file, cut, told, err);
             DONE
         }
-        Err(error) => ended_with(rt.alloc(), error, file, cut, err),
+        Err(error) => {
+            let note = note(rt, explains, &subject, &error);
+            ended_with(rt.alloc(), error, subject.file, cut, note_text(&note), err)
+        }
     }
 }
 
 // Does a job, and writes what is printed of it. What is told of it beside that. A session is held as the side that was asked
 // for.
-fn carried<R: Disk + Net + Threads + Wait + AllocGlobal + Sync, I: Read, W: Write, E: Write>(
+fn carried<
+    R: Disk + Net + Threads + Wait + Clock + Eprint + AllocGlobal + Sync,
+    I: Read,
+    W: Write,
+    E: Write,
+>(
     rt: &R,
     job: Job,
     input: &mut I,
@@ -191,24 +221,24 @@ where
         (W.contents out.old) (W.contents out.new)) }
 {
     match job {
-        Job::Files(job) => done(carry_out(rt, job, out, cut)),
+        Job::Files(job) => done(carry_out(rt, job, input, out, cut)),
         Job::Serve {
             file,
             addr,
             sessions,
             workers,
+            patience,
+            is_verbose,
             key,
-        } => done(serve_file(
-            rt,
-            file,
-            addr,
-            sessions,
-            workers.clamp(1, 64) as usize,
-            key,
-            out,
-            err,
-            cut,
-        )),
+        } => {
+            let how = Serving {
+                sessions,
+                workers: workers.clamp(1, 64) as usize,
+                patience: patience_of(patience),
+                is_verbose,
+            };
+            done(serve_file(rt, file, addr, &how, key, out, err, cut))
+        }
         Job::Session {
             file,
             is_client,
@@ -217,7 +247,39 @@ where
             Ok(met) => Ok(Some(met.applied)),
             Err(error) => Err(error),
         },
-        Job::Sync { file, addr, key } => done(sync_file(rt, file, addr, key, out, cut)),
+        Job::Sync {
+            file,
+            addr,
+            patience,
+            key,
+        } => match sync_file(rt, file, addr, patience_of(patience), key, out, cut) {
+            Ok(_) => Ok(None),
+            Err(error) => Err(error),
+        },
+        Job::Follow {
+            file,
+            addr,
+            every,
+            sessions,
+            patience,
+            key,
+        } => {
+            let how = Following {
+                addr,
+                every: Duration::from_secs(every),
+                patience: patience_of(patience),
+            };
+            done(follow_file(rt, file, &how, sessions, key, out, err, cut))
+        }
+        Job::Web { file, addr, key } => done(web_file(rt, file, addr, key, out, err, cut)),
+    }
+}
+
+// The patience of so many seconds; of none it is without a bound.
+fn patience_of(seconds: u64) -> Option<Duration> {
+    match seconds {
+        0 => None,
+        seconds => Some(Duration::from_secs(seconds)),
     }
 }
 

@@ -5,43 +5,49 @@ ghost use Rattle.std.specs.Str.{chars};
 ghost use Rattle.std.specs.String.{string_bytes};
 ghost use Rattle.tp_simulate.specs.Script.{Prints};
 ghost use Rattle.tp_commands.specs.Graph.{IsChangeGraph};
-ghost use Rattle.tp_commands.specs.Log.{AreChangeLines};
-ghost use Rattle.tp_commands.specs.Reading.{AreHeadLines, IsCursorLine, IsTextLine, line};
-ghost use Rattle.tp_program.specs.Files.{BeginsJournal, ChangesFile, CutsFile, IsLoaded, MayCutFile, OfFile, RescuesTo, SavesTo};
+ghost use Rattle.tp_commands.specs.Diff.{IsDiff};
+ghost use Rattle.tp_commands.specs.Reading.{AreHeadLines, IsCursorLine, IsTextPrinted};
+ghost use Rattle.tp_commands.specs.Status.{IsStatus};
+ghost use Rattle.tp_commands.specs.declared.status.Lock.{Lock};
+ghost use Rattle.tp_program.specs.Files.{BeginsJournal, IsLoaded, OfInserted, RescuesTo, SavesTo};
+ghost use Rattle.tp_disk.specs.DiskView.{ChangesFile, OfFile};
+ghost use Rattle.tp_disk.specs.Opening.{CutsFile, MayCutFile};
 ghost use Rattle.tp_program.specs.Lines.{IsEditLine, IsMergeLine, IsNewLine, made_line as line_of_made};
-ghost use Rattle.tp_program.specs.Names.{WasMade, digits_of};
-ghost use Rattle.tp_program.specs.Output.{CutsFor, Grows, IsFilesPrinted, IsShown, Leaves, LeavesCheck, LeavesFiles, LeavesScript, MayCutFor};
+ghost use Rattle.tp_report.specs.Names.{WasMade, output_of_made};
+ghost use Rattle.tp_program.specs.Output.{CutsFor, IsFilesPrinted, IsLogPrinted, IsShown, LeavesCheck, LeavesFiles, LeavesScript, MayCutFor};
+ghost use Rattle.tp_report.specs.Telling.{Grows, Leaves};
 ghost use Rattle.tp_program.specs.Rescuing.{IsChecked};
-ghost use Rattle.tp_program.specs.JobError.{IsAllSaid};
+ghost use Rattle.tp_report.specs.JobError.{IsAllSaid};
 
-use crate::error::{JobError, Made};
-use crate::files::{Disk, Opened};
-use crate::keys::{draw, draw_actor, generator};
-use crate::replacing::{put_new, replace};
 use crate::rescuing::{check_report, rescue_report};
-use crate::telling::{put, put_made};
+use crate::texts::{given, import_text, update_text};
 use std::alloc::Global;
-use std::io::{BufReader, Write};
-use tp_command_line::FileJob;
+use std::io::{BufReader, Read, Write};
+use tp_command_line::{FileJob, Inserted};
 use tp_commands::{
-    CommandError, begin, cursor_line, edit, graph_lines, hash_line, head_lines, id_line, log_lines,
-    merge, reopen, saved, text_line,
+    CommandError, begin, cursor_line, diff_lines, edit, graph_lines, hash_line, head_lines,
+    id_line, log_lines, merge, pretty_lines, raw_text, reopen, saved, status_lines, text_in_file,
+    text_line,
 };
+use tp_disk::{Disk, Opened, draw, draw_actor, generator, put_new, replace};
 use tp_document::Document;
 use tp_edit::Splice;
 use tp_opid::{Actor, DocId, Hash};
 use tp_peer::{PeerSequence, create_journal};
+use tp_report::{JobError, Made, put, put_made};
 use tp_simulate::simulate;
 use tp_store::load;
 use tp_textpeer::show;
 
-/// Does what is to be done to files, and writes what is printed of it to `out`, which is flushed. A refusal writes nothing
+/// Does what is to be done to files, of which the path `-` of a text names `input`, and writes what is printed of it to
+/// `out`, which is flushed. A refusal writes nothing
 /// to `out`; where `out` itself failed, which is refused as `Io`, or was closed by who read it, it has taken a beginning of
-/// what is printed; the refusal has what a job made whose line that was. A script is printed line by line as it goes on, and
+/// what is printed; the refusal has what a job made whose lines these were. A script is printed line by line as it goes on, and
 /// what was printed before a refusal stays.
-pub fn carry_out<D: Disk + AllocGlobal, W: Write>(
+pub fn carry_out<D: Disk + AllocGlobal, I: Read, W: Write>(
     rt: &D,
     job: FileJob,
+    input: &mut I,
     out: &mut W,
     cut: &mut Option<u64>,
 ) -> Result<(), JobError>
@@ -70,17 +76,42 @@ pub fn carry_out<D: Disk + AllocGlobal, W: Write>(
             message,
             key,
         } => {
-            let splice = Splice {
-                at: at as usize,
-                del: del as usize,
-                text,
-            };
-            put_made(out, edited(rt, file, splice, time, message, key, cut))
+            let place = (at as usize, del as usize);
+            put_made(
+                out,
+                edited_by(rt, file, place, text, input, time, message, key, cut),
+            )
         }
-        FileJob::Text { file, heads } => put(out, text(rt, file, &heads)),
+        FileJob::Update {
+            file,
+            source,
+            time,
+            message,
+            key,
+        } => put_made(
+            out,
+            update_text(rt, file, source, input, time, message, key, cut),
+        ),
+        FileJob::Import {
+            file,
+            source,
+            time,
+            message,
+            key,
+        } => put_made(
+            out,
+            import_text(rt, file, source, input, time, message, key, cut),
+        ),
+        FileJob::Text {
+            file,
+            is_raw,
+            heads,
+        } => put(out, text(rt, file, is_raw, &heads)),
         FileJob::Heads { file } => put(out, heads(rt, file)),
-        FileJob::Log { file } => put(out, log(rt, file)),
+        FileJob::Log { file, pretty, most } => put(out, log(rt, file, pretty, most)),
         FileJob::Graph { file } => put(out, graph(rt, file)),
+        FileJob::Diff { file, from, to } => put(out, diff(rt, file, &from, &to)),
+        FileJob::Status { file } => put(out, status(rt, file)),
         FileJob::Cursor { file, at, heads } => put(out, cursor(rt, file, at as usize, &heads)),
         FileJob::Check { file } => check_file(rt, file, out),
         FileJob::Merge { file, other, key } => put(out, merged(rt, file, other, key, cut)),
@@ -136,11 +167,21 @@ fn simulate_file<D: Disk + AllocGlobal, W: Write>(
     }
 }
 
-fn text<D: Disk + AllocGlobal>(rt: &D, file: &str, heads: &[Hash]) -> Result<String, CommandError>
+fn text<D: Disk + AllocGlobal>(
+    rt: &D,
+    file: &str,
+    is_raw: bool,
+    heads: &[Hash],
+) -> Result<String, CommandError>
     ensures { IfOk result (λ l. OfFile (D.saw rt.now) file.now
-        (λ journal. IsTextLine journal heads.now (string_bytes l))) }
+        (λ journal. IsTextPrinted is_raw journal heads.now (string_bytes l))) }
 {
-    text_line(rt.alloc(), rt.recover(file)?, heads)
+    let journal = rt.recover(file)?;
+    if is_raw {
+        raw_text(journal, heads)
+    } else {
+        text_line(rt.alloc(), journal, heads)
+    }
 }
 
 fn heads<D: Disk + AllocGlobal>(rt: &D, file: &str) -> Result<String, CommandError>
@@ -150,11 +191,20 @@ fn heads<D: Disk + AllocGlobal>(rt: &D, file: &str) -> Result<String, CommandErr
     head_lines(rt.alloc(), rt.recover(file)?)
 }
 
-fn log<D: Disk + AllocGlobal>(rt: &D, file: &str) -> Result<String, CommandError>
+fn log<D: Disk + AllocGlobal>(
+    rt: &D,
+    file: &str,
+    pretty: bool,
+    most: u64,
+) -> Result<String, CommandError>
     ensures { IfOk result (λ l. OfFile (D.saw rt.now) file.now
-        (λ journal. AreChangeLines journal (string_bytes l))) }
+        (λ journal. IsLogPrinted pretty most journal (string_bytes l))) }
 {
-    log_lines(rt.alloc(), rt.recover(file)?)
+    if pretty {
+        pretty_lines(rt.alloc(), rt.recover(file)?, most)
+    } else {
+        log_lines(rt.alloc(), rt.recover(file)?, most)
+    }
 }
 
 fn graph<D: Disk + AllocGlobal>(rt: &D, file: &str) -> Result<String, CommandError>
@@ -162,6 +212,26 @@ fn graph<D: Disk + AllocGlobal>(rt: &D, file: &str) -> Result<String, CommandErr
         (λ journal. IsChangeGraph journal (string_bytes l))) }
 {
     graph_lines(rt.alloc(), rt.recover(file)?)
+}
+
+fn diff<D: Disk + AllocGlobal>(
+    rt: &D,
+    file: &str,
+    from: &[Hash],
+    to: &[Hash],
+) -> Result<String, CommandError>
+    ensures { IfOk result (λ l. OfFile (D.saw rt.now) file.now
+        (λ journal. IsDiff journal from.now to.now (string_bytes l))) }
+{
+    diff_lines(rt.alloc(), rt.recover(file)?, from, to)
+}
+
+fn status<D: Disk + AllocGlobal>(rt: &D, file: &str) -> Result<String, CommandError>
+    ensures { IfOk result (λ l. OfFile (D.saw rt.now) file.now
+        (λ journal. (lock : Lock) × IsStatus journal lock (string_bytes l))) }
+{
+    let lock = rt.lock(file);
+    status_lines(rt.alloc(), rt.recover(file)?, lock)
 }
 
 fn cursor<D: Disk + AllocGlobal>(
@@ -185,15 +255,52 @@ fn new<D: Disk + AllocGlobal>(
     ensures line { IfOk result (λ p. ChangesFile (D.saw rt.now) file.now
         (λ before after. IsNewLine key before after (string_bytes p.0))) }
     ensures made { IfOk result
-        (λ p. IfSome p.1 (λ made. string_bytes p.0 ≡ line (digits_of made))) }
+        (λ p. IfSome p.1 (λ made. string_bytes p.0 ≡ output_of_made made)) }
 {
     let mut generator = generator(rt, key)?;
     let Actor(drawn) = draw(&mut generator);
     let id = DocId(drawn);
     let actor = draw(&mut generator);
-    let mut journal = begin(rt.alloc(), rt.journal(file, true)?, id, actor)?;
-    rt.sync(file, &mut journal)?;
+    let mut journal = begin(rt.alloc(), rt.make_journal(file)?, id, actor)?;
+    rt.leave(file, &mut journal)?;
     Ok((id_line(rt.alloc(), &id)?, Some(Made::Document(id))))
+}
+
+// Makes the edit at a place, which is its position and how many characters it deletes, with a text that is given.
+fn edited_by<D: Disk + AllocGlobal, I: Read>(
+    rt: &D,
+    file: &str,
+    place: (usize, usize),
+    text: Inserted,
+    input: &mut I,
+    time: u64,
+    message: &str,
+    key: Option<[u8; 32]>,
+    cut: &mut Option<u64>,
+) -> Result<(String, Option<Made>), CommandError>
+    requires { cut.old ≡ None }
+    ensures cuts { OnOk result (CutsFile (D.saw rt.now) file.now cut.new) }
+    ensures may_cut { OnErr result
+        (MayCutFile (D.saw rt.now) file.now cut.new) }
+    ensures line { IfOk result (λ p. OfInserted (D.saw rt.now) text.entry
+        (λ inserted. ChangesFile (D.saw rt.now) file.now
+        (λ before after. IsEditLine key
+        (record { at = place.0; del = place.1; text = inserted }) time (chars message.now)
+        before after (string_bytes p.0)))) }
+    ensures made { IfOk result
+        (λ p. IfSome p.1 (λ made. string_bytes p.0 ≡ output_of_made made)) }
+{
+    let (at, del) = place;
+    match text {
+        Inserted::Given(text) => {
+            edited(rt, file, Splice { at, del, text }, time, message, key, cut)
+        }
+        Inserted::InFile(path) => {
+            let bytes = given(rt, path, input)?;
+            let text = text_in_file(&bytes)?;
+            edited(rt, file, Splice { at, del, text }, time, message, key, cut)
+        }
+    }
 }
 
 fn edited<D: Disk + AllocGlobal>(
@@ -213,18 +320,18 @@ fn edited<D: Disk + AllocGlobal>(
         (λ before after. IsEditLine key splice.entry time (chars message.now) before after
         (string_bytes p.0))) }
     ensures made { IfOk result
-        (λ p. IfSome p.1 (λ made. string_bytes p.0 ≡ line (digits_of made))) }
+        (λ p. IfSome p.1 (λ made. string_bytes p.0 ≡ output_of_made made)) }
 {
     let actor = draw_actor(rt, key)?;
     let Opened {
         journal,
         recovered,
         cut: kept,
-    } = rt.recovered_journal(file)?;
+    } = rt.journal(file)?;
     *cut = kept;
     let opened = (journal, Ok(recovered));
     let (mut journal, made) = edit(rt.alloc(), opened, actor, splice, time, message)?;
-    rt.sync(file, &mut journal)?;
+    rt.leave(file, &mut journal)?;
     made_line(rt.alloc(), made)
 }
 
@@ -232,7 +339,7 @@ fn edited<D: Disk + AllocGlobal>(
 fn made_line(alloc: Global, made: Option<Hash>) -> Result<(String, Option<Made>), CommandError>
     ensures line { IfOk result (λ p. string_bytes p.0 ≡ line_of_made made) }
     ensures made { IfOk result
-        (λ p. IfSome p.1 (λ made. string_bytes p.0 ≡ line (digits_of made))) }
+        (λ p. IfSome p.1 (λ made. string_bytes p.0 ≡ output_of_made made)) }
 {
     match made {
         Some(hash) => Ok((hash_line(alloc, &hash)?, Some(Made::Change(hash)))),
@@ -262,13 +369,13 @@ fn merged<D: Disk + AllocGlobal>(
         journal,
         recovered,
         cut: kept,
-    } = rt.recovered_journal(file)?;
+    } = rt.journal(file)?;
     *cut = kept;
     let peer = reopen(rt.alloc(), (journal, Ok(recovered)), actor)?;
     match rt.recover(other) {
         Ok(read) => {
             let (mut journal, count) = merge(rt.alloc(), peer, read, other_actor)?;
-            rt.sync(file, &mut journal)?;
+            rt.leave(file, &mut journal)?;
             Ok(format!(in rt.alloc(); "applied {count}\n")?)
         }
         Err(error) => {
@@ -331,9 +438,9 @@ fn begin_at<D: Disk + AllocGlobal>(
     ensures { OnOk result (ChangesFile (D.saw rt.now) file.now
         (λ before after. BeginsJournal document.now.id document.now.applied before after)) }
 {
-    let mut journal = rt.journal(file, true)?;
+    let mut journal = rt.make_journal(file)?;
     create_journal(rt.alloc(), &mut journal, document)?;
-    rt.sync(file, &mut journal)
+    rt.leave(file, &mut journal)
 }
 
 fn load_from<D: Disk + AllocGlobal>(rt: &D, saved: &str, file: &str) -> Result<String, CommandError>

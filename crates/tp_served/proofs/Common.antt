@@ -10,9 +10,9 @@ pub use Rattle.tp_peer.specs.Calls.{call_in, reply_of}
 pub use Rattle.tp_peer.specs.PeerData.{PeerData}
 pub use Rattle.tp_peer.specs.PeerStep.{Call, Edit, Forget, Generate, PeerStep, Read, Receive, Reply}
 pub use Rattle.tp_receive.specs.Receiving.{Begins}
-pub use Rattle.tp_served.specs.Calls.{AreOf, Closes, EndsTurn, IsOnlyOn, IsTurn, Tries}
+pub use Rattle.tp_served.specs.Calls.{AreOf, Closes, EndsTurn, EndsVisit, IsOnlyOn, IsTurn, Tries}
 pub use Rattle.tp_served.specs.Rule.{AllFit, Fits, IsCurrent, IsHome, IsLeft, IsOut, IsServed, Shared, ViewState, alone, changes_of, entered_by, holds, idle, numbered, times, total}
-pub use Rattle.tp_served.specs.Seats.{HaveMet, SeatData, SeatState, ServedData, Shows, fresh, fresh_from, gave, missed_by, past, seats_of, states_of, took}
+pub use Rattle.tp_served.specs.Seats.{HaveMet, SeatData, SeatState, ServedData, Shows, Visits, fresh, fresh_from, gave, missed_by, past, seats_of, states_of, took}
 pub use Rattle.tp_served.specs.ServedError.{Answer, Replied}
 pub use Rattle.tp_served.specs.Sitting.{IsSeat, first_seat, seat_data, seat_of}
 pub use Rattle.tp_served.specs.Steps.{Serves, Takes, Token, first_of, given, joined, looked, others_of, spent, tried}

@@ -1,5 +1,5 @@
 -- What a seat's token is after a step.
-use Rattle.tp_served.proofs.Common.{◌≡◌, ◌≢◌, ℕ, eqb, eq-eqb, ne_eqb, ◌+◌, arith, List, [], ◌∷◌, Option, Some, None, refl, sym, ap, ◌∙◌, subst, MatchBool, Step, rest, step, TableId, PeerData, Call, PeerStep, Reply, SeatState, Shows, gave, missed_by, took, ViewState, alone, holds, idle, IsSeat, seat_of, Serves, Takes, Token, given, joined, tried, Answer, Replied, EndsTurn, IsOnlyOn, IsTurn, Tries}
+use Rattle.tp_served.proofs.Common.{◌≡◌, ◌≢◌, ℕ, eqb, eq-eqb, ne_eqb, ◌+◌, arith, List, [], ◌∷◌, Option, Some, None, refl, sym, ap, ◌∙◌, subst, MatchBool, Step, rest, step, TableId, PeerData, Call, PeerStep, Reply, SeatState, Shows, gave, missed_by, took, ViewState, alone, holds, idle, IsSeat, seat_of, Serves, Takes, Token, given, joined, tried, Answer, Replied, EndsTurn, EndsVisit, IsOnlyOn, IsTurn, Tries, Visits}
 use mathlib.Core.Option as maybe
 use Rattle.tp_peer.proofs.StepLaws.{step_keeps}
 
@@ -112,3 +112,23 @@ pub shows_turn : (t old : SeatState) (k : ℕ) (call : Call) (reply : Reply) (vi
 shows_turn t old k call reply views same ends =
     subst (λ (u : SeatState). Shows u call reply (seat_of views)) same
     (subst (λ (u : SeatState). Shows t call reply u) (state_is views ends.state ends.alone) (shows_missed t ends.state k call reply ends.shows))
+
+-- ---- a visit on a turn
+
+pub ends_visit : (t : SeatState) (m : Token) (h h' : PeerData) (done : PeerData → PeerData → Type 0) (views : List ViewState) → IsTurn t m h → done h h'
+    → ((u : SeatState) (g : PeerData) → m ≡ (holds g u, (0, None) ∷ []) → views ≡ alone (gave g h' u) ∷ []) → EndsVisit t done views
+ends_visit t m h h' done views turn did given = record {
+  state = gave h h' (took t);
+  visits = record { number = refl; taken = refl; visited = did; kept = record { seen = turn.kept.seen; link = turn.kept.link }; mine = refl };
+  alone = given (took t) h turn.out;
+}
+
+-- misses before it show nothing else
+visits_missed : (t t' : SeatState) (k : ℕ) (done : PeerData → PeerData → Type 0) → Visits (missed_by k t) done t' → Visits t done t'
+visits_missed t t' k done s = record { number = s.number; taken = s.taken; visited = s.visited; kept = record { seen = s.kept.seen; link = s.kept.link }; mine = s.mine }
+
+-- what a visit shows whose turn ended after some misses
+pub visits_turn : (t old : SeatState) (k : ℕ) (done : PeerData → PeerData → Type 0) (views : List ViewState) → t ≡ old → EndsVisit (missed_by k t) done views → Visits old done (seat_of views)
+visits_turn t old k done views same ends =
+    subst (λ (u : SeatState). Visits u done (seat_of views)) same
+    (subst (λ (u : SeatState). Visits t done u) (state_is views ends.state ends.alone) (visits_missed t ends.state k done ends.visits))

@@ -5,7 +5,7 @@ use Rattle.tp_peer.specs.Laws.{is_on}
 use Rattle.tp_served.specs.declared.error.ServedError.{ServedError}
 use Rattle.tp_served.specs.declared.error.ServedError.TheVariants.{Busy, Peer, BadSeats, OutOfMemory}
 use Rattle.tp_served.specs.ServedError.{Answer, Missed, Replied, Never}
-use Rattle.tp_served.specs.Seats.{IsKeptIn, SeatData, SeatState, Shows, missed_by, took}
+use Rattle.tp_served.specs.Seats.{IsKeptIn, SeatData, SeatState, Shows, Visits, missed_by, took}
 use Rattle.tp_served.specs.Rule.{ViewState, alone, changes_of, entered_by, holds, times}
 use Rattle.tp_served.specs.Steps.{Token}
 
@@ -58,4 +58,10 @@ pub record EndsTurn (t : SeatState) (call : Call) (reply : Reply) (views : List 
   pub state : SeatState
   pub shows : Shows t call reply state
   pub missed : state.missed ≡ t.missed
+  pub alone : views ≡ alone state ∷ []
+
+-- The same of a visit.
+pub record EndsVisit (t : SeatState) (done : PeerData → PeerData → Type 0) (views : List ViewState) : Type 0 where
+  pub state : SeatState
+  pub visits : Visits t done state
   pub alone : views ≡ alone state ∷ []

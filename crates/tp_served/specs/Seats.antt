@@ -73,6 +73,15 @@ pub record Shows (t : SeatState) (call : Call) (reply : Reply) (t' : SeatState) 
   pub kept : IsKeptIn t t'.before
   pub mine : t'.mine ≡ t.mine ++ past t'.before t'.after
 
+-- What a visit on a seat shows: it took one turn, in which this was done to the peer that it found. That one goes on from
+-- what the seat left, and of changes the seat gained just those that the peer got in that turn.
+pub record Visits (t : SeatState) (done : PeerData → PeerData → Type 0) (t' : SeatState) : Type 0 where
+  pub number : t'.number ≡ t.number
+  pub taken : t'.taken ≡ t.taken + 1
+  pub visited : done t'.before t'.after
+  pub kept : IsKeptIn t t'.before
+  pub mine : t'.mine ≡ t.mine ++ past t'.before t'.after
+
 -- Of two seats, what one has seen begins what the other has seen.
 abbrev pub HaveMet : SeatState → SeatState → Type 0
 HaveMet t u = Begins t.after.applied u.after.applied ⊎ Begins u.after.applied t.after.applied

@@ -14,6 +14,7 @@ mod seat;
 mod served;
 mod trying;
 mod turn;
+mod visitor;
 mod waiting;
 
 pub use closing::Unclosed;
@@ -21,3 +22,4 @@ pub use error::ServedError;
 pub use opening::{MAX_SEATS, Unserved};
 pub use seat::Seat;
 pub use served::Served;
+pub use visitor::Visitor;

@@ -6,10 +6,11 @@ ghost use Rattle.tp_peer.specs.PeerData.{PeerData};
 ghost use Rattle.tp_served.specs.Seats.{SeatState, gave, missed_by};
 ghost use Rattle.tp_served.specs.Rule.{alone, holds};
 ghost use Rattle.tp_served.specs.Steps.{Serves};
-ghost use Rattle.tp_served.specs.Calls.{EndsTurn, IsOnlyOn, IsTurn};
+ghost use Rattle.tp_served.specs.Calls.{EndsTurn, EndsVisit, IsOnlyOn, IsTurn};
 
 use crate::rule::{Give, Take, View};
 use crate::served::Served;
+use crate::visitor::Visitor;
 use atomic_table::{Badge, Seat as Token};
 use tp_journal::Journal;
 use tp_peer::{Peer, Reply, Request};
@@ -70,5 +71,22 @@ impl<J: Journal> Served<J> {
         let Turn { token, mut peer } = turn;
         let reply = peer.answer(request);
         (self.give(Turn { token, peer }), reply)
+    }
+
+    /// Lends the peer to a visitor on the seat's turn, and ends it.
+    pub(crate) fn visit_on<V: Visitor<J>>(
+        &self,
+        turn: Turn<J>,
+        visitor: &V,
+    ) -> (Badge<View>, V::Answer)
+        requires served { turn.token.table_id ≡ self.now.served }
+        requires turn { (t : SeatState) × IsTurn t turn.token.me turn.peer }
+        ensures served { result.0.table_id ≡ self.now.served }
+        ensures ends { (t : SeatState) → IsTurn t turn.token.me turn.peer
+            → EndsVisit t (V.does visitor.now) result.0.views }
+    {
+        let Turn { token, mut peer } = turn;
+        let answer = visitor.visit(&mut peer);
+        (self.give(Turn { token, peer }), answer)
     }
 }

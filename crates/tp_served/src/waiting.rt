@@ -8,7 +8,7 @@ ghost use Rattle.tp_peer.specs.Calls.{call_in, reply_of};
 ghost use Rattle.tp_peer.specs.PeerStep.{Edit, Made, Receive, Received as Reported, Generate, Generated, Forget, Forgotten, Read, Text, replied};
 ghost use Rattle.tp_peer.specs.Sent.{sent_of};
 ghost use Rattle.tp_peer.specs.Taking.{report_of};
-ghost use Rattle.tp_served.specs.Seats.{SeatState, Shows, missed_by};
+ghost use Rattle.tp_served.specs.Seats.{SeatState, Shows, Visits, missed_by};
 ghost use Rattle.tp_served.specs.Rule.{alone};
 ghost use Rattle.tp_served.specs.Calls.{IsOnlyOn, IsTurn};
 
@@ -16,6 +16,7 @@ use crate::rule::View;
 use crate::seat::Seat;
 use crate::served::Served;
 use crate::turn::Turn;
+use crate::visitor::Visitor;
 use atomic_table::Badge;
 use std::sync::Wait;
 use std::{mem, thread};
@@ -58,6 +59,19 @@ impl<J: Journal> Served<J> {
         let (badge, reply) = self.call_on(turn, request);
         seat.badge = badge;
         reply
+    }
+
+    /// Lends the peer to a visitor, once the seat has it: all that it does is one turn, and no other seat has the peer meanwhile.
+    pub fn visit<R: Wait, V: Visitor<J>>(&self, rt: &R, seat: &mut Seat, visitor: &V) -> V::Answer
+        requires served { seat.old.served ≡ self.now.served }
+        ensures served { seat.new.served ≡ seat.old.served }
+        ensures visits { Visits seat.old.state (V.does visitor.now) seat.new.state }
+    {
+        let badge = mem::replace(&mut seat.badge, Badge::blank());
+        let turn = self.wait(rt, badge);
+        let (badge, answer) = self.visit_on(turn, visitor);
+        seat.badge = badge;
+        answer
     }
 
     /// Reads the text, as `Peer::read` does, once the seat has the peer.

@@ -5,3 +5,4 @@ pub mod Telling
 pub mod Marks
 pub mod Playing
 pub mod Script
+pub mod Shapes

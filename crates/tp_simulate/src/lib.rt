@@ -8,10 +8,12 @@ mod marks;
 mod names;
 mod parsing;
 mod playing;
+mod shapes;
 mod simulating;
 mod telling;
 mod words;
 
 pub use error::SimError;
 pub use names::{bytes_name, document_name, peer_name};
+pub use shapes::shape_of;
 pub use simulating::simulate;

@@ -11,6 +11,7 @@ mod folder;
 mod host;
 mod journals;
 mod lines;
+mod locks;
 mod paths;
 mod printed;
 mod program;

@@ -17,7 +17,8 @@ use std::{fs, io};
 use tp_command_line::{Job, line};
 use tp_commands::CommandError;
 use tp_journal::Lockable;
-use tp_program::{DONE, Errors, JobError, carry_out, ended_with, explain, journal_path, report};
+use tp_program::{Errors, carry_out, explain, without_explain};
+use tp_report::{DONE, JobError, ended_with, note, note_text, report};
 use tp_test_runner::{Fault, Words, number};
 
 // A command whose device fails later than this succeeds first.
@@ -54,6 +55,7 @@ fn limits_of(words: &mut Words) -> Result<Limits, Fault> {
 fn run_job<R: Files + Print + AllocGlobal>(
     rt: &R,
     job: Job,
+    input: &mut &[u8],
     cut: &mut Option<u64>,
 ) -> Result<(), JobError>
 where
@@ -61,31 +63,47 @@ where
     requires { cut.old ≡ None }
 {
     match job {
-        Job::Files(job) => carry_out(rt, job, &mut io::writer(rt), cut),
+        Job::Files(job) => carry_out(rt, job, input, &mut io::writer(rt), cut),
         _ => Err(JobError::Command(CommandError::Io)),
     }
 }
 
-// The program, as far as it needs no network: the exit status.
-fn run_program<R: Files + Print + Eprint + AllocGlobal>(rt: &R, words: &[String]) -> u8
+// The program, as far as it needs no network, with what the standard input gives: the exit status.
+fn run_program<R: Files + Print + Eprint + AllocGlobal>(
+    rt: &R,
+    words: &[String],
+    input: &[u8],
+) -> u8
 where
     R::File: Lockable,
 {
     let errors = Errors { rt };
     let mut err = io::writer(&errors);
+    let (explains, words) = without_explain(words);
     match line(rt.alloc(), words) {
         Ok(job) => {
-            let file = journal_path(&job);
+            let subject = job.subject();
             let mut cut = None;
-            match run_job(rt, job, &mut cut) {
+            let mut rest = input;
+            match run_job(rt, job, &mut rest, &mut cut) {
                 Ok(()) => {
-                    report(rt.alloc(), file, cut, None, &mut err);
+                    report(rt.alloc(), subject.file, cut, None, &mut err);
                     DONE
                 }
-                Err(error) => ended_with(rt.alloc(), error, file, cut, &mut err),
+                Err(error) => {
+                    let note = note(rt, explains, &subject, &error);
+                    ended_with(
+                        rt.alloc(),
+                        error,
+                        subject.file,
+                        cut,
+                        note_text(&note),
+                        &mut err,
+                    )
+                }
             }
         }
-        Err(fault) => explain(rt.alloc(), &fault, &mut io::writer(rt), &mut err),
+        Err(fault) => explain(rt.alloc(), &fault, explains, &mut io::writer(rt), &mut err),
     }
 }
 
@@ -103,6 +121,7 @@ fn run_line<R: Files<File = File> + AllocGlobal>(
     rt: &R,
     limits: Limits,
     line: &[String],
+    input: &[u8],
 ) -> Result<Ran, Fault> {
     let device = Budget::new(limits.device);
     let room = Budget::new(u64::MAX);
@@ -113,7 +132,7 @@ fn run_line<R: Files<File = File> + AllocGlobal>(
         out: Stream::new(rt.alloc(), output_budget(limits))?,
         err: Stream::new(rt.alloc(), Budget::new(limits.err))?,
     };
-    let status = run_program(&host, line);
+    let status = run_program(&host, line, input);
     Ok(Ran {
         status,
         out: host.out.text(rt.alloc())?,
@@ -126,9 +145,10 @@ fn run_over<R: Files<File = File> + AllocGlobal>(
     rt: &R,
     limits: Limits,
     line: &[String],
+    input: &[u8],
     before: &[Entry],
 ) -> Result<Ran, Fault> {
-    let ran = run_line(rt, limits, line)?;
+    let ran = run_line(rt, limits, line, input)?;
     if ran.is_refused() {
         restore(rt, before)?;
         return Err(Fault::Refused);
@@ -157,16 +177,34 @@ fn run_and_keep<R: Files<File = File> + AllocGlobal + Clone + Drop>(
     world: &mut World<R>,
     limits: Limits,
     line: &[String],
+    input: &[u8],
     has_texts: bool,
 ) -> Result<String, Fault> {
     let before = listed(world.rt)?;
-    let ran = run_over(world.rt, limits, line, &before)?;
+    let ran = run_over(world.rt, limits, line, input, &before)?;
     let answer = answer_of(world, &ran, &before, has_texts)?;
     world.ran = Some(ran);
     Ok(answer)
 }
 
-// `run [out=N] [err=N] [device=N] WORD..`: the exit status, both texts, and the files that changed; `streams ..`: the
+// `[in=NAME]`: what the standard input gives is in the file; nothing where none is named.
+fn input_of<R: Files<File = File> + AllocGlobal>(
+    world: &World<R>,
+    words: &mut Words,
+) -> Result<Vec<u8>, Fault> {
+    match words.option("in") {
+        Some(name) => {
+            let path = inside(world.rt.alloc(), name)?;
+            match fs::read(world.rt, path.as_str()) {
+                Ok(bytes) => Ok(bytes),
+                Err(error) => Err(fault(&error)),
+            }
+        }
+        None => Ok(Vec::new(world.rt.alloc())),
+    }
+}
+
+// `run [out=N] [err=N] [device=N] [in=NAME] WORD..`: the exit status, both texts, and the files that changed; `streams ..`: the
 // exit status, the streams that have a text, and the files that changed.
 fn run<R: Files<File = File> + AllocGlobal + Clone + Drop>(
     world: &mut World<R>,
@@ -174,8 +212,9 @@ fn run<R: Files<File = File> + AllocGlobal + Clone + Drop>(
     has_texts: bool,
 ) -> Result<String, Fault> {
     let limits = limits_of(words)?;
+    let input = input_of(world, words)?;
     let line = command_line(&world.names, words.left())?;
-    run_and_keep(world, limits, &line, has_texts)
+    run_and_keep(world, limits, &line, &input, has_texts)
 }
 
 // The file, with its lock.
@@ -215,7 +254,7 @@ fn run_failing<R: Files<File = File> + AllocGlobal + Clone + Drop>(
         err: u64::MAX,
         device: calls,
     };
-    let ran = run_over(world.rt, limits, line, before)?;
+    let ran = run_over(world.rt, limits, line, &[], before)?;
     let answer = answer_of(world, &ran, before, true)?;
     restore(world.rt, before)?;
     Ok((ran.status == 0, answer))

@@ -3,6 +3,7 @@
 use crate::answers::Ran;
 use crate::folder::make;
 use crate::lines::{give_name, has_line, meant};
+use crate::locks::lock_of;
 use crate::{files, journals, runs};
 use std::fs::File;
 use std::rt::Files;
@@ -58,6 +59,9 @@ impl<R: Files<File = File> + AllocGlobal + Clone + Drop> Calls for World<'_, R> 
         self.make_folder()?;
         if word == "let" {
             return give_name(&mut self.names, words);
+        }
+        if word == "lock" {
+            return lock_of(&self.names, words);
         }
         if let Some(answer) = files::call(self.rt, word, words) {
             return answer;

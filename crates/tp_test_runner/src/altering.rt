@@ -1,17 +1,21 @@
 //! Calls that give bytes a name.
 
 use crate::fault::{Fault, done};
-use crate::literals::{bytes, count};
+use crate::literals::{bytes, count, text};
 use crate::shelf::Shelf;
 use crate::words::Words;
 use std::alloc::Global;
 use tp_change::Change;
 
-/// The bytes that the digits are, those of all words one behind another.
+/// The bytes that the digits are, or those of a text, as `"abc"*3`; of all words one after another.
 pub fn spelled(alloc: Global, words: &[String]) -> Result<Vec<u8>, Fault> {
     let mut all = Vec::new(alloc);
     for word in words {
-        all.extend_from_slice(&bytes(alloc, word.as_str())?)?;
+        if word.starts_with('"') {
+            all.extend_from_slice(text(alloc, word.as_str())?.as_str().as_bytes())?;
+        } else {
+            all.extend_from_slice(&bytes(alloc, word.as_str())?)?;
+        }
     }
     Ok(all)
 }

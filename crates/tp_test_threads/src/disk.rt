@@ -3,6 +3,7 @@
 ghost use Rattle.std.specs.Prelude.{◌≤◌, IfOk};
 
 use std::alloc::{Allocator, Global};
+use std::fmt::Display;
 use std::fs::{Metadata, OpenFile, OpenOptions};
 use std::io;
 use std::io::{ErrorKind, Read, Seek, SeekFrom, Write};
@@ -11,6 +12,7 @@ use std::rt::Files;
 use std::sync::Wait;
 use std::sync::atomic::{AtomicU64, AtomicUsize, Ordering};
 use std::thread::Threads;
+use std::time::{Clock, Duration};
 use tp_journal::Lockable;
 
 /// A disk that takes so many writes whole, then a part of one and none behind it, and that brings what it took to its
@@ -144,6 +146,30 @@ impl<R: AllocGlobal> Alloc for OverDisk<'_, '_, R> {
     }
 }
 
+impl<R: Clock> Clock for OverDisk<'_, '_, R> {
+    fn monotonic(&self) -> io::Result<Duration> {
+        self.rt.monotonic()
+    }
+
+    fn since_1970(&self) -> io::Result<Duration> {
+        self.rt.since_1970()
+    }
+
+    fn sleep(&self, duration: Duration) {
+        self.rt.sleep(duration)
+    }
+}
+
+impl<R: Eprint> Eprint for OverDisk<'_, '_, R> {
+    fn eprint<D: Display + Drop>(&self, value: D) -> io::Result<()> {
+        self.rt.eprint(value)
+    }
+
+    fn eprintln<D: Display + Drop>(&self, value: D) -> io::Result<()> {
+        self.rt.eprintln(value)
+    }
+}
+
 impl<R: Threads> Threads for OverDisk<'_, '_, R> {}
 
 impl<R: Wait> Wait for OverDisk<'_, '_, R> {}
@@ -159,6 +185,10 @@ impl<R: Net> Net for OverDisk<'_, '_, R> {
 
     fn connect(&self, addr: SocketAddr) -> io::Result<R::Stream> {
         self.rt.connect(addr)
+    }
+
+    fn connect_timeout(&self, addr: SocketAddr, timeout: Duration) -> io::Result<R::Stream> {
+        self.rt.connect_timeout(addr, timeout)
     }
 }
 

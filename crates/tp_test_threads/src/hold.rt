@@ -4,7 +4,8 @@ use std::io;
 use std::io::ErrorKind;
 use std::net::{OpenListener, SocketAddr, TcpStream};
 use std::sync::atomic::{AtomicU64, Ordering};
-use tp_net::Gate;
+use tp_net::{Gate, Report};
+use tp_session::NetError;
 
 // So often the gate looks before it gives up.
 const LOOKS: u64 = 1_000_000_000;
@@ -44,9 +45,50 @@ impl Gate for Hold {
         self.gave_up.store(1, Ordering::SeqCst);
     }
 
-    fn after(&self, session: u64) {
-        if session == 2 {
+    fn after(&self, report: &Report) {
+        if report.session == 2 {
             self.ended.store(1, Ordering::SeqCst);
+        }
+    }
+}
+
+/// A gate that adds up what sessions came to.
+#[derive(Drop)]
+pub struct Counts {
+    entered: AtomicU64,
+    sent: AtomicU64,
+    broken: AtomicU64,
+}
+
+impl Counts {
+    /// The gate, before all sessions.
+    pub fn new() -> Counts {
+        Counts {
+            entered: AtomicU64::new(0),
+            sent: AtomicU64::new(0),
+            broken: AtomicU64::new(0),
+        }
+    }
+
+    /// How many changes entered, how many were sent, and how many sessions were broken off for `Io`.
+    pub fn all(&self) -> (u64, u64, u64) {
+        (
+            self.entered.load(Ordering::SeqCst),
+            self.sent.load(Ordering::SeqCst),
+            self.broken.load(Ordering::SeqCst),
+        )
+    }
+}
+
+impl Gate for Counts {
+    fn before(&self, _session: u64) {}
+
+    fn after(&self, report: &Report) {
+        self.entered
+            .fetch_add(report.tally.entered, Ordering::SeqCst);
+        self.sent.fetch_add(report.tally.sent, Ordering::SeqCst);
+        if let Some(NetError::Io) = report.error {
+            self.broken.fetch_add(1, Ordering::SeqCst);
         }
     }
 }

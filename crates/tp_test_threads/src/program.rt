@@ -2,7 +2,7 @@
 
 use crate::disk::{Disk as Device, OverDisk};
 use crate::runs::{
-    Place, Ran, all_read, begin, copy_all, ends, insert, run_over, serve, sync,
+    Place, Ran, all_read, begin, copy_all, ends, follow, insert, run_over, serve, sync,
     sync_beside_silence, sync_once,
 };
 use crate::strangers::{Answered, Pace, UNKNOWN, first_other};
@@ -13,7 +13,7 @@ use std::sync::Wait;
 use std::test::Fail;
 use std::thread::{Threads, join};
 use std::time::Clock;
-use tp_program::Disk;
+use tp_disk::Disk;
 
 // Ann serves her journal to two clients, one after the other: Ben brings a change, and Cat gets it. Meanwhile another edit of
 // hers finds the journal taken. Then all three read one text.
@@ -121,6 +121,31 @@ fn a_silent_client_holds_one_worker(rt: HostRuntime) -> Result<(), Fail> {
     Ok(())
 }
 
+// Ned serves his journal to three sessions, and Oda follows him in the last two: her changes enter there, and none here.
+#[test]
+fn a_client_that_follows(rt: HostRuntime) -> Result<(), Fail> {
+    assert!(rt; begin(&rt, "ned", "Hello", &["oda"]));
+    assert!(rt; insert(&rt, "oda", "5", "!").status == 0);
+    let place = Place::free(&rt)?;
+    let (served, (first, then)) = join(
+        &rt,
+        || serve(&rt, "ned", place.as_str(), "3"),
+        || {
+            let first = sync(&rt, "oda", place.as_str());
+            let edited = insert(&rt, "oda", "0", "> ").status == 0;
+            (
+                first,
+                edited.then(|| follow(&rt, "oda", place.as_str(), "2")),
+            )
+        },
+    );
+    assert!(rt; first.printed("applied 0\n"));
+    assert!(rt; then.ok_or("an edit")?.printed(""));
+    assert!(rt; served.printed(place.printed(rt.alloc(), "served 3\n")?.as_str()));
+    assert!(rt; all_read(&rt, &["ned", "oda"], "> Hello!\n"));
+    Ok(())
+}
+
 // Lou and Max, each with a change, hold one session over their standard streams.
 #[test]
 fn a_session_over_the_standard_streams(rt: HostRuntime) -> Result<(), Fail> {
@@ -160,7 +185,7 @@ impl Told {
 }
 
 // Ida's session with the server, once it listens, then Joe's and Kim's.
-fn synced<R: Disk + Net + Threads + Wait + Clock + AllocGlobal + Sync>(
+fn synced<R: Disk + Net + Threads + Wait + Clock + Eprint + AllocGlobal + Sync>(
     rt: &R,
     place: &Place,
 ) -> (Ran, Ran, Ran)

@@ -10,7 +10,8 @@ use std::sync::atomic::{AtomicBool, Ordering};
 use std::test::Fail;
 use std::thread::{Threads, join};
 use std::time::Clock;
-use tp_program::{Disk, Folders, Found, run_words_on};
+use tp_disk::{Disk, Folders, Found};
+use tp_program::run_words_on;
 
 // The key of each journal that is begun.
 const DOCUMENT: &str = "0000000000000000000000000000000000000000000000000000000000000000";
@@ -46,20 +47,23 @@ impl Ran {
 }
 
 /// A run with these words, of which the first is the program's name.
-pub fn run<R: Disk + Net + Threads + Wait + AllocGlobal + Sync>(rt: &R, words: &[&str]) -> Ran
+pub fn run<R: Disk + Net + Threads + Wait + Clock + Eprint + AllocGlobal + Sync>(
+    rt: &R,
+    words: &[&str],
+) -> Ran
 where
     R::File: Send,
     R::Stream: Send,
 {
     let mut out = Vec::new(rt.alloc());
     let mut err = Vec::new(rt.alloc());
-    let status = run_words_on(rt, words, &mut b"".as_slice(), &mut out, &mut err);
+    let status = run_words_on(rt, words, false, &mut b"".as_slice(), &mut out, &mut err);
     Ran { status, out, err }
 }
 
 /// A run with these words, whose standard input and output are the stream. What it wrote there isn't among what it left.
 pub fn run_over<
-    R: Disk + Net + Threads + Wait + AllocGlobal + Sync,
+    R: Disk + Net + Threads + Wait + Clock + Eprint + AllocGlobal + Sync,
     S: Read + Write + OpenStream + Drop,
 >(rt: &R, words: &[&str], stream: S) -> Option<Ran>
 where
@@ -69,7 +73,7 @@ where
     let mut input = stream;
     let mut output = input.try_clone().ok()?;
     let mut err = Vec::new(rt.alloc());
-    let status = run_words_on(rt, words, &mut input, &mut output, &mut err);
+    let status = run_words_on(rt, words, false, &mut input, &mut output, &mut err);
     Some(Ran {
         status,
         out: Vec::new(rt.alloc()),
@@ -86,7 +90,7 @@ pub fn ends<R: Net>(rt: &R) -> Result<(R::Stream, R::Stream), Fail> {
 }
 
 /// Inserts the text at the place in the file's document.
-pub fn insert<R: Disk + Net + Threads + Wait + AllocGlobal + Sync>(
+pub fn insert<R: Disk + Net + Threads + Wait + Clock + Eprint + AllocGlobal + Sync>(
     rt: &R,
     file: &str,
     at: &str,
@@ -120,7 +124,7 @@ pub fn copy_all<R: Disk>(rt: &R, file: &str, copies: &[&str]) -> bool {
 }
 
 /// Makes a journal with the text, and copies of it. Whether that was done.
-pub fn begin<R: Disk + Net + Threads + Wait + AllocGlobal + Sync>(
+pub fn begin<R: Disk + Net + Threads + Wait + Clock + Eprint + AllocGlobal + Sync>(
     rt: &R,
     file: &str,
     text: &str,
@@ -135,7 +139,7 @@ where
 }
 
 /// Whether each of the files has the text.
-pub fn all_read<R: Disk + Net + Threads + Wait + AllocGlobal + Sync>(
+pub fn all_read<R: Disk + Net + Threads + Wait + Clock + Eprint + AllocGlobal + Sync>(
     rt: &R,
     files: &[&str],
     text: &str,
@@ -152,7 +156,7 @@ where
 }
 
 /// A server of the file's journal at the address, for so many sessions.
-pub fn serve<R: Disk + Net + Threads + Wait + AllocGlobal + Sync>(
+pub fn serve<R: Disk + Net + Threads + Wait + Clock + Eprint + AllocGlobal + Sync>(
     rt: &R,
     file: &str,
     addr: &str,
@@ -169,7 +173,7 @@ where
 }
 
 /// One session with the server at the address, as a client.
-pub fn sync_once<R: Disk + Net + Threads + Wait + AllocGlobal + Sync>(
+pub fn sync_once<R: Disk + Net + Threads + Wait + Clock + Eprint + AllocGlobal + Sync>(
     rt: &R,
     file: &str,
     addr: &str,
@@ -181,8 +185,32 @@ where
     run(rt, &["textpeer", "sync", file, addr])
 }
 
-/// The same, once the server listens: till then a client can't connect, and is refused.
-pub fn sync<R: Disk + Net + Threads + Wait + Clock + AllocGlobal + Sync>(
+/// So many sessions with the server at the address, one after another, a second between two.
+pub fn follow<R: Disk + Net + Threads + Wait + Clock + Eprint + AllocGlobal + Sync>(
+    rt: &R,
+    file: &str,
+    addr: &str,
+    sessions: &str,
+) -> Ran
+where
+    R::File: Send,
+    R::Stream: Send,
+{
+    let words = [
+        "textpeer",
+        "sync",
+        file,
+        addr,
+        "--follow",
+        "1",
+        "--sessions",
+        sessions,
+    ];
+    run(rt, &words)
+}
+
+/// One session once the server listens: till then a client can't connect, and is refused.
+pub fn sync<R: Disk + Net + Threads + Wait + Clock + Eprint + AllocGlobal + Sync>(
     rt: &R,
     file: &str,
     addr: &str,
@@ -203,7 +231,7 @@ where
 
 /// A client that says nothing, and one beside it with the file's journal until that is done: whether the first was silent
 /// so long, and what the other was told.
-pub fn sync_beside_silence<R: Disk + Net + Threads + Wait + Clock + AllocGlobal + Sync>(
+pub fn sync_beside_silence<R: Disk + Net + Threads + Wait + Clock + Eprint + AllocGlobal + Sync>(
     rt: &R,
     file: &str,
     place: &Place,

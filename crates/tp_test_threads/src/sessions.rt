@@ -1,11 +1,12 @@
 //! Sessions over TCP, in threads of one process.
 
-use crate::hold::{Broken, Hold};
-use crate::sides::{client, server, server_without_seats};
-use crate::strangers::{Answered, Pace, UNKNOWN, first_other, leaves};
+use crate::hold::{Broken, Counts, Hold};
+use crate::sides::{client, patience, server, server_without_seats};
+use crate::strangers::{Answered, Pace, UNKNOWN, connected, first_other, leaves};
 use std::net::{Ipv4Addr, OpenListener, SocketAddr, TcpListener};
 use std::test::Fail;
 use std::thread::join;
+use std::time::Duration;
 use tp_net::AlwaysOpen;
 
 // A port of this machine that is free.
@@ -19,15 +20,17 @@ fn here() -> SocketAddr {
 fn both_sides_read_one_text(rt: HostRuntime) -> Result<(), Fail> {
     let listener = TcpListener::bind(&rt, here())?;
     let addr = listener.local_addr()?;
+    let gate = Counts::new();
     let (served, synced) = join(
         &rt,
-        || server(&rt, &listener, 2, 1, &AlwaysOpen),
+        || server(&rt, &listener, 2, 1, patience(), &gate),
         || client(&rt, addr, 2, "q"),
     );
     let (applied, text) = synced.ok_or("the client")?;
     assert_eq!(rt; served.ok_or("the server")?.as_str(), "qabc");
     assert_eq!(rt; text.as_str(), "qabc");
     assert_eq!(rt; applied, 1);
+    assert_eq!(rt; gate.all(), (1, 1, 0));
     Ok(())
 }
 
@@ -40,7 +43,7 @@ fn sessions_go_on_side_by_side(rt: HostRuntime) -> Result<(), Fail> {
     let gate = Hold::new();
     let (served, (two, three)) = join(
         &rt,
-        || server(&rt, &listener, 2, 2, &gate),
+        || server(&rt, &listener, 2, 2, patience(), &gate),
         || {
             join(
                 &rt,
@@ -76,7 +79,7 @@ fn strangers_are_refused(rt: HostRuntime) -> Result<(), Fail> {
     let addr = listener.local_addr()?;
     let (served, (first, second, last)) = join(
         &rt,
-        || server(&rt, &listener, 1, 12, &AlwaysOpen),
+        || server(&rt, &listener, 1, 12, patience(), &AlwaysOpen),
         || {
             let first = first_other(&rt, addr, b"", &UNKNOWN, Pace::AtOnce);
             let second = first_other(&rt, addr, b"", &HELLOS, Pace::AtOnce);
@@ -103,7 +106,7 @@ fn a_client_leaves(rt: HostRuntime) -> Result<(), Fail> {
     let addr = listener.local_addr()?;
     let (served, (was_sent, last)) = join(
         &rt,
-        || server(&rt, &listener, 1, 2, &AlwaysOpen),
+        || server(&rt, &listener, 1, 2, patience(), &AlwaysOpen),
         || (leaves(&rt, addr, FIRST), client(&rt, addr, 2, "q")),
     );
     assert!(rt; was_sent);
@@ -113,10 +116,35 @@ fn a_client_leaves(rt: HostRuntime) -> Result<(), Fail> {
     Ok(())
 }
 
+// The session of a client that says nothing ends alone, once the patience is over: the next one is served on the same seat
+// meanwhile the silent one is still connected.
+#[test]
+fn a_silent_client_ends(rt: HostRuntime) -> Result<(), Fail> {
+    let listener = TcpListener::bind(&rt, here())?;
+    let addr = listener.local_addr()?;
+    let gate = Counts::new();
+    let short = Some(Duration::from_millis(200));
+    let (served, (was_connected, last)) = join(
+        &rt,
+        || server(&rt, &listener, 1, 2, short, &gate),
+        || {
+            let silent = connected(&rt, addr);
+            let last = client(&rt, addr, 2, "q");
+            (silent.is_some(), last)
+        },
+    );
+    assert!(rt; was_connected);
+    let (applied, text) = last.ok_or("the last client")?;
+    assert_eq!(rt; (applied, text.as_str()), (1, "qabc"));
+    assert_eq!(rt; served.ok_or("the server")?.as_str(), "qabc");
+    assert_eq!(rt; gate.all(), (1, 1, 1));
+    Ok(())
+}
+
 // A listener that fails ends the server, but where nothing is to be accepted.
 #[test]
 fn a_listener_fails(rt: HostRuntime) {
-    assert!(rt; server(&rt, &Broken, 2, 1, &AlwaysOpen).is_none());
-    assert!(rt; server(&rt, &Broken, 2, 0, &AlwaysOpen).is_some());
+    assert!(rt; server(&rt, &Broken, 2, 1, patience(), &AlwaysOpen).is_none());
+    assert!(rt; server(&rt, &Broken, 2, 0, patience(), &AlwaysOpen).is_some());
     assert_eq!(rt; server_without_seats(&rt, &Broken, 1), Some(0));
 }

@@ -8,10 +8,16 @@ use std::io::{Read, Write};
 use std::net::{Net, OpenListener, OpenStream, SocketAddr};
 use std::sync::Wait;
 use std::thread::Threads;
+use std::time::{Clock, Duration};
 use tp_journal::MemJournal;
 use tp_net::{AlwaysOpen, Gate, connect, serve};
 use tp_peer::Peer;
 use tp_served::{Seat, Served};
+
+/// How long a side waits for the other, where it comes to nothing.
+pub fn patience() -> Option<Duration> {
+    Some(Duration::from_secs(20))
+}
 
 // A document with the text, which the actor inserted in one edit.
 fn document<R: AllocGlobal>(rt: &R, number: u8, text: &str) -> Option<Peer<MemJournal>> {
@@ -46,15 +52,32 @@ fn text_of<R: Wait>(rt: &R, served: &Served<MemJournal>, seats: Vec<Seat>) -> Op
     }
 }
 
-/// Serves `abc` of actor 1 to so many sessions on so many seats; the text afterwards. `None` where that is refused.
+/// Serves `abc` of actor 1 to so many sessions on so many seats, with the patience; the text afterwards. `None` where that is
+/// refused.
 pub fn server<
-    R: AllocGlobal + Threads + Wait + Sync,
+    R: AllocGlobal + Threads + Wait + Clock + Sync,
     S: Read + Write + OpenStream + Send + Drop,
     L: OpenListener<Stream = S>,
     G: Gate + Sync,
->(rt: &R, listener: &L, seats: usize, sessions: u64, gate: &G) -> Option<String> {
+>(
+    rt: &R,
+    listener: &L,
+    seats: usize,
+    sessions: u64,
+    patience: Option<Duration>,
+    gate: &G,
+) -> Option<String> {
     let (served, seats) = served(rt, 1, "abc", seats)?;
-    match serve(rt, rt.alloc(), listener, &served, seats, sessions, gate) {
+    match serve(
+        rt,
+        rt.alloc(),
+        listener,
+        &served,
+        seats,
+        sessions,
+        patience,
+        gate,
+    ) {
         Ok(seats) => text_of(rt, &served, seats),
         Err(_) => None,
     }
@@ -62,7 +85,7 @@ pub fn server<
 
 /// Serves `abc` of actor 1 to so many sessions without a seat: how many seats come back. `None` where that is refused.
 pub fn server_without_seats<
-    R: AllocGlobal + Threads + Wait + Sync,
+    R: AllocGlobal + Threads + Wait + Clock + Sync,
     S: Read + Write + OpenStream + Send + Drop,
     L: OpenListener<Stream = S>,
 >(rt: &R, listener: &L, sessions: u64) -> Option<usize> {
@@ -75,6 +98,7 @@ pub fn server_without_seats<
         &served,
         none,
         sessions,
+        patience(),
         &AlwaysOpen,
     ) {
         Ok(back) => Some(back.len()),
@@ -91,7 +115,7 @@ fn client_at<R: AllocGlobal + Net + Wait>(
 ) -> Option<(u64, String)>
     requires { seat.old.served ≡ served.now.served }
 {
-    match connect(rt, rt.alloc(), addr, served, seat) {
+    match connect(rt, rt.alloc(), addr, patience(), served, seat) {
         Ok(applied) => match served.read(rt, seat) {
             Ok(text) => Some((applied, text)),
             Err(_) => None,

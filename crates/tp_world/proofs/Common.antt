@@ -52,7 +52,7 @@ pub use Rattle.tp_world.specs.Judging.{AllRun, AllThere, IsFresh, Judges, Meets,
 pub use Rattle.tp_world.specs.Lives.{member_data}
 pub use Rattle.tp_world.specs.Made.{AreNoted, IsNotedFor, IsReady, MadeData, is_noted}
 pub use Rattle.tp_world.specs.Making.{AnswersAt, IsRunningEdit, IsWould, Notes, entered_of, heads_named, is_kept_in, is_made}
-pub use Rattle.tp_world.specs.Members.{ArmsAt, DisarmsAt, MergesAt, OpensAgainAt, OpensOn, StepsAt, left_with}
+pub use Rattle.tp_world.specs.Members.{ArmsAt, DisarmsAt, MergesAt, OpensAgainAt, OpensOn, MemberSteps, left_with}
 pub use Rattle.tp_world.specs.Order.{pairs_of}
 pub use Rattle.tp_world.specs.States.{world_of}
 pub use Rattle.tp_world.specs.Told.{answer_of, call_of, during_of, event_of, reply_of}

@@ -1,5 +1,5 @@
 -- What an event comes to, from what its calls did.
-use Rattle.tp_world.proofs.Common.{◌≡◌, ◌⊎◌, inl, inr, ℕ, ◌+◌, ◌-◌, ◌^◌, ◌<◌, ◌≤◌, min, List, [], ◌∷◌, ◌++◌, length, take, slice_set, true, false, Bool, ◌&&◌, nat_le, Option, Some, None, Result, Ok, Err, refl, sym, ap, ◌∙◌, subst, append-nil, arith, OnOk, is_err, slice_get, nat_tests, length-append, length-take, take_all, In, truth, Actor, Hash, ChangeParts, record_of, records_of, Recovers, recovered, length-record_of, PeerData, disarming, IsCall, heads_at, made_by, noting, Carried, Event, Crash, called_in, entries_of, IsEditAt, IsEditOf, MayHappen, WouldEdit, Reply, reply_to, Entry, ReadRecord, World, HasPeer, gained, with_made, with_peer, with_used, Left, left_of, nothing_left, one_call, one_cut, one_edit, one_named, would_edit, slice_get-set, slice_get-set_same, slice_set-still, Meets, AnswersAt, IsWould, Notes, entered_of, heads_named, is_kept_in, is_made, DisarmsAt, OpensAgainAt, OpensOn, StepsAt, left_with}
+use Rattle.tp_world.proofs.Common.{◌≡◌, ◌⊎◌, inl, inr, ℕ, ◌+◌, ◌-◌, ◌^◌, ◌<◌, ◌≤◌, min, List, [], ◌∷◌, ◌++◌, length, take, slice_set, true, false, Bool, ◌&&◌, nat_le, Option, Some, None, Result, Ok, Err, refl, sym, ap, ◌∙◌, subst, append-nil, arith, OnOk, is_err, slice_get, nat_tests, length-append, length-take, take_all, In, truth, Actor, Hash, ChangeParts, record_of, records_of, Recovers, recovered, length-record_of, PeerData, disarming, IsCall, heads_at, made_by, noting, Carried, Event, Crash, called_in, entries_of, IsEditAt, IsEditOf, MayHappen, WouldEdit, Reply, reply_to, Entry, ReadRecord, World, HasPeer, gained, with_made, with_peer, with_used, Left, left_of, nothing_left, one_call, one_cut, one_edit, one_named, would_edit, slice_get-set, slice_get-set_same, slice_set-still, Meets, AnswersAt, IsWould, Notes, entered_of, heads_named, is_kept_in, is_made, DisarmsAt, OpensAgainAt, OpensOn, MemberSteps, left_with}
 use Rattle.tp_journal.proofs.RecoveredLaws.{recovered_again}
 use Rattle.tp_headline.specs.Crashing.{ComesBack, kept_bytes, made_during, stopped_with}
 use Rattle.tp_headline.specs.Event.{Call}
@@ -13,7 +13,7 @@ use Rattle.tp_headline.specs.Call as call
 
 -- ---- what a peer answered
 
-pub deliver_answers : (w : World) (n k : ℕ) (e : Entry) (answer : peer.Reply) (peers : List PeerData) → slice_get w.wire k ≡ Some e → StepsAt w.peers n (peer.Receive e.sender e.bytes) answer peers
+pub deliver_answers : (w : World) (n k : ℕ) (e : Entry) (answer : peer.Reply) (peers : List PeerData) → slice_get w.wire k ≡ Some e → MemberSteps w.peers n (peer.Receive e.sender e.bytes) answer peers
     → AnswersAt w n (call.Deliver k) answer (record w { peers = peers })
 deliver_answers w n k e answer peers there s =
     record {

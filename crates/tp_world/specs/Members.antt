@@ -34,7 +34,7 @@ ForksAt peers n actor (Ok fork) = (p : PeerData) × (slice_get peers n ≡ Some 
 ForksAt peers n actor (Err e) = (p : PeerData) × (slice_get peers n ≡ Some p) × NotForked p actor (in_memory []) e (in_memory [])
 
 -- The call was made on the peer numbered n, which answered so.
-pub record StepsAt (peers : List PeerData) (n : ℕ) (call : peer.Call) (answer : peer.Reply) (peers' : List PeerData) : Type 0 where
+pub record MemberSteps (peers : List PeerData) (n : ℕ) (call : peer.Call) (answer : peer.Reply) (peers' : List PeerData) : Type 0 where
   pub before : PeerData
   pub stands : slice_get peers n ≡ Some before
   pub after : PeerData
@@ -45,7 +45,7 @@ pub record StepsAt (peers : List PeerData) (n : ℕ) (call : peer.Call) (answer 
 pub record MergesAt (peers : List PeerData) (n m : ℕ) (answer : peer.Reply) (peers' : List PeerData) : Type 0 where
   pub other : PeerData
   pub there : slice_get peers m ≡ Some other
-  pub at : StepsAt peers n (peer.Merge other) answer peers'
+  pub at : MemberSteps peers n (peer.Merge other) answer peers'
 
 -- The next append to the journal of the peer numbered n is set to fail and to keep so many bytes, and nothing else changed.
 pub record ArmsAt (peers : List PeerData) (n kept : ℕ) (peers' : List PeerData) : Type 0 where

@@ -7,7 +7,7 @@ ghost use Rattle.tp_peer.specs.Calls.{call_of, reply_of};
 ghost use Rattle.tp_peer.specs.PeerData.{PeerData};
 ghost use Rattle.tp_peer.specs.PeerStep.{Merged, Receive, replied};
 ghost use Rattle.tp_peer.specs.Taking.{report_of};
-ghost use Rattle.tp_world.specs.Members.{ArmsAt, DisarmsAt, ForksAt, MergesAt, OpensAgainAt, StepsAt};
+ghost use Rattle.tp_world.specs.Members.{ArmsAt, DisarmsAt, ForksAt, MergesAt, OpensAgainAt, MemberSteps};
 ghost use Rattle.tp_world.specs.Told.{reply_of as told};
 
 use crate::entry::Entry;
@@ -36,7 +36,7 @@ pub(crate) fn fork_at(
 /// A peer makes a call that needs no other one.
 pub(crate) fn call_at(members: &mut Vec<Member>, n: usize, call: PeerCall) -> PeerReply
     requires { n < length members.old.items }
-    ensures { StepsAt members.old.items n (call_of call.entry) (reply_of result)
+    ensures { MemberSteps members.old.items n (call_of call.entry) (reply_of result)
         members.new.items }
 {
     let member = &mut members[n];
@@ -46,7 +46,7 @@ pub(crate) fn call_at(members: &mut Vec<Member>, n: usize, call: PeerCall) -> Pe
 /// A peer receives the entry of the wire, on its link to the peer that sent it.
 pub(crate) fn receive_at(members: &mut Vec<Member>, n: usize, sent: &Entry) -> PeerReply
     requires { n < length members.old.items }
-    ensures { StepsAt members.old.items n (Receive sent.now.sender sent.now.bytes)
+    ensures { MemberSteps members.old.items n (Receive sent.now.sender sent.now.bytes)
         (reply_of result) members.new.items }
 {
     call_at(

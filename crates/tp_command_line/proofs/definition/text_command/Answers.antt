@@ -3,4 +3,5 @@ use Rattle.tp_command_line.proofs.definition.text_command.Goals as goal
 
 pub returns : goal.returns
 returns c =
-    IfOk-map c.arg.result _ _ (λ r added. argument_added _ _ _ c.hashes.result r c.in_ok-file_command.ensures c.hashes.ensures.rule c.hashes.ensures.local added) c.arg.ensures
+    let with1 = argument_added _ _ _ c.raw.result c.in_ok-arg.field-0 c.in_ok-file_command.ensures c.raw.ensures.rule c.raw.ensures.local c.in_ok-arg.ensures in
+    IfOk-map c.arg-2.result _ _ (λ r added. argument_added _ _ _ c.hashes.result r with1 c.hashes.ensures.rule c.hashes.ensures.local added) c.arg-2.ensures

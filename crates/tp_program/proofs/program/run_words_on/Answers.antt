@@ -9,7 +9,7 @@ pub returns-in-Err-clause-refused : goal.returns-in-Err-clause-refused
 returns-in-Err-clause-refused g c refused =
     ⊎_elim
     (λ value. inl (value.0, subst (RefusesLine _ _) value.1 c.in-Err.ensures.fails, value.2, value.3))
-    (λ help. inr ([], None, help.0, g.E.Write.contents c.args.err.now, help.2, inl (help_asked _ _ c.in-Err.fault c.in-Err.ensures.fails help.1, refl, Keeps-refl _, help.3)))
+    (λ help. inr ([], [], None, help.0, g.E.Write.contents c.args.err.now, help.2, inl (help_asked _ _ c.in-Err.fault c.in-Err.ensures.fails help.1, refl, refl, Keeps-refl _, help.3)))
     (c.explain.ensures.refused refused)
 
 -- of help nothing is told

@@ -1,7 +1,7 @@
 use Rattle.std.proofs.Common.{◌∙◌, codes}
 use Rattle.std.specs.Fmt.{decimal}
 use Rattle.tp_program.specs.Rescuing.{refused_line}
-use Rattle.tp_program.proofs.TellLaws.{grouped}
+use Rattle.tp_report.proofs.TellLaws.{grouped}
 use Rattle.tp_program.proofs.rescuing.check_text.Goals as goal
 
 pub returns : goal.returns

@@ -1,7 +1,7 @@
 use Rattle.std.proofs.Common.{Option, ⊎_elim, ap, inl, inr, rules, subst}
 use Rattle.std.specs.String.{string_bytes}
 use Rattle.tp_program.specs.Rescuing.{IsChecked}
-use Rattle.tp_program.specs.declared.error.JobError.TheVariants.{Command}
+use Rattle.tp_report.specs.declared.error.JobError.TheVariants.{Command}
 use Rattle.tp_store.specs.declared.error.StoreError.{StoreError}
 use Rattle.tp_program.proofs.running.check_file.Goals as goal
 

@@ -1,0 +1,205 @@
+//! A text from elsewhere, which becomes the text of a journal.
+
+ghost use Rattle.std.specs.Prelude.{◌≡◌, ◌⊎◌, ◌<◌, ◌≤◌, [], drop, length, take, IfErr, IfOk, IsOkUnless, OnOk, false};
+ghost use Rattle.std.specs.List.{All};
+ghost use Rattle.std.specs.Str.{chars};
+ghost use Rattle.std.specs.Str.Lossy.{utf8_valid_len};
+ghost use Rattle.tp_document.specs.Editing.{DoesSplices};
+ghost use Rattle.tp_journal.specs.Recovery.{Recovers};
+ghost use Rattle.tp_journal.specs.Refusals.{IsRefusal};
+ghost use Rattle.tp_peer.specs.Appending.{journal_state};
+ghost use Rattle.tp_store.specs.declared.error.StoreError.TheVariants.{OutOfMemory as Lack};
+ghost use Rattle.tp_text.specs.Text.{IsTextOf};
+ghost use Rattle.tp_commands.specs.declared.error.CommandError.TheVariants.{NotText};
+ghost use Rattle.tp_commands.specs.Updating.{HasNoCharacters, IsFullBefore, IsNotImported, IsNotRewritten, IsNotUpdated, MakesEdits, MakesNext, MakesText, StopsNext, UpdatesJournal};
+ghost use Rattle.tp_edit.specs.Splices.{count_of, total_count};
+
+use crate::editing::reopen;
+use crate::error::CommandError;
+use crate::reading::Recovery;
+use std::alloc::Global;
+use std::str;
+use tp_change::MAX_OPS;
+use tp_diff::differences;
+use tp_edit::Splice;
+use tp_journal::{Journal, Recovered};
+use tp_opid::{Actor, Hash};
+use tp_peer::{Peer, PeerSequence};
+
+/// The text in a file of these bytes. Bytes that aren't UTF-8 are refused as `NotText`, with how many are before the first that
+/// aren't.
+pub fn text_in_file(bytes: &[u8]) -> Result<&str, CommandError>
+    ensures ok { IfOk result (λ text. text.now ≡ bytes.now) }
+    ensures err { IfErr result (λ e. e ≡ NotText (utf8_valid_len bytes.now)) }
+{
+    match str::from_utf8(bytes) {
+        Ok(text) => Ok(text),
+        Err(fault) => Err(CommandError::NotText {
+            at: fault.valid_up_to() as u64,
+        }),
+    }
+}
+
+// Of how many of the splices one change is made: as many as it may have the operations of, and one at least.
+fn group_len(splices: &[Splice]) -> usize
+    requires { 0 < length splices.now }
+    ensures some { 0 < result }
+    ensures within { result ≤ length splices.now }
+    ensures full { IsFullBefore (take result splices.now) (drop result splices.now) }
+{
+    let mut count: usize = 0;
+    for at in 0..splices.len() {
+        let splice = &splices[at];
+        count = count
+            .saturating_add(splice.del)
+            .saturating_add(splice.inserted_count());
+        if count > MAX_OPS && at > 0 {
+            return at;
+        }
+    }
+    splices.len()
+}
+
+// Makes one edit, of the splices that come next, and puts its hash to the others.
+fn edit_once<J: Journal>(
+    peer: &mut Peer<J>,
+    hashes: &mut Vec<Hash>,
+    splices: &[Splice],
+    time: u64,
+    message: &str,
+) -> Result<(), CommandError>
+    requires { 0 < total_count splices.now }
+    ensures ok { OnOk result (MakesNext splices.now time (chars message.now)
+        hashes.old.items peer.old hashes.new.items peer.new) }
+    ensures text { OnOk result (DoesSplices peer.old.applied peer.new.applied splices.now) }
+    ensures err { IfErr result
+        (StopsNext time (chars message.now) hashes.old.items peer.old) }
+{
+    match peer.edit(splices, time, message) {
+        Ok(Some(hash)) => Ok(hashes.push(hash)?),
+        Ok(None) => Ok(()),
+        Err(error) => Err(CommandError::from(error)),
+    }
+}
+
+// Makes the edits of the splices, in turn, by as few changes as it takes. Answers their hashes.
+fn edit_all<J: Journal>(
+    alloc: Global,
+    peer: &mut Peer<J>,
+    splices: &[Splice],
+    time: u64,
+    message: &str,
+) -> Result<Vec<Hash>, CommandError>
+    requires runs { peer.old.stopped ≡ false }
+    requires some { All (λ s. 0 < count_of s) splices.now }
+    ensures ok { IfOk result (λ hashes.
+        MakesEdits peer.old splices.now [] time (chars message.now) hashes.items peer.new) }
+    ensures text { OnOk result (DoesSplices peer.old.applied peer.new.applied splices.now) }
+    ensures err { IfErr result (λ e. IsNotRewritten peer.old time (chars message.now) e) }
+{
+    let mut hashes = Vec::new(alloc);
+    let mut from = 0;
+    while from < splices.len() {
+        let end = from + group_len(&splices[from..]);
+        edit_once(peer, &mut hashes, &splices[from..end], time, message)?;
+        from = end;
+    }
+    Ok(hashes)
+}
+
+// Makes the peer's text another one, by their differences.
+#[tactic(auto, using(crate::proofs::Updates::all_some))]
+fn rewrite<J: Journal>(
+    alloc: Global,
+    peer: &mut Peer<J>,
+    text: &str,
+    time: u64,
+    message: &str,
+) -> Result<Vec<Hash>, CommandError>
+    requires { peer.old.stopped ≡ false }
+    ensures ok { IfOk result (λ hashes.
+        MakesText peer.old (chars text.now) time (chars message.now) hashes.items peer.new) }
+    ensures err { IfErr result (λ e. IsNotRewritten peer.old time (chars message.now) e) }
+{
+    let before = peer.document().text()?;
+    let splices = differences(alloc, before.as_str(), text, MAX_OPS)?;
+    edit_all(alloc, peer, &splices, time, message)
+}
+
+/// Makes the journal's text this one, under the actor, by changes that are appended to the journal; it comes with what its
+/// content recovered to. Answers their hashes: of one change where the text's differences are at most 65,536 operations, and else
+/// of as many as it takes; of none where the text is this one already. Where it stops, a beginning of them is made.
+pub fn update<J: Journal>(
+    alloc: Global,
+    opened: (J, Recovery),
+    actor: Actor,
+    text: &str,
+    time: u64,
+    message: &str,
+) -> Result<(J, Vec<Hash>), CommandError>
+    requires recovers { IfOk opened.1 (λ r.
+        Recovers (J.content opened.0) r.document.id r.document.applied r.keep
+        × (r.document.waiting ≡ [])) }
+    requires refused { IfErr opened.1 (λ e. (e ≡ Lack) ⊎ IsRefusal (J.content opened.0) e) }
+    ensures updates { IfOk result (λ r. UpdatesJournal (J.content opened.0) actor (chars text.now)
+        time (chars message.now) r.1.items (J.content r.0)) }
+    ensures err { IfErr result
+        (λ e. IsNotUpdated (journal_state (J.content opened.0) (J.device opened.0)) actor time
+        (chars message.now) e) }
+{
+    match reopen(alloc, opened, actor) {
+        Ok(mut peer) => {
+            let made = rewrite(alloc, &mut peer, text, time, message);
+            let journal = peer.stop();
+            match made {
+                Ok(hashes) => Ok((journal, hashes)),
+                Err(error) => Err(error),
+            }
+        }
+        Err(error) => Err(error),
+    }
+}
+
+/// Makes the text of a journal this one, as [`update`], where its text is empty; another is refused as `NotEmpty`.
+pub fn import<J: Journal>(
+    alloc: Global,
+    opened: (J, Recovered<PeerSequence>),
+    actor: Actor,
+    text: &str,
+    time: u64,
+    message: &str,
+) -> Result<(J, Vec<Hash>), CommandError>
+    requires recovers { Recovers (J.content opened.0) opened.1.document.id
+        opened.1.document.applied opened.1.keep }
+    requires none_waits { opened.1.document.waiting ≡ [] }
+    ensures empty { OnOk result (HasNoCharacters (J.content opened.0)) }
+    ensures updates { IfOk result (λ r. UpdatesJournal (J.content opened.0) actor (chars text.now)
+        time (chars message.now) r.1.items (J.content r.0)) }
+    ensures err { IfErr result
+        (λ e. IsNotImported (journal_state (J.content opened.0) (J.device opened.0)) actor time
+        (chars message.now) e) }
+{
+    let (journal, recovered) = opened;
+    match has_text(&recovered) {
+        Ok(false) => update(alloc, (journal, Ok(recovered)), actor, text, time, message),
+        Ok(true) => {
+            drop(journal);
+            drop(recovered);
+            Err(CommandError::NotEmpty)
+        }
+        Err(error) => {
+            drop(journal);
+            drop(recovered);
+            Err(error)
+        }
+    }
+}
+
+// Whether the text of what was recovered has a character.
+fn has_text(recovered: &Recovered<PeerSequence>) -> Result<bool, CommandError>
+    ensures ok { IfOk result (λ has. has ≡ false → IsTextOf recovered.now.document.applied []) }
+    ensures err { IsOkUnless result CommandError.OutOfMemory }
+{
+    let text = recovered.document.text()?;
+    Ok(!text.as_str().is_empty())
+}

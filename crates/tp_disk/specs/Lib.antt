@@ -1,0 +1,3 @@
+pub mod DiskView
+pub mod Keys
+pub mod Opening

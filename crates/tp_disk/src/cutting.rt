@@ -1,0 +1,51 @@
+//! Keeping what is cut off a journal.
+
+ghost use Rattle.std.specs.Prelude.{IfOk, OnOk};
+ghost use Rattle.tp_disk.specs.DiskView.{WasLeft};
+ghost use Rattle.tp_disk.specs.Opening.{KeepsTail, cut_path};
+
+use crate::folders::Folders;
+use crate::replacing::put_new;
+use tp_commands::CommandError;
+use tp_journal::{Recovered, holds_record};
+use tp_peer::{PeerError, PeerSequence};
+
+// Puts what is cut off from the offset on into a file of its own, unless it is there already.
+fn put_cut<D: Folders + AllocGlobal>(
+    rt: &D,
+    path: &str,
+    at: u64,
+    bytes: &[u8],
+) -> Result<(), CommandError>
+    ensures { OnOk result (D.saw rt.now (WasLeft (cut_path path.now at) bytes.now)) }
+{
+    let place = format!(in rt.alloc(); "{path}.cut-{at}")?;
+    match put_new(rt, place.as_str(), path, bytes) {
+        Err(CommandError::Peer(PeerError::JournalNotEmpty)) => {
+            if rt.has(place.as_str(), bytes)? {
+                rt.sync_folder(place.as_str())
+            } else {
+                Err(CommandError::Peer(PeerError::JournalNotEmpty))
+            }
+        }
+        put => put,
+    }
+}
+
+/// Keeps the bytes that opening the journal at the path cuts off, as [`Disk::journal`](crate::Disk::journal)
+/// says. The offset of the first of them, where they are kept.
+pub(crate) fn keep_cut<D: Folders + AllocGlobal>(
+    rt: &D,
+    path: &str,
+    recovered: &Recovered<PeerSequence>,
+) -> Result<Option<u64>, CommandError>
+    ensures { IfOk result (KeepsTail (D.saw rt.now) path.now
+        recovered.now.keep recovered.now.tail.items) }
+{
+    if holds_record(rt.alloc(), recovered.tail.as_slice())? {
+        put_cut(rt, path, recovered.keep, recovered.tail.as_slice())?;
+        Ok(Some(recovered.keep))
+    } else {
+        Ok(None)
+    }
+}

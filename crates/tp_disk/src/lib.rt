@@ -1,0 +1,14 @@
+//! What the program does to files and folders: journals that are opened and left, files that are put in the place of others,
+//! what is cut off a journal and kept, and the source of random bytes, under which actors are drawn.
+#![tactic(auto)]
+
+mod cutting;
+mod files;
+mod folders;
+mod keys;
+mod replacing;
+
+pub use files::{Disk, Opened};
+pub use folders::{Folders, Found};
+pub use keys::{draw, draw_actor, generator, key_or_random};
+pub use replacing::{put_new, replace};

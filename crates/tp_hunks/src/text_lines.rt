@@ -1,0 +1,90 @@
+//! The lines of a text.
+
+ghost use Rattle.std.specs.Prelude.{◌≡◌, ◌≤◌, ◌-◌, IfOk, drop, length, map, take};
+ghost use Rattle.tp_hunks.specs.Lines.{lines_of_text};
+ghost use Rattle.tp_hunks.specs.Hunks.{lines_at as lines_from, lines_up_to as lines_through, same_end as same_at_end, same_start as same_at_start};
+
+use std::alloc::{AllocError, Global};
+
+/// The lines of a text: what its newlines part. The last one is empty where the text ends in a newline.
+pub fn lines<'a>(alloc: Global, text: &'a [char]) -> Result<Vec<&'a [char]>, AllocError>
+    ensures { IfOk result
+        (λ lines. map (λ l. l.now) lines.items ≡ lines_of_text text.now) }
+{
+    text.split(|ch| *ch == '\n').collect(alloc)
+}
+
+// The lines from a place on.
+fn from_line<'a, 'b>(lines: &'b [&'a [char]], at: usize) -> &'b [&'a [char]]
+    ensures { result.now ≡ drop at lines.now }
+{
+    if at < lines.len() {
+        &lines[at..]
+    } else {
+        &lines[..0]
+    }
+}
+
+// The first lines, so many.
+fn first_lines<'a, 'b>(lines: &'b [&'a [char]], len: usize) -> &'b [&'a [char]]
+    ensures { result.now ≡ take len lines.now }
+{
+    if len < lines.len() {
+        &lines[..len]
+    } else {
+        lines
+    }
+}
+
+/// So many lines from a place on, as far as there are any.
+pub fn lines_at<'a, 'b>(lines: &'b [&'a [char]], at: usize, len: usize) -> &'b [&'a [char]]
+    ensures { result.now ≡ lines_from at len lines.now }
+{
+    first_lines(from_line(lines, at), len)
+}
+
+/// The lines from one place up to another, as far as there are any.
+pub(crate) fn lines_up_to<'a, 'b>(
+    lines: &'b [&'a [char]],
+    first: usize,
+    last: usize,
+) -> &'b [&'a [char]]
+    ensures few { length result.now ≤ length lines.now - first }
+    ensures lines { result.now ≡ lines_through first last lines.now }
+{
+    if last < first {
+        return first_lines(lines, 0);
+    }
+    let rest = from_line(lines, first);
+    if last - first < rest.len() {
+        &rest[..last - first + 1]
+    } else {
+        rest
+    }
+}
+
+/// With how many lines that are alike the two begin.
+pub(crate) fn same_start(a: &[&[char]], b: &[&[char]]) -> usize
+    ensures few { result ≤ length a.now }
+    ensures others { result ≤ length b.now }
+    ensures same { result ≡ same_at_start (map (λ l. l.now) a.now) (map (λ l. l.now) b.now) }
+{
+    let mut same = 0usize;
+    while same < a.len() && same < b.len() && a[same] == b[same] {
+        same += 1;
+    }
+    same
+}
+
+/// With how many lines that are alike they end.
+pub(crate) fn same_end(a: &[&[char]], b: &[&[char]]) -> usize
+    ensures few { result ≤ length a.now }
+    ensures others { result ≤ length b.now }
+    ensures same { result ≡ same_at_end (map (λ l. l.now) a.now) (map (λ l. l.now) b.now) }
+{
+    let mut same = 0usize;
+    while same < a.len() && same < b.len() && a[a.len() - 1 - same] == b[b.len() - 1 - same] {
+        same += 1;
+    }
+    same
+}

@@ -1,0 +1,5 @@
+pub mod FrameLaws
+pub mod ServedLines
+pub mod SessionLaws
+pub mod FollowLaws
+pub mod PageLines

@@ -1,0 +1,43 @@
+-- What the commands over a network print.
+use Rattle.std.specs.Prelude.{◌≡◌, ℕ, List, [], ◌++◌, ◌==◌, if◌then◌else◌, codes}
+use Rattle.std.specs.Fmt.{decimal}
+use Rattle.std.specs.List.{flat_map}
+use Rattle.std.specs.Net.Socket.{socket_ip}
+use Rattle.std.specs.Net.Text.{socket_text}
+use Rattle.std.specs.declared.net.socket_addr.SocketAddr.{SocketAddr}
+use Rattle.tp_frame.specs.declared.frame.Frame.{Frame}
+use Rattle.tp_frame.specs.Frame.{spelling}
+use Rattle.tp_commands.specs.Reading.{line}
+use Rattle.tp_report.specs.Telling.{applied_line}
+
+-- the line of the port on which a server listens
+abbrev pub listening_line : ℕ → List ℕ
+listening_line port = line (codes "listening " ++ decimal port)
+
+-- the line of how many sessions were held
+abbrev pub served_line : ℕ → List ℕ
+served_line sessions = line (codes "served " ++ decimal sessions)
+
+-- what is printed of a session among others: how many changes entered, where any did
+abbrev pub met_line : ℕ → List ℕ
+met_line applied = if applied == 0 then [] else applied_line applied
+
+-- the line of a page's address
+abbrev pub page_line : SocketAddr → List ℕ
+page_line page = line (codes "http://" ++ socket_text page ++ codes "/")
+
+-- The bytes are what is printed of a page: where it is, at the IP address that was asked for.
+abbrev pub IsPageShown : SocketAddr → List ℕ → Type 0
+IsPageShown asked printed = (page : SocketAddr) × (socket_ip page ≡ socket_ip asked) × (printed ≡ page_line page)
+
+-- The bytes are what a server prints that held so many sessions: first the port on which it listens.
+abbrev pub IsServed : ℕ → List ℕ → Type 0
+IsServed sessions printed = (port : ℕ) × (printed ≡ listening_line port ++ served_line sessions)
+
+-- the bytes are what a client prints: how many changes entered
+abbrev pub IsSynced : List ℕ → Type 0
+IsSynced printed = (applied : ℕ) × (printed ≡ applied_line applied)
+
+-- the bytes are frames, each whole
+abbrev pub AreFrames : List ℕ → Type 0
+AreFrames printed = (sent : List Frame) × (printed ≡ flat_map spelling sent)

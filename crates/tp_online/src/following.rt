@@ -1,0 +1,187 @@
+//! The command `sync --follow`.
+
+ghost use Rattle.std.specs.Prelude.{◌≡◌, ◌≤◌, ℕ, List, IfErr, IfOk, None, OnErr, OnOk, Option};
+ghost use Rattle.std.specs.Io.KnownBytes.{Appends};
+ghost use Rattle.tp_textpeer.specs.Output.{AppendsPart};
+ghost use Rattle.tp_disk.specs.Opening.{MayCutFile};
+ghost use Rattle.tp_online.specs.Network.{met_line};
+ghost use Rattle.tp_report.specs.Telling.{Grows, GrowsPart};
+ghost use Rattle.tp_online.specs.Sessions.{ReportsEach, IsFollowed, MayMeet};
+
+use crate::serving::{Met, applied_by};
+use std::alloc::Global;
+use std::io::Write;
+use std::net::Net;
+use std::thread;
+use std::time::{Clock, Duration};
+use tp_command_line::Address;
+use tp_commands::CommandError;
+use tp_disk::Disk;
+use tp_report::{JobError, applied_text, put, report};
+
+/// Whom one follows, and how.
+#[derive(Drop)]
+pub struct Following<'a> {
+    /// Where the server is.
+    pub addr: Address<'a>,
+    /// How long it waits after a session, and after one that couldn't be.
+    pub every: Duration,
+    /// How long the server may say nothing.
+    pub patience: Option<Duration>,
+}
+
+// Whether a session may be held later that was refused now: the server is away, or another has the journal.
+fn is_for_now(error: &JobError) -> bool {
+    matches!(
+        error,
+        JobError::Command(CommandError::Io)
+            | JobError::Command(CommandError::Busy)
+            | JobError::Unreached(_)
+    )
+}
+
+// Prints how many changes entered, where any did.
+fn tell_met<W: Write>(alloc: Global, applied: u64, out: &mut W) -> Result<(), JobError>
+    ensures ok { OnOk result
+        (Appends (W.contents out.old) (W.contents out.new) (met_line applied)) }
+    ensures err { IfErr result
+        (λ _. AppendsPart (W.contents out.old) (W.contents out.new) (met_line applied)) }
+{
+    match applied {
+        0 => Ok(()),
+        applied => put(out, applied_text(alloc, Some(applied))),
+    }
+}
+
+// How many changes entered by a session that was held, or `None` where it may be held later.
+fn meet<R: Disk + Net + AllocGlobal>(
+    rt: &R,
+    file: &str,
+    how: &Following,
+    may_wait: bool,
+    key: Option<[u8; 32]>,
+    cut: &mut Option<u64>,
+) -> Result<Option<u64>, JobError>
+    requires { cut.old ≡ None }
+    ensures cuts { MayCutFile (R.saw rt.now) file.now cut.new }
+    ensures met { IfOk result (MayMeet (R.saw rt.now) file.now key) }
+{
+    match applied_by(rt, file, how.addr, how.patience, key, cut) {
+        Ok(met) => {
+            let Met { peer, applied } = met;
+            drop(peer);
+            Ok(Some(applied))
+        }
+        Err(error) => {
+            if may_wait && is_for_now(&error) {
+                return Ok(None);
+            }
+            Err(error)
+        }
+    }
+}
+
+// The same, and says what was cut off the journal, unless it is refused.
+fn meet_and_report<R: Disk + Net + AllocGlobal, E: Write>(
+    rt: &R,
+    file: &str,
+    how: &Following,
+    may_wait: bool,
+    key: Option<[u8; 32]>,
+    err: &mut E,
+    cut: &mut Option<u64>,
+) -> Result<Option<u64>, JobError>
+    requires { cut.old ≡ None }
+    ensures cuts { OnOk result (cut.new ≡ None) }
+    ensures may_cut { OnErr result (MayCutFile (R.saw rt.now) file.now cut.new) }
+    ensures early { (cuts : List (Option ℕ)) × ReportsEach (R.saw rt.now) file.now cuts
+        (E.contents err.old) (E.contents err.new) }
+    ensures met { IfOk result (MayMeet (R.saw rt.now) file.now key) }
+{
+    match meet(rt, file, how, may_wait, key, cut) {
+        Ok(met) => {
+            report(rt.alloc(), file, *cut, None, err);
+            *cut = None;
+            Ok(met)
+        }
+        Err(error) => Err(error),
+    }
+}
+
+// The same, and prints how many changes entered, where any did. How many sessions were held.
+fn follow_once<R: Disk + Net + AllocGlobal, W: Write, E: Write>(
+    rt: &R,
+    file: &str,
+    how: &Following,
+    may_wait: bool,
+    key: Option<[u8; 32]>,
+    out: &mut W,
+    err: &mut E,
+    cut: &mut Option<u64>,
+) -> Result<u64, JobError>
+    requires { cut.old ≡ None }
+    ensures cuts { OnOk result (cut.new ≡ None) }
+    ensures may_cut { OnErr result (MayCutFile (R.saw rt.now) file.now cut.new) }
+    ensures early { (cuts : List (Option ℕ)) × ReportsEach (R.saw rt.now) file.now cuts
+        (E.contents err.old) (E.contents err.new) }
+    ensures few { IfOk result (λ held. held ≤ 1) }
+    ensures ok { IfOk result (λ held. Grows (IsFollowed (R.saw rt.now) file.now key held)
+        (W.contents out.old) (W.contents out.new)) }
+    ensures err { OnErr result
+        (GrowsPart (λ printed. (n : ℕ) × IsFollowed (R.saw rt.now) file.now key n printed)
+        (W.contents out.old) (W.contents out.new)) }
+{
+    match meet_and_report(rt, file, how, may_wait, key, err, cut) {
+        Ok(Some(applied)) => match tell_met(rt.alloc(), applied, out) {
+            Ok(()) => Ok(1),
+            Err(error) => Err(error),
+        },
+        Ok(None) => Ok(0),
+        Err(error) => Err(error),
+    }
+}
+
+// Waits, but before the first turn.
+fn pause<R: Clock>(rt: &R, turn: u64, every: Duration) {
+    if turn > 0 {
+        thread::sleep(rt, every);
+    }
+}
+
+/// Holds sessions with the server, as many as said, one after another, each of the peer that is opened for it: the journal is
+/// closed between two, so that other commands have it. Of each is printed how many changes entered, where any did, as it
+/// ends; what was cut off the journal is said.
+///
+/// A refusal of the first session ends it. A later one as `Io` or `Busy` is waited out, as often as it comes, and every other
+/// one ends it; so does an output that fails.
+pub fn follow_file<R: Disk + Net + Clock + AllocGlobal, W: Write, E: Write>(
+    rt: &R,
+    file: &str,
+    how: &Following,
+    sessions: u64,
+    key: Option<[u8; 32]>,
+    out: &mut W,
+    err: &mut E,
+    cut: &mut Option<u64>,
+) -> Result<(), JobError>
+    requires { cut.old ≡ None }
+    ensures cuts { OnOk result (cut.new ≡ None) }
+    ensures may_cut { OnErr result (MayCutFile (R.saw rt.now) file.now cut.new) }
+    ensures early { (cuts : List (Option ℕ)) × ReportsEach (R.saw rt.now) file.now cuts
+        (E.contents err.old) (E.contents err.new) }
+    ensures ok { OnOk result (Grows (IsFollowed (R.saw rt.now) file.now key sessions)
+        (W.contents out.old) (W.contents out.new)) }
+    ensures err { OnErr result
+        (GrowsPart (λ printed. (n : ℕ) × IsFollowed (R.saw rt.now) file.now key n printed)
+        (W.contents out.old) (W.contents out.new)) }
+{
+    let mut held = 0;
+    for turn in 0..u64::MAX {
+        if held == sessions {
+            return Ok(());
+        }
+        pause(rt, turn, how.every);
+        held += follow_once(rt, file, how, held > 0, key, out, err, cut)?;
+    }
+    Err(JobError::Command(CommandError::Io))
+}

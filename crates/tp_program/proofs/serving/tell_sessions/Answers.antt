@@ -1,6 +1,0 @@
-use Rattle.std.specs.String.{string_bytes}
-use Rattle.tp_program.proofs.TellLaws.{part_of_line}
-use Rattle.tp_program.proofs.serving.tell_sessions.Goals as goal
-
-pub returns-clause-err : goal.returns-clause-err
-returns-clause-err g c = part_of_line c.put.result c.served_line.result string_bytes _ _ _ _ c.served_line.ensures.ok c.put.ensures.err

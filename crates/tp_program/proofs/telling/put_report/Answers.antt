@@ -1,6 +1,0 @@
-use Rattle.std.specs.String.{string_bytes}
-use Rattle.tp_program.proofs.TellLaws.{part_told}
-use Rattle.tp_program.proofs.telling.put_report.Goals as goal
-
-pub returns : goal.returns
-returns g c = part_told c.put.result c.report_text.result string_bytes _ _ _ _ c.report_text.ensures c.put.ensures.ok c.put.ensures.err

@@ -1,0 +1,4 @@
+pub mod JobError
+pub mod Names
+pub mod Notes
+pub mod Telling

@@ -1,0 +1,17 @@
+//! What the program tells: refusals of jobs and their lines, notes below these, what is said of sessions and of what was cut off
+//! a journal, and how a terminal shows it.
+#![tactic(auto)]
+
+mod error;
+mod log;
+mod notes;
+mod telling;
+mod terminal;
+
+pub use error::{JobError, Made};
+pub use log::Log;
+pub use notes::{note, note_text};
+pub use telling::{
+    DONE, REFUSED, applied_text, ended, ended_with, output_refusal, put, put_made, report,
+};
+pub use terminal::Shown;

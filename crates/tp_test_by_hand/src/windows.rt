@@ -1,0 +1,186 @@
+//! Windows on a document, by what a page says and is told. The hashes are those of Python's hashlib, over changes that were laid
+//! out by hand.
+
+use std::alloc::{AllocError, Global};
+use std::test::Fail;
+use tp_journal::MemJournal;
+use tp_opid::{Actor, DocId};
+use tp_peer::Peer;
+use tp_window::Window;
+
+// A document without a change.
+fn begun(alloc: Global) -> Option<Peer<MemJournal>> {
+    let journal = MemJournal::new(Vec::new(alloc));
+    Peer::create(alloc, journal, DocId([7; 16]), Actor([1; 16])).ok()
+}
+
+// Whether a window is told this, and whether it is the last.
+fn told(
+    alloc: Global,
+    window: Window,
+    peer: &mut Peer<MemJournal>,
+    request: &str,
+    answer: &str,
+    is_last: bool,
+) -> Result<bool, AllocError> {
+    let said = window.answer(alloc, peer, 5, request)?;
+    Ok(said.text.as_str() == answer && said.is_last == is_last)
+}
+
+// Two windows write at the beginning of the empty text, each before it hears of the other: the character of the greater actor
+// comes first.
+#[test]
+fn two_write_at_once(rt: HostRuntime) -> Result<(), Fail> {
+    let alloc = rt.alloc();
+    let mut peer = begun(alloc).ok_or("a peer")?;
+    let (one, two) = (Window::new(Actor([2; 16])), Window::new(Actor([3; 16])));
+    assert!(rt;
+        told(
+            alloc,
+            one,
+            &mut peer,
+            r#"{"open":{}}"#,
+            r#"{"opened":{"document":"07070707070707070707070707070707","actor":"02020202020202020202020202020202","heads":[],"text":""}}"#,
+            false
+        )?
+    );
+    assert!(rt;
+        told(
+            alloc,
+            one,
+            &mut peer,
+            r#"{"edit":{"heads":[],"splices":[{"at":0,"del":0,"text":"abc"}]}}"#,
+            r#"{"edited":{"made":"874f9103c285584ed7935bc778760e7dc8d22abb79f4069061e8c8eb15a1ff55","heads":["874f9103c285584ed7935bc778760e7dc8d22abb79f4069061e8c8eb15a1ff55"],"splices":[]}}"#,
+            false
+        )?
+    );
+    assert!(rt;
+        told(
+            alloc,
+            two,
+            &mut peer,
+            r#"{"edit":{"heads":[],"splices":[{"at":0,"del":0,"text":"x"}]}}"#,
+            r#"{"edited":{"made":"76b059c74bf9093b39c007e0af96996f3bcdc9efa37a3cf398b5fc3dc72c1454","heads":["76b059c74bf9093b39c007e0af96996f3bcdc9efa37a3cf398b5fc3dc72c1454","874f9103c285584ed7935bc778760e7dc8d22abb79f4069061e8c8eb15a1ff55"],"splices":[{"at":1,"del":0,"text":"abc"}]}}"#,
+            false
+        )?
+    );
+    assert!(rt;
+        told(
+            alloc,
+            one,
+            &mut peer,
+            r#"{"look":{"heads":["874f9103c285584ed7935bc778760e7dc8d22abb79f4069061e8c8eb15a1ff55"]}}"#,
+            r#"{"looked":{"heads":["76b059c74bf9093b39c007e0af96996f3bcdc9efa37a3cf398b5fc3dc72c1454","874f9103c285584ed7935bc778760e7dc8d22abb79f4069061e8c8eb15a1ff55"],"splices":[{"at":0,"del":0,"text":"x"}]}}"#,
+            false
+        )?
+    );
+    assert!(rt;
+        told(
+            alloc,
+            two,
+            &mut peer,
+            r#"{"look":{"heads":["76b059c74bf9093b39c007e0af96996f3bcdc9efa37a3cf398b5fc3dc72c1454","874f9103c285584ed7935bc778760e7dc8d22abb79f4069061e8c8eb15a1ff55"]}}"#,
+            r#"{"looked":{"heads":["76b059c74bf9093b39c007e0af96996f3bcdc9efa37a3cf398b5fc3dc72c1454","874f9103c285584ed7935bc778760e7dc8d22abb79f4069061e8c8eb15a1ff55"],"splices":[]}}"#,
+            false
+        )?
+    );
+    assert!(rt;
+        told(
+            alloc,
+            two,
+            &mut peer,
+            r#"{"resume":{"actor":"02020202020202020202020202020202","heads":[]}}"#,
+            r#"{"resumed":{"actor":"03030303030303030303030303030303","made":"874f9103c285584ed7935bc778760e7dc8d22abb79f4069061e8c8eb15a1ff55"}}"#,
+            false
+        )?
+    );
+    assert!(rt;
+        told(
+            alloc,
+            two,
+            &mut peer,
+            r#"{"resume":{"actor":"02020202020202020202020202020202","heads":["874f9103c285584ed7935bc778760e7dc8d22abb79f4069061e8c8eb15a1ff55"]}}"#,
+            r#"{"resumed":{"actor":"03030303030303030303030303030303","made":null}}"#,
+            false
+        )?
+    );
+    assert!(rt;
+        told(
+            alloc,
+            one,
+            &mut peer,
+            r#"{"changes":{"from":1,"most":9}}"#,
+            r#"{"changes":{"count":2,"changes":[{"hash":"76b059c74bf9093b39c007e0af96996f3bcdc9efa37a3cf398b5fc3dc72c1454","actor":"03030303030303030303030303030303","time":5,"message":"","deps":[]}]}}"#,
+            false
+        )?
+    );
+    assert!(rt;
+        told(
+            alloc,
+            one,
+            &mut peer,
+            r#"{"change":{"hash":"874f9103c285584ed7935bc778760e7dc8d22abb79f4069061e8c8eb15a1ff55"}}"#,
+            r#"{"change":{"text":"","splices":[{"at":0,"del":0,"text":"abc"}]}}"#,
+            false
+        )?
+    );
+    Ok(())
+}
+
+// What isn't a request, a change that isn't there, and an edit past the end of the text end a window, and change nothing.
+#[test]
+fn a_wrong_request_ends_a_window(rt: HostRuntime) -> Result<(), Fail> {
+    let alloc = rt.alloc();
+    let mut peer = begun(alloc).ok_or("a peer")?;
+    let one = Window::new(Actor([2; 16]));
+    for request in [
+        "",
+        "{}",
+        r#"{"open":{"x":1}}"#,
+        r#"{"look":{"heads":["00"]}}"#,
+        r#"{"edit":{"heads":[],"splices":[{"at":-1,"del":0,"text":"x"}]}}"#,
+    ] {
+        assert!(rt;
+            told(
+                alloc,
+                one,
+                &mut peer,
+                request,
+                r#"{"refused":{"reason":"BadRequest"}}"#,
+                true
+            )?
+        );
+    }
+    assert!(rt;
+        told(
+            alloc,
+            one,
+            &mut peer,
+            r#"{"look":{"heads":["874f9103c285584ed7935bc778760e7dc8d22abb79f4069061e8c8eb15a1ff55"]}}"#,
+            r#"{"refused":{"reason":"UnknownHead"}}"#,
+            true
+        )?
+    );
+    assert!(rt;
+        told(
+            alloc,
+            one,
+            &mut peer,
+            r#"{"change":{"hash":"874f9103c285584ed7935bc778760e7dc8d22abb79f4069061e8c8eb15a1ff55"}}"#,
+            r#"{"refused":{"reason":"UnknownHead"}}"#,
+            true
+        )?
+    );
+    assert!(rt;
+        told(
+            alloc,
+            one,
+            &mut peer,
+            r#"{"edit":{"heads":[],"splices":[{"at":1,"del":0,"text":"x"}]}}"#,
+            r#"{"refused":{"reason":"OutOfRange"}}"#,
+            true
+        )?
+    );
+    assert_eq!(rt; peer.change_count(), 0);
+    Ok(())
+}

@@ -1,0 +1,80 @@
+//! The head of a request, as it comes.
+
+use crate::site::{Site, Wanted};
+use httparse::spans::{EMPTY_HEADER_SPAN, parse_request};
+use httparse::{EMPTY_HEADER, Request, Status};
+use std::alloc::Global;
+use std::io::Read;
+use websocket::handshake::server::{check_request, write_response};
+
+// A head has at most so many fields.
+const MOST_FIELDS: usize = 64;
+
+// So many bytes are read at once.
+const PIECE: usize = 4096;
+
+// A head has to come in so many reads.
+const MOST_READS: usize = 64;
+
+/// The answer that makes a WebSocket of the connection.
+#[derive(Drop)]
+pub(crate) struct Accepted {
+    /// What is sent.
+    pub response: Vec<u8>,
+    /// What came behind the request.
+    pub behind: Vec<u8>,
+}
+
+// Whether the bytes begin with a whole head, or `None` where they never will.
+fn is_whole(bytes: &[u8]) -> Option<bool> {
+    match parse_request(bytes, &mut [EMPTY_HEADER_SPAN; MOST_FIELDS]) {
+        Ok(Status::Complete(_)) => Some(true),
+        Ok(Status::Partial) => Some(false),
+        Err(_) => None,
+    }
+}
+
+/// The bytes of a request up to the end of its head, with what came right behind it. `None` where the stream ends or fails
+/// before, where they are no head or come in too many pieces, and where memory runs out.
+pub(crate) fn read_head<S: Read>(alloc: Global, stream: &mut S) -> Option<Vec<u8>> {
+    let mut bytes = Vec::new(alloc);
+    for _ in 0..MOST_READS {
+        let mut piece = [0; PIECE];
+        let count = stream.read(&mut piece).ok()?;
+        if count == 0 {
+            return None;
+        }
+        bytes.extend_from_slice(&piece[..count]).ok()?;
+        if is_whole(&bytes)? {
+            return Some(bytes);
+        }
+    }
+    None
+}
+
+/// What the request whose head the bytes begin with is for.
+pub(crate) fn wanted_by(site: &Site, bytes: &[u8]) -> Wanted {
+    let mut fields = [EMPTY_HEADER; MOST_FIELDS];
+    let mut request = Request::new(&mut fields);
+    match request.parse(bytes) {
+        Ok(Status::Complete(_)) => site.wanted(
+            request.method.unwrap_or(""),
+            request.path.unwrap_or(""),
+            request.headers,
+        ),
+        _ => Wanted::Foreign,
+    }
+}
+
+/// The answer to a request for a WebSocket, whose head the bytes begin with. `None` where it isn't one.
+pub(crate) fn accept(alloc: Global, bytes: &[u8]) -> Option<Accepted> {
+    let mut spans = [EMPTY_HEADER_SPAN; MOST_FIELDS];
+    let Ok(Status::Complete(request)) = parse_request(bytes, &mut spans) else {
+        return None;
+    };
+    let key = check_request(bytes, &request, &spans).ok()?;
+    let mut response = Vec::new(alloc);
+    write_response(&key, &[], &mut response).ok()?;
+    let behind = Vec::from_slice(alloc, &bytes[request.len..]).ok()?;
+    Some(Accepted { response, behind })
+}

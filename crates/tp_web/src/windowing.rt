@@ -1,0 +1,231 @@
+//! One connection, from its request to its end.
+
+ghost use Rattle.std.specs.Prelude.{◌≡◌};
+ghost use Rattle.tp_web.specs.Visiting.{Attends};
+ghost use Rattle.tp_window.specs.Windows.{MayEdit};
+
+use crate::head::{accept, read_head, wanted_by};
+use crate::responding::{send_nothing, send_part, send_refusal};
+use crate::site::{Site, Wanted};
+use std::alloc::{AllocError, Global};
+use std::io::{Read, Write};
+use std::net::OpenStream;
+use std::sync::Wait;
+use std::time::{Clock, Duration, SystemTime};
+use tp_journal::Journal;
+use tp_peer::Peer;
+use tp_served::{Seat, Served, Visitor};
+use tp_window::{Said, Window};
+use tungstenite::{Message, NoMask, Role, WebSocket, WebSocketConfig};
+
+// So many seconds a request may take to come, and an answer to be taken.
+const PATIENCE: u64 = 120;
+
+// A request of a window has at most so many bytes.
+const MOST_REQUEST: usize = 1 << 20;
+
+// Now, in seconds after 1970 began; 0 where the clock doesn't say.
+fn now<R: Clock>(rt: &R) -> u64 {
+    match SystemTime::now(rt) {
+        Ok(now) => match now.duration_since(SystemTime::UNIX_EPOCH) {
+            Ok(since) => since.as_secs(),
+            Err(_) => 0,
+        },
+        Err(_) => 0,
+    }
+}
+
+// Lets no read and no write wait longer than the patience, where the stream knows such a bound.
+fn bound<S: OpenStream>(stream: &S) {
+    let patience = Some(Duration::from_secs(PATIENCE));
+    let _ = stream.set_read_timeout(patience);
+    let _ = stream.set_write_timeout(patience);
+}
+
+// A request that came in a window, at a time.
+#[derive(Drop)]
+struct Asked<'a> {
+    alloc: Global,
+    window: Window,
+    time: u64,
+    request: &'a str,
+}
+
+impl<J: Journal> Visitor<J> for Asked<'_> {
+    ghost use Rattle.std.proofs.Common.{refl};
+    ghost use Rattle.tp_window.proofs.KeepLaws.{edits_keep};
+
+    type Answer = Result<Said, AllocError>;
+
+    ghost does = { λ asked p p'. MayEdit asked.window.actor p p' };
+
+    fn visit(&self, peer: &mut Peer<J>) -> Result<Said, AllocError> {
+        self.window
+            .answer(self.alloc, peer, self.time, self.request)
+    }
+
+    ghost serves = { λ asked p p' done n. let k = edits_keep asked.window.actor p p' done in record { id = k.1.id; actor = k.1.actor; new = k.1.new; applied = k.1.applied; links = λ m other. k.1.others m refl } };
+}
+
+// Answers one request on a turn of the seat. `None` where there is no memory for an answer.
+fn answer<R: Wait + Clock, J: Journal>(
+    rt: &R,
+    alloc: Global,
+    window: Window,
+    request: &str,
+    served: &Served<J>,
+    seat: &mut Seat,
+) -> Option<Said>
+    requires { seat.old.served ≡ served.now.served }
+    ensures { Attends seat.old seat.new }
+{
+    let asked = Asked {
+        alloc,
+        window,
+        time: now(rt),
+        request,
+    };
+    match served.visit(rt, seat, &asked) {
+        Ok(said) => Some(said),
+        Err(_) => None,
+    }
+}
+
+// Sends what is said, and says whether the window goes on.
+fn send<S: Read + Write + Drop>(
+    alloc: Global,
+    socket: &mut WebSocket<S, NoMask>,
+    said: &Said,
+) -> bool {
+    let Ok(message) = Message::text(alloc, &said.text) else {
+        return false;
+    };
+    if socket.send(message).is_err() {
+        return false;
+    }
+    if said.is_last {
+        let _ = socket.close(None);
+        return false;
+    }
+    true
+}
+
+// Reads one message, and answers it if it is a request. Whether the window goes on.
+#[tactic(auto, using(crate::proofs::Attending::stays))]
+fn answer_next<R: Wait + Clock, S: Read + Write + Drop, J: Journal>(
+    rt: &R,
+    alloc: Global,
+    socket: &mut WebSocket<S, NoMask>,
+    window: Window,
+    served: &Served<J>,
+    seat: &mut Seat,
+) -> bool
+    requires { seat.old.served ≡ served.now.served }
+    ensures { Attends seat.old seat.new }
+{
+    let Ok(message) = socket.read() else {
+        return false;
+    };
+    let Message::Text(request) = &message else {
+        return true;
+    };
+    match answer(rt, alloc, window, request.as_str(), served, seat) {
+        Some(said) => send(alloc, socket, &said),
+        None => false,
+    }
+}
+
+// The requests of a window, one after another, until it ends.
+#[tactic(auto, using(crate::proofs::Attending::stays, crate::proofs::Attending::joins))]
+fn show<R: Wait + Clock, S: Read + Write + Drop, J: Journal>(
+    rt: &R,
+    alloc: Global,
+    socket: WebSocket<S, NoMask>,
+    window: Window,
+    served: &Served<J>,
+    seat: &mut Seat,
+)
+    requires { seat.old.served ≡ served.now.served }
+    ensures { Attends seat.old seat.new }
+{
+    let mut socket = socket;
+    for _ in rt.forever() {
+        if !answer_next(rt, alloc, &mut socket, window, served, seat) {
+            break;
+        }
+    }
+}
+
+// What a window's socket takes: texts of so many bytes.
+fn config() -> WebSocketConfig {
+    WebSocketConfig::default()
+        .max_message_size(Some(MOST_REQUEST))
+        .max_frame_size(Some(MOST_REQUEST))
+}
+
+// Makes a window of the connection, where its request asks for a WebSocket.
+#[tactic(auto, using(crate::proofs::Attending::stays))]
+fn begin<R: Wait + Clock, S: Read + Write + Drop, J: Journal>(
+    rt: &R,
+    alloc: Global,
+    stream: S,
+    request: &[u8],
+    window: Window,
+    served: &Served<J>,
+    seat: &mut Seat,
+)
+    requires { seat.old.served ≡ served.now.served }
+    ensures { Attends seat.old seat.new }
+{
+    let mut stream = stream;
+    let Some(accepted) = accept(alloc, request) else {
+        let _ = send_nothing(alloc, &mut stream);
+        return;
+    };
+    if stream.write_all(&accepted.response).is_err() {
+        return;
+    }
+    let socket = WebSocket::from_partially_read(
+        alloc,
+        stream,
+        NoMask,
+        accepted.behind,
+        Role::Server,
+        Some(config()),
+    );
+    show(rt, alloc, socket, window, served, seat);
+}
+
+/// Answers the request of a connection, and those of its window if it becomes one, whose edits are the window's actor's. However
+/// it ends, it ends alone.
+#[tactic(auto, using(crate::proofs::Attending::stays))]
+pub(crate) fn attend<R: Wait + Clock, S: Read + Write + OpenStream + Drop, J: Journal>(
+    rt: &R,
+    alloc: Global,
+    site: &Site,
+    stream: S,
+    window: Window,
+    served: &Served<J>,
+    seat: &mut Seat,
+)
+    requires { seat.old.served ≡ served.now.served }
+    ensures { Attends seat.old seat.new }
+{
+    let mut stream = stream;
+    bound(&stream);
+    let Some(request) = read_head(alloc, &mut stream) else {
+        return;
+    };
+    match wanted_by(site, &request) {
+        Wanted::Part(part) => {
+            let _ = send_part(alloc, part, &mut stream);
+        }
+        Wanted::Window => begin(rt, alloc, stream, &request, window, served, seat),
+        Wanted::Nothing => {
+            let _ = send_nothing(alloc, &mut stream);
+        }
+        Wanted::Foreign => {
+            let _ = send_refusal(alloc, &mut stream);
+        }
+    }
+}

@@ -1,0 +1,23 @@
+//! A window on a document: what a page that shows its text may ask, and what it is answered.
+//!
+//! A page has a text and the heads at which this is the text. It edits that text, and is told the differences to the text
+//! now; it never merges. What each edit becomes, and why the page then shows the text at the heads that it names, is stated
+//! in specs/Windows and proved of [`Window::edit`] and [`News::since`]. How requests and answers are written, as JSON, stands
+//! in docs/FORMATS.md.
+#![tactic(auto)]
+
+mod answer;
+mod answering;
+mod error;
+mod laws;
+mod news;
+mod request;
+mod showing;
+mod window;
+
+pub use answering::Said;
+pub use error::WindowError;
+pub use laws::a_page_follows;
+pub use news::News;
+pub use showing::{Effect, effect_of, made_on};
+pub use window::{Edited, Window};

@@ -1,0 +1,66 @@
+//! What a page asks.
+
+use serde::Deserialize;
+use tp_edit::Splice;
+
+/// One splice of an edit, as the page writes it. Positions and lengths count characters (Unicode scalar values).
+#[derive(Debug, Drop, Deserialize)]
+#[serde(deny_unknown_fields)]
+pub struct TypedSplice {
+    /// How many characters stand before it.
+    pub at: usize,
+    /// How many characters it deletes.
+    pub del: usize,
+    /// What it inserts, which may be empty.
+    pub text: String,
+}
+
+impl TypedSplice {
+    /// The same with a borrowed text, as an edit takes it. No memory.
+    pub fn splice(&self) -> Splice<'_> {
+        Splice {
+            at: self.at,
+            del: self.del,
+            text: self.text.as_str(),
+        }
+    }
+}
+
+/// A request of a page. Hashes and actors are their hexadecimal digits.
+#[derive(Debug, Drop, Deserialize)]
+#[serde(rename_all = "lowercase", deny_unknown_fields)]
+pub enum Request {
+    /// The text now, for a page that begins.
+    Open {},
+    /// Whether the change was kept that this actor made on these heads, for a page that was cut off.
+    Resume {
+        /// Under whom the page edited before.
+        actor: String,
+        /// At which heads its text was.
+        heads: Vec<String>,
+    },
+    /// An edit of the text at these heads.
+    Edit {
+        /// At which heads the text is.
+        heads: Vec<String>,
+        /// What is done to it, one after another.
+        splices: Vec<TypedSplice>,
+    },
+    /// What is new since these heads.
+    Look {
+        /// At which heads the page's text is.
+        heads: Vec<String>,
+    },
+    /// Some of the changes, in the order in which they were applied.
+    Changes {
+        /// The number of the first of them, from 0.
+        from: usize,
+        /// How many at most.
+        most: usize,
+    },
+    /// What one change did.
+    Change {
+        /// Its hash.
+        hash: String,
+    },
+}
