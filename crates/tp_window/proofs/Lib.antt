@@ -1,3 +1,5 @@
 pub mod PageLaws
 pub mod MadeLaws
 pub mod KeepLaws
+pub mod ZipLaws
+pub mod TextLaws

@@ -1,1 +1,4 @@
 pub mod Windows
+pub mod Refusals
+pub mod Requests
+pub mod Answers

@@ -1,6 +1,9 @@
 //! What a page is answered.
 
+ghost use Rattle.tp_window.specs.Answers.{IsShownDifference};
+
 use serde::Serialize;
+use tp_document::Difference;
 
 /// One replacement of a text, as the page reads it. Positions and lengths count characters (Unicode scalar values).
 #[derive(Debug, Drop, Serialize)]
@@ -11,6 +14,19 @@ pub struct ShownSplice<'a> {
     pub del: usize,
     /// What comes in their place.
     pub text: &'a str,
+}
+
+impl<'a> ShownSplice<'a> {
+    /// The difference, with its text borrowed. No memory.
+    pub fn of(difference: &'a Difference) -> ShownSplice<'a>
+        ensures { IsShownDifference difference.now result }
+    {
+        ShownSplice {
+            at: difference.at,
+            del: difference.del,
+            text: difference.text.as_str(),
+        }
+    }
 }
 
 /// A change, but for its operations.

@@ -3,23 +3,18 @@
 ghost use Rattle.std.specs.Prelude.{◌≡◌};
 ghost use Rattle.tp_window.specs.Windows.{MayEdit};
 
-use crate::answer::{Answer, ShownChange, ShownSplice};
+use crate::answer::Answer;
 use crate::error::WindowError;
 use crate::news::News;
+use crate::reading::{hashes_of, request_of, splices_of};
 use crate::request::{Request, TypedSplice};
 use crate::showing::{Effect, effect_of, made_on};
 use crate::window::Window;
-use serde_json::error::Category;
+use crate::writing::{shown_changes, shown_of, texts_of, written};
 use std::alloc::{AllocError, Global};
-use tp_change::Change;
-use tp_document::Difference;
-use tp_edit::Splice;
 use tp_journal::Journal;
 use tp_opid::{Actor, Hash};
 use tp_peer::Peer;
-
-// So many changes a page is told of at once.
-const MOST_CHANGES: usize = 1000;
 
 /// What is said to a page.
 #[derive(Drop)]
@@ -28,93 +23,6 @@ pub struct Said {
     pub text: String,
     /// Whether the window is to be closed.
     pub is_last: bool,
-}
-
-// The hexadecimal digits of the hashes.
-fn texts_of(alloc: Global, hashes: &[Hash]) -> Result<Vec<String>, WindowError> {
-    let mut texts = Vec::with_capacity(alloc, hashes.len())?;
-    for hash in hashes {
-        texts.push(hash.to_text(alloc)?)?;
-    }
-    Ok(texts)
-}
-
-// The hashes that have these digits.
-fn hashes_of(alloc: Global, texts: &[String]) -> Result<Vec<Hash>, WindowError> {
-    let mut hashes = Vec::with_capacity(alloc, texts.len())?;
-    for text in texts {
-        hashes.push(Hash::from_text(text.as_str())?)?;
-    }
-    Ok(hashes)
-}
-
-// The splices of an edit, with their texts borrowed.
-fn splices_of(alloc: Global, typed: &[TypedSplice]) -> Result<Vec<Splice<'_>>, WindowError> {
-    let mut splices = Vec::with_capacity(alloc, typed.len())?;
-    for splice in typed {
-        splices.push(splice.splice())?;
-    }
-    Ok(splices)
-}
-
-// The differences, with their texts borrowed.
-fn shown_of(
-    alloc: Global,
-    differences: &[Difference],
-) -> Result<Vec<ShownSplice<'_>>, WindowError> {
-    let mut shown = Vec::with_capacity(alloc, differences.len())?;
-    for difference in differences {
-        shown.push(ShownSplice {
-            at: difference.at,
-            del: difference.del,
-            text: difference.text.as_str(),
-        })?;
-    }
-    Ok(shown)
-}
-
-// A change, but for its operations.
-fn shown_change(alloc: Global, change: &Change) -> Result<ShownChange<'_>, WindowError> {
-    Ok(ShownChange {
-        hash: change.hash().to_text(alloc)?,
-        actor: change.actor().to_text(alloc)?,
-        time: change.time(),
-        message: change.message(),
-        deps: texts_of(alloc, change.deps())?,
-    })
-}
-
-// At most so many of the changes, from the one with the number on.
-fn shown_changes(
-    alloc: Global,
-    changes: &[Change],
-    from: usize,
-    most: usize,
-) -> Result<Vec<ShownChange<'_>>, WindowError> {
-    let mut shown = Vec::new(alloc);
-    for change in changes.iter().skip(from).take(most.min(MOST_CHANGES)) {
-        shown.push(shown_change(alloc, change)?)?;
-    }
-    Ok(shown)
-}
-
-// The answer as a JSON text.
-fn written(alloc: Global, answer: &Answer) -> Result<String, WindowError> {
-    match serde_json::to_string(alloc, answer) {
-        Ok(text) => Ok(text),
-        Err(_) => Err(WindowError::OutOfMemory),
-    }
-}
-
-// The request that the JSON text is.
-fn request_of(alloc: Global, text: &str) -> Result<Request, WindowError> {
-    match serde_json::from_str(alloc, text) {
-        Ok(request) => Ok(request),
-        Err(error) => match error.classify() {
-            Category::Memory => Err(WindowError::OutOfMemory),
-            _ => Err(WindowError::BadRequest),
-        },
-    }
 }
 
 impl Window {

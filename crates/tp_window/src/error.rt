@@ -1,5 +1,11 @@
 //! Why a request of a page is refused.
 
+ghost use Rattle.std.specs.Prelude.{◌≡◌};
+ghost use Rattle.tp_peer.specs.PeerError.{refusal_of_document};
+ghost use Rattle.tp_peer.specs.declared.editing_at.EditAtError.TheVariants as at;
+ghost use Rattle.tp_window.specs.Refusals.{refusal_of_text};
+ghost use Rattle.tp_window.specs.declared.error.WindowError.TheVariants as refusal;
+
 use std::alloc::{AllocError, AllocFailed};
 use thiserror::Error;
 use tp_document::DocError;
@@ -21,7 +27,7 @@ pub enum WindowError {
 }
 
 impl From<AllocError> for WindowError {
-    ghost from_gives = { λ _ _. Unit {0} };
+    ghost from_gives = { λ _ refused. refused ≡ refusal.OutOfMemory };
 
     fn from(_e: AllocError) -> WindowError {
         WindowError::OutOfMemory
@@ -29,7 +35,7 @@ impl From<AllocError> for WindowError {
 }
 
 impl<T: Drop> From<AllocFailed<T>> for WindowError {
-    ghost from_gives = { λ _ _. Unit {0} };
+    ghost from_gives = { λ _ refused. refused ≡ refusal.OutOfMemory };
 
     fn from(_e: AllocFailed<T>) -> WindowError {
         WindowError::OutOfMemory
@@ -37,7 +43,7 @@ impl<T: Drop> From<AllocFailed<T>> for WindowError {
 }
 
 impl From<HexError> for WindowError {
-    ghost from_gives = { λ _ _. Unit {0} };
+    ghost from_gives = { λ error refused. refused ≡ refusal_of_text error };
 
     fn from(error: HexError) -> WindowError {
         match error {
@@ -48,7 +54,7 @@ impl From<HexError> for WindowError {
 }
 
 impl From<DocError> for WindowError {
-    ghost from_gives = { λ _ _. Unit {0} };
+    ghost from_gives = { λ error refused. refused ≡ refusal.Edit (at.Peer (refusal_of_document error)) };
 
     fn from(error: DocError) -> WindowError {
         WindowError::Edit(EditAtError::Peer(PeerError::from(error)))

@@ -11,9 +11,11 @@ mod answering;
 mod error;
 mod laws;
 mod news;
+mod reading;
 mod request;
 mod showing;
 mod window;
+mod writing;
 
 pub use answering::Said;
 pub use error::WindowError;

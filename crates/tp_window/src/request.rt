@@ -1,5 +1,7 @@
 //! What a page asks.
 
+ghost use Rattle.tp_window.specs.Requests.{IsTypedSplice};
+
 use serde::Deserialize;
 use tp_edit::Splice;
 
@@ -17,7 +19,9 @@ pub struct TypedSplice {
 
 impl TypedSplice {
     /// The same with a borrowed text, as an edit takes it. No memory.
-    pub fn splice(&self) -> Splice<'_> {
+    pub fn splice(&self) -> Splice<'_>
+        ensures { IsTypedSplice self.now result }
+    {
         Splice {
             at: self.at,
             del: self.del,
