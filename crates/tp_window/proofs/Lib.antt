@@ -3,3 +3,4 @@ pub mod MadeLaws
 pub mod KeepLaws
 pub mod ZipLaws
 pub mod TextLaws
+pub mod AnswerLaws

@@ -57,7 +57,7 @@ pub enum Answer<'a> {
         /// The heads at which this is the text.
         heads: Vec<String>,
         /// The text.
-        text: String,
+        text: &'a str,
     },
     /// Whether an edit was kept.
     Resumed {
@@ -92,7 +92,7 @@ pub enum Answer<'a> {
     /// What a change did.
     Change {
         /// The text at what it depends on.
-        text: String,
+        text: &'a str,
         /// What leads from that to the text at the change.
         splices: Vec<ShownSplice<'a>>,
     },

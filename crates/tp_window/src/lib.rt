@@ -2,8 +2,9 @@
 //!
 //! A page has a text and the heads at which this is the text. It edits that text, and is told the differences to the text
 //! now; it never merges. What each edit becomes, and why the page then shows the text at the heads that it names, is stated
-//! in specs/Windows and proved of [`Window::edit`] and [`News::since`]. How requests and answers are written, as JSON, stands
-//! in docs/FORMATS.md.
+//! in specs/Windows and proved of [`Window::edit`] and [`News::since`]; that the value of a request is done, and what that
+//! comes to shown by the value of an answer, in specs/Requests, Refusing and Outcomes, and proved of what [`Window::answer`]
+//! calls. How requests and answers are written, as JSON, stands in docs/FORMATS.md.
 #![tactic(auto)]
 
 mod answer;
@@ -11,6 +12,7 @@ mod answering;
 mod error;
 mod laws;
 mod news;
+mod outcome;
 mod reading;
 mod request;
 mod showing;

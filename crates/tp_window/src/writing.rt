@@ -2,6 +2,7 @@
 
 ghost use Rattle.std.specs.Prelude.{◌≡◌, IfOk, IsOkUnless, drop, min, take};
 ghost use Rattle.tp_window.specs.Answers.{AreShownChanges, IsShownChange, ShowDifferences, WriteHashes};
+ghost use Rattle.tp_window.specs.Outcomes.{WritesAny};
 ghost use Rattle.tp_window.specs.declared.error.WindowError.TheVariants as refusal;
 
 use crate::answer::{Answer, ShownChange, ShownSplice};
@@ -24,6 +25,17 @@ pub(crate) fn texts_of(alloc: Global, hashes: &[Hash]) -> Result<Vec<String>, Wi
         texts.push(hash.to_text(alloc)?)?;
     }
     Ok(texts)
+}
+
+/// The hexadecimal digits of the hash, in lower case, if there is one. The only refusal is `OutOfMemory`.
+pub(crate) fn text_if_any(alloc: Global, hash: &Option<Hash>) -> Result<Option<String>, WindowError>
+    ensures ok { IfOk result (WritesAny hash.now) }
+    ensures err { IsOkUnless result refusal.OutOfMemory }
+{
+    match hash {
+        Some(hash) => Ok(Some(hash.to_text(alloc)?)),
+        None => Ok(None),
+    }
 }
 
 /// The differences, with their texts borrowed. The only refusal is `OutOfMemory`.

@@ -1,0 +1,110 @@
+-- What a page's request comes to, and which answer shows it.
+use Rattle.std.specs.Prelude.{◌≡◌, ℕ, List, [], String, Option, Some, None, Ok, drop, length, min, take}
+use Rattle.std.specs.Str.{chars}
+use Rattle.std.specs.String.{string_bytes}
+use Rattle.std.specs.declared.alloc.Global.{Global}
+use Rattle.hex.specs.Hex.{encode_lower}
+use Rattle.tp_change.specs.declared.parts.ChangeParts.{ChangeParts}
+use Rattle.tp_document.specs.Editing.{asking}
+use Rattle.tp_edit.specs.declared.splice.Splice.{Splice}
+use Rattle.tp_graph.specs.Heads.{heads as heads_of}
+use Rattle.tp_opid.specs.HexText.{IsHexOf}
+use Rattle.tp_opid.specs.declared.actor.Actor.{Actor}
+use Rattle.tp_opid.specs.declared.doc_id.DocId.{DocId}
+use Rattle.tp_opid.specs.declared.hash.Hash.{Hash}
+use Rattle.tp_peer.specs.EditingAt.{StepsAt}
+use Rattle.tp_peer.specs.PeerData.{PeerData}
+use Rattle.tp_text.specs.Text.{IsTextOf}
+use Rattle.tp_window.specs.Answers.{AreShownChanges, ShowDifferences, WriteHashes, WritesActor, WritesHash}
+use Rattle.tp_window.specs.Requests.{AreTypedSplices, DoesRequest, SpellHashes}
+use Rattle.tp_window.specs.Windows.{IsEffect, IsNews, MadeOn, Page, ShowsText, with_edit, with_news}
+use Rattle.tp_window.specs.declared.answer.Answer.{Answer}
+use Rattle.tp_window.specs.declared.answer.Answer.TheVariants as answer
+use Rattle.tp_window.specs.declared.news.News.{News}
+use Rattle.tp_window.specs.declared.outcome.Outcome.{Outcome}
+use Rattle.tp_window.specs.declared.outcome.Outcome.TheVariants as outcome
+use Rattle.tp_window.specs.declared.request.Request.{Request}
+use Rattle.tp_window.specs.declared.request.Request.TheVariants as request
+use Rattle.tp_window.specs.declared.request.TypedSplice.{TypedSplice}
+use Rattle.tp_window.specs.declared.showing.Effect.{Effect}
+use Rattle.tp_window.specs.declared.window.Edited.{Edited}
+use Rattle.tp_window.specs.declared.writing.TheConstants.{MOST_CHANGES}
+
+-- ---- what it comes to
+
+-- The hash is that of a change which the actor, whose digits the text is, made on exactly the heads that the texts spell; or it made
+-- none.
+pub record IsMadeBy (actor : List ℕ) (heads : List (String Global)) (C : List ChangeParts) (made : Option Hash) : Type 0 where
+  pub who : Actor
+  pub hashes : List Hash
+  pub spelled : IsHexOf actor who.0
+  pub each : SpellHashes heads hashes
+  pub is : MadeOn who hashes C made
+
+-- What is new since the text at the heads that the texts spell.
+pub record IsNewsSince (heads : List (String Global)) (C : List ChangeParts) (news : News) : Type 0 where
+  pub hashes : List Hash
+  pub each : SpellHashes heads hashes
+  pub is : IsNews C hashes news
+
+-- What the change did whose hash's digits the text is.
+pub record IsEffectOf (hash : List ℕ) (C : List ChangeParts) (effect : Effect) : Type 0 where
+  pub named : Hash
+  pub spelled : IsHexOf hash named.0
+  pub is : IsEffect C named effect
+
+-- The typed splices were the actor's edit of the text at the heads that the texts spell, at that time: a page that showed this text
+-- shows, with them, the text at the change, and with what is new since then the text now.
+pub record IsTypedEdit (actor : Actor) (heads : List (String Global)) (typed : List TypedSplice) (time : ℕ) (p p' : PeerData) (edited : Edited) : Type 0 where
+  pub hashes : List Hash
+  pub splices : List Splice
+  pub each : SpellHashes heads hashes
+  pub typed_as : AreTypedSplices typed splices
+  pub steps : StepsAt p hashes (asking actor splices time (chars [])) (Ok edited.made) p'
+  pub page : (page : Page) → ShowsText p.applied page → page.heads ≡ hashes
+      → ShowsText p'.applied (with_edit page splices edited.made) × ShowsText p'.applied (with_news (with_edit page splices edited.made) edited.news)
+
+-- What the actor's request comes to at that time, which a peer p did and is p' then.
+abbrev pub ComesTo : Actor → Request → ℕ → PeerData → PeerData → Outcome → Type 0
+ComesTo actor request.Open time p p' (outcome.Text text) = IsTextOf p'.applied (chars (string_bytes text))
+ComesTo actor (request.Resume who heads) time p p' (outcome.Made made) = IsMadeBy (string_bytes who) heads.items p'.applied made
+ComesTo actor (request.Edit heads typed) time p p' (outcome.Edit edited) = IsTypedEdit actor heads.items typed.items time p p' edited
+ComesTo actor (request.Look heads) time p p' (outcome.News news) = IsNewsSince heads.items p'.applied news
+ComesTo actor (request.Changes from most) time p p' (outcome.Changes first many) = (first ≡ from) × (many ≡ most)
+ComesTo actor (request.Change hash) time p p' (outcome.Effect effect) = IsEffectOf (string_bytes hash) p'.applied effect
+ComesTo actor _ time p p' _ = ⊥
+
+-- ---- how it is shown
+
+-- The text is the hexadecimal digits of the hash, in lower case; or there is neither.
+abbrev pub WritesAny : Option Hash → Option (String Global) → Type 0
+WritesAny None None = Unit {0}
+WritesAny None (Some text) = ⊥
+WritesAny (Some hash) None = ⊥
+WritesAny (Some hash) (Some text) = WritesHash hash text
+
+-- The answer shows the outcome to a page of the actor's, of a document with the identifier and the changes C.
+abbrev pub ShowsOutcome : Actor → DocId → List ChangeParts → Outcome → Answer → Type 0
+ShowsOutcome actor id C (outcome.Text text) (answer.Opened document who heads shown) =
+    (string_bytes document ≡ encode_lower id.0) × WritesActor actor who × WriteHashes (heads_of C) heads.items × (shown.now ≡ string_bytes text)
+ShowsOutcome actor id C (outcome.Made made) (answer.Resumed who shown) = WritesActor actor who × WritesAny made shown
+ShowsOutcome actor id C (outcome.Edit edited) (answer.Edited made heads splices) =
+    WritesAny edited.made made × WriteHashes edited.news.heads.items heads.items × ShowDifferences edited.news.differences.items splices.items
+ShowsOutcome actor id C (outcome.News news) (answer.Looked heads splices) =
+    WriteHashes news.heads.items heads.items × ShowDifferences news.differences.items splices.items
+ShowsOutcome actor id C (outcome.Changes from most) (answer.Changes count shown) =
+    (count ≡ length C) × AreShownChanges (take (min most MOST_CHANGES) (drop from C)) shown.items
+ShowsOutcome actor id C (outcome.Effect effect) (answer.Change text splices) =
+    (text.now ≡ string_bytes effect.text) × ShowDifferences effect.differences.items splices.items
+ShowsOutcome actor id C _ _ = ⊥
+
+-- ---- both
+
+-- At the time, some request of the actor's came to an outcome, and an answer shows this of the document then.
+pub record AnswersRequest (actor : Actor) (time : ℕ) (p p' : PeerData) : Type 0 where
+  pub request : Request
+  pub outcome : Outcome
+  pub answer : Answer
+  pub does : DoesRequest actor request time p p'
+  pub comes : ComesTo actor request time p p' outcome
+  pub shows : ShowsOutcome actor p'.id p'.applied outcome answer
