@@ -1,5 +1,5 @@
 -- Turns of windows, seat by seat.
-use Rattle.std.specs.Prelude.{◌≡◌, ℕ, zero, suc, ◌<◌, List, [], ◌∷◌, ◌++◌, length, slice_index_or}
+use Rattle.std.specs.Prelude.{◌≡◌, ℕ, suc, ◌<◌, List, [], ◌∷◌, ◌++◌, length, slice_index_or}
 use Rattle.std.proofs.Common.{arith, refl, ◌∙◌}
 use Rattle.atomic_table.specs.Seated.{TableId}
 use Rattle.tp_list.proofs.TraceLaws.{trace_join}

@@ -1,1 +1,3 @@
 pub mod Attending
+pub mod FieldLists
+pub mod HeadLaws

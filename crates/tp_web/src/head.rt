@@ -1,5 +1,11 @@
 //! The head of a request, as it comes.
 
+ghost use Rattle.std.specs.Prelude.{◌≡◌, ◌≤◌, ℕ, true, false, List, length, IfNone, IfSome};
+ghost use Rattle.httparse.specs.Grammar.{HasNoRequest, ReadsRequest, RequestHead};
+ghost use Rattle.httparse.specs.Spans.{RequestOverflows};
+ghost use Rattle.tp_web.specs.Sites.{BeginsWithHead, IsWantedBy, wanted_by_head};
+ghost use Rattle.tp_web.specs.Upgrades.{IsAcceptance};
+
 use crate::site::{Site, Wanted};
 use httparse::spans::{EMPTY_HEADER_SPAN, parse_request};
 use httparse::{EMPTY_HEADER, Request, Status};
@@ -26,7 +32,11 @@ pub(crate) struct Accepted {
 }
 
 // Whether the bytes begin with a whole head, or `None` where they never will.
-fn is_whole(bytes: &[u8]) -> Option<bool> {
+fn is_whole(bytes: &[u8]) -> Option<bool>
+    ensures whole { result ≡ Some true → BeginsWithHead MOST_FIELDS bytes.now }
+    ensures begun { result ≡ Some false → HasNoRequest bytes.now }
+    ensures never { IfNone result (RequestOverflows MOST_FIELDS bytes.now) }
+{
     match parse_request(bytes, &mut [EMPTY_HEADER_SPAN; MOST_FIELDS]) {
         Ok(Status::Complete(_)) => Some(true),
         Ok(Status::Partial) => Some(false),
@@ -36,7 +46,9 @@ fn is_whole(bytes: &[u8]) -> Option<bool> {
 
 /// The bytes of a request up to the end of its head, with what came right behind it. `None` where the stream ends or fails
 /// before, where they are no head or come in too many pieces, and where memory runs out.
-pub(crate) fn read_head<S: Read>(alloc: Global, stream: &mut S) -> Option<Vec<u8>> {
+pub(crate) fn read_head<S: Read>(alloc: Global, stream: &mut S) -> Option<Vec<u8>>
+    ensures { IfSome result (λ bytes. BeginsWithHead MOST_FIELDS bytes.items) }
+{
     let mut bytes = Vec::new(alloc);
     for _ in 0..MOST_READS {
         let mut piece = [0; PIECE];
@@ -53,7 +65,11 @@ pub(crate) fn read_head<S: Read>(alloc: Global, stream: &mut S) -> Option<Vec<u8
 }
 
 /// What the request whose head the bytes begin with is for.
-pub(crate) fn wanted_by(site: &Site, bytes: &[u8]) -> Wanted {
+pub(crate) fn wanted_by(site: &Site, bytes: &[u8]) -> Wanted
+    ensures head { (head : RequestHead) (rest : List ℕ) → ReadsRequest bytes.now head rest
+        → length head.fields ≤ MOST_FIELDS → result ≡ wanted_by_head site.now head }
+    ensures only { IsWantedBy site.now bytes.now result }
+{
     let mut fields = [EMPTY_HEADER; MOST_FIELDS];
     let mut request = Request::new(&mut fields);
     match request.parse(bytes) {
@@ -67,7 +83,9 @@ pub(crate) fn wanted_by(site: &Site, bytes: &[u8]) -> Wanted {
 }
 
 /// The answer to a request for a WebSocket, whose head the bytes begin with. `None` where it isn't one.
-pub(crate) fn accept(alloc: Global, bytes: &[u8]) -> Option<Accepted> {
+pub(crate) fn accept(alloc: Global, bytes: &[u8]) -> Option<Accepted>
+    ensures { IfSome result (IsAcceptance bytes.now) }
+{
     let mut spans = [EMPTY_HEADER_SPAN; MOST_FIELDS];
     let Ok(Status::Complete(request)) = parse_request(bytes, &mut spans) else {
         return None;

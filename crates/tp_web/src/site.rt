@@ -1,5 +1,10 @@
 //! Which requests are answered, and how.
 
+ghost use Rattle.std.specs.Prelude.{◌≡◌, List, IfOk, map};
+ghost use Rattle.httparse.specs.Borrowed.{header_parts};
+ghost use Rattle.std.specs.String.{string_bytes};
+ghost use Rattle.tp_web.specs.Sites.{fields_are_among, has_field, hosts_at, is_field_named, is_text_among, origins_at, site_hosts, site_origins, wanted_of};
+
 use httparse::Header;
 use std::alloc::{AllocError, Global};
 use std::net::SocketAddr;
@@ -34,26 +39,39 @@ pub(crate) enum Part {
 }
 
 // Whether the text is one of the texts.
-fn is_one_of(value: &[u8], texts: &[String]) -> bool {
+fn is_one_of(value: &[u8], texts: &[String]) -> bool
+    ensures { result ≡ is_text_among (map string_bytes texts.now) value.now }
+{
     texts.iter().any(|text| text.as_bytes() == value)
 }
 
+// Whether the field has the name, in letters of either case.
+fn has_name(field: &Header, name: &str) -> bool
+    ensures { result ≡ is_field_named name.now (header_parts field.now) }
+{
+    field.name.eq_ignore_ascii_case(name)
+}
+
 // Whether each field with the name, in letters of either case, has one of the texts as its value.
-fn all_are(fields: &[Header], name: &str, texts: &[String]) -> bool {
-    fields.iter().all(|field| !field.name.eq_ignore_ascii_case(name)
-        || is_one_of(field.value, texts))
+fn all_are(fields: &[Header], name: &str, texts: &[String]) -> bool
+    ensures { result ≡ fields_are_among name.now (map string_bytes texts.now) (map header_parts fields.now) }
+{
+    fields.iter().all(|field| !has_name(field, name) || is_one_of(field.value, texts))
 }
 
 // Whether a field has the name, in letters of either case.
-fn is_there(fields: &[Header], name: &str) -> bool {
-    fields
-        .iter()
-        .any(|field| field.name.eq_ignore_ascii_case(name))
+fn is_there(fields: &[Header], name: &str) -> bool
+    ensures { result ≡ has_field name.now (map header_parts fields.now) }
+{
+    fields.iter().any(|field| has_name(field, name))
 }
 
 impl Site {
     /// The page at this address, which is also called `localhost`.
-    pub fn at(alloc: Global, addr: SocketAddr) -> Result<Site, AllocError> {
+    pub fn at(alloc: Global, addr: SocketAddr) -> Result<Site, AllocError>
+        ensures { IfOk result (λ site. (site_hosts site ≡ hosts_at addr)
+            × (site_origins site ≡ origins_at addr)) }
+    {
         let port = addr.port();
         let hosts = vec![in alloc;
             format!(in alloc; "{addr}")?,
@@ -68,7 +86,9 @@ impl Site {
 
     /// What the request with this method, path and fields is for. Only one that names the site as its host is for the page or
     /// a window, and where it says from which page it comes, that is the site; a window's has to say so.
-    pub(crate) fn wanted(&self, method: &str, path: &str, fields: &[Header]) -> Wanted {
+    pub(crate) fn wanted(&self, method: &str, path: &str, fields: &[Header]) -> Wanted
+        ensures { result ≡ wanted_of self.now method.now path.now (map header_parts fields.now) }
+    {
         let is_own = is_there(fields, "Host")
             && all_are(fields, "Host", &self.hosts)
             && all_are(fields, "Origin", &self.origins);
