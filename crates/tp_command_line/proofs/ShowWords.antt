@@ -3,7 +3,7 @@ use Rattle.std.proofs.Common.{◌≡◌, ◌∙◌, ℕ, Bool, true, false, ap, 
 use Rattle.std.proofs.lemmas.Bool.{eqb-true}
 use Rattle.std.specs.Str.{bytes_eq}
 use Rattle.std.proofs.lemmas.Slice.Eq.{bytes_eq-Decides}
-use Rattle.std.specs.Prelude.{◌<◌, IsErrAnd, MatchResult, Ok, Err, Result}
+use Rattle.std.specs.Prelude.{◌<◌, ◌||◌, IsErrAnd, MatchResult, Ok, Err, Result}
 use Rattle.clap.specs.Walk.{Row, Text, first_of}
 use Rattle.clap.specs.Words.{one_of}
 use Rattle.clap.specs.Simple.{subcommand_of}
@@ -13,7 +13,7 @@ use Rattle.clap.specs.Words.{App, HasKind, Kinds, is_simple_and_free, kind_of}
 use Rattle.clap.specs.declared.error.Error.{Error}
 use Rattle.clap.specs.declared.error.kind.ErrorKind.TheVariants as kind
 use Rattle.tp_command_line.specs.Commands.{AskToShow, IsFoundAs, IsJobOf, IsShow, textpeer_app}
-use Rattle.tp_command_line.specs.Values.{all_hashes}
+use Rattle.tp_command_line.specs.Values.{all_hashes, is_of_address}
 use Rattle.tp_command_line.specs.LineError.{IsPassedAs, RefusesValue}
 use Rattle.tp_command_line.proofs.Found.{some_is}
 use Rattle.tp_command_line.specs.declared.job.FileJob.TheVariants.{Show}
@@ -22,18 +22,18 @@ use Rattle.tp_command_line.specs.declared.job.Job.TheVariants.{Files}
 use Rattle.tp_command_line.specs.declared.error.LineError.{LineError}
 use Rattle.tp_command_line.specs.declared.error.LineError.TheVariants.{Request, Fault, Value}
 use Rattle.tp_command_line.specs.declared.error.ValueError.{ValueError}
-use Rattle.tp_command_line.specs.declared.error.ValueError.TheVariants.{BadHex, BadAddress, OutOfMemory, NotOneText}
+use Rattle.tp_command_line.specs.declared.error.ValueError.TheVariants.{BadHex, BadAddress, BadPage, OutOfMemory, NotOneText}
 
--- the name of a subcommand, its `LOG`, its key, its address, its hashes, its place and its page
+-- the name of a subcommand, its `LOG`, its key, its address, its hashes, its place, its page and that one's addresses
 abbrev Named : Type 0
-Named = Text × Option Text × Option Text × Option Text × List Text × Option Text × Option Text
+Named = Text × Option Text × Option Text × Option Text × List Text × Option Text × Option Text × Option Text × Option Text
 
 abbrev named_log : Text × List Row → Named
-named_log p = (p.0, first_of (codes "LOG") p.1, first_of (codes "key") p.1, first_of (codes "ADDR") p.1, all_hashes p.1, one_of (codes "at") p.1, first_of (codes "PAGE") p.1)
+named_log p = (p.0, first_of (codes "LOG") p.1, first_of (codes "key") p.1, first_of (codes "ADDR") p.1, all_hashes p.1, one_of (codes "at") p.1, first_of (codes "PAGE") p.1, first_of (codes "serve") p.1, first_of (codes "server") p.1)
 
 -- those of `show` with the path
 abbrev shown : Text → Named
-shown path = (codes "show", Some path, None, None, [], None, None)
+shown path = (codes "show", Some path, None, None, [], None, None, None, None)
 
 -- the empty path
 no_fault_empty : (name : Text) → fault_of textpeer_app (name ∷ codes "show" ∷ [] ∷ []) ≡ []
@@ -98,16 +98,27 @@ show_path path words job ask found =
     let log : Named → Option Text = λ p. p.1 in
     show_of_name path found.0 found.1 job (ap name same) (ap log same) found.3
 
+-- an argument whose value is an address is one of these, of which none was given
+no_address_given : (id : Text) (rows : List Row) → first_of (codes "ADDR") rows ≡ None → first_of (codes "serve") rows ≡ None → first_of (codes "server") rows ≡ None
+    → is_of_address id ≡ true → first_of id rows ≡ None
+no_address_given id rows addr serve server of = go (bytes_eq (codes "ADDR") id) (bytes_eq (codes "serve") id) (bytes_eq (codes "server") id) refl refl refl of
+  where
+    go : (x y z : Bool) → bytes_eq (codes "ADDR") id ≡ x → bytes_eq (codes "serve") id ≡ y → bytes_eq (codes "server") id ≡ z → (x || (y || (z || false))) ≡ true → first_of id rows ≡ None
+    go true y z first second third any = ap (λ i. first_of i rows) (sym ((bytes_eq-Decides (codes "ADDR") id).0 first)) ∙ addr
+    go false true z first second third any = ap (λ i. first_of i rows) (sym ((bytes_eq-Decides (codes "serve") id).0 second)) ∙ serve
+    go false false true first second third any = ap (λ i. first_of i rows) (sym ((bytes_eq-Decides (codes "server") id).0 third)) ∙ server
+    go false false false first second third any = absurd (cc)
+
 -- with no key, no address, no hash, no place and no page, only memory can fail
-only_values : (rows : List Row) (e : ValueError) → first_of (codes "key") rows ≡ None → first_of (codes "ADDR") rows ≡ None → all_hashes rows ≡ [] → one_of (codes "at") rows ≡ None → first_of (codes "PAGE") rows ≡ None
+only_values : (rows : List Row) (e : ValueError) → first_of (codes "key") rows ≡ None → ((id : Text) → is_of_address id ≡ true → first_of id rows ≡ None) → all_hashes rows ≡ [] → one_of (codes "at") rows ≡ None → first_of (codes "PAGE") rows ≡ None
     → RefusesValue rows e → e ≡ OutOfMemory
 only_values rows BadHex key addr heads at page (inl any) =
     let none : length (all_hashes rows) ≡ 0 = ap length heads in
     let some : any.0 < length (all_hashes rows) = any.2 in
     absurd (omega arith)
 only_values rows BadHex key addr heads at page (inr bad) = let e : None ≡ Some bad.0 = sym key ∙ bad.1 in absurd (cc)
-only_values rows BadAddress key addr heads at page (inl bad) = let e : None ≡ Some bad.0 = sym addr ∙ bad.1 in absurd (cc)
-only_values rows BadAddress key addr heads at page (inr bad) = let e : None ≡ Some bad.0 = sym page ∙ bad.1 in absurd (cc)
+only_values rows BadAddress key addr heads at page bad = let e : None ≡ Some bad.1 = sym (addr bad.0 bad.2) ∙ bad.3 in absurd (cc)
+only_values rows BadPage key addr heads at page bad = let e : None ≡ Some bad.0 = sym page ∙ bad.1 in absurd (cc)
 only_values rows OutOfMemory key addr heads at page bad = refl
 only_values rows NotOneText key addr heads at page bad = let e : None ≡ Some bad.0.1.0 = sym at ∙ bad.0.1.1 in absurd (cc)
 
@@ -121,7 +132,10 @@ show_reads path words name rows e ask is bad =
     let heads : Named → List Text = λ p. p.4 in
     let at : Named → Option Text = λ p. p.5 in
     let page : Named → Option Text = λ p. p.6 in
-    only_values rows e (ap key same) (ap addr same) (ap heads same) (ap at same) (ap page same) bad
+    let serve : Named → Option Text = λ p. p.7 in
+    let server : Named → Option Text = λ p. p.8 in
+    let none : (id : Text) → is_of_address id ≡ true → first_of id rows ≡ None = λ id. no_address_given id rows (ap addr same) (ap serve same) (ap server same) in
+    only_values rows e (ap key same) none (ap heads same) (ap at same) (ap page same) bad
 
 -- where the words have no fault, only memory can fail
 pub only_memory : (a : App) (path : Text) (words : List Text) (e : Error) → a ≡ textpeer_app → AskToShow path words

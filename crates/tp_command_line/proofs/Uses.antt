@@ -16,7 +16,7 @@ use Rattle.clap.specs.declared.builder.value_parser.ValueParser.{ValueParser}
 use Rattle.clap.specs.declared.builder.value_parser.ValueParser.TheVariants as parser
 use Rattle.clap.specs.declared.builder.value_parser.ValueParser.TheVariants.{String}
 use Rattle.tp_command_line.specs.Commands.{textpeer_app}
-use Rattle.tp_command_line.specs.Rules.{few, file_rule, flag_rule, follow_rule, key_rule, mandatory, message_rule, most_rule, numbers, numeric, option_rule, options_rule, page_rule, patience_rule, pausing, required_rule, sessions_rule, several, time_rule, waiting, workers_rule}
+use Rattle.tp_command_line.specs.Rules.{few, file_rule, flag_rule, follow_rule, key_rule, mandatory, message_rule, most_rule, numbers, numeric, option_rule, options_rule, page_rule, patience_rule, pausing, required_rule, server_rule, sessions_rule, several, time_rule, waiting, workers_rule}
 use Rattle.tp_command_line.specs.Uses.{IsUse, always_has, has_default, is_required, shape_named}
 use Rattle.tp_command_line.specs.Values.{parser_named}
 use Rattle.tp_command_line.proofs.Rows.{AllFilled, AllTaken, HasFirst, or_else_none, values_taken, with_values_filled, without_filled}
@@ -144,6 +144,12 @@ addr_sound = single_sound String (placed 2 (required_rule (codes "ADDR"))) refl 
 page_sound : IsSound (placed 2 page_rule)
 page_sound = single_sound String (placed 2 page_rule) refl refl refl
 
+sessions_at_sound : IsSound (placed 2 (option_rule (codes "serve")))
+sessions_at_sound = single_sound String (placed 2 (option_rule (codes "serve"))) refl refl refl
+
+server_sound : IsSound (placed 2 server_rule)
+server_sound = single_sound String (placed 2 server_rule) refl refl refl
+
 sessions_sound : IsSound (placed 2 sessions_rule)
 sessions_sound = single_sound numbers (placed 2 sessions_rule) refl refl refl
 
@@ -226,6 +232,8 @@ all_sound = assumption (
   script_sound,
   addr_sound,
   page_sound,
+  sessions_at_sound,
+  server_sound,
   sessions_sound,
   workers_sound,
   patience_sound,

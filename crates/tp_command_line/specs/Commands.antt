@@ -12,8 +12,8 @@ use Rattle.tp_command_line.specs.declared.job.Inserted.TheVariants.{Given, InFil
 use Rattle.tp_command_line.specs.declared.job.Job.{Job}
 use Rattle.tp_command_line.specs.declared.job.Subject.{Subject}
 use Rattle.tp_command_line.specs.declared.job.Job.TheVariants.{Files, Follow, Serve, Session, Sync, Web}
-use Rattle.tp_command_line.specs.Rules.{file_rule, flag_rule, follow_rule, key_rule, mandatory, message_rule, most_rule, numeric, option_rule, options_rule, page_rule, patience_rule, required_rule, sessions_rule, several, time_rule, workers_rule}
-use Rattle.tp_command_line.specs.Values.{HasAddress, HasFlag, HasHashes, HasHeads, HasKey, HasNumber, HasPage, MayHaveNumber}
+use Rattle.tp_command_line.specs.Rules.{file_rule, flag_rule, follow_rule, key_rule, mandatory, message_rule, most_rule, numeric, option_rule, options_rule, page_rule, patience_rule, required_rule, server_rule, sessions_rule, several, time_rule, workers_rule}
+use Rattle.tp_command_line.specs.Values.{HasAddress, HasFlag, HasHashes, HasHeads, HasHosting, HasKey, HasNumber, MayHaveNumber}
 
 -- ---- shapes
 
@@ -119,9 +119,9 @@ sync_shape = with_rules (codes "sync") (file_rule ∷ required_rule (codes "ADDR
 abbrev pub session_shape : Shape
 session_shape = with_rules (codes "session") (file_rule ∷ flag_rule (codes "client") ∷ key_rule ∷ [])
 
--- `web FILE [PAGE] [--key HEX]`
+-- `web FILE [PAGE] [--serve ADDR] [--follow ADDR] [--key HEX]`
 abbrev pub web_shape : Shape
-web_shape = with_rules (codes "web") (file_rule ∷ page_rule ∷ key_rule ∷ [])
+web_shape = with_rules (codes "web") (file_rule ∷ page_rule ∷ option_rule (codes "serve") ∷ server_rule ∷ key_rule ∷ [])
 
 -- the command has this shape, and no subcommand and no argument that subcommands have too
 pub record IsLeaf (s : Shape) (c : Command) : Type 0 where
@@ -211,7 +211,7 @@ IsJobOf name rows (Sync file addr patience key) = (name ≡ codes "sync") × Has
 IsJobOf name rows (Follow file addr every sessions patience key) = (name ≡ codes "sync") × HasText (codes "FILE") rows file
     × HasAddress rows addr × MayHaveNumber (codes "follow") rows (Some every) × HasNumber (codes "sessions") rows sessions
     × HasNumber (codes "patience") rows patience × HasKey rows key
-IsJobOf name rows (Web file addr key) = (name ≡ codes "web") × HasText (codes "FILE") rows file × HasPage rows addr × HasKey rows key
+IsJobOf name rows (Web file hosting key) = (name ≡ codes "web") × HasText (codes "FILE") rows file × HasHosting rows hosting × HasKey rows key
 
 -- the job is that of the subcommand that was found
 abbrev pub IsFoundAs : Option (Text × List Row) → Job → Type 0
@@ -254,4 +254,4 @@ subject_of (Serve file addr sessions workers patience is_verbose key) = record {
 subject_of (Session file is_client key) = record { file = file; beside = Nothing }
 subject_of (Sync file addr patience key) = record { file = file; beside = There addr }
 subject_of (Follow file addr every sessions patience key) = record { file = file; beside = There addr }
-subject_of (Web file addr key) = record { file = file; beside = Page addr }
+subject_of (Web file hosting key) = record { file = file; beside = Page hosting }

@@ -6,11 +6,11 @@ use Rattle.clap.specs.declared.error.kind.ErrorKind.{ErrorKind}
 use Rattle.clap.specs.declared.error.kind.ErrorKind.TheVariants as kind
 use Rattle.tp_opid.specs.declared.hex_text.HexError.{HexError}
 use Rattle.tp_opid.specs.declared.hex_text.HexError.TheVariants as hex
-use Rattle.tp_command_line.specs.Values.{HasNumber, HasValue, IsNoAddress, IsNoHash, IsNoPage, all_hashes}
+use Rattle.tp_command_line.specs.Values.{HasNumber, HasValue, IsNoAddress, IsNoHash, IsNoPage, all_hashes, is_of_address}
 use Rattle.tp_command_line.specs.declared.error.LineError.{LineError}
 use Rattle.tp_command_line.specs.declared.error.LineError.TheVariants.{Request, Fault, Value}
 use Rattle.tp_command_line.specs.declared.error.ValueError.{ValueError}
-use Rattle.tp_command_line.specs.declared.error.ValueError.TheVariants.{BadHex, BadAddress, OutOfMemory, NotOneText}
+use Rattle.tp_command_line.specs.declared.error.ValueError.TheVariants.{BadHex, BadAddress, BadPage, OutOfMemory, NotOneText}
 
 -- ---- values
 
@@ -18,6 +18,7 @@ use Rattle.tp_command_line.specs.declared.error.ValueError.TheVariants.{BadHex, 
 abbrev pub code_of_value : ValueError → ℕ
 code_of_value BadHex = 1
 code_of_value BadAddress = 2
+code_of_value BadPage = 2
 code_of_value OutOfMemory = 3
 code_of_value NotOneText = 13
 
@@ -27,6 +28,8 @@ value_line false BadHex = codes "textpeer: BadHex\n"
 value_line true BadHex = codes "textpeer: BadHex\n  a hash or a key is 64 hexadecimal digits\n"
 value_line false BadAddress = codes "textpeer: Io\n"
 value_line true BadAddress = codes "textpeer: Io\n  an address is IP:PORT or HOST:PORT, as 127.0.0.1:7000\n"
+value_line false BadPage = codes "textpeer: Io\n"
+value_line true BadPage = codes "textpeer: Io\n  the address of a page is IP:PORT of this machine, as 127.0.0.1:7117, since nobody else is to have it\n"
 value_line explains OutOfMemory = codes "textpeer: OutOfMemory\n"
 value_line explains NotOneText = codes "error: one of --text <T> and --text-file <F> has to be given\n\nFor more information, try '--help'.\n"
 
@@ -43,8 +46,8 @@ HasNotOneText rows = ((n : ℕ) × HasNumber (codes "at") rows n)
 -- of this machine, memory ran out, or an edit has not one text.
 abbrev pub RefusesValue : List Row → ValueError → Type 0
 RefusesValue rows BadHex = Any IsNoHash (all_hashes rows) ⊎ ((text : Text) × (first_of (codes "key") rows ≡ Some text) × IsNoHash text)
-RefusesValue rows BadAddress = ((text : Text) × (first_of (codes "ADDR") rows ≡ Some text) × IsNoAddress text)
-    ⊎ ((text : Text) × (first_of (codes "PAGE") rows ≡ Some text) × IsNoPage text)
+RefusesValue rows BadAddress = (id text : Text) × (is_of_address id ≡ true) × (first_of id rows ≡ Some text) × IsNoAddress text
+RefusesValue rows BadPage = (text : Text) × (first_of (codes "PAGE") rows ≡ Some text) × IsNoPage text
 RefusesValue rows OutOfMemory = Unit {0}
 RefusesValue rows NotOneText = HasNotOneText rows
 

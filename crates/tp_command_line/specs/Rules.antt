@@ -71,6 +71,10 @@ patience_rule = record (option_rule (codes "patience")) { parser = Some waiting;
 abbrev pub page_rule : Rule
 page_rule = record (new_rule (codes "PAGE")) { action = Some Set; defaults = codes "127.0.0.1:7117" ∷ [] }
 
+-- the address of a server that a page's program follows; `--follow` of `sync` has seconds
+abbrev pub server_rule : Rule
+server_rule = record (option_rule (codes "server")) { long = Some (codes "follow") }
+
 -- so many seconds between two sessions: up to a day
 abbrev pub pausing : ValueParser
 pausing = Unsigned 1 86400

@@ -15,6 +15,7 @@ use Rattle.tp_opid.specs.declared.hash.Hash.{Hash}
 use Rattle.tp_command_line.specs.Rules.{few, numbers, pausing, waiting}
 use Rattle.tp_command_line.specs.declared.address.Address.{Address}
 use Rattle.tp_command_line.specs.declared.address.Address.TheVariants.{Host, Socket}
+use Rattle.tp_command_line.specs.declared.job.Hosting.{Hosting}
 
 -- an argument has a first value among what was found
 abbrev pub HasValue : Text → List Row → Type 0
@@ -137,6 +138,20 @@ HasKey rows key = IsKeyOf (first_of (codes "key") rows) key
 abbrev pub HasAddress : List Row → Address → Type 0
 HasAddress rows addr = (text : Text) × (first_of (codes "ADDR") rows ≡ Some text) × IsAddressText text addr
 
+-- the address is what an option was given, if it was
+abbrev pub IsAddressIn : Option Text → Option Address → Type 0
+IsAddressIn None None = Unit {0}
+IsAddressIn None (Some addr) = ⊥
+IsAddressIn (Some text) None = ⊥
+IsAddressIn (Some text) (Some addr) = IsAddressText text addr
+
+abbrev pub MayHaveAddress : Text → List Row → Option Address → Type 0
+MayHaveAddress id rows addr = IsAddressIn (first_of id rows) addr
+
+-- the argument's value is an address
+abbrev pub is_of_address : Text → Bool
+is_of_address id = list_any (λ n. bytes_eq n id) (codes "ADDR" ∷ codes "serve" ∷ codes "server" ∷ [])
+
 -- the address is one of this machine alone
 abbrev pub IsOfThisMachine : SocketAddr → Type 0
 IsOfThisMachine addr = MatchIp (socket_ip addr) IsLoopbackV4 IsLoopbackV6
@@ -144,6 +159,12 @@ IsOfThisMachine addr = MatchIp (socket_ip addr) IsLoopbackV4 IsLoopbackV6
 -- the page's address is the one that was given, and of this machine alone
 abbrev pub HasPage : List Row → SocketAddr → Type 0
 HasPage rows addr = (text : Text) × (first_of (codes "PAGE") rows ≡ Some text) × IsSocketText text addr × IsOfThisMachine addr
+
+-- where the page is, where sessions are served beside it, and which server is followed, are what was given
+pub record HasHosting (rows : List Row) (hosting : Hosting) : Type 0 where
+  pub page : HasPage rows hosting.page
+  pub serve : MayHaveAddress (codes "serve") rows hosting.serve
+  pub follow : MayHaveAddress (codes "server") rows hosting.follow
 
 -- the text isn't an address, or one of others
 abbrev pub IsNoPage : Text → Type 0

@@ -3,7 +3,7 @@
 ghost use Rattle.std.specs.Prelude.{◌≡◌, ◌∷◌, IfOk, [], false, codes};
 ghost use Rattle.clap.specs.Words.{App, Shape, app_of, rule_of, with_subcommand};
 ghost use Rattle.tp_command_line.specs.Commands.{IsLeaf, bare_app, cursor_shape, diff_shape, edit_at_shape, edit_shape, files_app, journals_app, load_shape, log_shape, merge_shape, new_shape, serve_shape, session_shape, sync_shape, text_shape, textpeer_app, web_shape, whole_text_shape, with_rules};
-ghost use Rattle.tp_command_line.specs.Rules.{file_rule, flag_rule, follow_rule, mandatory, message_rule, most_rule, numeric, option_rule, options_rule, page_rule, patience_rule, required_rule, sessions_rule, several, time_rule, workers_rule};
+ghost use Rattle.tp_command_line.specs.Rules.{file_rule, flag_rule, follow_rule, mandatory, message_rule, most_rule, numeric, option_rule, options_rule, page_rule, patience_rule, required_rule, server_rule, sessions_rule, several, time_rule, workers_rule};
 
 use clap::builder::ValueParser;
 use clap::{Arg, ArgAction, Command, value_parser};
@@ -668,6 +668,20 @@ fn page<'a>(alloc: Global) -> Arg<'a>
         .default_value("127.0.0.1:7117")
 }
 
+// Which server a page's program follows.
+fn server<'a>(alloc: Global) -> Arg<'a>
+    ensures rule { rule_of result ≡ server_rule }
+    ensures local { result.global ≡ false }
+{
+    Arg::new(alloc, "server")
+        .long("follow")
+        .value_name("ADDR")
+        .help(
+            "exchanges changes each second with the server at this address, as IP:PORT or HOST:PORT",
+        )
+        .action(ArgAction::Set)
+}
+
 fn web_command<'a>(alloc: Global) -> Result<Command<'a>, AllocError>
     ensures { IfOk result (IsLeaf web_shape) }
 {
@@ -678,5 +692,12 @@ fn web_command<'a>(alloc: Global) -> Result<Command<'a>, AllocError>
         "Example:\n  textpeer web notes.journal",
     )?
     .arg(page(alloc))?
+    .arg(option(
+        alloc,
+        "serve",
+        "ADDR",
+        "serves the journal beside the page too, at this address, as IP:PORT or HOST:PORT, and prints the port",
+    ))?
+    .arg(server(alloc))?
     .arg(key(alloc))
 }

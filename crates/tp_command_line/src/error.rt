@@ -16,8 +16,10 @@ use tp_opid::HexError;
 pub enum ValueError {
     /// A hash or a key isn't 64 hexadecimal digits.
     BadHex,
-    /// An address isn't `IP:PORT`.
+    /// An address is neither `IP:PORT` nor `HOST:PORT`.
     BadAddress,
+    /// The address of a page isn't `IP:PORT` of this machine.
+    BadPage,
     /// A growth was refused.
     OutOfMemory,
     /// An edit has no text and no file of one, or both: a fault of the words.
@@ -25,14 +27,14 @@ pub enum ValueError {
 }
 
 impl ValueError {
-    /// The number of the refusal among those of the program: 1 `BadHex`, 2 `BadAddress`, as of what fails outside, 3
-    /// `OutOfMemory`, 13 `NotOneText`.
+    /// The number of the refusal among those of the program: 1 `BadHex`, 2 `BadAddress` and `BadPage`, as of what fails outside,
+    /// 3 `OutOfMemory`, 13 `NotOneText`.
     pub fn code(&self) -> u8
         ensures { result ≡ code_of_value self.now }
     {
         match self {
             ValueError::BadHex => 1,
-            ValueError::BadAddress => 2,
+            ValueError::BadAddress | ValueError::BadPage => 2,
             ValueError::OutOfMemory => 3,
             ValueError::NotOneText => 13,
         }
@@ -50,6 +52,10 @@ impl ValueError {
             (ValueError::BadAddress, false) => "textpeer: Io\n",
             (ValueError::BadAddress, true) => {
                 "textpeer: Io\n  an address is IP:PORT or HOST:PORT, as 127.0.0.1:7000\n"
+            }
+            (ValueError::BadPage, false) => "textpeer: Io\n",
+            (ValueError::BadPage, true) => {
+                "textpeer: Io\n  the address of a page is IP:PORT of this machine, as 127.0.0.1:7117, since nobody else is to have it\n"
             }
             (ValueError::OutOfMemory, _) => "textpeer: OutOfMemory\n",
             (ValueError::NotOneText, _) =>

@@ -10,7 +10,8 @@ ghost use Rattle.tp_command_line.specs.Uses.{IsUse};
 use crate::address::Address;
 use crate::error::ValueError;
 use crate::values::{
-    address_of, flag_of, hashes_of, inserted_of, key_of, number_in, number_of, page_of, text_of,
+    address_if_given, address_of, flag_of, hashes_of, inserted_of, key_of, number_in, number_of,
+    page_of, text_of,
 };
 use clap::ArgMatches;
 use std::alloc::Global;
@@ -239,11 +240,22 @@ pub enum Job<'a> {
     Web {
         /// The path of the journal.
         file: &'a str,
-        /// The address of the page.
-        addr: SocketAddr,
+        /// Where, and what goes on beside it.
+        hosting: Hosting<'a>,
         /// The key.
         key: Option<[u8; 32]>,
     },
+}
+
+/// Where a page is, and with whom its program exchanges changes meanwhile.
+#[derive(Clone, Copy)]
+pub struct Hosting<'a> {
+    /// The address of the page.
+    pub page: SocketAddr,
+    /// Where sessions are served beside it, if anywhere.
+    pub serve: Option<Address<'a>>,
+    /// Where the server is that is followed, if one is.
+    pub follow: Option<Address<'a>>,
 }
 
 /// What is read or made beside the first file of a job, or whom it is about.
@@ -257,8 +269,8 @@ pub enum Beside<'a> {
     Made(&'a str),
     /// It is a server, at the address.
     There(Address<'a>),
-    /// It is a page, at the address.
-    Page(SocketAddr),
+    /// It is a page, at its address.
+    Page(Hosting<'a>),
 }
 
 /// What a job is about.
@@ -281,7 +293,7 @@ impl<'a> Job<'a> {
             Job::Session { file, .. } => (file, Beside::Nothing),
             Job::Sync { file, addr, .. } => (file, Beside::There(*addr)),
             Job::Follow { file, addr, .. } => (file, Beside::There(*addr)),
-            Job::Web { file, addr, .. } => (file, Beside::Page(*addr)),
+            Job::Web { file, hosting, .. } => (file, Beside::Page(*hosting)),
         };
         Subject { file, beside }
     }
@@ -447,7 +459,11 @@ fn web_of<'a>(found: &ArgMatches<'a>) -> Result<Job<'a>, ValueError>
     let key = key_of(found)?;
     Ok(Job::Web {
         file: text_of(found, "web", "FILE"),
-        addr: page_of(found)?,
+        hosting: Hosting {
+            page: page_of(found)?,
+            serve: address_if_given(found, "serve")?,
+            follow: address_if_given(found, "server")?,
+        },
         key,
     })
 }

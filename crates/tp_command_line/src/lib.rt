@@ -11,5 +11,5 @@ mod values;
 
 pub use address::Address;
 pub use error::{LineError, ValueError};
-pub use job::{Beside, FileJob, Inserted, Job, Subject};
+pub use job::{Beside, FileJob, Hosting, Inserted, Job, Subject};
 pub use parsing::line;

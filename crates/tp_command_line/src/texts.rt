@@ -4,7 +4,7 @@ ghost use Rattle.std.specs.Prelude.{◌≡◌, ◌⊎◌, ℕ, List, Any, IfOk, 
 ghost use Rattle.std.specs.List.{list_all, list_any};
 ghost use Rattle.std.specs.Net.Grammar.{IsSocketText};
 ghost use Rattle.tp_opid.specs.HexText.{IsHexOf};
-ghost use Rattle.tp_command_line.specs.declared.error.ValueError.TheVariants.{BadAddress, BadHex, OutOfMemory};
+ghost use Rattle.tp_command_line.specs.declared.error.ValueError.TheVariants.{BadAddress, BadHex, BadPage, OutOfMemory};
 ghost use Rattle.tp_command_line.specs.Values.{AreHashes, IsAddressText, IsHostText, IsNoAddress, IsNoHash, IsNoPage, IsOfThisMachine, is_host_name as host_name_test, is_of_host as host_test, is_of_name as name_test};
 
 use crate::address::Address;
@@ -103,19 +103,19 @@ pub(crate) fn address_in<'a>(text: &'a str) -> Result<Address<'a>, ValueError>
     }
 }
 
-/// The address that the text is, `IP:PORT` of this machine; else `BadAddress`.
+/// The address that the text is, `IP:PORT` of this machine; else `BadPage`.
 pub(crate) fn page_in(text: &str) -> Result<SocketAddr, ValueError>
     ensures ok { IfOk result (λ addr. IsSocketText text.now addr × IsOfThisMachine addr) }
-    ensures err { IfErr result (λ e. (e ≡ BadAddress) × IsNoPage text.now) }
+    ensures err { IfErr result (λ e. (e ≡ BadPage) × IsNoPage text.now) }
 {
     match text.parse::<SocketAddr>() {
         Ok(addr) => {
             if addr.ip().is_loopback() {
                 Ok(addr)
             } else {
-                Err(ValueError::BadAddress)
+                Err(ValueError::BadPage)
             }
         }
-        Err(_) => Err(ValueError::BadAddress),
+        Err(_) => Err(ValueError::BadPage),
     }
 }

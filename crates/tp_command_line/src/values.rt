@@ -6,7 +6,7 @@ ghost use Rattle.clap.specs.Words.{first_of, found_of, rows_of};
 ghost use Rattle.tp_command_line.specs.Commands.{HasInserted};
 ghost use Rattle.tp_command_line.specs.LineError.{RefusesValue};
 ghost use Rattle.tp_command_line.specs.Uses.{IsUse, always_has};
-ghost use Rattle.tp_command_line.specs.Values.{HasAddress, HasFlag, HasHashes, HasKey, HasNumber, HasPage, MayHaveNumber, is_number, is_of_hashes, parser_named};
+ghost use Rattle.tp_command_line.specs.Values.{HasAddress, HasFlag, HasHashes, HasKey, HasNumber, HasPage, MayHaveAddress, MayHaveNumber, is_number, is_of_address, is_of_hashes, parser_named};
 
 use crate::address::Address;
 use crate::error::ValueError;
@@ -100,6 +100,24 @@ pub(crate) fn address_of<'a>(found: &ArgMatches<'a>, name: &str) -> Result<Addre
     ensures err { IfErr result (RefusesValue (rows_of (found_of found.now))) }
 {
     address_in(text_of(found, name, "ADDR"))
+}
+
+/// The address that is given to an option, where it is.
+pub(crate) fn address_if_given<'a>(
+    found: &ArgMatches<'a>,
+    id: &str,
+) -> Result<Option<Address<'a>>, ValueError>
+    requires { is_of_address id.now ≡ true }
+    ensures ok { IfOk result (MayHaveAddress id.now (rows_of (found_of found.now))) }
+    ensures err { IfErr result (RefusesValue (rows_of (found_of found.now))) }
+{
+    match given_text(found, id) {
+        Some(text) => match address_in(text) {
+            Ok(addr) => Ok(Some(addr)),
+            Err(error) => Err(error),
+        },
+        None => Ok(None),
+    }
 }
 
 /// The address of a page that is given, which has to be of this machine.

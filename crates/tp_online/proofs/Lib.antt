@@ -3,3 +3,4 @@ pub mod ServedLines
 pub mod SessionLaws
 pub mod FollowLaws
 pub mod PageLines
+pub mod PartLaws

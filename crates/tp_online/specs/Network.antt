@@ -1,5 +1,5 @@
 -- What the commands over a network print.
-use Rattle.std.specs.Prelude.{◌≡◌, ℕ, List, [], ◌++◌, ◌==◌, if◌then◌else◌, codes}
+use Rattle.std.specs.Prelude.{◌≡◌, ℕ, List, [], ◌++◌, ◌==◌, if◌then◌else◌, Option, None, Some, is_some, codes}
 use Rattle.std.specs.Fmt.{decimal}
 use Rattle.std.specs.List.{flat_map}
 use Rattle.std.specs.Net.Socket.{socket_ip}
@@ -7,6 +7,7 @@ use Rattle.std.specs.Net.Text.{socket_text}
 use Rattle.std.specs.declared.net.socket_addr.SocketAddr.{SocketAddr}
 use Rattle.tp_frame.specs.declared.frame.Frame.{Frame}
 use Rattle.tp_frame.specs.Frame.{spelling}
+use Rattle.tp_command_line.specs.declared.job.Hosting.{Hosting}
 use Rattle.tp_commands.specs.Reading.{line}
 use Rattle.tp_report.specs.Telling.{applied_line}
 
@@ -26,9 +27,16 @@ met_line applied = if applied == 0 then [] else applied_line applied
 abbrev pub page_line : SocketAddr → List ℕ
 page_line page = line (codes "http://" ++ socket_text page ++ codes "/")
 
--- The bytes are what is printed of a page: where it is, at the IP address that was asked for.
-abbrev pub IsPageShown : SocketAddr → List ℕ → Type 0
-IsPageShown asked printed = (page : SocketAddr) × (socket_ip page ≡ socket_ip asked) × (printed ≡ page_line page)
+-- the line of the port at which a page's program serves sessions, where it does
+abbrev pub beside_line : Option ℕ → List ℕ
+beside_line None = []
+beside_line (Some port) = listening_line port
+
+-- The bytes are what is printed of a page: where it is, at the IP address that was asked for, and the port at which sessions are
+-- served beside it, where that was asked for.
+abbrev pub IsPageShown : Hosting → List ℕ → Type 0
+IsPageShown hosting printed = (page : SocketAddr) × (port : Option ℕ) × (socket_ip page ≡ socket_ip hosting.page)
+    × (is_some port ≡ is_some hosting.serve) × (printed ≡ page_line page ++ beside_line port)
 
 -- The bytes are what a server prints that held so many sessions: first the port on which it listens.
 abbrev pub IsServed : ℕ → List ℕ → Type 0

@@ -3,6 +3,7 @@
 #![tactic(auto)]
 
 mod following;
+mod hosting;
 mod listening;
 mod paging;
 mod seating;

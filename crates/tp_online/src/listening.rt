@@ -51,8 +51,8 @@ pub(crate) fn opened<R: Disk + AllocGlobal>(
     reopen(rt.alloc(), (journal, Ok(recovered)), actor)
 }
 
-// Listens at the address, of a name at the first of its addresses where that can be; also answers the port.
-fn bound<R: Net>(rt: &R, addr: Address) -> io::Result<(R::Listener, u16)> {
+/// Listens at the address, of a name at the first of its addresses where that can be; also answers the port.
+pub(crate) fn bound<R: Net>(rt: &R, addr: Address) -> io::Result<(R::Listener, u16)> {
     let listener = match addr {
         Address::Socket(addr) => TcpListener::bind(rt, addr)?,
         Address::Host { name, port } => TcpListener::bind(rt, (name, port))?,

@@ -1,99 +1,132 @@
 //! The command `web`.
 
-ghost use Rattle.std.specs.Prelude.{◌≡◌, ◌⊎◌, ℕ, IfErr, IfOk, None, OnErr, OnOk, Option, length};
+ghost use Rattle.std.specs.Prelude.{◌≡◌, ◌⊎◌, ◌++◌, ℕ, IfErr, IfOk, None, OnErr, OnOk, Option, is_some};
 ghost use Rattle.std.specs.Io.KnownBytes.{Appends, Keeps};
-ghost use Rattle.std.specs.Net.Socket.{socket_ip};
 ghost use Rattle.std.specs.String.{string_bytes};
 ghost use Rattle.tp_disk.specs.DiskView.{OfLocked};
 ghost use Rattle.tp_disk.specs.Opening.{MayCutFile};
-ghost use Rattle.tp_online.specs.Network.{IsPageShown, page_line as line_of_page};
+ghost use Rattle.tp_online.specs.Network.{IsPageShown, beside_line, page_line as line_of_page};
 ghost use Rattle.tp_online.specs.Showing.{ShowsJournal, WasShown};
 ghost use Rattle.tp_report.specs.Telling.{Grows, GrowsPart, Reports};
-ghost use Rattle.tp_served.specs.Calls.{AreOf};
 ghost use Rattle.tp_textpeer.specs.Output.{AppendsPart};
-ghost use Rattle.tp_web.specs.Visiting.{AllAttend};
 
-use crate::listening::{Listening, listen};
+use crate::hosting::{ServerAt, Stage, take_part};
+use crate::listening::{Listening, bound, listen};
 use crate::seating::{ended, seated};
 use std::alloc::Global;
 use std::fs::OpenFile;
-use std::io::{Read, Write};
-use std::net::{Net, OpenListener, OpenStream, SocketAddr};
+use std::io::Write;
+use std::net::{Net, OpenListener, SocketAddr};
 use std::sync::Wait;
 use std::thread::Threads;
 use std::time::Clock;
-use tp_command_line::Address;
+use tp_command_line::{Address, Hosting};
 use tp_commands::CommandError;
 use tp_disk::{Disk, draw_actor, key_or_random};
-use tp_journal::{DurableJournal, Journal};
+use tp_journal::DurableJournal;
+use tp_net::Unreached;
 use tp_peer::Peer;
 use tp_report::{JobError, put, report};
-use tp_served::{MAX_SEATS, Seat, Served};
-use tp_web::{Site, serve_windows};
+use tp_served::MAX_SEATS;
+use tp_web::Site;
 
-// The line of a page's address.
-fn page_line(alloc: Global, page: SocketAddr) -> Result<String, CommandError>
-    ensures ok { IfOk result (λ l. string_bytes l ≡ line_of_page page) }
+// The line of a page's address, and that of the port of sessions beside it, where there is one.
+fn page_lines(alloc: Global, page: SocketAddr, port: Option<u16>) -> Result<String, CommandError>
+    ensures ok { IfOk result (λ l. string_bytes l ≡ line_of_page page ++ beside_line port) }
 {
-    Ok(format!(in alloc; "http://{page}/\n")?)
+    match port {
+        Some(port) => Ok(format!(in alloc; "http://{page}/\nlistening {port}\n")?),
+        None => Ok(format!(in alloc; "http://{page}/\n")?),
+    }
 }
 
-// Prints the address of a page.
-fn tell_page<W: Write>(alloc: Global, page: SocketAddr, out: &mut W) -> Result<(), JobError>
-    ensures ok { OnOk result
-        (Appends (W.contents out.old) (W.contents out.new) (line_of_page page)) }
-    ensures err { IfErr result
-        (λ _. AppendsPart (W.contents out.old) (W.contents out.new) (line_of_page page)) }
-{
-    put(out, page_line(alloc, page))
-}
-
-// Shows the served peer on the seats, until no connection can be accepted. They come back, in their order.
-fn show_on<
-    R: Threads + Wait + Clock + Sync,
-    S: Read + Write + OpenStream + Send + Drop,
-    L: OpenListener<Stream = S>,
-    J: Journal + Send,
->(
-    rt: &R,
+// Prints the address of a page, and the port.
+fn tell_page<W: Write>(
     alloc: Global,
-    listener: &L,
-    site: &Site,
-    served: &Served<J>,
-    seats: Vec<Seat>,
-    key: [u8; 32],
-) -> Result<Vec<Seat>, JobError>
-    requires { AreOf served.now.served seats.items }
-    ensures went { IfOk result (λ back. AllAttend seats.items back.items) }
-    ensures of { IfOk result (λ back. AreOf served.now.served back.items
-        × (length back.items ≡ length seats.items)) }
+    page: SocketAddr,
+    port: Option<u16>,
+    out: &mut W,
+) -> Result<(), JobError>
+    ensures ok { OnOk result (Appends (W.contents out.old) (W.contents out.new)
+        (line_of_page page ++ beside_line port)) }
+    ensures err { IfErr result (λ _. AppendsPart (W.contents out.old) (W.contents out.new)
+        (line_of_page page ++ beside_line port)) }
 {
-    match serve_windows(rt, alloc, listener, site, served, seats, key, u64::MAX) {
-        Ok(back) => Ok(back),
-        Err(interrupted) => Err(JobError::from(interrupted.error)),
+    put(out, page_lines(alloc, page, port))
+}
+
+// What accepts sessions beside a page, where that is asked for, and its port.
+fn bound_beside<R: Net>(
+    rt: &R,
+    serve: Option<Address>,
+) -> Result<(Option<R::Listener>, Option<u16>), JobError>
+    ensures { IfOk result (λ b. (is_some b.0 ≡ is_some serve.entry) × (is_some b.1 ≡ is_some serve.entry)) }
+{
+    match serve {
+        Some(addr) => match bound(rt, addr) {
+            Ok((listener, port)) => Ok((Some(listener), Some(port))),
+            Err(error) => Err(JobError::Unreached(Unreached::by(&error))),
+        },
+        None => Ok((None, None)),
+    }
+}
+
+// What a page's program listens with, and the port of sessions beside the page, where they are served.
+fn stage_at<R: Net + AllocGlobal>(
+    rt: &R,
+    listener: R::Listener,
+    page: SocketAddr,
+    serve: Option<Address>,
+) -> Result<(Stage<R::Listener>, Option<u16>), JobError>
+    ensures { IfOk result (λ s. (is_some s.0.sessions ≡ is_some serve.entry)
+        × (is_some s.1 ≡ is_some serve.entry)) }
+{
+    match Site::at(rt.alloc(), page) {
+        Ok(site) => {
+            let (sessions, port) = bound_beside(rt, serve)?;
+            let stage = Stage {
+                page: listener,
+                site,
+                sessions,
+            };
+            Ok((stage, port))
+        }
+        Err(_) => Err(JobError::Command(CommandError::OutOfMemory)),
+    }
+}
+
+// The server that is followed, where one is.
+fn server_of<'a, R>(rt: &'a R, hosting: &Hosting<'a>) -> Option<ServerAt<'a, R>>
+    ensures { is_some result ≡ is_some hosting.now.follow }
+{
+    match hosting.follow {
+        Some(addr) => Some(ServerAt { rt, addr }),
+        None => None,
     }
 }
 
 // Shows the peer, on as many seats as there may be, and ends that with those that came back: the peer that the closing gives.
 // One whose journal failed meanwhile is refused.
-fn shown<R: Net + Threads + Wait + Clock + AllocGlobal + Sync, F: Write + OpenFile + Send + Drop>(
+fn shown<
+    R: Net + Threads + Wait + Clock + Eprint + AllocGlobal + Sync,
+    F: Write + OpenFile + Send + Drop,
+>(
     rt: &R,
-    listening: Listening<R::Listener, F>,
-    site: &Site,
+    stage: &Stage<R::Listener>,
+    hosting: &Hosting<'_>,
+    peer: Peer<DurableJournal<F>>,
     key: [u8; 32],
 ) -> Result<Peer<DurableJournal<F>>, JobError>
 where
+    R::Listener: Sync,
     R::Stream: Send,
-    ensures { IfOk result (λ p. WasShown listening.peer p) }
+    requires { is_some stage.now.sessions ≡ is_some hosting.now.serve }
+    ensures { IfOk result (λ p. WasShown hosting.now peer p) }
 {
-    let Listening {
-        listener,
-        port: _,
-        peer,
-    } = listening;
     match seated(rt.alloc(), peer, MAX_SEATS) {
         Ok((served, seats)) => {
-            match show_on(rt, rt.alloc(), &listener, site, &served, seats, key) {
+            let server = server_of(rt, hosting);
+            match take_part(rt, rt.alloc(), stage, &server, hosting, &served, seats, key) {
                 Ok(back) => Ok(ended(served, back)?),
                 Err(error) => Err(error),
             }
@@ -104,46 +137,59 @@ where
 
 // Prints the page's address, and shows the peer there.
 fn show_at<
-    R: Net + Threads + Wait + Clock + AllocGlobal + Sync,
+    R: Net + Threads + Wait + Clock + Eprint + AllocGlobal + Sync,
     F: Write + OpenFile + Send + Drop,
     W: Write,
 >(
     rt: &R,
     listening: Listening<R::Listener, F>,
-    addr: SocketAddr,
+    hosting: &Hosting<'_>,
     key: [u8; 32],
     out: &mut W,
 ) -> Result<Peer<DurableJournal<F>>, JobError>
 where
+    R::Listener: Sync,
     R::Stream: Send,
-    ensures shown { IfOk result (λ p. WasShown listening.peer p) }
-    ensures ok { OnOk result (Grows (IsPageShown addr) (W.contents out.old) (W.contents out.new)) }
+    ensures shown { IfOk result (λ p. WasShown hosting.now listening.peer p) }
+    ensures ok { OnOk result
+        (Grows (IsPageShown hosting.now) (W.contents out.old) (W.contents out.new)) }
     ensures err { IfErr result (λ _. Keeps (W.contents out.old) (W.contents out.new)
-        ⊎ GrowsPart (IsPageShown addr) (W.contents out.old) (W.contents out.new)) }
+        ⊎ GrowsPart (IsPageShown hosting.now) (W.contents out.old) (W.contents out.new)) }
 {
-    let page = SocketAddr::new(addr.ip(), listening.port);
-    match Site::at(rt.alloc(), page) {
-        Ok(site) => match tell_page(rt.alloc(), page, out) {
-            Ok(()) => shown(rt, listening, &site, key),
+    let Listening {
+        listener,
+        port,
+        peer,
+    } = listening;
+    let page = SocketAddr::new(hosting.page.ip(), port);
+    match stage_at(rt, listener, page, hosting.serve) {
+        Ok((stage, beside)) => match tell_page(rt.alloc(), page, beside, out) {
+            Ok(()) => shown(rt, &stage, hosting, peer, key),
             Err(error) => {
-                drop(listening);
+                drop(peer);
                 Err(error)
             }
         },
-        Err(_) => {
-            drop(listening);
-            Err(JobError::Command(CommandError::OutOfMemory))
+        Err(error) => {
+            drop(peer);
+            Err(error)
         }
     }
 }
 
-/// Shows the journal at a path as a page at the address, which is of this machine: its address is printed once it listens, and
-/// it is served until no connection can be accepted any more, with up to 64 windows at once. What was cut off the journal is said
-/// once it listens. The peer that the closing gave back; one whose journal failed meanwhile is refused.
-pub fn web_file<R: Disk + Net + Threads + Wait + Clock + AllocGlobal + Sync, W: Write, E: Write>(
+/// Shows the journal at a path as a page, which is of this machine: its address is printed once it listens, with the port of the
+/// sessions that are served beside it, where these are asked for. It is served until no connection can be accepted any more, with
+/// up to 64 windows at once, or 48 beside sessions and a server that is followed. What was cut off the journal is said once it
+/// listens; how sessions with the server end that is followed is printed by the runtime, and not to `err`. The peer that the
+/// closing gave back; one whose journal failed meanwhile is refused.
+pub fn web_file<
+    R: Disk + Net + Threads + Wait + Clock + Eprint + AllocGlobal + Sync,
+    W: Write,
+    E: Write,
+>(
     rt: &R,
     file: &str,
-    addr: SocketAddr,
+    hosting: Hosting<'_>,
     key: Option<[u8; 32]>,
     out: &mut W,
     err: &mut E,
@@ -151,6 +197,7 @@ pub fn web_file<R: Disk + Net + Threads + Wait + Clock + AllocGlobal + Sync, W: 
 ) -> Result<Peer<DurableJournal<R::File>>, JobError>
 where
     R::File: Send,
+    R::Listener: Sync,
     R::Stream: Send,
     requires { cut.old ≡ None }
     ensures cuts { OnOk result (cut.new ≡ None) }
@@ -159,18 +206,19 @@ where
         × MayCutFile (R.saw rt.now) file.now kept
         × Reports file.now kept None (E.contents err.old) (E.contents err.new) }
     ensures shown { IfOk result (λ p. OfLocked (R.saw rt.now) file.now
-        (λ bytes. ShowsJournal key bytes p)) }
-    ensures ok { OnOk result (Grows (IsPageShown addr) (W.contents out.old) (W.contents out.new)) }
+        (λ bytes. ShowsJournal hosting.entry key bytes p)) }
+    ensures ok { OnOk result
+        (Grows (IsPageShown hosting.entry) (W.contents out.old) (W.contents out.new)) }
     ensures err { IfErr result (λ _. Keeps (W.contents out.old) (W.contents out.new)
-        ⊎ GrowsPart (IsPageShown addr) (W.contents out.old) (W.contents out.new)) }
+        ⊎ GrowsPart (IsPageShown hosting.entry) (W.contents out.old) (W.contents out.new)) }
 {
     let actor = draw_actor(rt, key)?;
     let windows = key_or_random(rt, key)?;
-    match listen(rt, file, Address::Socket(addr), actor, cut) {
+    match listen(rt, file, Address::Socket(hosting.page), actor, cut) {
         Ok(listening) => {
             report(rt.alloc(), file, *cut, None, err);
             *cut = None;
-            show_at(rt, listening, addr, windows, out)
+            show_at(rt, listening, &hosting, windows, out)
         }
         Err(error) => Err(error),
     }

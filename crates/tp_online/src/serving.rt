@@ -236,8 +236,8 @@ where
     }
 }
 
-// A connection with the server at the address.
-fn reach_there<R: Net>(
+/// A connection with the server at the address.
+pub(crate) fn reach_there<R: Net>(
     rt: &R,
     addr: Address,
     patience: Option<Duration>,

@@ -1,5 +1,5 @@
 -- What holds whatever a call answered, and what could be had of a journal.
-use Rattle.std.proofs.Common.{◌≡◌, ◌∙◌, ℕ, List, length, Option, Result, Ok, Err, ap, subst}
+use Rattle.std.proofs.Common.{◌≡◌, ◌∙◌, ℕ, List, length, MatchResult, Option, None, Result, Ok, Err, ap, subst, sym}
 use Rattle.std.specs.Prelude.{IfErr, IfOk, IsOkAnd, OnErr, OnOk}
 use Rattle.tp_opid.specs.declared.doc_id.DocId.{DocId}
 use Rattle.tp_change.specs.declared.parts.ChangeParts.{ChangeParts}
@@ -11,6 +11,11 @@ use Rattle.tp_report.specs.Names.{WasMade}
 use Rattle.tp_report.specs.declared.error.JobError.{JobError}
 use Rattle.tp_report.specs.declared.error.JobError.TheVariants.{Command, Show, Line, Session, Unreached, Closed, Unsaid}
 use Rattle.tp_program.specs.Rescuing.{IsRescued, rescue_text, tail_start}
+
+-- what is there where it was done is there without what it gave back
+pub done_after : {A B E : Type 0} (r : Result A E) (d : Result (Option B) E) (P : Type 0) → MatchResult r (λ _. d ≡ Ok None) (λ e. d ≡ Err e) → OnOk r P → OnOk d P
+done_after (Ok x) d P is p = subst (λ (q : Result (Option _) _). OnOk q P) (sym is) p
+done_after (Err e) d P is p = subst (λ (q : Result (Option _) _). OnOk q P) (sym is) tt
 
 -- what holds where it was done, and where it was refused
 pub done_on : {A E P : Type 0} (r : Result A E) → P → OnOk r P

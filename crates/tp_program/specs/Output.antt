@@ -73,14 +73,15 @@ IsFilesPrinted saw (Show log) printed = IsShown printed
 IsFilesPrinted saw (Simulate script) printed = IsScriptPrinted printed
 
 -- The bytes are what is printed of the job where it was done: of `serve` the port and how many sessions were held; of `sync`
--- how many changes entered, by each session where it follows; of `session` the frames of its side; of `web` where the page is.
+-- how many changes entered, by each session where it follows; of `session` the frames of its side; of `web` where the page is, and the
+-- port of sessions beside it.
 abbrev pub IsPrinted : (DiskView → Type 0) → Job → List ℕ → Type 0
 IsPrinted saw (Files job) printed = IsFilesPrinted saw job printed
 IsPrinted saw (Serve file addr sessions workers patience is_verbose key) printed = IsServed sessions printed
 IsPrinted saw (Session file is_client key) printed = AreFrames printed
 IsPrinted saw (Sync file addr patience key) printed = IsSynced printed
 IsPrinted saw (Follow file addr every sessions patience key) printed = IsFollowed saw file.now key sessions printed
-IsPrinted saw (Web file addr key) printed = IsPageShown addr printed
+IsPrinted saw (Web file hosting key) printed = IsPageShown hosting printed
 
 -- What is told of the job beside what is printed, where bytes were cut off the journal that it opened: from which offset on.
 abbrev pub CutsFor : (DiskView → Type 0) → FileJob → Option ℕ → Type 0
@@ -100,7 +101,7 @@ CutsForJob saw (Serve file addr sessions workers patience is_verbose key) cut = 
 CutsForJob saw (Session file is_client key) cut = CutsFile saw file.now cut
 CutsForJob saw (Sync file addr patience key) cut = CutsFile saw file.now cut
 CutsForJob saw (Follow file addr every sessions patience key) cut = cut ≡ None
-CutsForJob saw (Web file addr key) cut = cut ≡ None
+CutsForJob saw (Web file hosting key) cut = cut ≡ None
 
 abbrev pub MayCutForJob : (DiskView → Type 0) → Job → Option ℕ → Type 0
 MayCutForJob saw (Files job) cut = MayCutFor saw job cut
@@ -108,7 +109,7 @@ MayCutForJob saw (Serve file addr sessions workers patience is_verbose key) cut 
 MayCutForJob saw (Session file is_client key) cut = MayCutFile saw file.now cut
 MayCutForJob saw (Sync file addr patience key) cut = MayCutFile saw file.now cut
 MayCutForJob saw (Follow file addr every sessions patience key) cut = MayCutFile saw file.now cut
-MayCutForJob saw (Web file addr key) cut = MayCutFile saw file.now cut
+MayCutForJob saw (Web file hosting key) cut = MayCutFile saw file.now cut
 
 -- What is told of the job where it was done, beside what is printed: of `session` how many changes entered.
 abbrev pub Tells : Job → Option ℕ → Type 0
@@ -117,7 +118,7 @@ Tells (Serve file addr sessions workers patience is_verbose key) told = told ≡
 Tells (Session file is_client key) told = (applied : ℕ) × (told ≡ Some applied)
 Tells (Sync file addr patience key) told = told ≡ None
 Tells (Follow file addr every sessions patience key) told = told ≡ None
-Tells (Web file addr key) told = told ≡ None
+Tells (Web file hosting key) told = told ≡ None
 
 -- the side that a session is held as
 abbrev pub side_of : Bool → Role
@@ -134,7 +135,7 @@ WasHeld saw job told = Unit {0}
 abbrev pub ReportsEarly : (DiskView → Type 0) → Job → Option (List ℕ) → Option (List ℕ) → Type 0
 ReportsEarly saw (Serve file addr sessions workers patience is_verbose key) before after =
     (cut : Option ℕ) × MayCutFile saw file.now cut × Reports file.now cut None before after
-ReportsEarly saw (Web file addr key) before after =
+ReportsEarly saw (Web file hosting key) before after =
     (cut : Option ℕ) × MayCutFile saw file.now cut × Reports file.now cut None before after
 ReportsEarly saw (Follow file addr every sessions patience key) before after =
     (cuts : List (Option ℕ)) × ReportsEach saw file.now cuts before after
@@ -163,7 +164,7 @@ LeavesFiles saw job e before after = Leaves (IsFilesPrinted saw job) e before af
 abbrev pub LeavesOf : (DiskView → Type 0) → Job → JobError → Option (List ℕ) → Option (List ℕ) → Type 0
 LeavesOf saw (Files job) e before after = LeavesFiles saw job e before after
 LeavesOf saw (Serve file addr sessions workers patience is_verbose key) e before after = Keeps before after ⊎ GrowsPart (IsServed sessions) before after
-LeavesOf saw (Web file addr key) e before after = Keeps before after ⊎ GrowsPart (IsPageShown addr) before after
+LeavesOf saw (Web file hosting key) e before after = Keeps before after ⊎ GrowsPart (IsPageShown hosting) before after
 LeavesOf saw (Session file is_client key) e before after = Keeps before after ⊎ ((e ≡ failed) ⊎ Grows AreFrames before after)
 LeavesOf saw (Sync file addr patience key) e before after = Leaves IsSynced e before after
 LeavesOf saw (Follow file addr every sessions patience key) e before after =

@@ -44,6 +44,7 @@ pub fn run<
 >(rt: &R, terminals: Terminals) -> u8
 where
     R::File: Send,
+    R::Listener: Sync,
     R::Stream: Send,
     ensures { result ≤ MISUSED }
 {
@@ -93,6 +94,7 @@ pub fn run_words<
 >(rt: &R, words: &[S], terminals: Terminals) -> u8
 where
     R::File: Send,
+    R::Listener: Sync,
     R::Stream: Send,
     ensures status { result ≤ MISUSED }
     ensures done { result ≡ DONE
@@ -123,6 +125,7 @@ pub fn run_words_on<
 >(rt: &R, words: &[S], explains: bool, input: &mut I, out: &mut W, err: &mut E) -> u8
 where
     R::File: Send,
+    R::Listener: Sync,
     R::Stream: Send,
     ensures status { result ≤ MISUSED }
     // What was done prints nothing on the standard error, but for what is told of it.
@@ -160,6 +163,7 @@ pub fn run_job<
 >(rt: &R, job: Job, explains: bool, input: &mut I, out: &mut W, err: &mut E) -> u8
 where
     R::File: Send,
+    R::Listener: Sync,
     R::Stream: Send,
     ensures status { result ≤ REFUSED }
     ensures done { result ≡ DONE → (cut : Option ℕ) × (told : Option ℕ)
@@ -204,6 +208,7 @@ fn carried<
 ) -> Result<Option<u64>, JobError>
 where
     R::File: Send,
+    R::Listener: Sync,
     R::Stream: Send,
     requires { cut.old ≡ None }
     ensures cuts { OnOk result
@@ -271,7 +276,7 @@ where
             };
             done(follow_file(rt, file, &how, sessions, key, out, err, cut))
         }
-        Job::Web { file, addr, key } => done(web_file(rt, file, addr, key, out, err, cut)),
+        Job::Web { file, hosting, key } => done(web_file(rt, file, hosting, key, out, err, cut)),
     }
 }
 

@@ -9,7 +9,7 @@ mod telling;
 mod terminal;
 
 pub use error::{JobError, Made};
-pub use log::Log;
+pub use log::{Log, tell_followed};
 pub use notes::{note, note_text};
 pub use telling::{
     DONE, REFUSED, applied_text, ended, ended_with, output_refusal, put, put_made, report,

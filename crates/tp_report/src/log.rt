@@ -6,6 +6,7 @@ ghost use Rattle.tp_report.specs.Names.{name_of_outcome, session_line as line_of
 
 use crate::error::session_name;
 use std::alloc::Global;
+use tp_command_line::Address;
 use tp_commands::CommandError;
 use tp_net::{Gate, Report};
 use tp_session::NetError;
@@ -51,5 +52,28 @@ impl<R: Eprint + AllocGlobal> Gate for Log<'_, R> {
         if let Ok(line) = session_line(self.rt.alloc(), report) {
             let _ = self.rt.eprint(line);
         }
+    }
+}
+
+// The line of a server that is followed: where it is, and how the last session with it ended.
+fn followed_line(
+    alloc: Global,
+    addr: &Address<'_>,
+    error: Option<NetError>,
+) -> Result<String, CommandError> {
+    let name = outcome_name(error);
+    Ok(format!(in alloc; "{addr} {name}\n")?)
+}
+
+/// Prints how the last session ended with a server that is followed, on the standard error of the runtime: where it is, and
+/// `done` or the name of what broke it off. Where that fails, or memory is short, the line is missing.
+pub fn tell_followed<R: Eprint>(
+    rt: &R,
+    alloc: Global,
+    addr: &Address<'_>,
+    error: Option<NetError>,
+) {
+    if let Ok(line) = followed_line(alloc, addr, error) {
+        let _ = rt.eprint(line);
     }
 }

@@ -7,7 +7,7 @@ ghost use Rattle.tp_report.specs.Notes.{IsNote, IsNoteOf, names_file as is_file_
 
 use crate::error::JobError;
 use std::alloc::{AllocError, Global};
-use tp_command_line::{Beside, Subject};
+use tp_command_line::{Beside, Hosting, Subject};
 use tp_commands::{CommandError, Lock};
 use tp_disk::Disk;
 use tp_document::DocError;
@@ -108,9 +108,12 @@ fn system_advice<D: Disk + AllocGlobal>(
         (None, Beside::There(addr)) => format!(in rt.alloc();
             "{addr}: the session was broken off, or {file} can't be written"
         ),
-        (None, Beside::Page(addr)) => format!(in rt.alloc();
-            "{addr}: it can't be listened on any more, or {file} can't be written"
-        ),
+        (None, Beside::Page(hosting)) => {
+            let page = hosting.page;
+            format!(in rt.alloc();
+                "{page}: it can't be listened on any more, or {file} can't be written"
+            )
+        }
         (None, Beside::Nothing) => written_advice(rt.alloc(), file),
     }
 }
@@ -167,6 +170,15 @@ fn session_advice(error: NetError) -> &'static str {
     }
 }
 
+// What is said of the address of a page, or of the one beside it, that can't be listened on.
+fn page_advice(alloc: Global, hosting: &Hosting<'_>, text: &str) -> Result<String, AllocError> {
+    let page = hosting.page;
+    match hosting.serve {
+        Some(serve) => format!(in alloc; "{page} or {serve}: {text}"),
+        None => format!(in alloc; "{page}: {text}"),
+    }
+}
+
 // What is said of an address that can't be connected to, or listened on.
 fn unreached_advice(
     alloc: Global,
@@ -184,7 +196,7 @@ fn unreached_advice(
     };
     match subject.beside {
         Beside::There(addr) => format!(in alloc; "{addr}: {text}"),
-        Beside::Page(addr) => format!(in alloc; "{addr}: {text}"),
+        Beside::Page(hosting) => page_advice(alloc, &hosting, text),
         _ => String::from_str(alloc, text),
     }
 }

@@ -191,6 +191,7 @@ fn synced<R: Disk + Net + Threads + Wait + Clock + Eprint + AllocGlobal + Sync>(
 ) -> (Ran, Ran, Ran)
 where
     R::File: Send,
+    R::Listener: Sync,
     R::Stream: Send,
 {
     let ida = sync(rt, "ida", place.as_str());

@@ -53,6 +53,7 @@ pub fn run<R: Disk + Net + Threads + Wait + Clock + Eprint + AllocGlobal + Sync>
 ) -> Ran
 where
     R::File: Send,
+    R::Listener: Sync,
     R::Stream: Send,
 {
     let mut out = Vec::new(rt.alloc());
@@ -68,6 +69,7 @@ pub fn run_over<
 >(rt: &R, words: &[&str], stream: S) -> Option<Ran>
 where
     R::File: Send,
+    R::Listener: Sync,
     R::Stream: Send,
 {
     let mut input = stream;
@@ -98,6 +100,7 @@ pub fn insert<R: Disk + Net + Threads + Wait + Clock + Eprint + AllocGlobal + Sy
 ) -> Ran
 where
     R::File: Send,
+    R::Listener: Sync,
     R::Stream: Send,
 {
     let words = [
@@ -132,6 +135,7 @@ pub fn begin<R: Disk + Net + Threads + Wait + Clock + Eprint + AllocGlobal + Syn
 ) -> bool
 where
     R::File: Send,
+    R::Listener: Sync,
     R::Stream: Send,
 {
     let made = run(rt, &["textpeer", "new", file, "--key", DOCUMENT]);
@@ -146,6 +150,7 @@ pub fn all_read<R: Disk + Net + Threads + Wait + Clock + Eprint + AllocGlobal + 
 ) -> bool
 where
     R::File: Send,
+    R::Listener: Sync,
     R::Stream: Send,
 {
     let mut is_read = true;
@@ -164,6 +169,7 @@ pub fn serve<R: Disk + Net + Threads + Wait + Clock + Eprint + AllocGlobal + Syn
 ) -> Ran
 where
     R::File: Send,
+    R::Listener: Sync,
     R::Stream: Send,
 {
     run(
@@ -180,6 +186,7 @@ pub fn sync_once<R: Disk + Net + Threads + Wait + Clock + Eprint + AllocGlobal +
 ) -> Ran
 where
     R::File: Send,
+    R::Listener: Sync,
     R::Stream: Send,
 {
     run(rt, &["textpeer", "sync", file, addr])
@@ -194,6 +201,7 @@ pub fn follow<R: Disk + Net + Threads + Wait + Clock + Eprint + AllocGlobal + Sy
 ) -> Ran
 where
     R::File: Send,
+    R::Listener: Sync,
     R::Stream: Send,
 {
     let words = [
@@ -217,6 +225,7 @@ pub fn sync<R: Disk + Net + Threads + Wait + Clock + Eprint + AllocGlobal + Sync
 ) -> Ran
 where
     R::File: Send,
+    R::Listener: Sync,
     R::Stream: Send,
 {
     let patience = Patience::new(rt);
@@ -238,6 +247,7 @@ pub fn sync_beside_silence<R: Disk + Net + Threads + Wait + Clock + Eprint + All
 ) -> Option<(bool, Ran)>
 where
     R::File: Send,
+    R::Listener: Sync,
     R::Stream: Send,
 {
     let silent = connected(rt, place.addr)?;
