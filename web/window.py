@@ -96,10 +96,10 @@ class Connection:
         self.socket.close()
 
 
-def window(port):
+def window(port, path="/socket"):
     """A connection that is a window of the page."""
     connection = Connection(port)
-    connection.send(head("GET /socket HTTP/1.1", f"Host: 127.0.0.1:{port}", f"Origin: http://127.0.0.1:{port}", *UPGRADE))
+    connection.send(head(f"GET {path} HTTP/1.1", f"Host: 127.0.0.1:{port}", f"Origin: http://127.0.0.1:{port}", *UPGRADE))
     check("a window", connection.status(), 101)
     return connection
 

@@ -1,5 +1,5 @@
 -- Which requests a site answers, and what each is for.
-use Rattle.std.specs.Prelude.{◌≡◌, ◌⊎◌, ℕ, ◌≤◌, Bool, ◌&&◌, ◌||◌, not, List, [], ◌∷◌, ◌++◌, length, map, bytes_eq, codes, if◌then◌else◌}
+use Rattle.std.specs.Prelude.{◌≡◌, ◌⊎◌, ℕ, ◌≤◌, Bool, ◌&&◌, ◌||◌, not, List, [], ◌∷◌, ◌++◌, length, map, bytes_eq, codes, nat_eq, if◌then◌else◌}
 use Rattle.std.specs.Fmt.{decimal}
 use Rattle.std.specs.List.{list_all, list_any}
 use Rattle.std.specs.Net.Socket.{socket_port}
@@ -9,6 +9,8 @@ use Rattle.std.specs.String.{string_bytes}
 use Rattle.std.specs.declared.net.socket_addr.SocketAddr.{SocketAddr}
 use Rattle.httparse.specs.Grammar.{ReadsRequest, RequestHead}
 use Rattle.httparse.specs.Spans.{name_and_value}
+use Rattle.tp_opid.specs.HexText.{IsHexOf}
+use Rattle.tp_opid.specs.declared.actor.Actor.{Actor}
 use Rattle.tp_web.specs.declared.site.Part.TheVariants.{Page, Script, Style}
 use Rattle.tp_web.specs.declared.site.Site.{Site}
 use Rattle.tp_web.specs.declared.site.Wanted.{Wanted}
@@ -57,13 +59,17 @@ is_own site fields =
     && fields_are_among (codes "Host") (site_hosts site) fields
     && fields_are_among (codes "Origin") (site_origins site) fields
 
+-- whether windows are at the path; behind it may be the digits of an actor
+abbrev pub is_window_path : List ℕ → Bool
+is_window_path path = bytes_eq path (codes "/socket") || starts_with nat_eq path (codes "/socket/")
+
 -- what is at a path; a window only where the request says from which page it comes
 abbrev pub found_at : List ℕ → Bool → Wanted
 found_at path has_origin =
     if bytes_eq path (codes "/") then Part Page
     else if bytes_eq path (codes "/page.css") then Part Style
     else if bytes_eq path (codes "/page.js") then Part Script
-    else if bytes_eq path (codes "/socket") then (if has_origin then Window else Foreign)
+    else if is_window_path path then (if has_origin then Window else Foreign)
     else Nothing
 
 -- what the request with this method, path and fields is for
@@ -86,3 +92,9 @@ abbrev pub IsWantedBy : Site → List ℕ → Wanted → Type 0
 IsWantedBy site bytes wanted =
     (wanted ≡ Foreign)
     ⊎ ((head : RequestHead) × (rest : List ℕ) × ReadsRequest bytes head rest × (wanted ≡ wanted_by_head site head))
+
+-- the bytes begin with a head whose target is a window's, with the digits of the actor behind it
+abbrev pub NamesActor : List ℕ → Actor → Type 0
+NamesActor bytes actor =
+    (head : RequestHead) × (rest : List ℕ) × (digits : List ℕ) × ReadsRequest bytes head rest
+    × (head.target ≡ codes "/socket/" ++ digits) × IsHexOf digits actor.0

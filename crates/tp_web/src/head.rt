@@ -3,7 +3,7 @@
 ghost use Rattle.std.specs.Prelude.{◌≡◌, ◌≤◌, ℕ, true, false, List, length, IfNone, IfSome};
 ghost use Rattle.httparse.specs.Grammar.{HasNoRequest, ReadsRequest, RequestHead};
 ghost use Rattle.httparse.specs.Spans.{RequestOverflows};
-ghost use Rattle.tp_web.specs.Sites.{BeginsWithHead, IsWantedBy, wanted_by_head};
+ghost use Rattle.tp_web.specs.Sites.{BeginsWithHead, IsWantedBy, NamesActor, wanted_by_head};
 ghost use Rattle.tp_web.specs.Upgrades.{IsAcceptance};
 
 use crate::site::{Site, Wanted};
@@ -11,6 +11,7 @@ use httparse::spans::{EMPTY_HEADER_SPAN, parse_request};
 use httparse::{EMPTY_HEADER, Request, Status};
 use std::alloc::Global;
 use std::io::Read;
+use tp_opid::Actor;
 use websocket::handshake::server::{check_request, write_response};
 
 // A head has at most so many fields.
@@ -80,6 +81,19 @@ pub(crate) fn wanted_by(site: &Site, bytes: &[u8]) -> Wanted
         ),
         _ => Wanted::Foreign,
     }
+}
+
+/// The actor that the request for a window names, whose head the bytes begin with: that of its page, before it was cut off.
+pub(crate) fn earlier_actor(bytes: &[u8]) -> Option<Actor>
+    ensures { IfSome result (NamesActor bytes.now) }
+{
+    let mut fields = [EMPTY_HEADER; MOST_FIELDS];
+    let mut request = Request::new(&mut fields);
+    let Ok(Status::Complete(_)) = request.parse(bytes) else {
+        return None;
+    };
+    let digits = request.path?.strip_prefix("/socket/")?;
+    Actor::from_text(digits).ok()
 }
 
 /// The answer to a request for a WebSocket, whose head the bytes begin with. `None` where it isn't one.

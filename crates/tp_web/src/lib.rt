@@ -5,6 +5,7 @@
 //! requests and answers are stands in tp_window.
 #![tactic(auto)]
 
+mod actors;
 mod head;
 mod page;
 mod responding;

@@ -5,11 +5,10 @@ ghost use Rattle.tp_served.specs.Calls.{AreOf};
 ghost use Rattle.tp_session.specs.declared.error.NetError.TheVariants.{Io, OutOfMemory};
 ghost use Rattle.tp_web.specs.Visiting.{AllAttend, Attends};
 
+use crate::actors::Actors;
 use crate::site::Site;
 use crate::windowing::attend;
 use crossbeam_channel::{Receiver, Sender};
-use rand_chacha::ChaCha20Rng;
-use rand_core::SeedableRng;
 use std::alloc::Global;
 use std::io::{Read, Write};
 use std::net::{OpenListener, OpenStream};
@@ -19,24 +18,14 @@ use std::thread::Threads;
 use std::time::Clock;
 use tp_journal::Journal;
 use tp_net::Interrupted;
-use tp_opid::Actor;
-use tp_peer::fresh_actor;
 use tp_served::{Seat, Served};
 use tp_session::NetError;
-use tp_window::Window;
 
 // A connection, and its number from 1 in the order of acceptance.
 #[derive(Drop)]
 struct Accepted<S> {
     number: u64,
     stream: S,
-}
-
-// The actor of the window on the connection with this number: no two of one key are the same, but for chance.
-fn actor_of(key: [u8; 32], number: u64) -> Actor {
-    let mut generator = ChaCha20Rng::from_seed(key);
-    generator.set_stream(number);
-    fresh_actor(&mut generator)
 }
 
 // Accepts connections, as many as said, and sends each to the workers. These end once the sender is gone.
@@ -81,8 +70,7 @@ fn work<R: Wait + Clock, S: Read + Write + OpenStream + Drop, J: Journal>(
         let Ok(Accepted { number, stream }) = connections.recv(rt) else {
             break;
         };
-        let window = Window::new(actor_of(key, number));
-        attend(rt, alloc, site, stream, window, served, seat);
+        attend(rt, alloc, site, stream, Actors { key, number }, served, seat);
     }
 }
 
@@ -123,7 +111,8 @@ fn work_on_all<
 /// Each seat has a worker in a thread of its own, which takes the next connection once one has ended, so as many windows may be
 /// open at once as there are seats; others wait. A connection that says nothing, or takes nothing, for two minutes ends, and each
 /// ends alone. The edits of each window are those of an actor of its own, which is drawn from the key by the number of its
-/// connection.
+/// connection, or of an earlier one of these that its page names: one that was cut off goes on under its actor, so that an edit
+/// of which it doesn't know whether it came may be sent again, and is made once.
 ///
 /// It answers once all connections have ended: `Io` where one can't be accepted, `OutOfMemory` where one can't be queued; those
 /// that were accepted before go on to their end first. The seats come back either way.

@@ -3,7 +3,7 @@
 ghost use Rattle.std.specs.Prelude.{◌≡◌, List, IfOk, map};
 ghost use Rattle.httparse.specs.Borrowed.{header_parts};
 ghost use Rattle.std.specs.String.{string_bytes};
-ghost use Rattle.tp_web.specs.Sites.{fields_are_among, has_field, hosts_at, is_field_named, is_text_among, origins_at, site_hosts, site_origins, wanted_of};
+ghost use Rattle.tp_web.specs.Sites.{fields_are_among, has_field, hosts_at, is_field_named, is_text_among, is_window_path, origins_at, site_hosts, site_origins, wanted_of};
 
 use httparse::Header;
 use std::alloc::{AllocError, Global};
@@ -66,6 +66,13 @@ fn is_there(fields: &[Header], name: &str) -> bool
     fields.iter().any(|field| has_name(field, name))
 }
 
+// Whether windows are at the path. A page that was cut off names its actor behind it.
+fn is_window(path: &str) -> bool
+    ensures { result ≡ is_window_path path.now }
+{
+    path == "/socket" || path.as_bytes().starts_with(b"/socket/")
+}
+
 impl Site {
     /// The page at this address, which is also called `localhost`.
     pub fn at(alloc: Global, addr: SocketAddr) -> Result<Site, AllocError>
@@ -99,7 +106,10 @@ impl Site {
             ("GET", "/") => Wanted::Part(Part::Page),
             ("GET", "/page.css") => Wanted::Part(Part::Style),
             ("GET", "/page.js") => Wanted::Part(Part::Script),
-            ("GET", "/socket") => {
+            ("GET", other) => {
+                if !is_window(other) {
+                    return Wanted::Nothing;
+                }
                 if is_there(fields, "Origin") {
                     Wanted::Window
                 } else {

@@ -4,6 +4,7 @@ ghost use Rattle.std.specs.Prelude.{◌≡◌};
 ghost use Rattle.tp_web.specs.Visiting.{Attends};
 ghost use Rattle.tp_window.specs.Windows.{MayEdit};
 
+use crate::actors::Actors;
 use crate::head::{accept, read_head, wanted_by};
 use crate::responding::{send_nothing, send_part, send_refusal};
 use crate::site::{Site, Wanted};
@@ -196,15 +197,15 @@ fn begin<R: Wait + Clock, S: Read + Write + Drop, J: Journal>(
     show(rt, alloc, socket, window, served, seat);
 }
 
-/// Answers the request of a connection, and those of its window if it becomes one, whose edits are the window's actor's. However
-/// it ends, it ends alone.
+/// Answers the request of a connection, and those of its window if it becomes one, which is that of the actors. However it ends,
+/// it ends alone.
 #[tactic(auto, using(crate::proofs::Attending::stays))]
 pub(crate) fn attend<R: Wait + Clock, S: Read + Write + OpenStream + Drop, J: Journal>(
     rt: &R,
     alloc: Global,
     site: &Site,
     stream: S,
-    window: Window,
+    actors: Actors,
     served: &Served<J>,
     seat: &mut Seat,
 )
@@ -220,7 +221,10 @@ pub(crate) fn attend<R: Wait + Clock, S: Read + Write + OpenStream + Drop, J: Jo
         Wanted::Part(part) => {
             let _ = send_part(alloc, part, &mut stream);
         }
-        Wanted::Window => begin(rt, alloc, stream, &request, window, served, seat),
+        Wanted::Window => {
+            let window = actors.window(&request);
+            begin(rt, alloc, stream, &request, window, served, seat);
+        }
         Wanted::Nothing => {
             let _ = send_nothing(alloc, &mut stream);
         }
