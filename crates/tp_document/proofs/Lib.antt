@@ -13,6 +13,7 @@ pub mod ChangePlaces
 pub mod SnapshotLaws
 pub mod DifferenceLaws
 pub mod VisibleLaws
+pub mod EffectLaws
 pub mod BuilderLaws
 pub mod WindowLaws
 pub mod TargetLaws

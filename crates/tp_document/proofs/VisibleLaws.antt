@@ -22,7 +22,7 @@ use Rattle.tp_document.proofs.WindowLaws.{In-drop_index, In-take_index, alike_ou
 use Rattle.tp_document.specs.Differences.{AreDifferences, KeepsShared, LeadsTo, differences_from, is_visible}
 
 -- an element of the whole is one of the past exactly where its operation is
-inserted_by_clock : (C : List ChangeParts) (H : List Hash) (K : List (Actor × ℕ)) (e : Insert) → Sound C → IsClockOf K (past C H) → In e (inserts C) → has_op K e.id ≡ is_inserted (inserts (past C H)) e.id
+pub inserted_by_clock : (C : List ChangeParts) (H : List Hash) (K : List (Actor × ℕ)) (e : Insert) → Sound C → IsClockOf K (past C H) → In e (inserts C) → has_op K e.id ≡ is_inserted (inserts (past C H)) e.id
 inserted_by_clock C H K e s ends i =
     let P = past C H in
     let same = inserts_of_past C H K s ends in

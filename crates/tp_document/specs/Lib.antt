@@ -10,3 +10,4 @@ pub mod History
 pub mod Views
 pub mod Windows
 pub mod Differences
+pub mod Effects

@@ -79,8 +79,8 @@ pub(crate) fn clock_of(graph: &Graph, heads: &[Hash]) -> Result<Clock, DocError>
     }
 }
 
-// What the past of the hashes shows: one walk over all deletes.
-fn snapshot_at<S: Sequence>(
+/// What the past of the hashes shows: one walk over all deletes.
+pub(crate) fn snapshot_at<S: Sequence>(
     alloc: Global,
     graph: &Graph,
     sequence: &S,

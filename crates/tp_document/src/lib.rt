@@ -12,6 +12,7 @@ mod difference_builder;
 mod differences;
 mod document;
 mod editing;
+mod effects;
 mod error;
 mod forking;
 mod history;
@@ -26,6 +27,7 @@ mod window;
 pub use cursor::Cursor;
 pub use differences::Difference;
 pub use document::Document;
+pub use effects::Effect;
 pub use error::DocError;
 pub use laws::{
     each_past_has_a_text, edit_is_determined, equal_heads_equal_texts,

@@ -1,15 +1,19 @@
 //! What a past deletes.
 
-ghost use Rattle.std.specs.Prelude.{◌≡◌, ◌||◌, List, [], length, IfOk, IfSome};
+ghost use Rattle.std.specs.Prelude.{◌≡◌, ◌||◌, List, [], ◌∷◌, length, IfOk, IfSome};
 ghost use Rattle.std.specs.List.{AllAdjacentBelow};
 ghost use Rattle.tp_opid.specs.Same.{id_eq};
 ghost use Rattle.tp_opid.specs.declared.op_id.OpId.{OpId as Id};
+ghost use Rattle.tp_change.specs.Elements.{deletes_in};
+ghost use Rattle.tp_change.specs.Operations.{ops_of};
+ghost use Rattle.tp_rga.specs.Shown.{is_removed};
 ghost use Rattle.tp_document.specs.History.{is_within, covers, side, StartsBefore, Precedes, AreTargets};
 
 use crate::author::Author;
 use std::alloc::{AllocError, Global};
 use std::cmp::Ordering;
 use std::marker::Model;
+use tp_change::{Change, Op};
 use tp_graph::Clock;
 use tp_opid::{Actor, OpId};
 
@@ -217,6 +221,30 @@ pub(crate) fn targets_of(
         if author.has(clock, &delete.1) {
             add(&mut stretches, &delete.0)?;
         }
+    }
+    Ok(Targets::new(stretches))
+}
+
+// Adds what an operation deletes, if it is a delete.
+fn add_target(stretches: &mut Vec<Stretch>, op: &Op) -> Result<(), AllocError>
+    ensures { IfOk result (λ _. (x : Id) → covers stretches.new.items x
+        ≡ (covers stretches.old.items x || is_removed (deletes_in (op.now ∷ [])) x)) }
+{
+    match op {
+        Op::Insert { .. } => Ok(()),
+        Op::Delete { target, .. } => add(stretches, target),
+    }
+}
+
+/// The elements that a change deletes. One pass over its operations, and a sort of the stretches in which its targets
+/// come.
+pub(crate) fn targets_in(alloc: Global, change: &Change) -> Result<Targets, AllocError>
+    ensures { IfOk result
+        (λ targets. (x : Id) → covers targets x ≡ is_removed (deletes_in (ops_of change.now)) x) }
+{
+    let mut stretches = Vec::new(alloc);
+    for op in change.ops() {
+        add_target(&mut stretches, &op)?;
     }
     Ok(Targets::new(stretches))
 }
