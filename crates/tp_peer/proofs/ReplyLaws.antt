@@ -1,10 +1,11 @@
 -- A reply has the form of its call.
-use Rattle.tp_peer.proofs.Common.{◌≡◌, ◌⊎◌, inl, inr, ℕ, List, false, Option, Some, None, Result, Ok, Err, String, Global, refl, sym, subst, IfErr, IfOk, ap, Splice, Hash, Actor, DocError, DocState, DoesSplices, asking, SyncParts, PeerError, JournalFailed, TooManyLinks, Sync, OutOfMemory, JournalState, StaysUnsettled, IsReplyTo, call_in, call_of, reply_of, IsPeer, PeerData, peer_data, is_failed, refusal_of_document, PeerStep, RefusesGenerate, Runs, needs_stopped, replied}
-use Rattle.std.specs.Prelude.{Bool, IfSome, OnOk}
+use Rattle.tp_peer.proofs.Common.{◌≡◌, ◌⊎◌, inl, inr, ℕ, List, false, Option, Some, None, Result, Ok, Err, String, Global, refl, sym, subst, IfErr, IfOk, ap, Splice, Hash, Actor, DocError, DocState, DoesSplices, Asked, asking, SyncParts, PeerError, JournalFailed, TooManyLinks, Sync, OutOfMemory, JournalState, StaysUnsettled, IsReplyTo, call_in, call_of, reply_of, IsPeer, PeerData, peer_data, is_failed, refusal_of_document, PeerStep, RefusesGenerate, Runs, needs_stopped, replied}
+use Rattle.std.specs.Prelude.{Bool, OnOk}
 use Rattle.tp_edit.specs.Splices.{all_spliced}
 use Rattle.tp_peer.specs.Calls.{Owes}
 use Rattle.tp_text.specs.Text.{IsTextOf}
 use Rattle.tp_document.proofs.EditFits.{edit_text, nothing_spliced}
+use Rattle.tp_peer.specs.PeerStep.{Edits, RefusesEdit}
 use Rattle.tp_peer.specs.declared.call.Call.{Call}
 use Rattle.tp_peer.specs.declared.call.Request.{Request}
 use Rattle.tp_peer.specs.declared.call.Reply.{Reply}
@@ -112,6 +113,17 @@ pub text_goes_on : (e : DocError) → (e ≡ doc.UnknownHead) ⊎ (e ≡ doc.Out
 text_goes_on e (inl is) = subst (λ (x : DocError). is_failed (refusal_of_document x) ≡ false) (sym is) refl
 text_goes_on e (inr is) = subst (λ (x : DocError). is_failed (refusal_of_document x) ≡ false) (sym is) refl
 
+-- what an edit on the parts of a running peer made, or why it was refused, is so of the peer, whichever flag says that it runs
+pub edit_made : (a : Actor) (d d' : DocState) (L : List (ℕ × SyncParts)) (k k' : JournalState) (stopped : Bool) (asked : Asked) (made : Option Hash) → stopped ≡ false
+    → Edits (peer_data a d L k false) asked made (peer_data a d' L k' false) → Edits (peer_data a d L k stopped) asked made (peer_data a d' L k' stopped)
+edit_made a d d' L k k' stopped asked made running done = subst (λ (b : Bool). Edits (peer_data a d L k b) asked made (peer_data a d' L k' b)) (sym running) done
+
+pub edit_refused : (a : Actor) (d d' : DocState) (L : List (ℕ × SyncParts)) (k k' : JournalState) (stopped fails : Bool) (asked : Asked) (e : PeerError) → stopped ≡ false → fails ≡ is_failed e
+    → RefusesEdit (peer_data a d L k false) asked e (peer_data a d' L k' (is_failed e)) → RefusesEdit (peer_data a d L k stopped) asked e (peer_data a d' L k' fails)
+edit_refused a d d' L k k' stopped fails asked e running is refused =
+    subst (λ (b : Bool). RefusesEdit (peer_data a d L k b) asked e (peer_data a d' L k' fails)) (sym running)
+    (subst (λ (b : Bool). RefusesEdit (peer_data a d L k false) asked e (peer_data a d' L k' b)) (sym is) refused)
+
 -- an edit that was made does its splices
 pub edit_does : (r : Result (Option Hash) PeerError) (p p' : PeerData) (splices : List Splice) (time : ℕ) (message : List ℕ) → IsPeer p → PeerStep p (step.Edit splices time message) (replied step.Made r) p'
     → IfOk r (λ made. DoesSplices p.applied p'.applied splices)
@@ -140,11 +152,6 @@ owes_any P (step.Heads hs) none = tt
 owes_any P (step.Refused e) none = tt
 
 -- what is owed of a reply, by the result that it is
-pub made_owes : (P : Type 0) (r : Result (Option Hash) PeerError) (reply : step.Reply) → replied step.Made r ≡ reply → Owes P reply → IfOk r (λ made. IfSome made (λ h. P))
-made_owes P (Ok (Some h)) reply is owed = subst (Owes P) (sym is) owed
-made_owes P (Ok None) reply is owed = tt
-made_owes P (Err e) reply is owed = tt
-
 pub sent_owes : {T : Type 0} (P : Type 0) (f : T → Option (List ℕ × Bool)) (r : Result T PeerError) (reply : step.Reply) → replied (λ sent. step.Generated (f sent)) r ≡ reply → Owes P reply → OnOk r P
 sent_owes P f (Ok sent) reply is owed = subst (Owes P) (sym is) owed
 sent_owes P f (Err e) reply is owed = tt

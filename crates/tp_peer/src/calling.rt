@@ -65,7 +65,10 @@ fn call_on<J: Journal>(
             splices,
             time,
             message,
-        } => edit_on(actor, document, appender, splices, time, message),
+        } => match edit_on(actor, document, appender, splices, time, message) {
+            Ok(made) => Reply::Made(made),
+            Err(error) => Reply::Refused(error),
+        },
         Call::Receive { link, bytes } => {
             match receive_on(alloc, document, links, appender, link, bytes) {
                 Ok(received) => Reply::Received(received),

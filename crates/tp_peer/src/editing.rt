@@ -2,15 +2,14 @@
 
 ghost use Rattle.std.specs.Prelude.{◌≡◌, ℕ, List, ◌++◌, ◌∷◌, [], false, None, OnOk, OnErr, IfOk, IfErr, IfSome};
 ghost use Rattle.tp_peer.specs.Common.{chars, hash_of, cause, SyncParts};
-ghost use Rattle.tp_document.specs.Editing.{DoesSplices};
+ghost use Rattle.tp_document.specs.Editing.{DoesSplices, asking};
 ghost use Rattle.tp_peer.specs.Appending.{AppendsRecord, IsKept, RefusesRecord};
-ghost use Rattle.tp_peer.specs.Calls.{Owes, fails, reply_of};
 ghost use Rattle.tp_peer.specs.PeerData.{peer_data};
+ghost use Rattle.tp_peer.specs.PeerError.{is_failed};
 ghost use Rattle.tp_peer.specs.Taking.{journal_of};
-ghost use Rattle.tp_peer.specs.PeerStep.{PeerStep, Runs, Edit, Made, replied};
+ghost use Rattle.tp_peer.specs.PeerStep.{PeerStep, Edit, Edits, Made, RefusesEdit, replied};
 
 use crate::appender::Appender;
-use crate::call::{Call, Reply};
 use crate::error::PeerError;
 use crate::peer::Peer;
 use crate::sequence::PeerSequence;
@@ -50,7 +49,7 @@ pub(crate) fn append_and_enter<J: Journal>(
     }
 }
 
-// Edits on the parts of a running peer, once the change was appended to the journal.
+/// Edits on the parts of a running peer, which stops where the device failed, once the change was appended to the journal.
 pub(crate) fn edit_on<J: Journal>(
     actor: Actor,
     document: &mut Document<PeerSequence>,
@@ -58,21 +57,26 @@ pub(crate) fn edit_on<J: Journal>(
     splices: &[Splice],
     time: u64,
     message: &str,
-) -> Reply
-    ensures settled { Owes (IsKept J.content J.device J.is_settled appender.new) (reply_of result) }
-    ensures runs { (links : List (ℕ × SyncParts))
-        → Runs (peer_data actor document.old links appender.old false)
-        (Edit splices.now time (chars message.now)) (reply_of result)
-        (peer_data actor document.new links appender.new (fails (reply_of result))) }
+) -> Result<Option<Hash>, PeerError>
+    ensures settled { IfOk result (λ made. IfSome made
+        (λ _. IsKept J.content J.device J.is_settled appender.new)) }
+    ensures ok { (links : List (ℕ × SyncParts)) → IfOk result
+        (λ made. Edits (peer_data actor document.old links appender.old false)
+        (asking actor splices.now time (chars message.now)) made
+        (peer_data actor document.new links appender.new false)) }
+    ensures err { (links : List (ℕ × SyncParts)) → IfErr result
+        (λ e. RefusesEdit (peer_data actor document.old links appender.old false)
+        (asking actor splices.now time (chars message.now)) e
+        (peer_data actor document.new links appender.new (is_failed e))) }
 {
     match document.make_edit(actor, splices, time, message) {
         Ok(Some(change)) => match append_and_enter(document, appender, change) {
-            Ok(hash) => Reply::Made(Some(hash)),
-            Err(KeepError::OutOfMemory) => Reply::Refused(PeerError::OutOfMemory),
-            Err(KeepError::NotKept) => Reply::Refused(PeerError::JournalFailed),
+            Ok(hash) => Ok(Some(hash)),
+            Err(KeepError::OutOfMemory) => Err(PeerError::OutOfMemory),
+            Err(KeepError::NotKept) => Err(PeerError::JournalFailed),
         },
-        Ok(None) => Reply::Made(None),
-        Err(error) => Reply::Refused(PeerError::from(error)),
+        Ok(None) => Ok(None),
+        Err(error) => Err(PeerError::from(error)),
     }
 }
 
@@ -98,12 +102,22 @@ impl<J: Journal> Peer<J> {
         ensures text { IfOk result
             (λ _. DoesSplices self.old.applied self.new.applied splices.now) }
     {
-        let _ = &self.alloc;
-        let reply = self.call(Call::Edit {
+        if self.stopped {
+            return Err(PeerError::Stopped);
+        }
+        match edit_on(
+            self.actor,
+            &mut self.document,
+            &mut self.appender,
             splices,
             time,
             message,
-        });
-        reply.into_made()
+        ) {
+            Ok(made) => Ok(made),
+            Err(error) => {
+                self.stopped = error.is_failed();
+                Err(error)
+            }
+        }
     }
 }
