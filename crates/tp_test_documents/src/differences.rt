@@ -65,3 +65,23 @@ pub fn since<S: Sequence>(
     let heads = hashes(world, words.next()?)?;
     answer(world.alloc, document.differences_since(&heads))
 }
+
+/// `effect DOCUMENT HASHES`: the text before the change with the first of the hashes, and what the change did.
+pub fn effect<S: Sequence>(
+    document: &Document<S>,
+    world: &World<S>,
+    words: &mut Words,
+) -> Result<String, Fault> {
+    let hashes = hashes(world, words.next()?)?;
+    let Some(hash) = hashes.first() else {
+        return Err(Fault::Row("no hash"));
+    };
+    let effect = match document.effect(hash) {
+        Ok(effect) => effect,
+        Err(error) => return refusal(world.alloc, error),
+    };
+    let mut out = quoted(world.alloc, &effect.text)?;
+    out.push(' ')?;
+    out.push_str(&print_all(world.alloc, &effect.differences)?)?;
+    Ok(out)
+}

@@ -147,6 +147,7 @@ pub fn call<S: Sequence>(
         "since" => since(document, world, words),
         "differences" => differences::between(document, world, words),
         "differences_since" => differences::since(document, world, words),
+        "effect" => differences::effect(document, world, words),
         _ => Err(Fault::Row("no such call")),
     }
 }

@@ -6,6 +6,8 @@ use Rattle.std.specs.declared.alloc.Global.{Global}
 use Rattle.hex.specs.Hex.{encode_lower}
 use Rattle.tp_change.specs.declared.parts.ChangeParts.{ChangeParts}
 use Rattle.tp_document.specs.Editing.{asking}
+use Rattle.tp_document.specs.Effects.{IsEffect}
+use Rattle.tp_document.specs.declared.effects.Effect.{Effect}
 use Rattle.tp_edit.specs.declared.splice.Splice.{Splice}
 use Rattle.tp_graph.specs.Heads.{heads as heads_of}
 use Rattle.tp_opid.specs.HexText.{IsHexOf}
@@ -17,7 +19,7 @@ use Rattle.tp_peer.specs.PeerData.{PeerData}
 use Rattle.tp_text.specs.Text.{IsTextOf}
 use Rattle.tp_window.specs.Answers.{AreShownChanges, ShowDifferences, WriteHashes, WritesActor, WritesHash}
 use Rattle.tp_window.specs.Requests.{AreTypedSplices, DoesRequest, SpellHashes}
-use Rattle.tp_window.specs.Windows.{IsEffect, IsNews, MadeOn, Page, ShowsText, with_edit, with_news}
+use Rattle.tp_window.specs.Windows.{IsNews, MadeOn, Page, ShowsText, with_edit, with_news}
 use Rattle.tp_window.specs.declared.answer.Answer.{Answer}
 use Rattle.tp_window.specs.declared.answer.Answer.TheVariants as answer
 use Rattle.tp_window.specs.declared.news.News.{News}
@@ -26,7 +28,6 @@ use Rattle.tp_window.specs.declared.outcome.Outcome.TheVariants as outcome
 use Rattle.tp_window.specs.declared.request.Request.{Request}
 use Rattle.tp_window.specs.declared.request.Request.TheVariants as request
 use Rattle.tp_window.specs.declared.request.TypedSplice.{TypedSplice}
-use Rattle.tp_window.specs.declared.showing.Effect.{Effect}
 use Rattle.tp_window.specs.declared.window.Edited.{Edited}
 use Rattle.tp_window.specs.declared.writing.TheConstants.{MOST_CHANGES}
 

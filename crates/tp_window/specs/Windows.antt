@@ -1,7 +1,6 @@
 -- What a page shows, and what it is told.
 use Rattle.std.specs.Prelude.{◌≡◌, ◌⊎◌, ℕ, List, [], ◌∷◌, true, Option, Some, None, Result, Ok, Err}
 use Rattle.std.specs.Str.{chars}
-use Rattle.std.specs.String.{string_bytes}
 use Rattle.tp_change.specs.ChangeHash.{hash_of}
 use Rattle.tp_change.specs.declared.parts.ChangeParts.{ChangeParts}
 use Rattle.tp_document.specs.Differences.{AreDifferences, LeadsTo, after_differences}
@@ -21,7 +20,6 @@ use Rattle.tp_peer.specs.declared.editing_at.EditAtError.TheVariants as at
 use Rattle.tp_peer.specs.declared.error.PeerError.TheVariants as peer
 use Rattle.tp_text.specs.Text.{IsTextOf}
 use Rattle.tp_window.specs.declared.news.News.{News}
-use Rattle.tp_window.specs.declared.showing.Effect.{Effect}
 use Rattle.tp_window.specs.declared.window.Edited.{Edited}
 
 -- What a page shows: a text, and at which heads it is the text.
@@ -73,11 +71,3 @@ pub record IsMadeOn (who : Actor) (H : List Hash) (c : ChangeParts) : Type 0 whe
 abbrev pub MadeOn : Actor → List Hash → List ChangeParts → Option Hash → Type 0
 MadeOn who H C None = (c : ChangeParts) → In c C → IsMadeOn who H c → ⊥
 MadeOn who H C (Some h) = (c : ChangeParts) × In c C × IsMadeOn who H c × (h ≡ hash_of c)
-
--- What the change with the hash did: the text at what it depends on, and the differences from there to the text at it.
-pub record IsEffect (C : List ChangeParts) (h : Hash) (m : Effect) : Type 0 where
-  pub change : ChangeParts
-  pub there : In change C
-  pub hash : hash_of change ≡ h
-  pub text : IsTextOf (past C change.deps) (chars (string_bytes m.text))
-  pub leads : LeadsTo (past C change.deps) (past C (h ∷ [])) m.differences.items

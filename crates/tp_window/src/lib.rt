@@ -23,5 +23,5 @@ pub use answering::Said;
 pub use error::WindowError;
 pub use laws::a_page_follows;
 pub use news::News;
-pub use showing::{Effect, effect_of, made_on};
+pub use showing::made_on;
 pub use window::{Edited, Window};

@@ -7,10 +7,10 @@ ghost use Rattle.tp_window.specs.Refusing.{RefusesEffectOf, RefusesMadeBy, Refus
 use crate::error::WindowError;
 use crate::news::News;
 use crate::reading::hashes_of;
-use crate::showing::{Effect, effect_of, made_on};
+use crate::showing::made_on;
 use crate::window::Edited;
 use std::alloc::Global;
-use tp_document::Document;
+use tp_document::{Document, Effect};
 use tp_opid::{Actor, Hash};
 use tp_peer::PeerSequence;
 
@@ -76,7 +76,7 @@ pub(crate) fn effect_in(
     ensures err { IfErr result (RefusesEffectOf hash.now document.now.applied) }
 {
     let hash = Hash::from_text(hash)?;
-    match effect_of(document, &hash) {
+    match document.effect(&hash) {
         Ok(effect) => Ok(effect),
         Err(error) => Err(WindowError::from(error)),
     }
