@@ -1,7 +1,7 @@
 -- Which requests a site answers, and what each is for.
 use Rattle.std.specs.Prelude.{◌≡◌, ◌⊎◌, ℕ, ◌≤◌, Bool, ◌&&◌, ◌||◌, not, List, [], ◌∷◌, ◌++◌, length, map, bytes_eq, codes, nat_eq, if◌then◌else◌}
 use Rattle.std.specs.Fmt.{decimal}
-use Rattle.std.specs.List.{list_all, list_any}
+use Rattle.std.specs.List.{list_all, list_any, starts_with}
 use Rattle.std.specs.Net.Socket.{socket_port}
 use Rattle.std.specs.Net.Text.{socket_text}
 use Rattle.std.specs.Str.{str_eq_ignore_ascii_case}
