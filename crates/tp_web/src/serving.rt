@@ -70,7 +70,15 @@ fn work<R: Wait + Clock, S: Read + Write + OpenStream + Drop, J: Journal>(
         let Ok(Accepted { number, stream }) = connections.recv(rt) else {
             break;
         };
-        attend(rt, alloc, site, stream, Actors { key, number }, served, seat);
+        attend(
+            rt,
+            alloc,
+            site,
+            stream,
+            Actors { key, number },
+            served,
+            seat,
+        );
     }
 }
 
