@@ -44,7 +44,7 @@ _textpeer() {
     serve) values=(file other) options='--sessions --workers --patience --verbose --key -h --help' takes='--sessions --workers --patience --key' ;;
     sync) values=(file other) options='--follow --sessions --patience --key -h --help' takes='--sessions --patience --key' ;;
     session) values=(file) options='--client --key -h --help' takes='--key' ;;
-    web) values=(file other) options='--key -h --help' takes='--key' ;;
+    web) values=(file other) options='--serve --follow --key -h --help' takes='--serve --follow --key' ;;
     *) return ;;
     esac
     options=" $options "

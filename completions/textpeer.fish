@@ -11,7 +11,7 @@ function __textpeer_place
     set -l words (commandline -opc)[3..]
     set -l place 1
     while set -q words[1]
-        if contains -- $words[1] --at --del --key --message --most --patience --sessions --text --text-file --time --to --workers
+        if contains -- $words[1] --at --del --follow --key --message --most --patience --serve --sessions --text --text-file --time --to --workers
             set -e words[1]
             set -q words[1]; or set place 0
         else if not string match -q -- '-*' $words[1]
@@ -135,5 +135,7 @@ complete -c textpeer -n '__textpeer_does session; and not __fish_contains_opt ke
 complete -c textpeer -n '__textpeer_does session; and not __fish_contains_opt -s h help' -s h -l help -d 'Print help'
 complete -c textpeer -n __fish_use_subcommand -a web -d 'Shows a journal as a page, in whose windows several people write: prints its address, and serves it until it is ended'
 complete -c textpeer -n '__textpeer_does web; and test (__textpeer_place) -eq 1' -F
+complete -c textpeer -n '__textpeer_does web; and not __fish_contains_opt serve' -l serve -x -d 'serves the journal beside the page too, at this address, as IP:PORT or HOST:PORT, and prints the port'
+complete -c textpeer -n '__textpeer_does web; and not __fish_contains_opt follow' -l follow -x -d 'exchanges changes each second with the server at this address, as IP:PORT or HOST:PORT'
 complete -c textpeer -n '__textpeer_does web; and not __fish_contains_opt key' -l key -x -d 'the key of the random numbers, in 64 hexadecimal digits; from /dev/urandom if left out'
 complete -c textpeer -n '__textpeer_does web; and not __fish_contains_opt -s h help' -s h -l help -d 'Print help'
